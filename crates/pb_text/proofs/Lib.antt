@@ -1,0 +1,2 @@
+mod Powers
+pub mod Writing

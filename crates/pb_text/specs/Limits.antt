@@ -1,0 +1,23 @@
+-- The limits on numbers.
+use Rattle.std.specs.Prelude.{ℕ, ◌-◌, ◌^◌, ◌<◌, ◌≤◌}
+use Rattle.pb_text.specs.declared.limits.Limits.{Limits}
+
+-- numbers that are limits: bits, and a top
+abbrev pub AreLimits : ℕ → ℕ → Type 0
+AreLimits bits top = (31 ≤ bits) × (bits ≤ 127) × (1 ≤ top) × (top < 2 ^ 63) × (top < 2 ^ bits)
+
+abbrev pub bits_of : Limits → ℕ
+bits_of limits = limits.bits
+
+-- the largest count, and the largest magnitude of an id
+abbrev pub top_of : Limits → ℕ
+top_of limits = limits.top
+
+-- the largest magnitude of a coefficient, degree, bound or factor
+abbrev pub largest : Limits → ℕ
+largest limits = 2 ^ limits.bits - 1
+
+-- limits that are as large or larger in both numbers
+pub record AreWithin (small large : Limits) : Type 0 where
+  pub magnitudes : largest small ≤ largest large
+  pub tops : top_of small ≤ top_of large

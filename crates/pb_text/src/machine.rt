@@ -1,0 +1,47 @@
+//! A machine that takes a text byte by byte.
+
+ghost use Rattle.std.specs.Prelude.{◌≡◌};
+ghost use Rattle.pb_text.specs.Automaton.{Automaton, IsState, Pushes, begins};
+
+/// What a machine answers to a byte.
+#[derive(Drop)]
+pub enum Push<E> {
+    /// The byte was taken.
+    Go,
+    /// The byte was taken, and a statement ends with it.
+    Event(E),
+    /// No text that continues with this byte is grammatical. The machine is unchanged.
+    No,
+    /// The same, and the byte is a digit directly behind a digit of a number.
+    Large,
+    /// Memory ran out. The machine is unchanged.
+    Memory,
+}
+
+/// A reader of a text, one byte at a time.
+///
+/// What a machine accepts is said by its automaton alone: the states that bytes lead to, and the
+/// statements that end on the way. A machine keeps the statement that it is in, and nothing of those before.
+pub trait Machine {
+    type Event;
+
+    ghost automaton: { Automaton Self Self.Event };
+
+    /// Takes a byte, or answers why not and leaves the machine as it is.
+    fn push(&mut self, byte: u8) -> Push<Self::Event>
+        ensures pushes { Pushes automaton self.old byte result self.new }
+        ensures state { IsState automaton self.new };
+
+    /// Whether the text is complete.
+    fn is_done(&self) -> bool
+        ensures done { result ≡ automaton.done self.now }
+        ensures state { IsState automaton self.now };
+
+    /// Whether the byte begins a statement.
+    fn starts(&self, byte: u8) -> bool
+        ensures { result ≡ begins automaton self.now byte };
+
+    /// How much of the current statement is kept.
+    fn held(&self) -> usize
+        ensures { result ≡ automaton.kept self.now };
+}

@@ -1,0 +1,165 @@
+//! Lists and texts that contracts see as plain lists.
+
+ghost use Rattle.std.specs.Prelude.{◌≡◌, ◌↔◌, ◌∷◌, ◌++◌, [], List, ℕ, Bool, IsTrue, eqb, if◌then◌else◌, is_ok, IfErr, length};
+ghost use Rattle.std.specs.Cmp.Lexicographic.{pointwise, lists_per, nat_list_eq_equiv};
+ghost use Rattle.std.specs.Cmp.{partial_equiv_from_equiv};
+
+use std::alloc::{AllocFailed, Global};
+use std::marker::Model;
+
+/// A list of values, which grows at its end.
+#[derive(Debug, Drop)]
+pub struct Sequence<T> {
+    items: Vec<T>,
+}
+
+impl<T> Model for Sequence<T> {
+    ghost Value = { List T };
+
+    ghost view = { λ s. s.items.items };
+}
+
+impl<T> Sequence<T> {
+    /// The empty list, which takes no memory.
+    pub fn new(alloc: Global) -> Self
+        ensures { result ≡ [] }
+    {
+        Sequence {
+            items: Vec::new(alloc),
+        }
+    }
+
+    /// The list of a vector, which it keeps.
+    pub fn from_vec(items: Vec<T>) -> Self
+        ensures { result ≡ items.items }
+    {
+        Sequence { items }
+    }
+
+    /// The vector of the list.
+    pub fn into_vec(self) -> Vec<T>
+        ensures { result.items ≡ self }
+    {
+        self.items
+    }
+
+    /// The values as a slice.
+    pub fn as_slice(&self) -> &[T]
+        ensures { result.now ≡ self.now }
+    {
+        self.items.as_slice()
+    }
+
+    /// Adds a value at the end, or gives it back where memory ran out.
+    pub fn push(&mut self, value: T) -> Result<(), AllocFailed<T>>
+        ensures items { self.new ≡ (if is_ok result then self.old ++ value ∷ [] else self.old) }
+        ensures returned { IfErr result (λ failed. failed.value ≡ value) }
+    {
+        self.items.push(value)
+    }
+
+    /// How many values there are.
+    pub fn len(&self) -> usize
+        ensures { result ≡ length self.now }
+    {
+        self.items.len()
+    }
+
+    /// Whether there is no value.
+    pub fn is_empty(&self) -> bool
+        ensures { IsTrue result ↔ (self.now ≡ []) }
+    {
+        self.items.is_empty()
+    }
+}
+
+impl<T: PartialEq> PartialEq for Sequence<T> {
+    ghost eq = { λ x y. pointwise T.eq x y };
+
+    ghost laws = { lists_per T.laws };
+
+    fn eq(&self, other: &Self) -> bool {
+        self.items.as_slice() == other.items.as_slice()
+    }
+}
+
+/// A text of bytes, which grows at its end.
+#[derive(Debug, Drop)]
+pub struct Bytes {
+    bytes: Vec<u8>,
+}
+
+impl Model for Bytes {
+    ghost use Rattle.std.specs.Prelude.{List, ℕ};
+
+    ghost Value = { List ℕ };
+
+    ghost view = { λ s. s.bytes.items };
+}
+
+impl Bytes {
+    /// The empty text, which takes no memory.
+    pub fn new(alloc: Global) -> Self
+        ensures { result ≡ [] }
+    {
+        Bytes {
+            bytes: Vec::new(alloc),
+        }
+    }
+
+    /// The text of a vector, which it keeps.
+    pub fn from_vec(bytes: Vec<u8>) -> Self
+        ensures { result ≡ bytes.items }
+    {
+        Bytes { bytes }
+    }
+
+    /// The vector of the text.
+    pub fn into_vec(self) -> Vec<u8>
+        ensures { result.items ≡ self }
+    {
+        self.bytes
+    }
+
+    /// The bytes as a slice.
+    pub fn as_slice(&self) -> &[u8]
+        ensures { result.now ≡ self.now }
+    {
+        self.bytes.as_slice()
+    }
+
+    /// Adds a byte at the end. Where memory ran out the text is unchanged.
+    pub fn push(&mut self, byte: u8) -> Result<(), AllocFailed<u8>>
+        ensures { self.new ≡ (if is_ok result then self.old ++ byte ∷ [] else self.old) }
+    {
+        self.bytes.push(byte)
+    }
+
+    /// How many bytes there are.
+    pub fn len(&self) -> usize
+        ensures { result ≡ length self.now }
+    {
+        self.bytes.len()
+    }
+
+    /// Whether there is no byte.
+    pub fn is_empty(&self) -> bool
+        ensures { IsTrue result ↔ (self.now ≡ []) }
+    {
+        self.bytes.is_empty()
+    }
+}
+
+impl PartialEq for Bytes {
+    ghost eq = { λ x y. pointwise eqb x y };
+
+    ghost laws = { partial_equiv_from_equiv nat_list_eq_equiv };
+
+    fn eq(&self, other: &Self) -> bool {
+        self.bytes.as_slice() == other.bytes.as_slice()
+    }
+}
+
+impl Eq for Bytes {
+    ghost laws = { nat_list_eq_equiv };
+}
