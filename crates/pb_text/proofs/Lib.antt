@@ -1,2 +1,13 @@
 mod Powers
 pub mod Writing
+pub mod Residual
+pub mod Lists
+pub mod Follows
+pub mod Places
+pub mod Short
+pub mod Answer
+pub mod Told
+pub mod Steps
+pub mod Begin
+pub mod Cutting
+pub mod Pulled

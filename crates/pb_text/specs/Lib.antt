@@ -1,6 +1,11 @@
-pub mod Classes
-pub mod Spelling
 pub mod Automaton
+pub mod Classes
+pub mod Feeding
+pub mod Limit
 pub mod Limits
-pub mod Writing
+pub mod Pulling
+pub mod Reading
 pub mod Source
+pub mod Spelling
+pub mod Standing
+pub mod Writing

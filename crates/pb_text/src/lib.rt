@@ -1,16 +1,21 @@
 //! Machines.
 #![tactic(auto)]
 
+mod feeder;
+pub mod laws;
 mod limits;
 mod machine;
 mod place;
+mod pulling;
 mod sequence;
 mod sink;
 mod source;
 
+pub use feeder::{BYTE_LIMIT, Fed, Feeder};
 pub use limits::Limits;
 pub use machine::{Machine, Push};
 pub use place::{Place, Spanned, Stop, Why};
+pub use pulling::pull;
 pub use sequence::{Bytes, Sequence};
 pub use sink::{Sink, write_bytes};
 pub use source::{Failed, Source};

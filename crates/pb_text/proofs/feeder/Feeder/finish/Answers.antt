@@ -1,0 +1,21 @@
+use Rattle.std.proofs.Common.{◌≡◌, Option, Some, None, subst, refl, ap, true, false, sym, ◌∙◌}
+use Rattle.pb_text.specs.Spelling.{bytes}
+use Rattle.pb_text.specs.Standing.{Stands}
+use Rattle.pb_text.specs.declared.place.Stop.{Stop}
+use Rattle.pb_text.proofs.Told.{stands_reads}
+use Rattle.pb_text.proofs.Begin.{stands_ended}
+use Rattle.pb_text.proofs.feeder.Feeder.finish.Goals as goal
+
+pub returns-then-is_done-clause-ends : goal.returns-then-is_done-clause-ends
+returns-then-is_done-clause-ends g c longest start input marks running s =
+    let f = c.args.self.now in
+    let k : Stands g.M.Machine.automaton longest start input marks f.machine f.place f.first None = subst (λ (o : Option Stop). Stands g.M.Machine.automaton longest start input marks f.machine f.place f.first o) running s.1 in
+    (bytes k.letters, stands_reads g.M.Machine.automaton longest start input marks f.machine f.place f.first None k true (c.if-is_done.ensures.done))
+
+pub returns-else-is_done-clause-ends : goal.returns-else-is_done-clause-ends
+returns-else-is_done-clause-ends g c longest start input marks running s =
+    let f = c.args.self.now in
+    let k : Stands g.M.Machine.automaton longest start input marks f.machine f.place f.first None = subst (λ (o : Option Stop). Stands g.M.Machine.automaton longest start input marks f.machine f.place f.first o) running s.1 in
+    let done : g.M.Machine.automaton.done f.machine ≡ false = sym c.if-is_done.ensures.done in
+    let e = stands_ended g.M.Machine.automaton longest start f.machine input marks f.place f.first done k in
+    (bytes e.letters, rw (c.halt.ensures.place, c.halt.ensures.result) (stands_reads g.M.Machine.automaton longest start input marks f.machine f.place f.first _ e false (sym done), refl))

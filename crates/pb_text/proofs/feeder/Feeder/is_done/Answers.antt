@@ -1,0 +1,9 @@
+use Rattle.std.proofs.Common.{ap}
+use Rattle.pb_text.specs.Spelling.{bytes}
+use Rattle.pb_text.proofs.Told.{stands_reads}
+use Rattle.pb_text.proofs.feeder.Feeder.is_done.Goals as goal
+
+pub returns-clause-reads : goal.returns-clause-reads
+returns-clause-reads g c longest start input marks s =
+    let f = c.args.self.now in
+    (bytes s.1.letters, stands_reads g.M.Machine.automaton longest start input marks f.machine f.place f.first f.stop s.1 c.is_done.result c.is_done.ensures.done)

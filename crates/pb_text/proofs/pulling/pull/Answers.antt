@@ -1,0 +1,144 @@
+use Rattle.std.proofs.Common.{◌≡◌, ◌+◌, ◌≤◌, ℕ, List, [], ◌∷◌, ◌++◌, length, subst, sym, ap, ◌∙◌, refl, append-nil, append_assoc, length-append, None, Some, Option, true, false, Ok, arith}
+use Rattle.pb_text.specs.Writing.{one_more}
+use Rattle.pb_text.specs.Standing.{Stands}
+use Rattle.pb_text.specs.declared.place.Place.{Place}
+use Rattle.pb_text.specs.declared.place.Spanned.{Spanned}
+use Rattle.pb_text.specs.declared.place.Stop.{Stop}
+use Rattle.pb_text.specs.Feeding.{StandsAt}
+use Rattle.pb_text.proofs.Begin.{stands_more, stands_ended, stands_failed}
+use Rattle.pb_text.proofs.Pulled.{lost_nothing, lost_byte, seen_byte, seen_end, seen_rest, seen_after, faults_with_other}
+use Rattle.pb_text.proofs.pulling.pull.Goals as goal
+
+pub returns-in-Some-clause-pulls : goal.returns-in-Some-clause-pulls
+returns-in-Some-clause-pulls g c longest start input marks counts s =
+    let f = c.args.feeder.now in
+    let before = g.S.Source.left c.args.source.now in
+    let seen = seen_after before [] before (lost_nothing before) in
+    let stopped : Some c.in-Some.stop ≡ f.stop = c.in-Some.ensures in
+    record {
+      taken = [];
+      seen = seen.0;
+      took = seen.1;
+      offset_is = omega arith;
+      stands = (s.0, rw append-nil (stands_more g.M.Machine.automaton longest start f.machine input marks f.place f.first seen.0 f.stop counts (λ e. cc) s.1))
+    }
+
+pub returns-then-is_done-clause-pulls : goal.returns-then-is_done-clause-pulls
+returns-then-is_done-clause-pulls g c longest start input marks counts s =
+    let f = c.args.feeder.now in
+    let before = g.S.Source.left c.args.source.now in
+    let seen = seen_after before [] before (lost_nothing before) in
+    let done : g.M.Machine.automaton.done f.machine ≡ true = sym c.if-is_done.ensures.done in
+    record {
+      taken = [];
+      seen = seen.0;
+      took = seen.1;
+      offset_is = omega arith;
+      stands = (s.0, rw append-nil (stands_more g.M.Machine.automaton longest start f.machine input marks f.place f.first seen.0 f.stop counts (λ e. done) s.1))
+    }
+
+pub loop-byte-init : goal.loop-byte-init
+loop-byte-init g c = record {
+  running = sym c.in_default.ensures;
+  unfinished = sym c.if-is_done.ensures.done;
+  state = c.is_done.ensures.state;
+  onward = omega arith;
+  faults = refl;
+  stands = λ longest start input marks s. ([], lost_nothing (g.S.Source.left c.args.source.now), omega arith, rw append-nil s)
+}
+
+pub returns-in-Ok-None-clause-pulls : goal.returns-in-Ok-None-clause-pulls
+returns-in-Ok-None-clause-pulls g c longest start input marks counts s =
+    let i = c.loop-byte.invariant.stands longest start input marks s in
+    let f = c.loop-byte.feeder in
+    let p = rw (c.in-Ok-None.is, c.in-Ok-None.field-0-is) at c.peek.ensures in
+    let k : Stands g.M.Machine.automaton longest start (input ++ i.0) marks f.machine f.place f.first None =
+      subst (λ (o : Option Stop). Stands g.M.Machine.automaton longest start (input ++ i.0) marks f.machine f.place f.first o) c.loop-byte.invariant.running i.3.1 in
+    let e = stands_ended g.M.Machine.automaton longest start f.machine (input ++ i.0) marks f.place f.first c.loop-byte.invariant.unfinished k in
+    record {
+      taken = i.0;
+      seen = [];
+      took = seen_end (g.S.Source.left c.args.source.now) i.0 (g.S.Source.left c.loop-byte.source) (g.S.Source.left c.peek.new.self) i.1 p.0 p.1;
+      offset_is = ap (λ (q : Place). q.offset) c.halt.ensures.place ∙ i.2;
+      stands = (c.halt.ensures.longest ∙ i.3.0, rw (append-nil, append-nil, c.halt.ensures.stop, c.halt.ensures.result, c.halt.ensures.machine, c.halt.ensures.place, c.halt.ensures.first) e)
+    }
+
+pub returns-in-Err-clause-pulls : goal.returns-in-Err-clause-pulls
+returns-in-Err-clause-pulls g c longest start input marks counts s =
+    let i = c.loop-byte.invariant.stands longest start input marks s in
+    let f = c.loop-byte.feeder in
+    let p = rw c.in-Err.is at c.peek.ensures in
+    let k : Stands g.M.Machine.automaton longest start (input ++ i.0) marks f.machine f.place f.first None =
+      subst (λ (o : Option Stop). Stands g.M.Machine.automaton longest start (input ++ i.0) marks f.machine f.place f.first o) c.loop-byte.invariant.running i.3.1 in
+    let seen = seen_rest (g.S.Source.left c.args.source.now) i.0 (g.S.Source.left c.loop-byte.source) (g.S.Source.left c.peek.new.self) i.1 p.0 in
+    let e = stands_failed g.M.Machine.automaton longest start f.machine (input ++ i.0) marks f.place f.first seen.0 c.loop-byte.invariant.unfinished k in
+    record {
+      taken = i.0;
+      seen = seen.0;
+      took = seen.1;
+      offset_is = ap (λ (q : Place). q.offset) c.halt-in-Err.ensures.place ∙ i.2;
+      stands = (c.halt-in-Err.ensures.longest ∙ i.3.0, rw (append-nil, ← append_assoc input i.0 seen.0, c.halt-in-Err.ensures.stop, c.halt-in-Err.ensures.result, c.halt-in-Err.ensures.machine, c.halt-in-Err.ensures.place, c.halt-in-Err.ensures.first) e)
+    }
+
+pub loop-byte-preserved : goal.loop-byte-preserved
+loop-byte-preserved g c =
+    let t = rw (c.in-Ok-None-take.is, c.in-Ok-None-take.field-0-is) at c.take.ensures in
+    let p = rw (c.in-Ok-Some.is, c.in-Ok-Some.field-0-is) at c.peek.ensures in
+    let b : ℕ = c.in-Ok-Some.byte in
+    record {
+      running = t.stop;
+      unfinished = t.unfinished refl;
+      state = t.state;
+      onward = omega (arith, t.offset, c.loop-byte.invariant.onward);
+      faults = c.skip.ensures.1 ∙ (p.3 ∙ c.loop-byte.invariant.faults);
+      stands = λ longest start input marks s.
+        let i = c.loop-byte.invariant.stands longest start input marks s in
+        let k = t.stands longest start (input ++ i.0) marks i.3 in
+        let m : StandsAt longest start (input ++ (i.0 ++ b ∷ [])) marks c.take.new.self = rw (← append_assoc input i.0 (b ∷ [])) (rw append-nil at k) in
+        (i.0 ++ b ∷ [], lost_byte (g.S.Source.left c.args.source.now) i.0 (g.S.Source.left c.loop-byte.source) (g.S.Source.left c.peek.new.self) (g.S.Source.left c.skip.new.self) b i.1 p.0 p.1 c.skip.ensures.0,
+          omega (arith, t.offset, i.2, length-append i.0 (b ∷ [])), m)
+    }
+
+pub returns-in-Ok-Some-take-clause-pulls : goal.returns-in-Ok-Some-take-clause-pulls
+returns-in-Ok-Some-take-clause-pulls g c longest start input marks counts s =
+    let t = rw (c.in-Ok-Some-take.is, c.in-Ok-Some-take.field-0-is) at c.take.ensures in
+    let p = rw (c.in-Ok-Some.is, c.in-Ok-Some.field-0-is) at c.peek.ensures in
+    let b : ℕ = c.in-Ok-Some.byte in
+    let i = c.loop-byte.invariant.stands longest start input marks s in
+    let k = t.stands longest start (input ++ i.0) marks i.3 in
+    let last = g.S.Source.left c.skip-in-Ok-Some-take.new.self in
+    let lost = lost_byte (g.S.Source.left c.args.source.now) i.0 (g.S.Source.left c.loop-byte.source) (g.S.Source.left c.peek.new.self) last b i.1 p.0 p.1 c.skip-in-Ok-Some-take.ensures.0 in
+    let seen = seen_after (g.S.Source.left c.args.source.now) (i.0 ++ b ∷ []) last lost in
+    record {
+      taken = i.0 ++ b ∷ [];
+      seen = seen.0;
+      took = seen.1;
+      offset_is = omega (arith, t.offset, i.2, length-append i.0 (b ∷ []));
+      stands = rw (← append_assoc input i.0 (b ∷ [])) k
+    }
+
+pub returns-in-Err-take-clause-pulls : goal.returns-in-Err-take-clause-pulls
+returns-in-Err-take-clause-pulls g c longest start input marks counts s =
+    let t = rw c.in-Err-take.is at c.take.ensures in
+    let p = rw (c.in-Ok-Some.is, c.in-Ok-Some.field-0-is) at c.peek.ensures in
+    let b : ℕ = c.in-Ok-Some.byte in
+    let n = c.take.new.self in
+    let i = c.loop-byte.invariant.stands longest start input marks s in
+    let k = t.stands longest start (input ++ i.0) marks i.3 in
+    let seen = seen_byte (g.S.Source.left c.args.source.now) i.0 (g.S.Source.left c.loop-byte.source) (g.S.Source.left c.peek.new.self) b i.1 p.0 p.1 in
+    let m = stands_more g.M.Machine.automaton longest start n.machine ((input ++ i.0) ++ b ∷ []) (marks ++ []) n.place n.first seen.0 n.stop t.counted (λ e. cc t.stop) k.1 in
+    let same : ((input ++ i.0) ++ b ∷ []) ++ seen.0 ≡ input ++ (i.0 ++ (b ∷ seen.0)) = append_assoc (input ++ i.0) (b ∷ []) seen.0 ∙ append_assoc input i.0 (b ∷ seen.0) in
+    record {
+      taken = i.0;
+      seen = b ∷ seen.0;
+      took = seen.1;
+      offset_is = t.still ∙ i.2;
+      stands = (k.0, subst (λ (x : List ℕ). Stands g.M.Machine.automaton longest start x (marks ++ []) n.machine n.place n.first n.stop) same m)
+    }
+
+pub returns-in-Err-take-clause-faults : goal.returns-in-Err-take-clause-faults
+returns-in-Err-take-clause-faults g c =
+    let t = rw c.in-Err-take.is at c.take.ensures in
+    let p = rw (c.in-Ok-Some.is, c.in-Ok-Some.field-0-is) at c.peek.ensures in
+    let none : c.args.feeder.now.stop ≡ None = sym c.in_default.ensures in
+    rw none (p.3 ∙ (c.loop-byte.invariant.faults ∙ sym (faults_with_other c.in-Err-take.stop.why (g.S.Source.faults c.args.source.now) t.unread)))

@@ -1,0 +1,94 @@
+-- What a feed says of the whole input.
+use Rattle.std.specs.Prelude.{◌≡◌, ℕ, ◌≤◌, List, [], ◌∷◌, ◌++◌, take, Bool, IsTrue, Option, Some, None, Result, Ok, Err}
+use Rattle.pb_text.specs.Spelling.{Item, place_after}
+use Rattle.pb_text.specs.Automaton.{Automaton, Accepts}
+use Rattle.pb_text.specs.Reading.{IsFront, HasOpen}
+use Rattle.pb_text.specs.Standing.{Stands, IsOpen}
+use Rattle.pb_text.specs.declared.place.Place.{Place}
+use Rattle.pb_text.specs.declared.place.Spanned.{Spanned}
+use Rattle.pb_text.specs.declared.place.Stop.{Stop}
+use Rattle.pb_text.specs.declared.place.Why.TheVariants.{Memory}
+use Rattle.pb_text.specs.declared.machine.Machine.{Ghosts}
+use Rattle.pb_text.specs.declared.feeder.Fed.{Fed}
+use Rattle.pb_text.specs.declared.feeder.Feeder.{Feeder}
+
+-- the state of a feeder's machine
+abbrev pub state_of : {M E : Type 0} {g : Ghosts M E} → Feeder M E g → M
+state_of f = f.machine
+
+-- the place of the next byte
+abbrev pub place_of : {M E : Type 0} {g : Ghosts M E} → Feeder M E g → Place
+place_of f = f.place
+
+-- why it stopped, if it did
+abbrev pub halt_of : {M E : Type 0} {g : Ghosts M E} → Feeder M E g → Option Stop
+halt_of f = f.stop
+
+-- the text is complete
+abbrev pub is_complete : {M E : Type 0} {g : Ghosts M E} → Feeder M E g → Bool
+is_complete {g} f = g.automaton.done f.machine
+
+-- The feeder, whose statements have at most longest bytes and which began with this machine, stands to this
+-- input and has answered these marks.
+abbrev pub StandsAt : {M E : Type 0} {g : Ghosts M E} → ℕ → M → List ℕ → List (Spanned E) → Feeder M E g → Type 0
+StandsAt {g} longest start input marks f =
+    (f.longest ≡ longest) × Stands g.automaton longest start input marks f.machine f.place f.first f.stop
+
+abbrev pub marks_in : {E : Type 0} → Option (Spanned E) → List (Spanned E)
+marks_in (Some m) = m ∷ []
+marks_in None = []
+
+abbrev pub stop_of : {A : Type 0} → Result A Stop → Option Stop
+stop_of (Ok x) = None
+stop_of (Err s) = Some s
+
+-- the marks that a byte brought
+abbrev pub marks_taken : {E : Type 0} → Result (Option (Spanned E)) Stop → List (Spanned E)
+marks_taken (Ok m) = marks_in m
+marks_taken (Err s) = []
+
+-- the marks that a feed brought
+abbrev pub marks_fed : {E : Type 0} → Result (Fed E) Stop → List (Spanned E)
+marks_fed (Ok fed) = marks_in fed.event
+marks_fed (Err s) = []
+
+abbrev pub bytes_with : {E : Type 0} → Option (Spanned E) → ℕ → List ℕ → List ℕ
+bytes_with (Some m) used piece = take used piece
+bytes_with None used piece = piece
+
+-- the bytes of the piece that the feed has dealt with: where an event came, those through its last
+abbrev pub bytes_fed : {E : Type 0} → Result (Fed E) Stop → List ℕ → List ℕ
+bytes_fed (Ok fed) piece = bytes_with fed.event fed.used piece
+bytes_fed (Err s) piece = piece
+
+-- what one feed says of the feeder
+abbrev pub FeedsOnce : {M E : Type 0} {g : Ghosts M E} → Feeder M E g → List ℕ → Result (Fed E) Stop → Feeder M E g → Type 0
+FeedsOnce {M} {E} {g} old piece result new =
+    ((longest : ℕ) (start : M) (input : List ℕ) (marks : List (Spanned E))
+        → IsOpen old.stop
+        → StandsAt longest start input marks old
+        → StandsAt longest start (input ++ bytes_fed result piece) (marks ++ marks_fed result) new)
+    × (IsOpen old.stop → IsOpen new.stop)
+
+-- feeds in a row, each a piece with what it answered
+abbrev pub Feeds : {M E : Type 0} {g : Ghosts M E} → Feeder M E g → List (List ℕ × Result (Fed E) Stop) → Feeder M E g → Type 0
+Feeds before [] after = before ≡ after
+Feeds {M} {E} {g} before (f ∷ feeds) after = (mid : Feeder M E g) × FeedsOnce before f.0 f.1 mid × Feeds mid feeds after
+
+-- all bytes fed: of a piece that gave an event, those through it
+abbrev pub input_fed : {E : Type 0} → List (List ℕ × Result (Fed E) Stop) → List ℕ
+input_fed [] = []
+input_fed (f ∷ feeds) = bytes_fed f.1 f.0 ++ input_fed feeds
+
+abbrev pub marks_answered : {E : Type 0} → List (List ℕ × Result (Fed E) Stop) → List (Spanned E)
+marks_answered [] = []
+marks_answered (f ∷ feeds) = marks_fed f.1 ++ marks_answered feeds
+
+-- a stop for want of memory comes at a byte that may ask for it
+abbrev pub WantsMemory : {M E : Type 0} {g : Ghosts M E} → Stop → Feeder M E g → ℕ → Type 0
+WantsMemory {g} stop f b = stop.why ≡ Memory → IsTrue (g.automaton.asks f.machine b)
+
+-- at most as much is held as there are bytes of a statement that the bytes used do not end
+abbrev pub HoldsFew : {M E : Type 0} {g : Ghosts M E} → M → List ℕ → Feeder M E g → ℕ → Type 0
+HoldsFew {g} start input f held =
+    (used : List ℕ) × (n : ℕ) × IsFront used input × (f.place ≡ place_after used) × HasOpen (Accepts g.automaton start) used n × (held ≤ n)

@@ -1,0 +1,249 @@
+//! Takes a text in pieces.
+
+ghost use Rattle.std.specs.Prelude.{true, false, ◌≡◌, ◌≢◌, ℕ, Some, None, Ok, Err, ◌+◌, ◌-◌, ◌^◌, ◌<◌, ◌≤◌, List, [], ◌∷◌, ◌++◌, OnOk, OnErr, IfOk, IfErr, length, slice_get};
+ghost use Rattle.pb_text.specs.Limit.{end_of};
+ghost use Rattle.pb_text.specs.Standing.{opened};
+
+use crate::machine::{Machine, Push};
+use crate::place::{Place, Spanned, Stop, Why};
+
+/// The most bytes that are read of one input.
+pub const BYTE_LIMIT: u64 = 1 << 40;
+
+/// What a feed took: `used` bytes of the piece, and the event that ends with the last of them.
+#[derive(Drop)]
+pub struct Fed<E> {
+    pub used: usize,
+    pub event: Option<Spanned<E>>,
+}
+
+/// Feeds a machine with a text, in whatever pieces it comes, and keeps no byte of it.
+#[derive(Drop)]
+pub struct Feeder<M: Machine> {
+    machine: M,
+    place: Place,
+    first: Option<Place>,
+    longest: u64,
+    end: u64,
+    stop: Option<Stop>,
+    ghost some: { 0 < longest },
+    ghost end_is: { end ≡ end_of longest first },
+    ghost offset_in_range: { place.offset ≤ end },
+    ghost line_in_range: { place.line ≤ place.offset + 1 },
+    ghost column_in_range: { place.column ≤ place.offset + 1 },
+}
+
+impl<M: Machine> Feeder<M> {
+    ghost use Rattle.pb_text.specs.declared.place.Spanned.{Spanned};
+    ghost use Rattle.pb_text.specs.declared.place.Stop.{Stop};
+    ghost use Rattle.pb_text.specs.Automaton.{Accepts, IsState};
+    ghost use Rattle.pb_text.specs.Standing.{IsOpen};
+    ghost use Rattle.pb_text.specs.Reading.{Reads, EndsAs};
+    ghost use Rattle.pb_text.specs.Feeding.{StandsAt, FeedsOnce, HoldsFew, WantsMemory, stop_of, marks_taken, state_of, place_of, halt_of, is_complete};
+
+    /// A feeder of a machine that has begun no statement.
+    pub fn new(machine: M) -> Self
+        requires between { M.automaton.begun machine ≡ false }
+        ensures stands { StandsAt BYTE_LIMIT machine [] [] result }
+        ensures running { halt_of result ≡ None }
+        ensures state { state_of result ≡ machine }
+    {
+        Feeder::within(machine, BYTE_LIMIT)
+    }
+
+    /// A feeder that stops at a statement which has not ended within its first `longest` bytes.
+    pub fn within(machine: M, longest: u64) -> Self
+        requires between { M.automaton.begun machine ≡ false }
+        requires some { 0 < longest }
+        ensures stands { StandsAt longest machine [] [] result }
+        ensures running { halt_of result ≡ None }
+        ensures state { state_of result ≡ machine }
+    {
+        let _ = machine.is_done();
+        Feeder {
+            machine,
+            place: Place::START,
+            first: None,
+            longest,
+            end: BYTE_LIMIT,
+            stop: None,
+        }
+    }
+
+    /// Whether the text is complete.
+    pub fn is_done(&self) -> bool
+        ensures done { result ≡ is_complete self.now }
+        ensures state { IsState M.automaton (state_of self.now) }
+        // The marks that were answered, the place, this answer and the stop are those of a read of the input.
+        ensures reads { (longest : ℕ) (start : M) (input : List ℕ) (marks : List (Spanned M.Event))
+            → StandsAt longest start input marks self.now
+            → (used : List ℕ) × Reads (Accepts M.automaton start) longest input used marks (place_of self.now) result (halt_of self.now) }
+    {
+        self.machine.is_done()
+    }
+
+    /// The place of the next byte.
+    pub fn place(&self) -> Place
+        ensures { result ≡ place_of self.now }
+    {
+        self.place
+    }
+
+    /// How much of the current statement is kept.
+    pub fn held(&self) -> usize
+        ensures kept { result ≡ M.automaton.kept (state_of self.now) }
+        ensures few { (longest : ℕ) (start : M) (input : List ℕ) (marks : List (Spanned M.Event))
+            → StandsAt longest start input marks self.now
+            → HoldsFew start input self.now result }
+    {
+        self.machine.held()
+    }
+
+    /// The input has ended: `Ok` where the text is complete, else `Ended`.
+    pub fn finish(&mut self) -> Result<(), Stop>
+        ensures ends { (longest : ℕ) (start : M) (input : List ℕ) (marks : List (Spanned M.Event))
+            → halt_of self.old ≡ None
+            → StandsAt longest start input marks self.old
+            → (used : List ℕ) × EndsAs (Accepts M.automaton start) longest input used marks (place_of self.new) result }
+        ensures again { (stop : Stop) → halt_of self.old ≡ Some stop → (result ≡ Err stop) × (self.new ≡ self.old) }
+        ensures stop { halt_of self.new ≡ stop_of result }
+        ensures place { place_of self.new ≡ place_of self.old }
+        ensures state { state_of self.new ≡ state_of self.old }
+    {
+        if let Some(stop) = self.stop {
+            return Err(stop);
+        }
+        if self.machine.is_done() {
+            Ok(())
+        } else {
+            Err(self.halt(Why::Ended))
+        }
+    }
+
+    /// Takes bytes of the piece up to the next event, or all of them. After a stop, and after the last event, it
+    /// takes none.
+    pub fn feed(&mut self, piece: &[u8]) -> Result<Fed<M::Event>, Stop>
+        // As the feeder stood to all the input before, it stands to that with these bytes.
+        ensures feeds { FeedsOnce self.old piece.now result self.new }
+        ensures stop { halt_of self.new ≡ stop_of result }
+        ensures used { IfOk result (λ fed. ((place_of self.new).offset ≡ (place_of self.old).offset + fed.used) × (fed.used ≤ length piece.now)) }
+        ensures again { (stop : Stop) → halt_of self.old ≡ Some stop → (result ≡ Err stop) × (self.new ≡ self.old) }
+        ensures done { is_complete self.old ≡ true → halt_of self.old ≡ None
+            → (result ≡ Ok (record { used = 0; event = None })) × (self.new ≡ self.old) }
+        // Memory is wanted only at a byte that may ask for it.
+        ensures memory { halt_of self.old ≡ None → IfErr result (λ stop. (b : ℕ)
+            × (slice_get piece.now ((place_of self.new).offset - (place_of self.old).offset) ≡ Some b) × WantsMemory stop self.new b) }
+    {
+        if let Some(stop) = self.stop {
+            return Err(stop);
+        }
+        if self.machine.is_done() {
+            return Ok(Fed {
+                used: 0,
+                event: None,
+            });
+        }
+        for (i, byte) in piece.iter().enumerate() {
+            match self.take(*byte) {
+                Ok(None) => {}
+                Ok(Some(event)) => {
+                    return Ok(Fed {
+                        used: i + 1,
+                        event: Some(event),
+                    });
+                }
+                Err(stop) => return Err(stop),
+            }
+        }
+        Ok(Fed {
+            used: piece.len(),
+            event: None,
+        })
+    }
+
+    /// Why it stopped, if it did.
+    pub(crate) fn stopped(&self) -> Option<Stop>
+        ensures { result ≡ halt_of self.now }
+    {
+        self.stop
+    }
+
+    pub(crate) fn halt(&mut self, why: Why) -> Stop
+        ensures result { result ≡ record { place = self.old.place; why = why } }
+        ensures stop { self.new.stop ≡ Some result }
+        ensures machine { self.new.machine ≡ self.old.machine }
+        ensures place { self.new.place ≡ self.old.place }
+        ensures first { self.new.first ≡ self.old.first }
+        ensures longest { self.new.longest ≡ self.old.longest }
+    {
+        let stop = Stop {
+            place: self.place,
+            why,
+        };
+        self.stop = Some(stop);
+        stop
+    }
+
+    /// Takes one byte.
+    pub(crate) fn take(&mut self, byte: u8) -> Result<Option<Spanned<M::Event>>, Stop>
+        requires unfinished { is_complete self.old ≡ false }
+        requires running { halt_of self.old ≡ None }
+        requires state { IsState M.automaton (state_of self.old) }
+        ensures stands { (longest : ℕ) (start : M) (input : List ℕ) (marks : List (Spanned M.Event))
+            → StandsAt longest start input marks self.old
+            → StandsAt longest start (input ++ byte ∷ []) (marks ++ marks_taken result) self.new }
+        ensures stop { halt_of self.new ≡ stop_of result }
+        ensures counted { IsOpen (halt_of self.new) }
+        ensures offset { OnOk result ((place_of self.new).offset ≡ (place_of self.old).offset + 1) }
+        ensures still { OnErr result ((place_of self.new).offset ≡ (place_of self.old).offset) }
+        ensures unfinished { result ≡ Ok None → is_complete self.new ≡ false }
+        ensures state { IsState M.automaton (state_of self.new) }
+        ensures memory { IfErr result (λ stop. WantsMemory stop self.new byte) }
+        ensures unread { IfErr result (λ stop. stop.why ≢ Why.Read) }
+    {
+        if self.place.offset == self.end {
+            return Err(self.halt(Why::TooLong));
+        }
+        let starts = self.machine.starts(byte);
+        match self.machine.push(byte) {
+            Push::Go => {
+                self.first = opened_at(self.first, starts, self.place);
+                self.end = end_at(self.longest, self.first);
+                self.place = self.place.after(byte);
+                Ok(None)
+            }
+            Push::Event(event) => {
+                let first = self.first.unwrap_or(self.place);
+                let past = self.place.after(byte);
+                self.first = None;
+                self.end = BYTE_LIMIT;
+                self.place = past;
+                Ok(Some(Spanned { event, first, past }))
+            }
+            Push::No => Err(self.halt(Why::Byte(byte))),
+            Push::Large => Err(self.halt(Why::TooLarge)),
+            Push::Memory => Err(self.halt(Why::Memory)),
+        }
+    }
+}
+
+/// Where the statement began that the next byte is in.
+fn opened_at(first: Option<Place>, starts: bool, place: Place) -> Option<Place>
+    ensures { result ≡ opened first starts place }
+{
+    match first {
+        Some(first) => Some(first),
+        None if starts => Some(place),
+        None => None,
+    }
+}
+
+/// The offset at which the next byte is too long.
+fn end_at(longest: u64, first: Option<Place>) -> u64
+    ensures { result ≡ end_of longest first }
+{
+    match first {
+        Some(first) => first.offset.saturating_add(longest).min(BYTE_LIMIT),
+        None => BYTE_LIMIT,
+    }
+}

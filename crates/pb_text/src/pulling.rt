@@ -1,0 +1,60 @@
+//! The next event of a source.
+
+ghost use Rattle.std.specs.Prelude.{true, ◌≡◌, ◌<◌, ℕ, List, [], Option, Some, None, Result, Ok, Err, IfErr};
+ghost use Rattle.pb_text.specs.Automaton.{IsState};
+ghost use Rattle.pb_text.specs.Standing.{IsOpen};
+ghost use Rattle.pb_text.specs.Feeding.{StandsAt, WantsMemory, stop_of, state_of, place_of, halt_of, is_complete};
+ghost use Rattle.pb_text.specs.Pulling.{Pulls, faults_after};
+ghost use Rattle.pb_text.specs.declared.place.Spanned.{Spanned};
+ghost use Rattle.pb_text.specs.declared.place.Stop.{Stop};
+
+use crate::feeder::Feeder;
+use crate::machine::Machine;
+use crate::place::{Spanned, Stop, Why};
+use crate::source::{Failed, Source};
+
+/// The next event of the source, or `None` after the last one. It takes exactly the bytes used. Where the source
+/// has no more bytes it answers as `finish`. Once done or stopped it does not ask the source.
+pub fn pull<S: Source, M: Machine>(
+    source: &mut S,
+    feeder: &mut Feeder<M>,
+) -> Result<Option<Spanned<M::Event>>, Stop>
+    ensures pulls { (longest : ℕ) (start : M) (input : List ℕ) (marks : List (Spanned M.Event))
+        → IsOpen (halt_of feeder.old)
+        → StandsAt longest start input marks feeder.old
+        → Pulls longest start input marks feeder.old (S.left source.old) result feeder.new (S.left source.new) }
+    ensures again { (stop : Stop) → halt_of feeder.old ≡ Some stop
+        → (result ≡ Err stop) × (feeder.new ≡ feeder.old) × (source.new ≡ source.old) }
+    ensures done { is_complete feeder.old ≡ true → halt_of feeder.old ≡ None
+        → (result ≡ Ok None) × (feeder.new ≡ feeder.old) × (source.new ≡ source.old) }
+    ensures stop { halt_of feeder.new ≡ stop_of result }
+    ensures last { result ≡ Ok None → is_complete feeder.new ≡ true }
+    ensures onward { (event : Spanned M.Event) → result ≡ Ok (Some event) → (place_of feeder.old).offset < (place_of feeder.new).offset }
+    // `Read` is first answered only where the source failed in this call.
+    ensures faults { S.faults source.new ≡ faults_after (halt_of feeder.old) result (S.faults source.old) }
+    // Memory is wanted only at a byte that may ask for it.
+    ensures memory { halt_of feeder.old ≡ None → IfErr result (λ stop. (b : ℕ) × WantsMemory stop feeder.new b) }
+    ensures state { halt_of feeder.old ≡ None → IsState M.automaton (state_of feeder.new) }
+{
+    if let Some(stop) = feeder.stopped() {
+        return Err(stop);
+    }
+    if feeder.is_done() {
+        return Ok(None);
+    }
+    loop {
+        let byte = match source.peek() {
+            Ok(Some(byte)) => byte,
+            Ok(None) => return Err(feeder.halt(Why::Ended)),
+            Err(Failed) => return Err(feeder.halt(Why::Read)),
+        };
+        match feeder.take(byte) {
+            Ok(None) => source.skip(),
+            Ok(Some(event)) => {
+                source.skip();
+                return Ok(Some(event));
+            }
+            Err(stop) => return Err(stop),
+        }
+    }
+}
