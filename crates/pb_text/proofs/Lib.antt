@@ -11,3 +11,4 @@ pub mod Steps
 pub mod Begin
 pub mod Cutting
 pub mod Pulled
+pub mod Wholes

@@ -12,6 +12,10 @@ pub place_after-offset : (text : List ℕ) → (place_after text).offset ≡ len
 unfolding place_after
 place_after-offset text = refl
 
+pub end_limit : (longest : ℕ) (q : Option Place) → end_of longest q ≤ byte_limit
+end_limit longest None = omega arith
+end_limit longest (Some p) = omega arith
+
 pub gap_longer : (before gap : List ℕ) → length before ≤ (place_after (before ++ gap)).offset
 gap_longer before gap = omega (arith, place_after-offset (before ++ gap), length-append before gap)
 

@@ -16,16 +16,12 @@ use Rattle.pb_text.proofs.Residual.{Put, PutLast, Takes, residual, takes_between
 use Rattle.pb_text.proofs.Lists.{bytes-append, length-bytes, gap_advances, letter_advances, last_advances}
 use Rattle.pb_text.proofs.Follows.{step}
 use Rattle.pb_text.proofs.Places.{place_after-snoc}
-use Rattle.pb_text.proofs.Short.{place_after-offset, AreShort-append, AreShort-grown}
+use Rattle.pb_text.proofs.Short.{end_limit, place_after-offset, AreShort-append, AreShort-grown}
 
 last_numeral-snoc : (ls : List Letter) (l : Letter) → last_numeral (ls ++ l ∷ []) ≡ l.numeral
 last_numeral-snoc [] l = refl
 last_numeral-snoc (m ∷ []) l = refl
 last_numeral-snoc (m ∷ n ∷ ls) l = last_numeral-snoc (n ∷ ls) l
-
-all_bytes : (longest : ℕ) (q : Option Place) → end_of longest q ≤ byte_limit
-all_bytes longest None = omega arith
-all_bytes longest (Some p) = omega arith
 
 module _ {S E : Type 0} (m : Automaton S E) (longest : ℕ) (start old new : S) (input : List ℕ) (marks : List (Spanned E)) (place : Place) (first : Option Place)
   (s : Stands m longest start input marks old place first None) (unfinished : m.done old ≡ false) (b : ℕ) where
@@ -153,7 +149,7 @@ module _ {S E : Type 0} (m : Automaton S E) (longest : ℕ) (start old new : S) 
       (omega (arith, place_after-offset (here ++ b ∷ []), length-append here (b ∷ []), length-bytes s.letters, longer), tt) in
     let k = step (Accepts m start) (Accepts m old) (Accepts m new) (PutLast letter e) s.letters marks first letter (q ∷ []) None s.follows (takes_last m old new b e ends out state) (last_advances letter e here first) (residual m old s.is_state) (residual m new state) ended in
     moved (n ∷ []) None (subst (λ (r : Spanned E). Follows (Accepts m start) (Accepts m new) (s.letters ++ letter ∷ []) (marks ++ r ∷ []) None) same k)
-    state (sym out) (λ h. absurd (false≢true h)) (omega (arith, all_bytes longest first, lt, offset_is)) (mark_fits first e (place_next place b) past_offset lt) (state.empties out)
+    state (sym out) (λ h. absurd (false≢true h)) (omega (arith, end_limit longest first, lt, offset_is)) (mark_fits first e (place_next place b) past_offset lt) (state.empties out)
 
   -- a stop at the byte, the machine being where it was
   stopped : (stop : Stop) → stop.place ≡ place → Halts m old (end_of longest first) s.letters (b ∷ []) stop.why → new ≡ old

@@ -9,3 +9,4 @@ pub mod Source
 pub mod Spelling
 pub mod Standing
 pub mod Writing
+pub mod Whole

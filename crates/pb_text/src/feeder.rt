@@ -46,6 +46,7 @@ impl<M: Machine> Feeder<M> {
         requires between { M.automaton.begun machine ≡ false }
         ensures stands { StandsAt BYTE_LIMIT machine [] [] result }
         ensures running { halt_of result ≡ None }
+        ensures place { place_of result ≡ Place.START }
         ensures state { state_of result ≡ machine }
     {
         Feeder::within(machine, BYTE_LIMIT)
@@ -57,6 +58,7 @@ impl<M: Machine> Feeder<M> {
         requires some { 0 < longest }
         ensures stands { StandsAt longest machine [] [] result }
         ensures running { halt_of result ≡ None }
+        ensures place { place_of result ≡ Place.START }
         ensures state { state_of result ≡ machine }
     {
         let _ = machine.is_done();

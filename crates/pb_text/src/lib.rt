@@ -10,6 +10,7 @@ mod pulling;
 mod sequence;
 mod sink;
 mod source;
+mod whole;
 
 pub use feeder::{BYTE_LIMIT, Fed, Feeder};
 pub use limits::Limits;
@@ -19,3 +20,4 @@ pub use pulling::pull;
 pub use sequence::{Bytes, Sequence};
 pub use sink::{Sink, write_bytes};
 pub use source::{Failed, Source};
+pub use whole::{Gather, read_whole};

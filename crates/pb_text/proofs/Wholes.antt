@@ -1,0 +1,107 @@
+-- Pulls in a row are a whole read.
+use Rattle.std.proofs.Common.{◌≡◌, ℕ, ◌+◌, List, [], ◌∷◌, ◌++◌, length, map, take, Bool, true, false, Option, Some, None, Result, Ok, Err, refl, sym, ap, ap₂, ◌∙◌, subst, subst₂, append-nil, append_assoc, arith, length-append}
+use Rattle.std.proofs.Math.Seq.{take-append_seam}
+use Rattle.std.proofs.lemmas.Bool.{false≢true}
+use Rattle.pb_text.specs.Automaton.{Automaton, Accepts, IsState}
+use Rattle.pb_text.specs.Spelling.{Letter, Item, bytes, bytes_of, marks_of, marks_since, place_after, place_or}
+use Rattle.pb_text.specs.Reading.{Reads, IsSpelled, IsUnderWay, Viable}
+use Rattle.pb_text.specs.Limit.{end_of}
+use Rattle.pb_text.specs.Standing.{Stands, IsOpen, Waits}
+use Rattle.pb_text.specs.Feeding.{StandsAt, is_complete}
+use Rattle.pb_text.specs.Pulling.{Pulls, Took}
+use Rattle.pb_text.specs.Whole.{gathered, events_of, IsWhole, StopsAfter, Reading, Keeping, ReadsWhole}
+use Rattle.pb_text.specs.declared.place.Place.{Place}
+use Rattle.pb_text.specs.declared.place.Spanned.{Spanned}
+use Rattle.pb_text.specs.declared.place.Stop.{Stop}
+use Rattle.pb_text.specs.declared.place.Why.TheVariants.{Memory}
+use Rattle.pb_text.specs.declared.feeder.Feeder.{Feeder}
+use Rattle.pb_text.specs.declared.machine.Machine.{Ghosts}
+use Rattle.pb_text.proofs.Pulled.{Lost}
+use Rattle.pb_text.proofs.Residual.{residual}
+use Rattle.pb_text.proofs.Answer.{is_viable}
+use Rattle.pb_text.proofs.Short.{place_after-offset}
+use Rattle.pb_text.proofs.Told.{stands_reads}
+
+same_front : (a b x y : List ℕ) → a ++ x ≡ b ++ y → length a ≡ length b → a ≡ b
+same_front a b x y e n = sym (take-append_seam a x) ∙ (ap₂ (λ (k : ℕ) (z : List ℕ). take k z) n e ∙ take-append_seam b y)
+
+-- what was lost before and what was taken now
+pub took_all : (before now after : Option (List ℕ)) (taken more seen : List ℕ) → Lost before taken now → Took now more seen after → Took before (taken ++ more) seen after
+took_all None now after taken more seen l t = tt
+took_all (Some bytes) None after taken more seen l t = let none : ◌≡◌ {A = Option (List ℕ)} None (Some l.0) = l.2 in cc none
+took_all (Some bytes) (Some rest) after taken more seen l t =
+    let same : l.0 ≡ rest = (let e : Some rest ≡ Some l.0 = l.2 in cc) in
+    (l.1 ∙ (ap (λ (x : List ℕ). taken ++ x) (same ∙ t.0) ∙ sym (append_assoc taken more seen)), t.1)
+
+-- what was taken is lost
+pub lost_all : (before after : Option (List ℕ)) (taken seen : List ℕ) → Took before taken seen after → Lost before taken after
+lost_all None after taken seen t = tt
+lost_all (Some bytes) after taken seen t = (seen, t.0, t.1)
+
+-- a machine that stopped is not done
+halted : {S E : Type 0} (m : Automaton S E) (state : S) (end : ℕ) (letters : List Letter) (left : List ℕ) (place : Place) (stop : Option Stop) (halt : Stop) → stop ≡ Some halt → Waits m state end letters left place stop → (m.done state ≡ false) × (halt.place ≡ place)
+halted m state end letters left place None halt e w = cc
+halted m state end letters left place (Some s) halt e w = (w.0, ap (λ (x : Stop). x.place) (sym (let k : s ≡ halt = cc in k)) ∙ w.1)
+
+-- the events of marks
+marks_events : {E : Type 0} (first : Option Place) (before : List ℕ) (items : List (Item E)) → map (λ m. m.event) (marks_since first before items) ≡ events_of items
+marks_events first before [] = refl
+marks_events first before (i ∷ items) = ap (λ (x : List _). i.event ∷ x) (marks_events None (before ++ (i.gap ++ bytes i.text)) items)
+
+-- the value with one event more
+pub gathered_more : {V E : Type 0} (with : V → E → V) (empty value next : V) (marks : List (Spanned E)) (m : Spanned E) → value ≡ gathered with empty (map (λ n. n.event) marks) → next ≡ with value m.event → next ≡ gathered with empty (map (λ n. n.event) (marks ++ m ∷ []))
+gathered_more with empty value next [] m e h = h ∙ ap (λ (v : _). with v m.event) e
+gathered_more with empty value next (n ∷ marks) m e h = gathered_more with (with empty n.event) value next marks m e h
+
+module _ {M E : Type 0} {g : Ghosts M E} (longest : ℕ) (start : M) (marks : List (Spanned E)) (old new : Feeder M E g) (before now after : Option (List ℕ)) (taken : List ℕ) (lost : Lost before taken now) (offset_is : old.place.offset ≡ length taken) where
+  module _ (result : Result (Option (Spanned E)) Stop) (p : Pulls longest start taken marks old now result new after) where
+    letters_are : (input : List ℕ) → (s : Stands g.automaton longest start input marks new.machine new.place new.first new.stop) → (left : List ℕ) → input ≡ (taken ++ p.taken) ++ left → bytes s.letters ≡ taken ++ p.taken
+    letters_are input s left e =
+      same_front (bytes s.letters) (taken ++ p.taken) s.left left (sym s.input_is ∙ e)
+      (sym (place_after-offset (bytes s.letters)) ∙ (sym (ap (λ (q : Place). q.offset) s.place_is) ∙ omega (arith, p.offset_is, length-append taken p.taken)))
+
+  module _ {V : Type 0} (with : V → E → V) (empty value : V) (value_is : value ≡ gathered with empty (map (λ m. m.event) marks)) where
+    pub whole_done : (p : Pulls longest start taken marks old now (Ok None) new after) → new.stop ≡ None → is_complete new ≡ true
+      → ReadsWhole (Accepts g.automaton start) longest with empty before (Ok (record { event = value; first = record { line = 1; column = 1; offset = 0 }; past = new.place })) after
+    unfolding place_after
+    whole_done p running done =
+      let s : Stands g.automaton longest start (taken ++ (p.taken ++ p.seen)) marks new.machine new.place new.first new.stop = rw append-nil at p.stands.1 in
+      let used : bytes s.letters ≡ taken ++ p.taken = letters_are (Ok None) p (taken ++ (p.taken ++ p.seen)) s p.seen (sym (append_assoc taken p.taken p.seen)) in
+      let r = stands_reads g.automaton longest start (taken ++ (p.taken ++ p.seen)) marks new.machine new.place new.first new.stop s true (sym done) in
+      let spelled : IsSpelled (Accepts g.automaton start) longest (bytes s.letters) marks = r.answer.0 in
+      let spelled' : IsSpelled (Accepts g.automaton start) longest (taken ++ p.taken) marks = subst (λ (x : List ℕ). IsSpelled (Accepts g.automaton start) longest x marks) used spelled in
+      (taken ++ p.taken, p.seen, took_all before now after taken p.taken p.seen lost p.took, record {
+        marks = marks;
+        spelled = spelled';
+        value_is = value_is ∙ ap (gathered with empty) (ap (map (λ m. m.event)) spelled'.marks_are ∙ marks_events None [] spelled'.items);
+        first_is = refl;
+        past_is = s.place_is ∙ ap place_after used
+      })
+
+  pub whole_stopped : {V : Type 0} (with : V → E → V) (empty : V) (stop : Stop) (p : Pulls longest start taken marks old now (Err stop) new after) → new.stop ≡ Some stop
+    → ReadsWhole (Accepts g.automaton start) longest with empty before (Err stop) after
+  whole_stopped with empty stop p halts =
+    let s : Stands g.automaton longest start (taken ++ (p.taken ++ p.seen)) marks new.machine new.place new.first new.stop = rw append-nil at p.stands.1 in
+    let used : bytes s.letters ≡ taken ++ p.taken = letters_are (Err stop) p (taken ++ (p.taken ++ p.seen)) s p.seen (sym (append_assoc taken p.taken p.seen)) in
+    let w = halted g.automaton new.machine (end_of longest new.first) s.letters s.left new.place new.stop stop halts s.waits in
+    let r = stands_reads g.automaton longest start (taken ++ (p.taken ++ p.seen)) marks new.machine new.place new.first new.stop s false (sym w.0) in
+    let r' : Reads (Accepts g.automaton start) longest ((taken ++ p.taken) ++ p.seen) (taken ++ p.taken) marks stop.place false (Some stop) =
+      subst₂ (λ (x y : List ℕ). Reads (Accepts g.automaton start) longest x y marks stop.place false (Some stop)) (sym (append_assoc taken p.taken p.seen)) used
+      (subst₂ (λ (q : Place) (o : Option Stop). Reads (Accepts g.automaton start) longest (taken ++ (p.taken ++ p.seen)) (bytes s.letters) marks q false o) (sym w.1) halts r) in
+    (taken ++ p.taken, p.seen, took_all before now after taken p.taken p.seen lost p.took, Reading marks r')
+
+  -- after an event
+  pub whole_event : (m : Spanned E) (p : Pulls longest start taken marks old now (Ok (Some m)) new after)
+    → Lost before (taken ++ p.taken) after × (new.place.offset ≡ length (taken ++ p.taken)) × StandsAt longest start (taken ++ p.taken) (marks ++ m ∷ []) new
+  whole_event m p = (lost_all before after (taken ++ p.taken) p.seen (took_all before now after taken p.taken p.seen lost p.took), omega (arith, p.offset_is, length-append taken p.taken), p.stands)
+
+  -- where an event could not be kept
+  pub whole_unkept : {V : Type 0} (with : V → E → V) (empty : V) (m : Spanned E) (p : Pulls longest start taken marks old now (Ok (Some m)) new after)
+    → ReadsWhole (Accepts g.automaton start) longest with empty before (Err (record { place = new.place; why = Memory })) after
+  whole_unkept with empty m p =
+    let s = p.stands.1 in
+    let used : bytes s.letters ≡ taken ++ p.taken = same_front (bytes s.letters) (taken ++ p.taken) s.left [] (sym s.input_is ∙ sym (append-nil (taken ++ p.taken)))
+      (sym (place_after-offset (bytes s.letters)) ∙ (sym (ap (λ (q : Place). q.offset) s.place_is) ∙ omega (arith, p.offset_is, length-append taken p.taken))) in
+    let viable = is_viable (Accepts g.automaton start) (Accepts g.automaton new.machine) s.letters (marks ++ m ∷ []) new.first s.follows (residual g.automaton new.machine s.is_state) in
+    (taken ++ p.taken, p.seen, took_all before now after taken p.taken p.seen lost p.took,
+      Keeping (subst (λ (x : List ℕ). Viable (Accepts g.automaton start) x) used viable) (ap (λ (q : Place). let t : Stop = record { place = q; why = Memory } in t) (s.place_is ∙ ap place_after used)))

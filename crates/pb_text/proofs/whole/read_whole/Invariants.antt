@@ -1,0 +1,18 @@
+use Rattle.std.proofs.Common.{◌≡◌, ◌+◌, ◌-◌, ◌^◌, ℕ, List, None, map, length}
+use Rattle.pb_text.specs.declared.place.Spanned.{Spanned}
+use Rattle.pb_text.specs.Feeding.{StandsAt}
+use Rattle.pb_text.specs.Whole.{gathered}
+use Rattle.pb_text.proofs.Pulled.{Lost}
+use Rattle.pb_text.proofs.whole.read_whole.Given as goal
+
+-- the value is that of the events so far
+abbrev pub invariant-loop-spanned : goal.invariant-loop-spanned
+invariant-loop-spanned g l = record {
+  running : l.feeder.stop ≡ None;
+  faults : g.S.Source.faults l.source ≡ g.S.Source.faults l.fn.source;
+  stands : (taken : List ℕ) × (marks : List (Spanned _)) × Lost (g.S.Source.left l.fn.source) taken (g.S.Source.left l.source) × (l.feeder.place.offset ≡ length taken)
+    × (l.value ≡ gathered g.G.Gather.with l.fn.empty (map (λ m. m.event) marks)) × StandsAt l.fn.longest l.fn.machine taken marks l.feeder
+}
+
+abbrev pub decreases-loop-spanned : goal.decreases-loop-spanned
+decreases-loop-spanned g l = 2 ^ 40 + 1 - l.feeder.place.offset

@@ -1,0 +1,66 @@
+//! Reads one whole spelling.
+
+ghost use Rattle.std.specs.Prelude.{false, ◌≡◌, ◌<◌, None, OnOk};
+ghost use Rattle.pb_text.specs.Automaton.{Accepts};
+ghost use Rattle.pb_text.specs.Pulling.{faults_after};
+ghost use Rattle.pb_text.specs.Whole.{ReadsWhole};
+
+use crate::feeder::Feeder;
+use crate::machine::Machine;
+use crate::place::{Place, Spanned, Stop, Why};
+use crate::pulling::pull;
+use crate::source::Source;
+use std::alloc::AllocError;
+
+/// A value that events are put together to.
+pub trait Gather {
+    type Event;
+
+    /// The value with an event more.
+    ghost with: { Self → Self.Event → Self };
+
+    /// Adds an event.
+    fn add(&mut self, event: Self::Event) -> Result<(), AllocError>
+        ensures { OnOk result (self.new ≡ with self.old event) };
+}
+
+/// Reads one spelling of a machine's texts and puts its events together, beginning with `empty`. It takes the
+/// bytes of that spelling alone.
+///
+/// A stop is that of the machine's feeder; `Memory` also comes where an event could not be kept, and stands
+/// behind it.
+pub fn read_whole<S: Source, M: Machine + Drop, G: Gather<Event = M::Event> + Drop>(
+    source: &mut S,
+    machine: M,
+    longest: u64,
+    empty: G,
+) -> Result<Spanned<G>, Stop>
+    requires between { M.automaton.begun machine ≡ false }
+    requires some { 0 < longest }
+    ensures reads { ReadsWhole (Accepts M.automaton machine) longest G.with empty (S.left source.old) result (S.left source.new) }
+    // `Read` comes only where the source failed.
+    ensures faults { S.faults source.new ≡ faults_after None result (S.faults source.old) }
+{
+    let mut feeder = Feeder::within(machine, longest);
+    let mut value = empty;
+    loop {
+        match pull(source, &mut feeder) {
+            Ok(Some(spanned)) => {
+                if let Err(AllocError) = value.add(spanned.event) {
+                    return Err(Stop {
+                        place: feeder.place(),
+                        why: Why::Memory,
+                    });
+                }
+            }
+            Ok(None) => {
+                return Ok(Spanned {
+                    event: value,
+                    first: Place::START,
+                    past: feeder.place(),
+                });
+            }
+            Err(stop) => return Err(stop),
+        }
+    }
+}
