@@ -12,3 +12,5 @@ pub mod Begin
 pub mod Cutting
 pub mod Pulled
 pub mod Wholes
+pub mod Blanks
+pub mod Overs

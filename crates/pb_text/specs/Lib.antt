@@ -10,3 +10,6 @@ pub mod Spelling
 pub mod Standing
 pub mod Writing
 pub mod Whole
+pub mod Blank
+pub mod Over
+pub mod Kept

@@ -36,6 +36,7 @@ pub struct Feeder<M: Machine> {
 impl<M: Machine> Feeder<M> {
     ghost use Rattle.pb_text.specs.declared.place.Spanned.{Spanned};
     ghost use Rattle.pb_text.specs.declared.place.Stop.{Stop};
+    ghost use Rattle.pb_text.specs.Blank.{IsInReach};
     ghost use Rattle.pb_text.specs.Automaton.{Accepts, IsState};
     ghost use Rattle.pb_text.specs.Standing.{IsOpen};
     ghost use Rattle.pb_text.specs.Reading.{Reads, EndsAs};
@@ -86,7 +87,8 @@ impl<M: Machine> Feeder<M> {
 
     /// The place of the next byte.
     pub fn place(&self) -> Place
-        ensures { result ≡ place_of self.now }
+        ensures place { result ≡ place_of self.now }
+        ensures reach { IsInReach result }
     {
         self.place
     }

@@ -1,10 +1,12 @@
 //! Machines.
 #![tactic(auto)]
 
+mod blank;
 mod feeder;
 pub mod laws;
 mod limits;
 mod machine;
+mod over;
 mod place;
 mod pulling;
 mod sequence;
@@ -12,9 +14,11 @@ mod sink;
 mod source;
 mod whole;
 
+pub use blank::rest_is_blank;
 pub use feeder::{BYTE_LIMIT, Fed, Feeder};
 pub use limits::Limits;
 pub use machine::{Machine, Push};
+pub use over::Over;
 pub use place::{Place, Spanned, Stop, Why};
 pub use pulling::pull;
 pub use sequence::{Bytes, Sequence};

@@ -1,7 +1,8 @@
 //! Reads one whole spelling.
 
-ghost use Rattle.std.specs.Prelude.{false, ◌≡◌, ◌<◌, None, OnOk};
+ghost use Rattle.std.specs.Prelude.{false, ◌≡◌, ◌<◌, None, IfOk, OnOk};
 ghost use Rattle.pb_text.specs.Automaton.{Accepts};
+ghost use Rattle.pb_text.specs.Blank.{IsInReach};
 ghost use Rattle.pb_text.specs.Pulling.{faults_after};
 ghost use Rattle.pb_text.specs.Whole.{ReadsWhole};
 
@@ -38,6 +39,7 @@ pub fn read_whole<S: Source, M: Machine + Drop, G: Gather<Event = M::Event> + Dr
     requires between { M.automaton.begun machine ≡ false }
     requires some { 0 < longest }
     ensures reads { ReadsWhole (Accepts M.automaton machine) longest G.with empty (S.left source.old) result (S.left source.new) }
+    ensures past { IfOk result (λ m. IsInReach m.past) }
     // `Read` comes only where the source failed.
     ensures faults { S.faults source.new ≡ faults_after None result (S.faults source.old) }
 {

@@ -19,7 +19,7 @@ returns-in-Err-add-clause-reads g c =
     let i = c.loop-spanned.invariant.stands in
     let t = rw (c.in-Ok-Some.is, c.in-Ok-Some.field-0-is) at c.pull.ensures in
     let p = t.pulls c.args.longest c.args.machine i.0 i.1 (rw c.loop-spanned.invariant.running tt) i.5 in
-    rw c.place.ensures (whole_unkept {g = g.M.Machine} c.args.longest c.args.machine i.1 c.loop-spanned.feeder c.pull.new.feeder (g.S.Source.left c.args.source.now) (g.S.Source.left c.loop-spanned.source) (g.S.Source.left c.pull.new.source) i.0 i.2 i.3 g.G.Gather.with c.args.empty c.in-Ok-Some.spanned p)
+    rw c.place.ensures.place (whole_unkept {g = g.M.Machine} c.args.longest c.args.machine i.1 c.loop-spanned.feeder c.pull.new.feeder (g.S.Source.left c.args.source.now) (g.S.Source.left c.loop-spanned.source) (g.S.Source.left c.pull.new.source) i.0 i.2 i.3 g.G.Gather.with c.args.empty c.in-Ok-Some.spanned p)
 
 less : (a b end longest : ℕ) (q : Option Place) → a < b → b ≤ end → end ≡ end_of longest q → 2 ^ 40 + 1 - b < 2 ^ 40 + 1 - a
 less a b end longest q h k e = omega (arith, end_limit longest q)
@@ -47,7 +47,7 @@ returns-in-Ok-None-clause-reads g c =
     let i = c.loop-spanned.invariant.stands in
     let t = rw (c.in-Ok-None.is, c.in-Ok-None.field-0-is) at c.pull.ensures in
     let p = t.pulls c.args.longest c.args.machine i.0 i.1 (rw c.loop-spanned.invariant.running tt) i.5 in
-    rw c.place-in-Ok-None.ensures (whole_done {g = g.M.Machine} c.args.longest c.args.machine i.1 c.loop-spanned.feeder c.pull.new.feeder (g.S.Source.left c.args.source.now) (g.S.Source.left c.loop-spanned.source) (g.S.Source.left c.pull.new.source) i.0 i.2 i.3
+    rw c.place-in-Ok-None.ensures.place (whole_done {g = g.M.Machine} c.args.longest c.args.machine i.1 c.loop-spanned.feeder c.pull.new.feeder (g.S.Source.left c.args.source.now) (g.S.Source.left c.loop-spanned.source) (g.S.Source.left c.pull.new.source) i.0 i.2 i.3
       g.G.Gather.with c.args.empty c.loop-spanned.value i.4 p t.stop (t.last refl))
 
 pub returns-in-Err-clause-reads : goal.returns-in-Err-clause-reads

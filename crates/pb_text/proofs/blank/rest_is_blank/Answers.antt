@@ -1,0 +1,45 @@
+use Rattle.std.proofs.Common.{◌≡◌, ◌≢◌, ◌+◌, ◌≤◌, ◌<◌, ◌^◌, ◌||◌, ◌&&◌, not, ℕ, List, [], ◌∷◌, ◌++◌, length, Bool, true, false, nat_eq, IsTrue, sym, ap, ◌∙◌, refl, arith, length-append}
+use Rattle.pb_text.specs.Classes.{is_white}
+use Rattle.pb_text.specs.Spelling.{place_next}
+use Rattle.pb_text.specs.Blank.{passes, in_comment}
+use Rattle.pb_text.specs.declared.place.Place.{Place}
+use Rattle.pb_text.proofs.Pulled.{lost_byte, seen_byte}
+use Rattle.pb_text.proofs.Blanks.{IsBlank-snoc, in_comment-snoc, place_from-snoc, next_within}
+use Rattle.pb_text.proofs.blank.rest_is_blank.Goals as goal
+
+pub returns-then-at-eq-BYTE_LIMIT-clause-blank : goal.returns-then-at-eq-BYTE_LIMIT-clause-blank
+returns-then-at-eq-BYTE_LIMIT-clause-blank g c =
+    let i = c.loop-byte.invariant.blank in
+    let p = rw (c.in-Ok-Some.is, c.in-Ok-Some.field-0-is) at c.peek.ensures in
+    let seen = seen_byte (g.S.Source.left c.args.source.now) i.0 (g.S.Source.left c.loop-byte.source) (g.S.Source.left c.peek.new.self) c.in-Ok-Some.byte i.1 p.0 p.1 in
+    (i.0, c.in-Ok-Some.byte ∷ seen.0, seen.1, i.2, i.3, ((λ e. cc), omega (arith, i.4, c.if-at-eq-BYTE_LIMIT.true)))
+
+at_comment : (used : List ℕ) (b : ℕ) (inside answer : Bool) → inside ≡ in_comment used → answer ≡ (is_white b || nat_eq b 42 || inside) → answer ≡ passes used b
+at_comment used b inside answer e h = h ∙ ap (λ (x : Bool). is_white b || nat_eq b 42 || x) e
+
+pub returns-then-not-passes-clause-blank : goal.returns-then-not-passes-clause-blank
+returns-then-not-passes-clause-blank g c =
+    let i = c.loop-byte.invariant.blank in
+    let p = rw (c.in-Ok-Some.is, c.in-Ok-Some.field-0-is) at c.peek.ensures in
+    let b : ℕ = c.in-Ok-Some.byte in
+    let seen = seen_byte (g.S.Source.left c.args.source.now) i.0 (g.S.Source.left c.loop-byte.source) (g.S.Source.left c.peek.new.self) b i.1 p.0 p.1 in
+    (i.0, b ∷ seen.0, seen.1, i.2, i.3, (seen.0, refl, sym (at_comment i.0 b c.loop-byte.in_comment c.passes.result i.5 c.passes.ensures) ∙ c.if-not-passes.true, omega (arith, i.4, c.loop-byte.invariant.within, c.if-at-eq-BYTE_LIMIT.false)))
+
+pub loop-byte-preserved : goal.loop-byte-preserved
+loop-byte-preserved g c =
+    let i = c.loop-byte.invariant.blank in
+    let v = c.loop-byte.invariant in
+    let p = rw (c.in-Ok-Some.is, c.in-Ok-Some.field-0-is) at c.peek.ensures in
+    let b : ℕ = c.in-Ok-Some.byte in
+    let n = next_within c.loop-byte.at b c.after-at.result c.after-at.ensures v.within c.if-at-eq-BYTE_LIMIT.false v.line v.column in
+    record {
+      within = n.0;
+      line = n.1;
+      column = n.2;
+      faults = c.skip.ensures.1 ∙ (p.3 ∙ v.faults);
+      blank = (i.0 ++ b ∷ [], lost_byte (g.S.Source.left c.args.source.now) i.0 (g.S.Source.left c.loop-byte.source) (g.S.Source.left c.peek.new.self) (g.S.Source.left c.skip.new.self) b i.1 p.0 p.1 c.skip.ensures.0,
+        IsBlank-snoc i.0 b i.2 (sym (at_comment i.0 b c.loop-byte.in_comment c.passes.result i.5 c.passes.ensures) ∙ c.if-not-passes.false),
+        c.after-at.ensures ∙ (ap (λ (q : Place). place_next q b) i.3 ∙ sym (place_from-snoc c.args.place i.0 b)),
+        omega (arith, n.3, i.4, length-append i.0 (b ∷ [])),
+        c.stays_in_comment-in_comment.ensures ∙ (ap (λ (x : Bool). not (nat_eq b 10) && (nat_eq b 42 || x)) i.5 ∙ sym (in_comment-snoc i.0 b)))
+    }

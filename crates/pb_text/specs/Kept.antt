@@ -1,0 +1,10 @@
+-- What a source or sink over a reader or a writer keeps.
+use Rattle.std.specs.Prelude.{ℕ}
+use Rattle.pb_text.specs.declared.over.Over.{Over}
+
+abbrev pub inner_of : {T : Type 0} → Over T → T
+inner_of o = o.inner
+
+-- how often it has failed
+abbrev pub failures_of : {T : Type 0} → Over T → ℕ
+failures_of o = o.failures

@@ -1,0 +1,72 @@
+//! The rest of an input, which must be white space and comments.
+
+ghost use Rattle.std.specs.Prelude.{◌≡◌, ◌+◌, ◌^◌, ◌≤◌, ◌&&◌, ◌||◌, not, nat_eq, None};
+ghost use Rattle.pb_text.specs.Blank.{ReadsBlank};
+ghost use Rattle.pb_text.specs.Classes.{is_white};
+ghost use Rattle.pb_text.specs.Pulling.{faults_after};
+
+use crate::feeder::BYTE_LIMIT;
+use crate::place::{Place, Stop, Why};
+use crate::source::{Failed, Source};
+
+/// `Ok` where the input ends at offset `2^40` at most and its rest, which begins at the place, is white space and
+/// comments; a comment is `*` through the next line feed or the end. Else the first of: `Byte` at the first other
+/// byte, `TooLong` at the byte at offset `2^40`, `Read`.
+pub fn rest_is_blank<S: Source>(source: &mut S, place: Place) -> Result<(), Stop>
+    requires offset { place.offset ≤ 2 ^ 40 }
+    requires line { place.line ≤ 2 ^ 40 + 1 }
+    requires column { place.column ≤ 2 ^ 40 + 1 }
+    ensures blank { ReadsBlank place (S.left source.old) result (S.left source.new) }
+    // `Read` comes only where the source failed.
+    ensures faults { S.faults source.new ≡ faults_after None result (S.faults source.old) }
+{
+    let mut at = place;
+    let mut in_comment = false;
+    loop {
+        let byte = match source.peek() {
+            Ok(Some(byte)) => byte,
+            Ok(None) => return Ok(()),
+            Err(Failed) => {
+                return Err(Stop {
+                    place: at,
+                    why: Why::Read,
+                });
+            }
+        };
+        if at.offset == BYTE_LIMIT {
+            return Err(Stop {
+                place: at,
+                why: Why::TooLong,
+            });
+        }
+        if !passes(in_comment, byte) {
+            return Err(Stop {
+                place: at,
+                why: Why::Byte(byte),
+            });
+        }
+        in_comment = stays_in_comment(in_comment, byte);
+        source.skip();
+        at = at.after(byte);
+    }
+}
+
+/// Whether the byte is white, or begins a comment, or is one of a comment.
+fn passes(in_comment: bool, byte: u8) -> bool
+    ensures { result ≡ (is_white byte || nat_eq byte 42 || in_comment) }
+{
+    is_white(byte) || byte == b'*' || in_comment
+}
+
+/// Whether the next byte is one of a comment.
+fn stays_in_comment(in_comment: bool, byte: u8) -> bool
+    ensures { result ≡ (not (nat_eq byte 10) && (nat_eq byte 42 || in_comment)) }
+{
+    byte != b'\n' && (byte == b'*' || in_comment)
+}
+
+fn is_white(byte: u8) -> bool
+    ensures { result ≡ is_white byte }
+{
+    byte == b' ' || byte == b'\t' || byte == b'\r' || byte == b'\n'
+}
