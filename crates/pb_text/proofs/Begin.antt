@@ -22,7 +22,7 @@ module _ {S E : Type 0} (m : Automaton S E) (longest : ℕ) (start : S) where
       into = λ later r. (later, r, record { letters_are = refl; marks_are = refl });
       onto = λ items f front. (items, f, record { letters_are = refl; marks_are = refl });
       alone = λ n h items f e. absurd (omega arith);
-      ended = tt
+      ended = tt;
     };
     is_state = state;
     place_is = refl;
@@ -50,8 +50,8 @@ module _ {S E : Type 0} (m : Automaton S E) (longest : ℕ) (start : S) where
 
   -- where it stands with another rest and another stop
   moved : (old : S) (input input' : List ℕ) (marks : List (Spanned E)) (place : Place) (first : Option Place) (stop stop' : Option Stop) (left : List ℕ)
-    → (s : Stands m longest start input marks old place first stop) → input' ≡ bytes s.letters ++ left → Waits m old (end_of longest first) s.letters left place stop'
-    → Stands m longest start input' marks old place first stop'
+      → (s : Stands m longest start input marks old place first stop) → input' ≡ bytes s.letters ++ left → Waits m old (end_of longest first) s.letters left place stop'
+      → Stands m longest start input' marks old place first stop'
   moved old input input' marks place first stop stop' left s is waits = record {
     letters = s.letters;
     left = left;
@@ -80,7 +80,7 @@ module _ {S E : Type 0} (m : Automaton S E) (longest : ℕ) (start : S) where
     -- more input changes nothing where the machine is complete or stopped
     pub stands_more : (more : List ℕ) (stop : Option Stop) → IsOpen stop → (stop ≡ None → m.done old ≡ true) → Stands m longest start input marks old place first stop → Stands m longest start (input ++ more) marks old place first stop
     stands_more more stop c done s =
-      moved old input (input ++ more) marks place first stop stop (s.left ++ more) s (longer stop s more) (waits_more (end_of longest first) s.letters s.left more stop c done s.waits)
+        moved old input (input ++ more) marks place first stop stop (s.left ++ more) s (longer stop s more) (waits_more (end_of longest first) s.letters s.left more stop c done s.waits)
 
     nothing_left : (left : List ℕ) → m.done old ≡ false → (m.done old ≡ true) ⊎ (left ≡ []) → left ≡ []
     nothing_left left unfinished (inl d) = absurd (false≢true (sym unfinished ∙ d))
@@ -89,9 +89,9 @@ module _ {S E : Type 0} (m : Automaton S E) (longest : ℕ) (start : S) where
     -- the input has ended before its text did
     pub stands_ended : m.done old ≡ false → Stands m longest start input marks old place first None → Stands m longest start input marks old place first (Some (record { place = place; why = Ended }))
     stands_ended unfinished s =
-      moved old input input marks place first None (Some (record { place = place; why = Ended })) s.left s s.input_is (unfinished, refl, nothing_left s.left unfinished s.waits)
+        moved old input input marks place first None (Some (record { place = place; why = Ended })) s.left s s.input_is (unfinished, refl, nothing_left s.left unfinished s.waits)
 
     -- the reader failed
     pub stands_failed : (more : List ℕ) → m.done old ≡ false → Stands m longest start input marks old place first None → Stands m longest start (input ++ more) marks old place first (Some (record { place = place; why = Read }))
     stands_failed more unfinished s =
-      moved old input (input ++ more) marks place first None (Some (record { place = place; why = Read })) (s.left ++ more) s (longer None s more) (unfinished, refl, tt)
+        moved old input (input ++ more) marks place first None (Some (record { place = place; why = Read })) (s.left ++ more) s (longer None s more) (unfinished, refl, tt)

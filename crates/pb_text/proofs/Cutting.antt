@@ -14,17 +14,17 @@ use Rattle.pb_text.proofs.Told.{stands_reads}
 
 module _ {M E : Type 0} {g : Ghosts M E} (longest : ℕ) (start : M) (after : Feeder M E g) where
   feeds_stand : (feeds : List (List ℕ × Result (Fed E) Stop)) (before : Feeder M E g) (input : List ℕ) (marks : List (Spanned E))
-    → StandsAt longest start input marks before → IsOpen before.stop → Feeds before feeds after
-    → StandsAt longest start (input ++ input_fed feeds) (marks ++ marks_answered feeds) after
+      → StandsAt longest start input marks before → IsOpen before.stop → Feeds before feeds after
+      → StandsAt longest start (input ++ input_fed feeds) (marks ++ marks_answered feeds) after
   feeds_stand [] before input marks s counts e =
-    subst (λ (f : Feeder M E g). StandsAt longest start (input ++ []) (marks ++ []) f) e (rw (append-nil input, append-nil marks) s)
+      subst (λ (f : Feeder M E g). StandsAt longest start (input ++ []) (marks ++ []) f) e (rw (append-nil input, append-nil marks) s)
   feeds_stand (f ∷ feeds) before input marks s counts h =
-    let k = h.1.0 longest start input marks counts s in
-    let m = feeds_stand feeds h.0 (input ++ bytes_fed f.1 f.0) (marks ++ marks_fed f.1) k (h.1.1 counts) h.2 in
-    subst₂ (λ (x : List ℕ) (y : List (Spanned E)). StandsAt longest start x y after) (append_assoc input (bytes_fed f.1 f.0) (input_fed feeds)) (append_assoc marks (marks_fed f.1) (marks_answered feeds)) m
+      let k = h.1.0 longest start input marks counts s in
+      let m = feeds_stand feeds h.0 (input ++ bytes_fed f.1 f.0) (marks ++ marks_fed f.1) k (h.1.1 counts) h.2 in
+      subst₂ (λ (x : List ℕ) (y : List (Spanned E)). StandsAt longest start x y after) (append_assoc input (bytes_fed f.1 f.0) (input_fed feeds)) (append_assoc marks (marks_fed f.1) (marks_answered feeds)) m
 
   pub any_cutting : (feeds : List (List ℕ × Result (Fed E) Stop)) (before : Feeder M E g) → StandsAt longest start [] [] before → IsOpen before.stop → Feeds before feeds after
-    → (used : List ℕ) × Reads (Accepts g.automaton start) longest (input_fed feeds) used (marks_answered feeds) after.place (is_complete after) after.stop
+      → (used : List ℕ) × Reads (Accepts g.automaton start) longest (input_fed feeds) used (marks_answered feeds) after.place (is_complete after) after.stop
   any_cutting feeds before s counts h =
-    let k = feeds_stand feeds before [] [] s counts h in
-    (bytes k.1.letters, stands_reads g.automaton longest start (input_fed feeds) (marks_answered feeds) after.machine after.place after.first after.stop k.1 (is_complete after) refl)
+      let k = feeds_stand feeds before [] [] s counts h in
+      (bytes k.1.letters, stands_reads g.automaton longest start (input_fed feeds) (marks_answered feeds) after.machine after.place after.first after.stop k.1 (is_complete after) refl)

@@ -14,3 +14,4 @@ pub mod Pulled
 pub mod Wholes
 pub mod Blanks
 pub mod Overs
+pub mod Toys

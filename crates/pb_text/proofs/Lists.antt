@@ -36,7 +36,7 @@ put_gap_marks b before first (i ∷ rest) items h =
 pub gap_advances : {E : Type 0} (l : Letter) (before : List ℕ) (first : Option Place) → Advances {E = E} (Put false l) l before first [] first
 gap_advances l before first = record {
   letters_are = λ later items h. put_gap_letters l h.0 later items h.1;
-  marks_are = λ later items h. put_gap_marks l.byte before first later items h.1
+  marks_are = λ later items h. put_gap_marks l.byte before first later items h.1;
 }
 
 put_letter_letters : {E : Type 0} (l : Letter) (later items : List (Item E)) → PutLetter l later items → letters_of items ≡ l ∷ letters_of later
@@ -52,7 +52,7 @@ put_letter_marks l before first (i ∷ rest) items h =
 pub letter_advances : {E : Type 0} (l : Letter) (before : List ℕ) (first : Option Place) → Advances {E = E} (Put true l) l before first [] (Some (place_or first (place_after before)))
 letter_advances l before first = record {
   letters_are = λ later items h. put_letter_letters l later items h;
-  marks_are = λ later items h. put_letter_marks l before first later items h
+  marks_are = λ later items h. put_letter_marks l before first later items h;
 }
 
 -- the mark of a statement that ends with this letter
@@ -62,5 +62,5 @@ mark first before b e = record { event = e; first = place_or first (place_after 
 pub last_advances : {E : Type 0} (l : Letter) (e : E) (before : List ℕ) (first : Option Place) → Advances {E = E} (PutLast l e) l before first (mark first before l.byte e ∷ []) None
 last_advances l e before first = record {
   letters_are = λ later items h. ap letters_of h;
-  marks_are = λ later items h. ap (marks_since first before) h ∙ simp append-nil refl
+  marks_are = λ later items h. ap (marks_since first before) h ∙ simp append-nil refl;
 }

@@ -37,9 +37,11 @@ loses b more (Some (c ∷ cs)) last e h = let same : cs ≡ more = cc in h ∙ a
 pub lost_byte : (before : Option (List ℕ)) (taken : List ℕ) (now next last : Option (List ℕ)) (b : ℕ) → Lost before taken now → StartWith now b → Keeps now next → LosesFirst next last → Lost before (taken ++ b ∷ []) last
 lost_byte None taken now next last b l s k f = tt
 lost_byte (Some bytes) taken now next last b l s k f =
-    let m = begins l.0 now b l.2 s in
-    (m.0, l.1 ∙ (ap (λ (x : List ℕ). taken ++ x) m.1 ∙ sym (append_assoc taken (b ∷ []) m.0)),
-      loses b m.0 next last (kept l.0 now next l.2 k ∙ ap (λ (x : List ℕ). Some x) m.1) f)
+    let m = begins l.0 now b l.2 s in (
+      m.0,
+      l.1 ∙ (ap (λ (x : List ℕ). taken ++ x) m.1 ∙ sym (append_assoc taken (b ∷ []) m.0)),
+      loses b m.0 next last (kept l.0 now next l.2 k ∙ ap (λ (x : List ℕ). Some x) m.1) f,
+    )
 
 -- what was seen where the byte was not taken
 pub seen_byte : (before : Option (List ℕ)) (taken : List ℕ) (now next : Option (List ℕ)) (b : ℕ) → Lost before taken now → StartWith now b → Keeps now next → (more : List ℕ) × Took before taken (b ∷ more) next

@@ -105,9 +105,9 @@ module _ {S E : Type 0} (m : Automaton S E) where
     into_text state goes inside owed [] h = never h owed
     into_text state goes inside owed (i ∷ rest) h = by_gap i.gap refl h.2
       where
-      by_gap : (gap : List ℕ) → gap ≡ i.gap → Skips m new gap h.0 → (items : List (Item E)) × PutLetter letter (i ∷ rest) items × Accepts m old items
-      by_gap [] same skips = (record { gap = []; text = letter ∷ i.text; event = i.event } ∷ rest, (sym same, refl), (old, h.1, refl, longer goes inside h.0 h.1 i.text i.event skips h.3, h.4))
-      by_gap (c ∷ gap) same skips = never (state.stays inside c skips.0 skips.1) skips.2
+        by_gap : (gap : List ℕ) → gap ≡ i.gap → Skips m new gap h.0 → (items : List (Item E)) × PutLetter letter (i ∷ rest) items × Accepts m old items
+        by_gap [] same skips = (record { gap = []; text = letter ∷ i.text; event = i.event } ∷ rest, (sym same, refl), (old, h.1, refl, longer goes inside h.0 h.1 i.text i.event skips h.3, h.4))
+        by_gap (c ∷ gap) same skips = never (state.stays inside c skips.0 skips.1) skips.2
 
     same_byte : (c : ℕ) (cs more : List ℕ) → c ∷ cs ≡ b ∷ more → c ≡ b
     same_byte c cs more e = cc
@@ -171,19 +171,19 @@ module _ {S E : Type 0} (m : Automaton S E) where
     pub takes_between : m.step old b ≡ Go new → m.begun new ≡ false → m.done new ≡ false → IsState m new → Takes (Accepts m old) (Put false letter) b (Accepts m new)
     takes_between goes out owed state = record {
       into = λ later h. let k = into_gap goes out owed later h in (k.0, (state.plain out, k.1), k.2);
-      onto = λ items h begins. onto_gap goes out (state.plain out) items (first_of old items h) begins
+      onto = λ items h begins. onto_gap goes out (state.plain out) items (first_of old items h) begins;
     }
 
     pub takes_within : m.step old b ≡ Go new → m.begun new ≡ true → m.done new ≡ false → IsState m new → Takes (Accepts m old) (Put true letter) b (Accepts m new)
     takes_within goes inside owed state = record {
       into = λ later h. into_text state goes inside owed later h;
-      onto = λ items h begins. onto_text goes inside items (first_of old items h) begins
+      onto = λ items h begins. onto_text goes inside items (first_of old items h) begins;
     }
 
     pub takes_last : (d : E) → m.step old b ≡ End d new → m.begun new ≡ false → IsState m new → Takes (Accepts m old) (PutLast letter d) b (Accepts m new)
     takes_last d goes out state = record {
       into = λ later h. (record { gap = []; text = letter ∷ []; event = d } ∷ later, refl, (old, new, refl, (goes, state.plain out), h));
-      onto = λ items h begins. onto_last d goes (state.plain out) items (first_of old items h) begins
+      onto = λ items h begins. onto_last d goes (state.plain out) items (first_of old items h) begins;
     }
 
     pub refuses : m.step old b ≡ Refuse → Refuses (Accepts m old) b
@@ -203,5 +203,5 @@ module _ {S E : Type 0} (m : Automaton S E) where
   residual s state = record {
     live = state.live;
     texts = λ i rest h. has_text s h.0 h.1 i.text i.event h.3;
-    ends = λ d items h. ends_first s state d items (first_of s items h)
+    ends = λ d items h. ends_first s state d items (first_of s items h);
   }

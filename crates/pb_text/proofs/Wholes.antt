@@ -57,51 +57,58 @@ module _ {M E : Type 0} {g : Ghosts M E} (longest : ℕ) (start : M) (marks : Li
   module _ (result : Result (Option (Spanned E)) Stop) (p : Pulls longest start taken marks old now result new after) where
     letters_are : (input : List ℕ) → (s : Stands g.automaton longest start input marks new.machine new.place new.first new.stop) → (left : List ℕ) → input ≡ (taken ++ p.taken) ++ left → bytes s.letters ≡ taken ++ p.taken
     letters_are input s left e =
-      same_front (bytes s.letters) (taken ++ p.taken) s.left left (sym s.input_is ∙ e)
-      (sym (place_after-offset (bytes s.letters)) ∙ (sym (ap (λ (q : Place). q.offset) s.place_is) ∙ omega (arith, p.offset_is, length-append taken p.taken)))
+        same_front (bytes s.letters) (taken ++ p.taken) s.left left (sym s.input_is ∙ e)
+        (sym (place_after-offset (bytes s.letters)) ∙ (sym (ap (λ (q : Place). q.offset) s.place_is) ∙ omega (arith, p.offset_is, length-append taken p.taken)))
 
   module _ {V : Type 0} (with : V → E → V) (empty value : V) (value_is : value ≡ gathered with empty (map (λ m. m.event) marks)) where
     pub whole_done : (p : Pulls longest start taken marks old now (Ok None) new after) → new.stop ≡ None → is_complete new ≡ true
-      → ReadsWhole (Accepts g.automaton start) longest with empty before (Ok (record { event = value; first = record { line = 1; column = 1; offset = 0 }; past = new.place })) after
+        → ReadsWhole (Accepts g.automaton start) longest with empty before (Ok (record { event = value; first = record { line = 1; column = 1; offset = 0 }; past = new.place })) after
     unfolding place_after
     whole_done p running done =
-      let s : Stands g.automaton longest start (taken ++ (p.taken ++ p.seen)) marks new.machine new.place new.first new.stop = rw append-nil at p.stands.1 in
-      let used : bytes s.letters ≡ taken ++ p.taken = letters_are (Ok None) p (taken ++ (p.taken ++ p.seen)) s p.seen (sym (append_assoc taken p.taken p.seen)) in
-      let r = stands_reads g.automaton longest start (taken ++ (p.taken ++ p.seen)) marks new.machine new.place new.first new.stop s true (sym done) in
-      let spelled : IsSpelled (Accepts g.automaton start) longest (bytes s.letters) marks = r.answer.0 in
-      let spelled' : IsSpelled (Accepts g.automaton start) longest (taken ++ p.taken) marks = subst (λ (x : List ℕ). IsSpelled (Accepts g.automaton start) longest x marks) used spelled in
-      (taken ++ p.taken, p.seen, took_all before now after taken p.taken p.seen lost p.took, record {
-        marks = marks;
-        spelled = spelled';
-        value_is = value_is ∙ ap (gathered with empty) (ap (map (λ m. m.event)) spelled'.marks_are ∙ marks_events None [] spelled'.items);
-        first_is = refl;
-        past_is = s.place_is ∙ ap place_after used
-      })
+        let s : Stands g.automaton longest start (taken ++ (p.taken ++ p.seen)) marks new.machine new.place new.first new.stop = rw append-nil at p.stands.1 in
+        let used : bytes s.letters ≡ taken ++ p.taken = letters_are (Ok None) p (taken ++ (p.taken ++ p.seen)) s p.seen (sym (append_assoc taken p.taken p.seen)) in
+        let r = stands_reads g.automaton longest start (taken ++ (p.taken ++ p.seen)) marks new.machine new.place new.first new.stop s true (sym done) in
+        let spelled : IsSpelled (Accepts g.automaton start) longest (bytes s.letters) marks = r.answer.0 in
+        let spelled' : IsSpelled (Accepts g.automaton start) longest (taken ++ p.taken) marks = subst (λ (x : List ℕ). IsSpelled (Accepts g.automaton start) longest x marks) used spelled in (
+          taken ++ p.taken,
+          p.seen,
+          took_all before now after taken p.taken p.seen lost p.took,
+          record {
+            marks = marks;
+            spelled = spelled';
+            value_is = value_is ∙ ap (gathered with empty) (ap (map (λ m. m.event)) spelled'.marks_are ∙ marks_events None [] spelled'.items);
+            first_is = refl;
+            past_is = s.place_is ∙ ap place_after used;
+          },
+        )
 
   pub whole_stopped : {V : Type 0} (with : V → E → V) (empty : V) (stop : Stop) (p : Pulls longest start taken marks old now (Err stop) new after) → new.stop ≡ Some stop
-    → ReadsWhole (Accepts g.automaton start) longest with empty before (Err stop) after
+      → ReadsWhole (Accepts g.automaton start) longest with empty before (Err stop) after
   whole_stopped with empty stop p halts =
-    let s : Stands g.automaton longest start (taken ++ (p.taken ++ p.seen)) marks new.machine new.place new.first new.stop = rw append-nil at p.stands.1 in
-    let used : bytes s.letters ≡ taken ++ p.taken = letters_are (Err stop) p (taken ++ (p.taken ++ p.seen)) s p.seen (sym (append_assoc taken p.taken p.seen)) in
-    let w = halted g.automaton new.machine (end_of longest new.first) s.letters s.left new.place new.stop stop halts s.waits in
-    let r = stands_reads g.automaton longest start (taken ++ (p.taken ++ p.seen)) marks new.machine new.place new.first new.stop s false (sym w.0) in
-    let r' : Reads (Accepts g.automaton start) longest ((taken ++ p.taken) ++ p.seen) (taken ++ p.taken) marks stop.place false (Some stop) =
+      let s : Stands g.automaton longest start (taken ++ (p.taken ++ p.seen)) marks new.machine new.place new.first new.stop = rw append-nil at p.stands.1 in
+      let used : bytes s.letters ≡ taken ++ p.taken = letters_are (Err stop) p (taken ++ (p.taken ++ p.seen)) s p.seen (sym (append_assoc taken p.taken p.seen)) in
+      let w = halted g.automaton new.machine (end_of longest new.first) s.letters s.left new.place new.stop stop halts s.waits in
+      let r = stands_reads g.automaton longest start (taken ++ (p.taken ++ p.seen)) marks new.machine new.place new.first new.stop s false (sym w.0) in
+      let r' : Reads (Accepts g.automaton start) longest ((taken ++ p.taken) ++ p.seen) (taken ++ p.taken) marks stop.place false (Some stop) =
       subst₂ (λ (x y : List ℕ). Reads (Accepts g.automaton start) longest x y marks stop.place false (Some stop)) (sym (append_assoc taken p.taken p.seen)) used
       (subst₂ (λ (q : Place) (o : Option Stop). Reads (Accepts g.automaton start) longest (taken ++ (p.taken ++ p.seen)) (bytes s.letters) marks q false o) (sym w.1) halts r) in
-    (taken ++ p.taken, p.seen, took_all before now after taken p.taken p.seen lost p.took, Reading marks r')
+      (taken ++ p.taken, p.seen, took_all before now after taken p.taken p.seen lost p.took, Reading marks r')
 
   -- after an event
   pub whole_event : (m : Spanned E) (p : Pulls longest start taken marks old now (Ok (Some m)) new after)
-    → Lost before (taken ++ p.taken) after × (new.place.offset ≡ length (taken ++ p.taken)) × StandsAt longest start (taken ++ p.taken) (marks ++ m ∷ []) new
+      → Lost before (taken ++ p.taken) after × (new.place.offset ≡ length (taken ++ p.taken)) × StandsAt longest start (taken ++ p.taken) (marks ++ m ∷ []) new
   whole_event m p = (lost_all before after (taken ++ p.taken) p.seen (took_all before now after taken p.taken p.seen lost p.took), omega (arith, p.offset_is, length-append taken p.taken), p.stands)
 
   -- where an event could not be kept
   pub whole_unkept : {V : Type 0} (with : V → E → V) (empty : V) (m : Spanned E) (p : Pulls longest start taken marks old now (Ok (Some m)) new after)
-    → ReadsWhole (Accepts g.automaton start) longest with empty before (Err (record { place = new.place; why = Memory })) after
+      → ReadsWhole (Accepts g.automaton start) longest with empty before (Err (record { place = new.place; why = Memory })) after
   whole_unkept with empty m p =
-    let s = p.stands.1 in
-    let used : bytes s.letters ≡ taken ++ p.taken = same_front (bytes s.letters) (taken ++ p.taken) s.left [] (sym s.input_is ∙ sym (append-nil (taken ++ p.taken)))
+      let s = p.stands.1 in
+      let used : bytes s.letters ≡ taken ++ p.taken = same_front (bytes s.letters) (taken ++ p.taken) s.left [] (sym s.input_is ∙ sym (append-nil (taken ++ p.taken)))
       (sym (place_after-offset (bytes s.letters)) ∙ (sym (ap (λ (q : Place). q.offset) s.place_is) ∙ omega (arith, p.offset_is, length-append taken p.taken))) in
-    let viable = is_viable (Accepts g.automaton start) (Accepts g.automaton new.machine) s.letters (marks ++ m ∷ []) new.first s.follows (residual g.automaton new.machine s.is_state) in
-    (taken ++ p.taken, p.seen, took_all before now after taken p.taken p.seen lost p.took,
-      Keeping (subst (λ (x : List ℕ). Viable (Accepts g.automaton start) x) used viable) (ap (λ (q : Place). let t : Stop = record { place = q; why = Memory } in t) (s.place_is ∙ ap place_after used)))
+      let viable = is_viable (Accepts g.automaton start) (Accepts g.automaton new.machine) s.letters (marks ++ m ∷ []) new.first s.follows (residual g.automaton new.machine s.is_state) in (
+        taken ++ p.taken,
+        p.seen,
+        took_all before now after taken p.taken p.seen lost p.took,
+        Keeping (subst (λ (x : List ℕ). Viable (Accepts g.automaton start) x) used viable) (ap (λ (q : Place). let t : Stop = record { place = q; why = Memory } in t) (s.place_is ∙ ap place_after used)),
+      )

@@ -28,14 +28,14 @@ module _ {S : Type 0} (contents : S → Option (List ℕ)) (faults : S → ℕ) 
   pub writes_then : (a b c : S) (x y : List ℕ) (r : Result Unit Failed) → Wrote contents faults a x b → Writes contents faults b y r c → Writes contents faults a (x ++ y) r c
   writes_then a b c x y (Ok u) h k = record {
     appends = Appends-append (contents a) (contents b) (contents c) x y h.appends k.appends;
-    faults_are = k.faults_are ∙ h.faults_are
+    faults_are = k.faults_are ∙ h.faults_are;
   }
   writes_then a b c x y (Err e) h k = record {
     front = x ++ k.front;
     rest = k.rest;
     text_is = ap (λ (z : List ℕ). x ++ z) k.text_is ∙ sym (append_assoc x k.front k.rest);
     appends = Appends-append (contents a) (contents b) (contents c) x k.front h.appends k.appends;
-    faults_are = k.faults_are ∙ ap one_more h.faults_are
+    faults_are = k.faults_are ∙ ap one_more h.faults_are;
   }
 
   -- more of the text after a fault
@@ -45,15 +45,17 @@ module _ {S : Type 0} (contents : S → Option (List ℕ)) (faults : S → ℕ) 
     rest = h.rest ++ y;
     text_is = ap (λ (z : List ℕ). z ++ y) h.text_is ∙ append_assoc h.front h.rest y;
     appends = h.appends;
-    faults_are = h.faults_are
+    faults_are = h.faults_are;
   }
 
   -- one more piece at the front of the rest
   pub piece_taken : (a b c : S) (text front rest : List ℕ) (n : ℕ) → text ≡ front ++ rest → Wrote contents faults a front b → Takes contents faults b rest (Ok n) c
-    → (x : List ℕ) × (text ≡ x ++ take (length rest - n) (drop n rest)) × Wrote contents faults a x c
-  piece_taken a b c text front rest n e h k = (front ++ take n rest,
+      → (x : List ℕ) × (text ≡ x ++ take (length rest - n) (drop n rest)) × Wrote contents faults a x c
+  piece_taken a b c text front rest n e h k = (
+    front ++ take n rest,
     e ∙ (ap (λ (z : List ℕ). front ++ z) (sym (take-append-drop n rest) ∙ ap (λ (z : List ℕ). take n rest ++ z) (sym (take_rest rest n))) ∙ sym (append_assoc front (take n rest) (take (length rest - n) (drop n rest)))),
-    record { appends = Appends-append (contents a) (contents b) (contents c) front (take n rest) h.appends k.2; faults_are = k.3 ∙ h.faults_are })
+    record { appends = Appends-append (contents a) (contents b) (contents c) front (take n rest) h.appends k.2; faults_are = k.3 ∙ h.faults_are },
+  )
 
   pub piece_broke : (a b c : S) (text front rest : List ℕ) (e : Failed) → text ≡ front ++ rest → Wrote contents faults a front b → Takes contents faults b rest (Err e) c → Broke contents faults a text c
   piece_broke a b c text front rest e h w k = record {
@@ -61,7 +63,7 @@ module _ {S : Type 0} (contents : S → Option (List ℕ)) (faults : S → ℕ) 
     rest = rest;
     text_is = h;
     appends = subst (λ (z : List ℕ). Appends (contents a) (contents c) z) (append-nil front) (Appends-append (contents a) (contents b) (contents c) front [] w.appends (Keeps-appends (contents b) (contents c) k.0));
-    faults_are = k.1 ∙ ap one_more w.faults_are
+    faults_are = k.1 ∙ ap one_more w.faults_are;
   }
 
   pub all_written : (a b : S) (text front rest : List ℕ) → text ≡ front ++ rest → rest ≡ [] → Wrote contents faults a front b → Wrote contents faults a text b

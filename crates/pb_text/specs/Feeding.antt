@@ -65,9 +65,9 @@ bytes_fed (Err s) piece = piece
 abbrev pub FeedsOnce : {M E : Type 0} {g : Ghosts M E} → Feeder M E g → List ℕ → Result (Fed E) Stop → Feeder M E g → Type 0
 FeedsOnce {M} {E} {g} old piece result new =
     ((longest : ℕ) (start : M) (input : List ℕ) (marks : List (Spanned E))
-        → IsOpen old.stop
-        → StandsAt longest start input marks old
-        → StandsAt longest start (input ++ bytes_fed result piece) (marks ++ marks_fed result) new)
+    → IsOpen old.stop
+    → StandsAt longest start input marks old
+    → StandsAt longest start (input ++ bytes_fed result piece) (marks ++ marks_fed result) new)
     × (IsOpen old.stop → IsOpen new.stop)
 
 -- feeds in a row, each a piece with what it answered

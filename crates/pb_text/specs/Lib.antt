@@ -13,3 +13,4 @@ pub mod Whole
 pub mod Blank
 pub mod Over
 pub mod Kept
+pub mod Toy

@@ -19,6 +19,5 @@ pub fn any_cutting<M: Machine>()
         → IsOpen (halt_of before)
         → Feeds before feeds after
         → (used : List ℕ) × Reads (Accepts M.automaton start) longest (input_fed feeds) used (marks_answered feeds)
-            (place_of after) (is_complete after) (halt_of after) }
-{
-}
+        (place_of after) (is_complete after) (halt_of after) }
+{}

@@ -2,6 +2,7 @@
 #![tactic(auto)]
 
 mod blank;
+pub mod doubles;
 mod feeder;
 pub mod laws;
 mod limits;
@@ -12,6 +13,10 @@ mod pulling;
 mod sequence;
 mod sink;
 mod source;
+#[cfg(test)]
+mod tests;
+#[cfg(test)]
+mod toy;
 mod whole;
 
 pub use blank::rest_is_blank;

@@ -37,9 +37,12 @@ loop-byte-preserved g c =
       line = n.1;
       column = n.2;
       faults = c.skip.ensures.1 ∙ (p.3 ∙ v.faults);
-      blank = (i.0 ++ b ∷ [], lost_byte (g.S.Source.left c.args.source.now) i.0 (g.S.Source.left c.loop-byte.source) (g.S.Source.left c.peek.new.self) (g.S.Source.left c.skip.new.self) b i.1 p.0 p.1 c.skip.ensures.0,
+      blank = (
+        i.0 ++ b ∷ [],
+        lost_byte (g.S.Source.left c.args.source.now) i.0 (g.S.Source.left c.loop-byte.source) (g.S.Source.left c.peek.new.self) (g.S.Source.left c.skip.new.self) b i.1 p.0 p.1 c.skip.ensures.0,
         IsBlank-snoc i.0 b i.2 (sym (at_comment i.0 b c.loop-byte.in_comment c.passes.result i.5 c.passes.ensures) ∙ c.if-not-passes.false),
         c.after-at.ensures ∙ (ap (λ (q : Place). place_next q b) i.3 ∙ sym (place_from-snoc c.args.place i.0 b)),
         omega (arith, n.3, i.4, length-append i.0 (b ∷ [])),
-        c.stays_in_comment-in_comment.ensures ∙ (ap (λ (x : Bool). not (nat_eq b 10) && (nat_eq b 42 || x)) i.5 ∙ sym (in_comment-snoc i.0 b)))
+        c.stays_in_comment-in_comment.ensures ∙ (ap (λ (x : Bool). not (nat_eq b 10) && (nat_eq b 42 || x)) i.5 ∙ sym (in_comment-snoc i.0 b)),
+      );
     }

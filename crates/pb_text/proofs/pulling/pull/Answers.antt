@@ -20,7 +20,7 @@ returns-in-Some-clause-pulls g c longest start input marks counts s =
       seen = seen.0;
       took = seen.1;
       offset_is = omega arith;
-      stands = (s.0, rw append-nil (stands_more g.M.Machine.automaton longest start f.machine input marks f.place f.first seen.0 f.stop counts (λ e. cc) s.1))
+      stands = (s.0, rw append-nil (stands_more g.M.Machine.automaton longest start f.machine input marks f.place f.first seen.0 f.stop counts (λ e. cc) s.1));
     }
 
 pub returns-then-is_done-clause-pulls : goal.returns-then-is_done-clause-pulls
@@ -34,7 +34,7 @@ returns-then-is_done-clause-pulls g c longest start input marks counts s =
       seen = seen.0;
       took = seen.1;
       offset_is = omega arith;
-      stands = (s.0, rw append-nil (stands_more g.M.Machine.automaton longest start f.machine input marks f.place f.first seen.0 f.stop counts (λ e. done) s.1))
+      stands = (s.0, rw append-nil (stands_more g.M.Machine.automaton longest start f.machine input marks f.place f.first seen.0 f.stop counts (λ e. done) s.1));
     }
 
 pub loop-byte-init : goal.loop-byte-init
@@ -44,7 +44,7 @@ loop-byte-init g c = record {
   state = c.is_done.ensures.state;
   onward = omega arith;
   faults = refl;
-  stands = λ longest start input marks s. ([], lost_nothing (g.S.Source.left c.args.source.now), omega arith, rw append-nil s)
+  stands = λ longest start input marks s. ([], lost_nothing (g.S.Source.left c.args.source.now), omega arith, rw append-nil s);
 }
 
 pub returns-in-Ok-None-clause-pulls : goal.returns-in-Ok-None-clause-pulls
@@ -53,14 +53,14 @@ returns-in-Ok-None-clause-pulls g c longest start input marks counts s =
     let f = c.loop-byte.feeder in
     let p = rw (c.in-Ok-None.is, c.in-Ok-None.field-0-is) at c.peek.ensures in
     let k : Stands g.M.Machine.automaton longest start (input ++ i.0) marks f.machine f.place f.first None =
-      subst (λ (o : Option Stop). Stands g.M.Machine.automaton longest start (input ++ i.0) marks f.machine f.place f.first o) c.loop-byte.invariant.running i.3.1 in
+    subst (λ (o : Option Stop). Stands g.M.Machine.automaton longest start (input ++ i.0) marks f.machine f.place f.first o) c.loop-byte.invariant.running i.3.1 in
     let e = stands_ended g.M.Machine.automaton longest start f.machine (input ++ i.0) marks f.place f.first c.loop-byte.invariant.unfinished k in
     record {
       taken = i.0;
       seen = [];
       took = seen_end (g.S.Source.left c.args.source.now) i.0 (g.S.Source.left c.loop-byte.source) (g.S.Source.left c.peek.new.self) i.1 p.0 p.1;
       offset_is = ap (λ (q : Place). q.offset) c.halt.ensures.place ∙ i.2;
-      stands = (c.halt.ensures.longest ∙ i.3.0, rw (append-nil, append-nil, c.halt.ensures.stop, c.halt.ensures.result, c.halt.ensures.machine, c.halt.ensures.place, c.halt.ensures.first) e)
+      stands = (c.halt.ensures.longest ∙ i.3.0, rw (append-nil, append-nil, c.halt.ensures.stop, c.halt.ensures.result, c.halt.ensures.machine, c.halt.ensures.place, c.halt.ensures.first) e);
     }
 
 pub returns-in-Err-clause-pulls : goal.returns-in-Err-clause-pulls
@@ -69,7 +69,7 @@ returns-in-Err-clause-pulls g c longest start input marks counts s =
     let f = c.loop-byte.feeder in
     let p = rw c.in-Err.is at c.peek.ensures in
     let k : Stands g.M.Machine.automaton longest start (input ++ i.0) marks f.machine f.place f.first None =
-      subst (λ (o : Option Stop). Stands g.M.Machine.automaton longest start (input ++ i.0) marks f.machine f.place f.first o) c.loop-byte.invariant.running i.3.1 in
+    subst (λ (o : Option Stop). Stands g.M.Machine.automaton longest start (input ++ i.0) marks f.machine f.place f.first o) c.loop-byte.invariant.running i.3.1 in
     let seen = seen_rest (g.S.Source.left c.args.source.now) i.0 (g.S.Source.left c.loop-byte.source) (g.S.Source.left c.peek.new.self) i.1 p.0 in
     let e = stands_failed g.M.Machine.automaton longest start f.machine (input ++ i.0) marks f.place f.first seen.0 c.loop-byte.invariant.unfinished k in
     record {
@@ -77,7 +77,7 @@ returns-in-Err-clause-pulls g c longest start input marks counts s =
       seen = seen.0;
       took = seen.1;
       offset_is = ap (λ (q : Place). q.offset) c.halt-in-Err.ensures.place ∙ i.2;
-      stands = (c.halt-in-Err.ensures.longest ∙ i.3.0, rw (append-nil, ← append_assoc input i.0 seen.0, c.halt-in-Err.ensures.stop, c.halt-in-Err.ensures.result, c.halt-in-Err.ensures.machine, c.halt-in-Err.ensures.place, c.halt-in-Err.ensures.first) e)
+      stands = (c.halt-in-Err.ensures.longest ∙ i.3.0, rw (append-nil, ← append_assoc input i.0 seen.0, c.halt-in-Err.ensures.stop, c.halt-in-Err.ensures.result, c.halt-in-Err.ensures.machine, c.halt-in-Err.ensures.place, c.halt-in-Err.ensures.first) e);
     }
 
 pub loop-byte-preserved : goal.loop-byte-preserved
@@ -92,11 +92,14 @@ loop-byte-preserved g c =
       onward = omega (arith, t.offset, c.loop-byte.invariant.onward);
       faults = c.skip.ensures.1 ∙ (p.3 ∙ c.loop-byte.invariant.faults);
       stands = λ longest start input marks s.
-        let i = c.loop-byte.invariant.stands longest start input marks s in
-        let k = t.stands longest start (input ++ i.0) marks i.3 in
-        let m : StandsAt longest start (input ++ (i.0 ++ b ∷ [])) marks c.take.new.self = rw (← append_assoc input i.0 (b ∷ [])) (rw append-nil at k) in
-        (i.0 ++ b ∷ [], lost_byte (g.S.Source.left c.args.source.now) i.0 (g.S.Source.left c.loop-byte.source) (g.S.Source.left c.peek.new.self) (g.S.Source.left c.skip.new.self) b i.1 p.0 p.1 c.skip.ensures.0,
-          omega (arith, t.offset, i.2, length-append i.0 (b ∷ [])), m)
+          let i = c.loop-byte.invariant.stands longest start input marks s in
+          let k = t.stands longest start (input ++ i.0) marks i.3 in
+          let m : StandsAt longest start (input ++ (i.0 ++ b ∷ [])) marks c.take.new.self = rw (← append_assoc input i.0 (b ∷ [])) (rw append-nil at k) in (
+            i.0 ++ b ∷ [],
+            lost_byte (g.S.Source.left c.args.source.now) i.0 (g.S.Source.left c.loop-byte.source) (g.S.Source.left c.peek.new.self) (g.S.Source.left c.skip.new.self) b i.1 p.0 p.1 c.skip.ensures.0,
+            omega (arith, t.offset, i.2, length-append i.0 (b ∷ [])),
+            m,
+          );
     }
 
 pub returns-in-Ok-Some-take-clause-pulls : goal.returns-in-Ok-Some-take-clause-pulls
@@ -114,7 +117,7 @@ returns-in-Ok-Some-take-clause-pulls g c longest start input marks counts s =
       seen = seen.0;
       took = seen.1;
       offset_is = omega (arith, t.offset, i.2, length-append i.0 (b ∷ []));
-      stands = rw (← append_assoc input i.0 (b ∷ [])) k
+      stands = rw (← append_assoc input i.0 (b ∷ [])) k;
     }
 
 pub returns-in-Err-take-clause-pulls : goal.returns-in-Err-take-clause-pulls
@@ -133,7 +136,7 @@ returns-in-Err-take-clause-pulls g c longest start input marks counts s =
       seen = b ∷ seen.0;
       took = seen.1;
       offset_is = t.still ∙ i.2;
-      stands = (k.0, subst (λ (x : List ℕ). Stands g.M.Machine.automaton longest start x (marks ++ []) n.machine n.place n.first n.stop) same m)
+      stands = (k.0, subst (λ (x : List ℕ). Stands g.M.Machine.automaton longest start x (marks ++ []) n.machine n.place n.first n.stop) same m);
     }
 
 pub returns-in-Err-take-clause-faults : goal.returns-in-Err-take-clause-faults

@@ -14,7 +14,7 @@ invariant-loop-byte g l = record {
   onward : l.fn.feeder.place.offset ≤ l.feeder.place.offset;
   faults : g.S.Source.faults l.source ≡ g.S.Source.faults l.fn.source;
   stands : (longest : ℕ) (start : _) (input : List ℕ) (marks : List (Spanned _)) → StandsAt longest start input marks l.fn.feeder
-    → (taken : List ℕ) × Lost (g.S.Source.left l.fn.source) taken (g.S.Source.left l.source) × (l.feeder.place.offset ≡ l.fn.feeder.place.offset + length taken) × StandsAt longest start (input ++ taken) marks l.feeder
+      → (taken : List ℕ) × Lost (g.S.Source.left l.fn.source) taken (g.S.Source.left l.source) × (l.feeder.place.offset ≡ l.fn.feeder.place.offset + length taken) × StandsAt longest start (input ++ taken) marks l.feeder;
 }
 
 abbrev pub decreases-loop-byte : goal.decreases-loop-byte

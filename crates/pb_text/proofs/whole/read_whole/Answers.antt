@@ -11,7 +11,7 @@ pub loop-spanned-init : goal.loop-spanned-init
 loop-spanned-init g c = record {
   running = c.within-feeder.ensures.running;
   faults = refl;
-  stands = ([], [], lost_nothing (g.S.Source.left c.args.source.now), ap (λ (q : Place). q.offset) c.within-feeder.ensures.place, refl, c.within-feeder.ensures.stands)
+  stands = ([], [], lost_nothing (g.S.Source.left c.args.source.now), ap (λ (q : Place). q.offset) c.within-feeder.ensures.place, refl, c.within-feeder.ensures.stands);
 }
 
 pub returns-in-Err-add-clause-reads : goal.returns-in-Err-add-clause-reads
@@ -39,7 +39,7 @@ loop-spanned-preserved g c =
     record {
       running = t.stop;
       faults = rw c.loop-spanned.invariant.running at t.faults ∙ c.loop-spanned.invariant.faults;
-      stands = (i.0 ++ p.taken, i.1 ++ c.in-Ok-Some.spanned ∷ [], e.0, e.1, gathered_more g.G.Gather.with c.args.empty c.loop-spanned.value c.add.new.self i.1 c.in-Ok-Some.spanned i.4 c.in_default.ensures, e.2)
+      stands = (i.0 ++ p.taken, i.1 ++ c.in-Ok-Some.spanned ∷ [], e.0, e.1, gathered_more g.G.Gather.with c.args.empty c.loop-spanned.value c.add.new.self i.1 c.in-Ok-Some.spanned i.4 c.in_default.ensures, e.2);
     }
 
 pub returns-in-Ok-None-clause-reads : goal.returns-in-Ok-None-clause-reads
@@ -48,7 +48,7 @@ returns-in-Ok-None-clause-reads g c =
     let t = rw (c.in-Ok-None.is, c.in-Ok-None.field-0-is) at c.pull.ensures in
     let p = t.pulls c.args.longest c.args.machine i.0 i.1 (rw c.loop-spanned.invariant.running tt) i.5 in
     rw c.place-in-Ok-None.ensures.place (whole_done {g = g.M.Machine} c.args.longest c.args.machine i.1 c.loop-spanned.feeder c.pull.new.feeder (g.S.Source.left c.args.source.now) (g.S.Source.left c.loop-spanned.source) (g.S.Source.left c.pull.new.source) i.0 i.2 i.3
-      g.G.Gather.with c.args.empty c.loop-spanned.value i.4 p t.stop (t.last refl))
+    g.G.Gather.with c.args.empty c.loop-spanned.value i.4 p t.stop (t.last refl))
 
 pub returns-in-Err-clause-reads : goal.returns-in-Err-clause-reads
 returns-in-Err-clause-reads g c =

@@ -11,7 +11,7 @@ invariant-loop-spanned g l = record {
   running : l.feeder.stop ≡ None;
   faults : g.S.Source.faults l.source ≡ g.S.Source.faults l.fn.source;
   stands : (taken : List ℕ) × (marks : List (Spanned _)) × Lost (g.S.Source.left l.fn.source) taken (g.S.Source.left l.source) × (l.feeder.place.offset ≡ length taken)
-    × (l.value ≡ gathered g.G.Gather.with l.fn.empty (map (λ m. m.event) marks)) × StandsAt l.fn.longest l.fn.machine taken marks l.feeder
+      × (l.value ≡ gathered g.G.Gather.with l.fn.empty (map (λ m. m.event) marks)) × StandsAt l.fn.longest l.fn.machine taken marks l.feeder;
 }
 
 abbrev pub decreases-loop-spanned : goal.decreases-loop-spanned

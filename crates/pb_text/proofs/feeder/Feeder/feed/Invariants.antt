@@ -11,5 +11,5 @@ invariant-loop-i g l = record {
   unfinished : g.M.Machine.automaton.done l.self.machine ≡ false;
   state : IsState g.M.Machine.automaton l.self.machine;
   offset : l.self.place.offset ≡ l.fn.self.place.offset + l.i;
-  stands : (longest : ℕ) (start : _) (input : List ℕ) (marks : List (Spanned _)) → StandsAt longest start input marks l.fn.self → StandsAt longest start (input ++ take l.i l.piece) marks l.self
+  stands : (longest : ℕ) (start : _) (input : List ℕ) (marks : List (Spanned _)) → StandsAt longest start input marks l.fn.self → StandsAt longest start (input ++ take l.i l.piece) marks l.self;
 }

@@ -7,7 +7,11 @@ use Rattle.pb_text.proofs.feeder.Feeder.held.Goals as goal
 pub returns-clause-few : goal.returns-clause-few
 returns-clause-few g c longest start input marks s =
     let f = c.args.self.now in
-    let t = s.1 in
-    (bytes t.letters, begun_bytes (length t.letters) f.first, (t.left, t.input_is), t.place_is,
+    let t = s.1 in (
+      bytes t.letters,
+      begun_bytes (length t.letters) f.first,
+      (t.left, t.input_is),
+      t.place_is,
       stands_open g.M.Machine.automaton longest start input marks f.machine f.place f.first f.stop t,
-      omega (arith, c.held.ensures, kept_within g.M.Machine.automaton longest start input marks f.machine f.place f.first f.stop t))
+      omega (arith, c.held.ensures, kept_within g.M.Machine.automaton longest start input marks f.machine f.place f.first f.stop t),
+    )

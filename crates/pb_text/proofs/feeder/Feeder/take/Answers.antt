@@ -25,7 +25,7 @@ returns-in-No-clause-stands g c longest start input marks s =
     let running : Stands g.M.Machine.automaton longest start input marks f.machine f.place f.first None = subst (λ (o : Option Stop). Stands g.M.Machine.automaton longest start input marks f.machine f.place f.first o) c.requires.running s.1 in
     let p = c.in-No.ensures.pushes in
     let k = stands_no g.M.Machine.automaton longest start f.machine c.push.new.self input marks f.place f.first running c.requires.unfinished c.args.byte
-      (before_end f.longest longest f.end f.place.offset f.first s.0 f.end_is f.offset_in_range c.if-self.false) p.0 p.1 p.2 in
+    (before_end f.longest longest f.end f.place.offset f.first s.0 f.end_is f.offset_in_range c.if-self.false) p.0 p.1 p.2 in
     (c.halt-in-No.ensures.longest ∙ s.0, rw (c.halt-in-No.ensures.stop, c.halt-in-No.ensures.result, c.halt-in-No.ensures.machine, c.halt-in-No.ensures.place, c.halt-in-No.ensures.first) k)
 
 pub returns-in-Large-clause-stands : goal.returns-in-Large-clause-stands
@@ -34,7 +34,7 @@ returns-in-Large-clause-stands g c longest start input marks s =
     let running : Stands g.M.Machine.automaton longest start input marks f.machine f.place f.first None = subst (λ (o : Option Stop). Stands g.M.Machine.automaton longest start input marks f.machine f.place f.first o) c.requires.running s.1 in
     let p = c.in-Large.ensures.pushes in
     let k = stands_large g.M.Machine.automaton longest start f.machine c.push.new.self input marks f.place f.first running c.requires.unfinished c.args.byte
-      (before_end f.longest longest f.end f.place.offset f.first s.0 f.end_is f.offset_in_range c.if-self.false) p.0 p.1 p.2 in
+    (before_end f.longest longest f.end f.place.offset f.first s.0 f.end_is f.offset_in_range c.if-self.false) p.0 p.1 p.2 in
     (c.halt-in-Large.ensures.longest ∙ s.0, rw (c.halt-in-Large.ensures.stop, c.halt-in-Large.ensures.result, c.halt-in-Large.ensures.machine, c.halt-in-Large.ensures.place, c.halt-in-Large.ensures.first) k)
 
 pub returns-in-Memory-clause-stands : goal.returns-in-Memory-clause-stands
@@ -43,7 +43,7 @@ returns-in-Memory-clause-stands g c longest start input marks s =
     let running : Stands g.M.Machine.automaton longest start input marks f.machine f.place f.first None = subst (λ (o : Option Stop). Stands g.M.Machine.automaton longest start input marks f.machine f.place f.first o) c.requires.running s.1 in
     let p = c.in-Memory.ensures.pushes in
     let k = stands_lacks g.M.Machine.automaton longest start f.machine c.push.new.self input marks f.place f.first running c.requires.unfinished c.args.byte
-      (before_end f.longest longest f.end f.place.offset f.first s.0 f.end_is f.offset_in_range c.if-self.false) p.0 p.1 p.2 in
+    (before_end f.longest longest f.end f.place.offset f.first s.0 f.end_is f.offset_in_range c.if-self.false) p.0 p.1 p.2 in
     (c.halt-in-Memory.ensures.longest ∙ s.0, rw (c.halt-in-Memory.ensures.stop, c.halt-in-Memory.ensures.result, c.halt-in-Memory.ensures.machine, c.halt-in-Memory.ensures.place, c.halt-in-Memory.ensures.first) k)
 
 pub returns-in-Go-clause-stands : goal.returns-in-Go-clause-stands
@@ -51,7 +51,7 @@ returns-in-Go-clause-stands g c longest start input marks s =
     let f = c.args.self.now in
     let running : Stands g.M.Machine.automaton longest start input marks f.machine f.place f.first None = subst (λ (o : Option Stop). Stands g.M.Machine.automaton longest start input marks f.machine f.place f.first o) c.requires.running s.1 in
     let k = stands_go g.M.Machine.automaton longest start f.machine c.push.new.self input marks f.place f.first running c.requires.unfinished c.args.byte
-      c.in-Go.ensures.pushes c.in-Go.ensures.state (before_end f.longest longest f.end f.place.offset f.first s.0 f.end_is f.offset_in_range c.if-self.false) in
+    c.in-Go.ensures.pushes c.in-Go.ensures.state (before_end f.longest longest f.end f.place.offset f.first s.0 f.end_is f.offset_in_range c.if-self.false) in
     (s.0, rw (c.after-self.ensures, c.opened_at-self.ensures, c.starts-starts.ensures, c.requires.running) k)
 
 pub returns-in-Go-clause-unfinished : goal.returns-in-Go-clause-unfinished
@@ -62,5 +62,5 @@ returns-in-Event-clause-stands g c longest start input marks s =
     let f = c.args.self.now in
     let running : Stands g.M.Machine.automaton longest start input marks f.machine f.place f.first None = subst (λ (o : Option Stop). Stands g.M.Machine.automaton longest start input marks f.machine f.place f.first o) c.requires.running s.1 in
     let k = stands_event g.M.Machine.automaton longest start f.machine c.push.new.self input marks f.place f.first running c.requires.unfinished c.args.byte c.in-Event.event
-      c.in-Event.ensures.pushes c.in-Event.ensures.state (before_end f.longest longest f.end f.place.offset f.first s.0 f.end_is f.offset_in_range c.if-self.false) in
+    c.in-Event.ensures.pushes c.in-Event.ensures.state (before_end f.longest longest f.end f.place.offset f.first s.0 f.end_is f.offset_in_range c.if-self.false) in
     (s.0, rw (c.after-past.ensures, c.unwrap_or-first.ensures, c.requires.running) k)
