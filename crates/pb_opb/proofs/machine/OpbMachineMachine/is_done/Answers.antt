@@ -1,0 +1,8 @@
+use Rattle.std.proofs.Common.{subst}
+use Rattle.pb_text.specs.Automaton.{IsState}
+use Rattle.pb_opb.specs.State.{OpbState, opb}
+use Rattle.pb_opb.proofs.States.{is_state}
+use Rattle.pb_opb.proofs.machine.OpbMachineMachine.is_done.Goals as goal
+
+pub returns-clause-state : goal.returns-clause-state
+returns-clause-state c = subst (λ (s : OpbState). IsState opb s) c.self.view_is (is_state _ c.self.invariant)

@@ -1,0 +1,19 @@
+use Rattle.std.proofs.Common.{◌≡◌, ◌∙◌, ℕ, ap, sym, subst, Bool}
+use Rattle.pb_text.specs.Automaton.{begins}
+use Rattle.pb_opb.specs.Machine.{plan}
+use Rattle.pb_opb.specs.State.{OpbState, opb}
+use Rattle.pb_opb.specs.contracts.machine.OpbMachine.{the_view}
+use Rattle.pb_opb.specs.declared.phase.Move.{Move}
+use Rattle.pb_opb.specs.declared.phase.Phase.{Phase}
+use Rattle.pb_opb.specs.declared.phase.Move.TheVariants.{Give}
+use Rattle.pb_opb.proofs.Pushed.{give_begins}
+use Rattle.pb_opb.proofs.machine.OpbMachineMachine.starts.Goals as goal
+
+planned_at : (n top : ℕ) (p : Phase) (b : ℕ) (m : Move) → n ≡ top → m ≡ plan n p b → plan top p b ≡ m
+planned_at n top p b m e h = ap (λ (k : ℕ). plan k p b) (sym e) ∙ sym h
+
+pub returns-in-Give : goal.returns-in-Give
+returns-in-Give c =
+    let s : OpbState = the_view c.self.inside in
+    let planned = planned_at c.top.result s.top s.phase c.args.byte (Give c.in-Give.field-0) c.top.ensures.value c.in-Give.ensures.plan in
+    c.starts.ensures ∙ (give_begins s c.self.invariant c.args.byte c.in-Give.field-0 planned (sym c.is_within.ensures ∙ c.if-is_within.false) ∙ ap (λ (x : OpbState). begins opb x c.args.byte) c.self.view_is)

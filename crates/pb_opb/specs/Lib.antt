@@ -1,0 +1,4 @@
+pub mod Instances
+pub mod Machine
+pub mod State
+pub mod Order

@@ -1,0 +1,233 @@
+//! The machine of instances.
+
+ghost use Rattle.std.specs.Prelude.{◌≡◌, false};
+ghost use Rattle.pb_text.specs.Limits.{largest, top_of};
+ghost use Rattle.pb_opb.specs.State.{phase_owing, owed_after, statement_of};
+
+use crate::event::OpbEvent;
+use crate::phase::{Field, Move, Phase};
+use crate::plan::{is_done, is_within, plan};
+use pb_sums::{Part, Spaces, SumEvent, SumMachine};
+use pb_text::{Bytes, Limits, Machine, Push};
+use std::alloc::Global;
+use std::marker::Model;
+use std::mem;
+
+/// A machine that reads one instance, through the `;` of its last constraint, or through its first line where
+/// that declares none.
+#[derive(Drop)]
+pub struct OpbMachine {
+    alloc: Global,
+    limits: Limits,
+    variables: u64,
+    owed: u64,
+    phase: Phase,
+    text: Bytes,
+    inner: SumMachine,
+}
+
+impl Model for OpbMachine {
+    ghost use Rattle.pb_text.specs.Limits.{largest, top_of};
+    ghost use Rattle.pb_opb.specs.State.{OpbState};
+
+    ghost Value = { OpbState };
+
+    ghost use Rattle.pb_opb.specs.Order.{IsInOrder};
+
+    ghost view = { λ m. record {
+      limit = largest m.limits;
+      top = top_of m.limits;
+      variables = m.variables;
+      owed = m.owed;
+      phase = m.phase;
+      text = m.text;
+      inner = m.inner;
+    } };
+
+    ghost invariant = { λ m. IsInOrder (record {
+      limit = largest m.limits;
+      top = top_of m.limits;
+      variables = m.variables;
+      owed = m.owed;
+      phase = m.phase;
+      text = m.text;
+      inner = m.inner;
+    }) };
+}
+
+impl OpbMachine {
+    ghost use Rattle.pb_opb.specs.State.{opb, begin};
+
+    /// A machine before an instance. It takes no memory.
+    pub fn new(alloc: Global, limits: Limits) -> Self
+        ensures begins { result ≡ begin (largest limits) (top_of limits) }
+        ensures between { opb.begun result ≡ false }
+    {
+        OpbMachine {
+            alloc,
+            limits,
+            variables: 0,
+            owed: 0,
+            phase: Phase::Start,
+            text: Bytes::new(alloc),
+            inner: SumMachine::new(alloc, Spaces::White, Part::Linear, limits),
+        }
+    }
+}
+
+impl OpbMachine {
+    ghost use Rattle.pb_text.specs.Automaton.{Pushes};
+    ghost use Rattle.pb_opb.specs.State.{opb};
+    ghost use Rattle.pb_opb.specs.Machine.{plan};
+
+    /// Takes a byte.
+    fn take(&mut self, byte: u8) -> Push<OpbEvent>
+        ensures { Pushes opb self.old byte result self.new }
+    {
+        match plan(self.limits.top(), self.phase, byte) {
+            Move::To(phase) => {
+                self.phase = phase;
+                Push::Go
+            }
+            Move::Declare(variables) => {
+                self.variables = variables;
+                self.phase = Phase::BeforeWord(Field::Constraints);
+                Push::Go
+            }
+            Move::BeginTail(constraints, first) => {
+                if self.text.push(first).is_err() {
+                    return Push::Memory;
+                }
+                self.owed = constraints;
+                self.phase = Phase::Tail;
+                Push::Go
+            }
+            Move::Keep(next) => {
+                if self.text.push(next).is_err() {
+                    return Push::Memory;
+                }
+                Push::Go
+            }
+            Move::EndHeader(constraints) => {
+                self.owed = constraints;
+                self.phase = phase_owing(true, constraints);
+                Push::Event(OpbEvent::Header {
+                    variables: self.variables,
+                    constraints,
+                    tail: Bytes::new(self.alloc),
+                })
+            }
+            Move::EndTail => {
+                self.phase = phase_owing(true, self.owed);
+                Push::Event(OpbEvent::Header {
+                    variables: self.variables,
+                    constraints: self.owed,
+                    tail: mem::replace(&mut self.text, Bytes::new(self.alloc)),
+                })
+            }
+            Move::EndComment(may) => {
+                self.phase = phase_owing(may, self.owed);
+                Push::Event(OpbEvent::Comment(mem::replace(
+                    &mut self.text,
+                    Bytes::new(self.alloc),
+                )))
+            }
+            Move::BeginSum => {
+                self.inner.restart(Part::Sum);
+                self.phase = Phase::AfterMin;
+                Push::Go
+            }
+            Move::Give(phase) => self.give(phase, byte),
+            Move::Stop => {
+                if matches!(self.phase, Phase::Count(_, _)) && byte.is_ascii_digit() {
+                    Push::Large
+                } else {
+                    Push::No
+                }
+            }
+        }
+    }
+
+    /// Gives a byte to the machine of sums.
+    fn give(&mut self, phase: Phase, byte: u8) -> Push<OpbEvent>
+        requires { plan self.old.top self.old.phase byte ≡ Move.Give phase }
+        ensures { Pushes opb self.old byte result self.new }
+    {
+        match self.inner.push(byte) {
+            Push::Go => {
+                self.phase = phase;
+                Push::Go
+            }
+            Push::Event(event) => {
+                self.owed = owed_after(phase, self.owed);
+                self.phase = phase_owing(false, self.owed);
+                self.inner.restart(Part::Linear);
+                Push::Event(statement_of(event))
+            }
+            Push::No => Push::No,
+            Push::Large => Push::Large,
+            Push::Memory => Push::Memory,
+        }
+    }
+}
+
+/// Where so many constraints are to come.
+fn phase_owing(may: bool, owed: u64) -> Phase
+    ensures { result ≡ phase_owing may owed }
+{
+    if owed == 0 { Phase::Done } else { Phase::Between(may) }
+}
+
+/// How many constraints are to come after an objective, and after a constraint.
+fn owed_after(phase: Phase, owed: u64) -> u64
+    ensures { result ≡ owed_after phase owed }
+{
+    match phase {
+        Phase::Objective => owed,
+        _ => owed.saturating_sub(1),
+    }
+}
+
+/// The statement that a sum or a linear text is.
+fn statement_of(event: SumEvent) -> OpbEvent
+    ensures { result ≡ statement_of event }
+{
+    match event {
+        SumEvent::Sum(terms) => OpbEvent::Objective(terms),
+        SumEvent::Linear(linear) => OpbEvent::Constraint(linear),
+    }
+}
+
+impl Machine for OpbMachine {
+    ghost use Rattle.pb_opb.specs.State.{opb};
+
+    type Event = OpbEvent;
+
+    ghost automaton = { opb };
+
+    fn push(&mut self, byte: u8) -> Push<OpbEvent> {
+        let answer = self.take(byte);
+        let _ = self.is_done();
+        answer
+    }
+
+    fn is_done(&self) -> bool {
+        is_done(self.phase)
+    }
+
+    fn starts(&self, byte: u8) -> bool {
+        if is_within(self.phase) {
+            return false;
+        }
+        match plan(self.limits.top(), self.phase, byte) {
+            Move::Stop | Move::Keep(_) => false,
+            Move::To(next) => is_within(next),
+            Move::Give(_) => self.inner.starts(byte),
+            _ => true,
+        }
+    }
+
+    fn held(&self) -> usize {
+        self.text.len().saturating_add(self.inner.held())
+    }
+}

@@ -1,0 +1,147 @@
+//! What a machine does with a byte, by what it has read last.
+
+ghost use Rattle.std.specs.Prelude.{◌≡◌, ℕ, ◌+◌, ◌*◌, ◌-◌, ◌<◌, ◌≤◌, ◌^◌, length};
+ghost use Rattle.pb_text.specs.Classes.{is_blank, is_white};
+ghost use Rattle.pb_opb.specs.Machine.{word_of, spell, count, behind_count, plan};
+ghost use Rattle.pb_opb.specs.State.{is_within, is_done};
+ghost use Rattle.pb_opb.specs.Order.{PhaseFits, MoveFits};
+
+use crate::phase::{Field, Move, Phase};
+
+/// Space, tab or carriage return.
+fn is_blank(byte: u8) -> bool
+    ensures { result ≡ is_blank byte }
+{
+    byte == b' ' || byte == b'\t' || byte == b'\r'
+}
+
+/// A blank or a line feed.
+fn is_white(byte: u8) -> bool
+    ensures { result ≡ is_white byte }
+{
+    is_blank(byte) || byte == b'\n'
+}
+
+/// The bytes that announce a count.
+fn word_of(field: Field) -> &'static [u8]
+    ensures { result.now ≡ word_of field }
+{
+    match field {
+        Field::Variables => b"#variable=",
+        Field::Constraints => b"#constraint=",
+    }
+}
+
+/// The next byte of a word, of which some were read.
+fn spell(word: &[u8], read: usize, byte: u8, more: Phase, whole: Phase) -> Move
+    requires { read < length word.now }
+    ensures { result ≡ spell word.now read byte more whole }
+{
+    if byte != word[read] {
+        return Move::Stop;
+    }
+    Move::To(if read + 1 == word.len() { whole } else { more })
+}
+
+/// The next digit of a count.
+fn count(top: u64, field: Field, value: u64, byte: u8) -> Move
+    requires top { top < 2 ^ 63 }
+    requires value { value ≤ top }
+    ensures plan { result ≡ count top field value byte }
+    ensures fits { MoveFits top result }
+{
+    if !byte.is_ascii_digit() {
+        return Move::Stop;
+    }
+    let next = 10 * value as u128 + (byte - b'0') as u128;
+    if next > top as u128 {
+        return Move::Stop;
+    }
+    Move::To(Phase::Count(field, next as u64))
+}
+
+/// What may stand behind the digits of a count.
+fn behind_count(top: u64, field: Field, value: u64, byte: u8) -> Move
+    requires value { value ≤ top }
+    ensures plan { result ≡ behind_count field value byte }
+    ensures fits { MoveFits top result }
+{
+    match field {
+        Field::Variables if is_blank(byte) => Move::Declare(value),
+        Field::Constraints if byte == b'\n' => Move::EndHeader(value),
+        Field::Constraints if is_blank(byte) => Move::BeginTail(value, byte),
+        _ => Move::Stop,
+    }
+}
+
+/// What a machine does with a byte.
+pub fn plan(top: u64, phase: Phase, byte: u8) -> Move
+    requires top { top < 2 ^ 63 }
+    requires phase { PhaseFits top phase }
+    ensures plan { result ≡ plan top phase byte }
+    ensures fits { MoveFits top result }
+{
+    match phase {
+        Phase::Start if byte == b'*' => Move::To(Phase::BeforeWord(Field::Variables)),
+        Phase::Start => Move::Stop,
+        Phase::BeforeWord(_) if is_blank(byte) => Move::To(phase),
+        Phase::BeforeWord(field) if byte == b'#' => Move::To(Phase::Word(field, 1)),
+        Phase::BeforeWord(_) => Move::Stop,
+        Phase::Word(field, read) => {
+            let more = Phase::Word(field, read + 1);
+            spell(word_of(field), read, byte, more, Phase::BeforeCount(field))
+        }
+        Phase::BeforeCount(_) if is_blank(byte) => Move::To(phase),
+        Phase::BeforeCount(field) => count(top, field, 0, byte),
+        Phase::Count(field, value) if byte.is_ascii_digit() => count(top, field, value, byte),
+        Phase::Count(field, value) => behind_count(top, field, value, byte),
+        Phase::Tail if byte == b'\n' => Move::EndTail,
+        Phase::Tail => Move::Keep(byte),
+        Phase::Between(_) if is_white(byte) => Move::To(phase),
+        Phase::Between(may) if byte == b'*' => Move::To(Phase::Comment(may)),
+        Phase::Between(may) if byte == b'm' && may => Move::To(Phase::Min(1)),
+        Phase::Between(_) => Move::Give(Phase::Constraint),
+        Phase::Comment(may) if byte == b'\n' => Move::EndComment(may),
+        Phase::Comment(_) => Move::Keep(byte),
+        Phase::Min(read) => spell_min(read, byte),
+        Phase::AfterMin if is_white(byte) => Move::To(phase),
+        Phase::AfterMin | Phase::Objective => Move::Give(Phase::Objective),
+        Phase::Constraint => Move::Give(Phase::Constraint),
+        Phase::Done => Move::Stop,
+    }
+}
+
+/// The next byte of `min:`, of which some were read.
+fn spell_min(read: usize, byte: u8) -> Move
+    requires { (0 < read) × (read < 4) }
+    ensures plan { result ≡ plan 0 (Phase.Min read) byte }
+    ensures fits { (top : ℕ) → MoveFits top result }
+{
+    let next = match read {
+        1 => b'i',
+        2 => b'n',
+        _ => b':',
+    };
+    if byte != next {
+        return Move::Stop;
+    }
+    if read == 3 {
+        Move::BeginSum
+    } else {
+        Move::To(Phase::Min(read + 1))
+    }
+}
+
+/// Whether a statement has begun and not ended.
+pub fn is_within(phase: Phase) -> bool
+    ensures { result ≡ is_within phase }
+{
+    !matches!(phase, Phase::Start | Phase::Between(_) | Phase::Done)
+}
+
+/// Whether nothing may follow.
+pub fn is_done(phase: Phase) -> bool
+    ensures { result ≡ is_done phase }
+{
+    matches!(phase, Phase::Done)
+}

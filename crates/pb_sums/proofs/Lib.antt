@@ -1,0 +1,14 @@
+mod LetterKinds
+mod Fronts
+mod Sound
+mod Complete
+pub mod Theorems
+mod Flags
+pub mod Links
+mod Counts
+pub mod States
+mod Pushes
+pub mod CanonicalLaws
+pub mod Larger
+mod Elements
+mod Written

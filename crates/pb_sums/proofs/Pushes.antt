@@ -1,0 +1,74 @@
+-- A push does what was planned.
+use Rattle.std.proofs.Common.{◌≡◌, ℕ, Bool, true, false, ◌||◌, List, [], sym, ap, ◌∙◌}
+use Rattle.std.specs.Prelude.{IsTrue, Result, OnOk, OnErr, is_ok, is_err, Ok, Err, if◌then◌else◌}
+use Rattle.pb_text.specs.Automaton.{Next, Go, End, Refuse, Admits}
+use Rattle.pb_sums.specs.Machine.{act, plan, kind, letter_at, is_numeric, flushed, to, at_name, adds, is_more}
+use Rattle.pb_sums.specs.State.{SumState, sums, over, asks}
+use Rattle.pb_sums.specs.declared.values.Term.{Term}
+use Rattle.pb_sums.specs.declared.values.SumEvent.{SumEvent}
+use Rattle.pb_sums.specs.declared.grammar.Spaces.{Spaces}
+use Rattle.pb_sums.specs.declared.grammar.Part.{Part}
+use Rattle.pb_sums.specs.declared.phase.Phase.{Phase}
+use Rattle.pb_sums.specs.declared.phase.Kind.{Kind}
+use Rattle.pb_sums.specs.declared.phase.Move.{Move}
+use Rattle.pb_sums.specs.declared.phase.Move.TheVariants.{To, Begin, Add, EndSum, EndLinear, Stop}
+use Rattle.pb_sums.proofs.States.{admits}
+
+abbrev pub IsTaken : Move → Type 0
+IsTaken Stop = ⊥
+IsTaken _ = Unit {0}
+
+refuse-go : (t : SumState) → ◌≡◌ {A = Next SumState SumEvent} (Go t) Refuse → ⊥
+refuse-go t h = cc
+
+refuse-end : (t : SumState) (e : SumEvent) → ◌≡◌ {A = Next SumState SumEvent} (End e t) Refuse → ⊥
+refuse-end t e h = cc
+
+taken-acts : (s : SumState) (ys xs : List Term) (name : List ℕ) (m : Move) → IsTaken m → over s (act ys xs name m) ≡ Refuse → ⊥
+taken-acts s ys xs name (To q) h e = refuse-go _ e
+taken-acts s ys xs name (Begin q b) h e = refuse-go _ e
+taken-acts s ys xs name (Add q b) h e = refuse-go _ e
+taken-acts s ys xs name EndSum h e = refuse-end _ _ e
+taken-acts s ys xs name (EndLinear r z) h e = refuse-end _ _ e
+taken-acts s ys xs name Stop h e = h
+
+module _ (s : Spaces) (w : Part) (limit : ℕ) (xs : List Term) (name : List ℕ) (p : Phase) (b : ℕ) (n : Bool) (k : Kind) (m : Move) where
+  abbrev state : SumState
+  state = record { spaces = s; part = w; limit = limit; work = record { terms = xs; name = name; phase = p } }
+
+  planned : n ≡ is_numeric p → k ≡ kind s (letter_at n b) → m ≡ plan w limit p k → plan w limit p (kind s (letter_at (is_numeric p) b)) ≡ m
+  planned e f g = ap (λ x. plan w limit p x) (ap (λ x. kind s (letter_at x b)) (sym e) ∙ sym f) ∙ sym g
+
+  pub moved : n ≡ is_numeric p → k ≡ kind s (letter_at n b) → m ≡ plan w limit p k → sums.step state b ≡ over state (act (flushed p xs name) xs name m)
+  moved e f g = ap (λ x. over state (act (flushed p xs name) xs name x)) (planned e f g)
+
+  -- memory is asked for at a byte of a name or one that ends a literal, and only where the byte is taken
+  pub wants : n ≡ is_numeric p → k ≡ kind s (letter_at n b) → m ≡ plan w limit p k → IsTaken m → (adds m || is_more p) ≡ true → IsTrue (asks state b) × Admits sums state b
+  wants e f g t a = (
+    ap (λ x. adds x || is_more p) (planned e f g) ∙ a,
+    admits state b (over state (act (flushed p xs name) xs name m)) (moved e f g) (taken-acts state (flushed p xs name) xs name m t),
+  )
+
+pub goes_to : (s : Spaces) (w : Part) (limit : ℕ) (xs ys : List Term) (name : List ℕ) (p q : Phase) (b : ℕ) (n : Bool) (k : Kind) (new : List ℕ) → new ≡ [] →
+    n ≡ is_numeric p → k ≡ kind s (letter_at n b) → To q ≡ plan w limit p k → ys ≡ flushed p xs name →
+    sums.step (state s w limit xs name p b n k (To q)) b ≡ Go (record { spaces = s; part = w; limit = limit; work = record { terms = ys; name = new; phase = q } })
+goes_to s w limit xs ys name p q b n k new z e f g i =
+    moved s w limit xs name p b n k (To q) e f g
+    ∙ (ap (λ x. over (state s w limit xs name p b n k (To q)) (to x q)) (sym i) ∙ ap (λ x. over (state s w limit xs name p b n k (To q)) (at_name ys q x)) (sym z))
+
+pub when_ok : {T E : Type 0} (r : Result T E) (P : Type 0) → OnOk r P → is_err r ≡ false → P
+when_ok (Ok x) P h e = h
+when_ok (Err x) P h e = cc
+
+pub when_err : {T E : Type 0} (r : Result T E) (P : Type 0) → OnErr r P → is_err r ≡ true → P
+when_err (Ok x) P h e = cc
+when_err (Err x) P h e = h
+
+pub unchanged : {T E : Type 0} (r : Result T E) (new more old : List ℕ) → new ≡ (if is_ok r then more else old) → is_err r ≡ true → new ≡ old
+unchanged (Ok x) new more old h e = cc
+unchanged (Err x) new more old h e = h
+
+pub same_state : (s : Spaces) (w : Part) (limit : ℕ) (xs ys : List Term) (m n : List ℕ) (p q : Phase) → xs ≡ ys → m ≡ n → p ≡ q →
+    ◌≡◌ {A = SumState} (record { spaces = s; part = w; limit = limit; work = record { terms = xs; name = m; phase = p } })
+    (record { spaces = s; part = w; limit = limit; work = record { terms = ys; name = n; phase = q } })
+same_state s w limit xs ys m n p q e f g = cc

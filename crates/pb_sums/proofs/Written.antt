@@ -1,0 +1,52 @@
+-- What is written, in parts.
+use Rattle.std.proofs.Common.{◌≡◌, ℕ, suc, ◌+◌, ◌<◌, List, [], ◌∷◌, ◌++◌, take, drop, length, refl, ap, sym, append_assoc, ◌∙◌, arith, ℤ, pos, negsuc, ◌≤ℤ◌, get_or, take-append-drop, Bool, true}
+use Rattle.std.proofs.lemmas.List.{append-nil, take_more}
+use Rattle.std.proofs.lemmas.Int.{ints}
+use Rattle.std.proofs.Math.Seq.{drop-cons}
+use Rattle.std.specs.Fmt.{signed_decimal}
+use Rattle.pb_sums.specs.Sums.{literal_bytes}
+use Rattle.pb_sums.specs.Canonical.{weight_bytes, term_bytes, further_bytes, sum_bytes, head_bytes}
+use Rattle.pb_sums.specs.declared.values.Term.{Term}
+
+pub weight_plus : (z : ℤ) → pos 0 ≤ℤ z → weight_bytes z ≡ (43 ∷ []) ++ signed_decimal z
+weight_plus (pos n) h = refl
+weight_plus (negsuc n) h = absurd (omega (arith, ints))
+
+pub literal_negated : (negated : Bool) (name : List ℕ) → negated ≡ true → literal_bytes negated name ≡ (126 ∷ []) ++ name
+literal_negated negated name h = ap (λ b. literal_bytes b name) h
+
+further-append : (xs ys : List Term) → further_bytes (xs ++ ys) ≡ further_bytes xs ++ further_bytes ys
+unfolding further_bytes
+further-append [] ys = refl
+further-append (x ∷ xs) ys =
+    ap (λ z. 32 ∷ (term_bytes x ++ z)) (further-append xs ys) ∙ ap (λ z. 32 ∷ z) (sym (append_assoc (term_bytes x) (further_bytes xs) (further_bytes ys)))
+
+further-cons : (x : Term) (xs : List Term) → further_bytes (x ∷ xs) ≡ (32 ∷ term_bytes x) ++ further_bytes xs
+unfolding further_bytes
+further-cons x xs = refl
+
+pub further_none : further_bytes [] ≡ []
+unfolding further_bytes
+further_none = refl
+
+pub further_more : (xs : List Term) (i : ℕ) (d : Term) → i < length xs → further_bytes (take (i + 1) xs) ≡ further_bytes (take i xs) ++ (32 ∷ term_bytes (get_or xs i d))
+further_more xs i d h =
+    ap further_bytes (take_more xs i d h)
+    ∙ (further-append (take i xs) (get_or xs i d ∷ [])
+    ∙ ap (λ z. further_bytes (take i xs) ++ z)
+    (further-cons (get_or xs i d) [] ∙ (ap (λ z. (32 ∷ term_bytes (get_or xs i d)) ++ z) further_none ∙ append-nil (32 ∷ term_bytes (get_or xs i d)))))
+
+pub further_at : (xs : List Term) (i : ℕ) (d : Term) → i < length xs →
+    further_bytes xs ≡ further_bytes (take i xs) ++ ((32 ∷ term_bytes (get_or xs i d)) ++ further_bytes (drop (suc i) xs))
+further_at xs i d h =
+    ap further_bytes (sym (take-append-drop i xs))
+    ∙ (further-append (take i xs) (drop i xs)
+    ∙ ap (λ z. further_bytes (take i xs) ++ z) (ap further_bytes (drop-cons xs i d h) ∙ further-cons (get_or xs i d) (drop (suc i) xs)))
+
+pub sum_parts : (xs : List Term) (d : Term) → 0 < length xs → sum_bytes xs ≡ term_bytes (get_or xs 0 d) ++ further_bytes (drop 1 xs)
+sum_parts [] d h = absurd (omega arith)
+sum_parts (x ∷ xs) d h = refl
+
+pub head_parts : (xs : List Term) → 0 < length xs → head_bytes xs ≡ sum_bytes xs ++ (32 ∷ [])
+head_parts [] h = absurd (omega arith)
+head_parts (x ∷ xs) h = refl

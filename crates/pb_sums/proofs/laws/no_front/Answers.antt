@@ -1,0 +1,5 @@
+use Rattle.pb_sums.proofs.Theorems.{no_front}
+use Rattle.pb_sums.proofs.laws.no_front.Goals as goal
+
+pub returns : goal.returns
+returns c = no_front

@@ -1,0 +1,9 @@
+use Rattle.pb_text.specs.Limits.{largest}
+use Rattle.pb_sums.proofs.States.{accepts_one, first_is_state}
+use Rattle.pb_sums.proofs.machine.SumMachine.new.Goals as goal
+
+pub returns-clause-format : goal.returns-clause-format
+returns-clause-format c = rw (c.largest.ensures.value, c.new.ensures, c.new-2.ensures) (accepts_one c.args.spaces c.args.part (largest c.args.limits))
+
+pub returns-clause-state : goal.returns-clause-state
+returns-clause-state c = rw (c.new.ensures, c.new-2.ensures) (first_is_state c.args.spaces c.args.part c.largest.result)

@@ -1,0 +1,37 @@
+use Rattle.std.proofs.Common.{refl, arith}
+use mir.Val.{SFits}
+use Rattle.std.specs.Int.{w128}
+use Rattle.std.proofs.lemmas.Int.{ints, to_z-of_z}
+use Rattle.pb_text.proofs.Parts.{part_then, part_broke}
+use Rattle.pb_sums.proofs.writing.write_linear.Goals as goal
+
+pub returns-in_err-write_head : goal.returns-in_err-write_head
+returns-in_err-write_head g c =
+    part_broke g.S.Sink.contents g.S.Sink.faults _ _ _ _ _ _ refl c.from_residual.ensures.0 (rw c.as_slice.ensures at c.in_err-write_head.ensures)
+
+pub returns-in_err-write_operator : goal.returns-in_err-write_operator
+returns-in_err-write_operator g c =
+    part_then g.S.Sink.contents g.S.Sink.faults _ _ _ _ _ _ _ refl (rw c.as_slice.ensures at c.in_ok-write_head.ensures)
+    (part_broke g.S.Sink.contents g.S.Sink.faults _ _ _ _ _ _ refl c.from_residual-in_err-write_operator.ensures.0 c.in_err-write_operator.ensures)
+
+pub returns-in_err-write_bytes : goal.returns-in_err-write_bytes
+returns-in_err-write_bytes g c =
+    part_then g.S.Sink.contents g.S.Sink.faults _ _ _ _ _ _ _ refl (rw c.as_slice.ensures at c.in_ok-write_head.ensures)
+    (part_then g.S.Sink.contents g.S.Sink.faults _ _ _ _ _ _ _ refl c.in_ok-write_operator.ensures
+    (part_broke g.S.Sink.contents g.S.Sink.faults _ _ _ _ _ _ refl c.from_residual-in_err-write_bytes.ensures.0 c.in_err-write_bytes.ensures))
+
+pub returns-in_err-write_number : goal.returns-in_err-write_number
+returns-in_err-write_number g c =
+    let fits : SFits w128 c.args.linear.now.degree = record { sfits = omega (arith, ints) } in
+    part_then g.S.Sink.contents g.S.Sink.faults _ _ _ _ _ _ _ refl (rw c.as_slice.ensures at c.in_ok-write_head.ensures)
+    (part_then g.S.Sink.contents g.S.Sink.faults _ _ _ _ _ _ _ refl c.in_ok-write_operator.ensures
+    (part_then g.S.Sink.contents g.S.Sink.faults _ _ _ _ _ _ _ refl c.in_ok-write_bytes.ensures
+    (part_broke g.S.Sink.contents g.S.Sink.faults _ _ _ _ _ _ refl c.from_residual-in_err-write_number.ensures.0 (rw (to_z-of_z w128 c.args.linear.now.degree fits) at c.in_err-write_number.ensures))))
+
+pub returns : goal.returns
+returns g c =
+    let fits : SFits w128 c.args.linear.now.degree = record { sfits = omega (arith, ints) } in
+    part_then g.S.Sink.contents g.S.Sink.faults _ _ _ _ _ _ _ refl (rw c.as_slice.ensures at c.in_ok-write_head.ensures)
+    (part_then g.S.Sink.contents g.S.Sink.faults _ _ _ _ _ _ _ refl c.in_ok-write_operator.ensures
+    (part_then g.S.Sink.contents g.S.Sink.faults _ _ _ _ _ _ _ refl c.in_ok-write_bytes.ensures
+    (part_then g.S.Sink.contents g.S.Sink.faults _ _ _ _ _ _ _ refl (rw (to_z-of_z w128 c.args.linear.now.degree fits) at c.in_ok-write_number.ensures) c.write_bytes-2.ensures)))

@@ -1,0 +1,5 @@
+pub mod Sums
+pub mod Machine
+pub mod State
+pub mod Canonical
+pub mod Statements

@@ -1,0 +1,23 @@
+//! Literals, sums and linear texts, read one byte at a time and written.
+#![tactic(auto)]
+
+mod classes;
+mod grammar;
+mod laws;
+mod machine;
+mod name;
+mod phase;
+mod plans;
+mod rules;
+#[cfg(test)]
+mod tests;
+mod values;
+mod writing;
+
+pub use grammar::{Part, Spaces};
+pub use laws::{canonical_spells, larger_limits, no_front, one_value, sums_are_exact};
+pub use machine::SumMachine;
+pub use name::Name;
+pub use rules::{is_name, linear_is_value, sum_is_value};
+pub use values::{Linear, Literal, Relation, SumEvent, Term};
+pub use writing::{write_count, write_linear, write_number, write_sum};

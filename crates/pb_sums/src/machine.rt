@@ -1,0 +1,222 @@
+//! The machine of sums.
+
+ghost use Rattle.std.specs.Prelude.{true, false, ◌≡◌, ℕ, ◌+◌, ◌-◌, ◌<◌, ◌≤◌, ◌^◌, ◌↔◌, ◌&&◌, if◌then◌else◌, Bool, List, [], ◌∷◌, IfOk, OnOk, OnErr, min};
+ghost use Rattle.pb_text.specs.Automaton.{Accepts, IsState};
+ghost use Rattle.pb_text.specs.Limits.{largest};
+ghost use Rattle.pb_text.specs.Spelling.{Item};
+ghost use Rattle.pb_text.specs.Classes.{is_digit};
+ghost use Rattle.pb_sums.specs.Machine.{flushed, is_more, is_in_number};
+ghost use Rattle.pb_sums.specs.State.{units};
+
+use crate::classes::{is_digit, kind};
+use crate::grammar::{Part, Spaces};
+use crate::name::Name;
+use crate::phase::{Move, Phase};
+use crate::plans::{in_hand, is_done, is_in_number, is_numeric, plan};
+use crate::values::{Linear, Literal, SumEvent, Term};
+use pb_text::{Limits, Machine, Push, Sequence};
+use std::alloc::{AllocError, Global};
+use std::marker::Model;
+use std::mem;
+
+/// A machine that reads one sum or one linear text, through its `;`.
+#[derive(Drop)]
+pub struct SumMachine {
+    alloc: Global,
+    spaces: Spaces,
+    part: Part,
+    limit: u128,
+    terms: Sequence<Term>,
+    name: Name,
+    phase: Phase,
+}
+
+impl Model for SumMachine {
+    ghost use Rattle.std.specs.Prelude.{◌<◌, ◌^◌};
+    ghost use Rattle.pb_sums.specs.State.{SumState, IsInOrder};
+
+    ghost Value = { SumState };
+
+    ghost view = { λ m. record {
+      spaces = m.spaces;
+      part = m.part;
+      limit = m.limit;
+      work = record { terms = m.terms; name = m.name; phase = m.phase };
+    } };
+
+    ghost invariant = { λ m. (m.limit < 2 ^ 127) × IsInOrder m.limit (record { terms = m.terms; name = m.name; phase = m.phase }) };
+}
+
+/// Ends the term whose literal is whole.
+fn flush(
+    alloc: Global,
+    terms: &mut Sequence<Term>,
+    name: &mut Name,
+    phase: Phase,
+) -> Result<(), AllocError>
+    ensures ok { OnOk result ((terms.new ≡ flushed phase terms.old name.old) × (name.new ≡ [])) }
+    ensures err { OnErr result ((is_more phase ≡ true) × (terms.new ≡ terms.old) × (name.new ≡ name.old)) }
+{
+    if let Phase::More(coefficient, negated) = phase {
+        let whole = mem::replace(name, Name::new(alloc));
+        let literal = Literal {
+            negated,
+            name: whole,
+        };
+        if let Err(failed) = terms.push(Term {
+            coefficient,
+            literal,
+        }) {
+            *name = failed.value.literal.name;
+            return Err(AllocError);
+        }
+    }
+    *name = Name::new(alloc);
+    Ok(())
+}
+
+/// Ends the text: gives its terms, and keeps nothing.
+fn finish(
+    alloc: Global,
+    terms: &mut Sequence<Term>,
+    name: &mut Name,
+    phase: &mut Phase,
+) -> Result<Sequence<Term>, AllocError>
+    ensures terms { IfOk result (λ all. all ≡ flushed phase.old terms.old name.old) }
+    ensures ok { OnOk result ((terms.new ≡ []) × (name.new ≡ []) × (phase.new ≡ Phase.Done)) }
+    ensures err { OnErr result ((is_more phase.old ≡ true) × (terms.new ≡ terms.old) × (name.new ≡ name.old) × (phase.new ≡ phase.old)) }
+{
+    flush(alloc, terms, name, *phase)?;
+    *phase = Phase::Done;
+    Ok(mem::replace(terms, Sequence::new(alloc)))
+}
+
+/// The answer to a byte that is not grammatical.
+fn refusal(phase: Phase, byte: u8) -> Push<SumEvent>
+    ensures { result ≡ (if is_in_number phase && is_digit byte then Push.Large else Push.No) }
+{
+    if is_in_number(phase) && is_digit(byte) {
+        Push::Large
+    } else {
+        Push::No
+    }
+}
+
+/// How many literals are kept, and bytes of their names. The count stays at its largest.
+fn count_units(terms: &[Term]) -> usize
+    ensures { result ≡ min (units terms.now) (2 ^ 64 - 1) }
+{
+    let mut count: usize = 0;
+    for term in terms {
+        let more = term.literal.name.as_str().len().saturating_add(1);
+        count = count.saturating_add(more);
+    }
+    count
+}
+
+impl SumMachine {
+    ghost use Rattle.pb_sums.specs.State.{sums, first, IsOneText};
+
+    /// A machine before its text. It takes no memory.
+    pub fn new(alloc: Global, spaces: Spaces, part: Part, limits: Limits) -> Self
+        ensures begins { result ≡ first spaces part (largest limits) }
+        ensures format { (items : List (Item SumEvent)) → Accepts sums result items ↔ IsOneText spaces (largest limits) part items }
+        ensures between { sums.begun result ≡ false }
+        ensures state { IsState sums result }
+    {
+        SumMachine {
+            alloc,
+            spaces,
+            part,
+            limit: limits.largest(),
+            terms: Sequence::new(alloc),
+            name: Name::new(alloc),
+            phase: Phase::Start,
+        }
+    }
+
+    /// Begins again, for this part. It takes no memory.
+    pub fn restart(&mut self, part: Part)
+        ensures begins { self.new ≡ first self.old.spaces part self.old.limit }
+        ensures state { IsState sums self.new }
+    {
+        self.part = part;
+        self.terms = Sequence::new(self.alloc);
+        self.name = Name::new(self.alloc);
+        self.phase = Phase::Start;
+    }
+}
+
+impl Machine for SumMachine {
+    ghost use Rattle.pb_sums.specs.State.{sums};
+
+    type Event = SumEvent;
+
+    ghost automaton = { sums };
+
+    fn push(&mut self, byte: u8) -> Push<SumEvent> {
+        let kind = kind(self.spaces, is_numeric(self.phase), byte);
+        match plan(self.part, self.limit, self.phase, kind) {
+            Move::Stop => refusal(self.phase, byte),
+            Move::Begin(phase, first) => {
+                let mut name = Name::new(self.alloc);
+                if name.push(first).is_err() {
+                    return Push::Memory;
+                }
+                self.name = name;
+                self.phase = phase;
+                Push::Go
+            }
+            Move::Add(phase, next) => {
+                if self.name.push(next).is_err() {
+                    return Push::Memory;
+                }
+                self.phase = phase;
+                Push::Go
+            }
+            Move::To(phase) => {
+                if flush(self.alloc, &mut self.terms, &mut self.name, self.phase).is_err() {
+                    return Push::Memory;
+                }
+                self.phase = phase;
+                Push::Go
+            }
+            Move::EndSum => {
+                let Ok(terms) = finish(self.alloc, &mut self.terms, &mut self.name, &mut self.phase)
+                else {
+                    return Push::Memory;
+                };
+                Push::Event(SumEvent::Sum(terms))
+            }
+            Move::EndLinear(relation, degree) => {
+                let Ok(terms) = finish(self.alloc, &mut self.terms, &mut self.name, &mut self.phase)
+                else {
+                    return Push::Memory;
+                };
+                Push::Event(SumEvent::Linear(Linear {
+                    terms,
+                    relation,
+                    degree,
+                }))
+            }
+        }
+    }
+
+    fn is_done(&self) -> bool {
+        is_done(self.phase)
+    }
+
+    fn starts(&self, byte: u8) -> bool {
+        if !matches!(self.phase, Phase::Start) {
+            return false;
+        }
+        let kind = kind(self.spaces, true, byte);
+        !matches!(plan(self.part, self.limit, Phase::Start, kind), Move::Stop)
+    }
+
+    fn held(&self) -> usize {
+        count_units(self.terms.as_slice())
+            .saturating_add(in_hand(self.phase))
+            .saturating_add(self.name.as_str().len())
+    }
+}

@@ -1,0 +1,67 @@
+//! What a machine knows of the text so far, and what a byte is to it.
+
+use crate::values::Relation;
+
+/// What a byte is to a sum.
+#[derive(Clone, Copy)]
+pub enum Kind {
+    Space,
+    /// A digit of a number, by its value.
+    Digit(u8),
+    /// A byte that may begin a name.
+    Start(u8),
+    /// Another byte that a name may hold.
+    Inner(u8),
+    Tilde,
+    Plus,
+    Minus,
+    Greater,
+    Equals,
+    Semicolon,
+    Other,
+}
+
+/// What has been read last.
+#[derive(Clone, Copy)]
+pub enum Phase {
+    /// Nothing.
+    Start,
+    /// The sign of a coefficient, or of the degree behind a relation.
+    Signed(Option<Relation>, bool),
+    /// Digits with this value.
+    Digits(Option<Relation>, bool, u128),
+    /// A coefficient and space.
+    Gap(i128),
+    /// A coefficient, space and `~`.
+    Tilde(i128),
+    /// The first byte of a name.
+    First(i128, bool),
+    /// Two bytes of a name or more.
+    More(i128, bool),
+    /// A term and space.
+    Between,
+    /// The first byte of `>=`.
+    Greater,
+    /// The operator, and perhaps space.
+    Operator(Relation),
+    /// The degree and space.
+    Tail(Relation, i128),
+    /// Space, and no term.
+    Empty,
+    /// All.
+    Done,
+}
+
+/// What a machine does with a byte.
+#[derive(Clone, Copy)]
+pub enum Move {
+    /// Goes on. A literal that is whole ends its term.
+    To(Phase),
+    /// Begins a name with a byte.
+    Begin(Phase, u8),
+    /// Adds a byte to the name.
+    Add(Phase, u8),
+    EndSum,
+    EndLinear(Relation, i128),
+    Stop,
+}

@@ -1,0 +1,168 @@
+//! What a machine does with a kind of byte.
+
+ghost use Rattle.std.specs.Prelude.{◌≡◌, ℕ, ◌<◌, ◌≤◌, ◌^◌, Bool, None};
+ghost use Rattle.pb_text.specs.Numbers.{signed};
+ghost use Rattle.pb_sums.specs.Sums.{reads_sums, allows};
+ghost use Rattle.pb_sums.specs.Machine.{digits, number, behind, plan, KindFits, PhaseFits, MoveFits, is_numeric, is_in_number, is_done};
+ghost use Rattle.pb_sums.specs.State.{in_hand};
+
+use crate::grammar::Part;
+use crate::phase::{Kind, Move, Phase};
+use crate::values::Relation;
+
+/// Whether digits are those of a number.
+pub fn is_numeric(phase: Phase) -> bool
+    ensures { result ≡ is_numeric phase }
+{
+    match phase {
+        Phase::Start
+        | Phase::Signed(_, _)
+        | Phase::Digits(_, _, _)
+        | Phase::Between
+        | Phase::Operator(_) => true,
+        _ => false,
+    }
+}
+
+/// Whether the byte before is a digit of a number.
+pub fn is_in_number(phase: Phase) -> bool
+    ensures { result ≡ is_in_number phase }
+{
+    match phase {
+        Phase::Digits(_, _, _) => true,
+        _ => false,
+    }
+}
+
+/// Whether the text is complete.
+pub fn is_done(phase: Phase) -> bool
+    ensures { result ≡ is_done phase }
+{
+    match phase {
+        Phase::Done => true,
+        _ => false,
+    }
+}
+
+/// How many literals have a name and no term yet.
+pub fn in_hand(phase: Phase) -> usize
+    ensures { result ≡ in_hand phase }
+{
+    match phase {
+        Phase::First(_, _) | Phase::More(_, _) => 1,
+        _ => 0,
+    }
+}
+
+fn reads_sums(part: Part) -> bool
+    ensures { result ≡ reads_sums part }
+{
+    match part {
+        Part::Sum => true,
+        Part::Linear | Part::AtLeast => false,
+    }
+}
+
+fn allows(part: Part, relation: Relation) -> bool
+    ensures { result ≡ allows part relation }
+{
+    match (part, relation) {
+        (Part::Linear, _) => true,
+        (Part::AtLeast, Relation::AtLeast) => true,
+        _ => false,
+    }
+}
+
+fn signed(negative: bool, magnitude: u128) -> i128
+    requires { magnitude < 2 ^ 127 }
+    ensures { result ≡ signed negative magnitude }
+{
+    let value = magnitude as i128;
+    if negative { -value } else { value }
+}
+
+fn digits(limit: u128, role: Option<Relation>, negative: bool, magnitude: u128, digit: u8) -> Move
+    requires room { limit < 2 ^ 127 }
+    requires fits { magnitude ≤ limit }
+    requires digit { digit < 10 }
+    ensures plan { result ≡ digits limit role negative magnitude digit }
+    ensures fits { MoveFits limit result }
+{
+    let digit = digit as u128;
+    if digit > limit || magnitude > (limit - digit) / 10 {
+        return Move::Stop;
+    }
+    Move::To(Phase::Digits(role, negative, 10 * magnitude + digit))
+}
+
+fn number(limit: u128, role: Option<Relation>, kind: Kind) -> Move
+    requires room { limit < 2 ^ 127 }
+    requires fits { KindFits kind }
+    ensures plan { result ≡ number limit role kind }
+    ensures fits { MoveFits limit result }
+{
+    match kind {
+        Kind::Plus => Move::To(Phase::Signed(role, false)),
+        Kind::Minus => Move::To(Phase::Signed(role, true)),
+        Kind::Digit(d) => digits(limit, role, false, 0, d),
+        _ => Move::Stop,
+    }
+}
+
+fn behind(part: Part, kind: Kind) -> Move
+    ensures plan { result ≡ behind part kind }
+    ensures fits { (limit : ℕ) → MoveFits limit result }
+{
+    match kind {
+        Kind::Greater if allows(part, Relation::AtLeast) => Move::To(Phase::Greater),
+        Kind::Equals if allows(part, Relation::Equal) => Move::To(Phase::Operator(Relation::Equal)),
+        Kind::Semicolon if reads_sums(part) => Move::EndSum,
+        _ => Move::Stop,
+    }
+}
+
+/// What a machine does with a kind of byte. It asks for no memory.
+pub fn plan(part: Part, limit: u128, phase: Phase, kind: Kind) -> Move
+    requires room { limit < 2 ^ 127 }
+    requires phase { PhaseFits limit phase }
+    requires kind { KindFits kind }
+    ensures plan { result ≡ plan part limit phase kind }
+    ensures fits { MoveFits limit result }
+{
+    match (phase, kind) {
+        (Phase::Start, Kind::Space) if reads_sums(part) => Move::To(Phase::Empty),
+        (Phase::Start, Kind::Space) => Move::Stop,
+        (Phase::Start | Phase::Between, Kind::Plus | Kind::Minus | Kind::Digit(_)) => {
+            number(limit, None, kind)
+        }
+        (Phase::Start, _) => behind(part, kind),
+        (Phase::Signed(role, negative), Kind::Digit(d)) => digits(limit, role, negative, 0, d),
+        (Phase::Digits(role, negative, n), Kind::Digit(d)) => digits(limit, role, negative, n, d),
+        (Phase::Digits(None, negative, n), Kind::Space) => Move::To(Phase::Gap(signed(
+            negative, n,
+        ))),
+        (Phase::Digits(Some(r), negative, n), Kind::Space) => {
+            Move::To(Phase::Tail(r, signed(negative, n)))
+        }
+        (Phase::Digits(Some(r), negative, n), Kind::Semicolon) => {
+            Move::EndLinear(r, signed(negative, n))
+        }
+        (Phase::Gap(z), Kind::Space) => Move::To(Phase::Gap(z)),
+        (Phase::Gap(z), Kind::Tilde) => Move::To(Phase::Tilde(z)),
+        (Phase::Gap(z), Kind::Start(b)) => Move::Begin(Phase::First(z, false), b),
+        (Phase::Tilde(z), Kind::Start(b)) => Move::Begin(Phase::First(z, true), b),
+        (Phase::First(z, negated) | Phase::More(z, negated), Kind::Start(b) | Kind::Inner(b)) => {
+            Move::Add(Phase::More(z, negated), b)
+        }
+        (Phase::More(_, _) | Phase::Between, Kind::Space) => Move::To(Phase::Between),
+        (Phase::More(_, _) | Phase::Between, _) => behind(part, kind),
+        (Phase::Greater, Kind::Equals) => Move::To(Phase::Operator(Relation::AtLeast)),
+        (Phase::Operator(r), Kind::Space) => Move::To(Phase::Operator(r)),
+        (Phase::Operator(r), _) => number(limit, Some(r), kind),
+        (Phase::Tail(r, z), Kind::Space) => Move::To(Phase::Tail(r, z)),
+        (Phase::Tail(r, z), Kind::Semicolon) => Move::EndLinear(r, z),
+        (Phase::Empty, Kind::Space) => Move::To(Phase::Empty),
+        (Phase::Empty, Kind::Semicolon) => Move::EndSum,
+        _ => Move::Stop,
+    }
+}

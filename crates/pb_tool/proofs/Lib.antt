@@ -1,0 +1,4 @@
+mod Entries
+mod Named
+mod Parsed
+mod Sequence

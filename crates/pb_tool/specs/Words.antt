@@ -1,0 +1,88 @@
+-- What the words of the command line ask for.
+use Rattle.std.specs.Prelude.{◌≡◌, ◌⊎◌, ℕ, ◌^◌, ◌≤◌, List, [], Option, Some, None, String, option_map, codes, true, string_bytes, IfSome, IsSomeAnd}
+use Rattle.std.specs.Str.Parse.{digits_value, without_leading_plus}
+use Rattle.std.specs.declared.alloc.Global.{Global}
+use Rattle.clap.specs.Words.{App, HasKind, IsUnsignedIn, Row, Rule, Text, fault_of, first_of, kind_of, new_app, new_rule, subcommand_of, with_rule, with_subcommand}
+use Rattle.clap.specs.Simple.{on_top}
+use Rattle.clap.specs.declared.error.ErrorKind.TheVariants.{ValueValidation}
+use Rattle.pb_tool.specs.declared.words.Job.{Job}
+use Rattle.pb_tool.specs.declared.words.Job.TheVariants.{Show, Tidy}
+use Rattle.pb_tool.specs.declared.words.WordsFault.{WordsFault}
+use Rattle.pb_tool.specs.declared.words.WordsFault.TheVariants.{Words, Memory}
+
+-- ---- the command: `pb show` and `pb tidy`, each with FILE, `--longest` and `--bits`
+
+abbrev pub file_rule : Rule
+file_rule = record (new_rule (codes "file")) { value_names = 1 }
+
+abbrev pub flag_rule : Text → Rule
+flag_rule name = record (new_rule name) { long = Some name; value_names = 1 }
+
+abbrev pub reader_command : Text → App
+reader_command name =
+    with_rule (with_rule (with_rule (new_app name) file_rule) (flag_rule (codes "longest"))) (flag_rule (codes "bits"))
+
+abbrev pub pb_command : App
+pb_command =
+    let pb = on_top (λ s. record s { subcommand_required = true; arg_required_else_help = true }) (new_app (codes "pb")) in
+    with_subcommand (with_subcommand pb (reader_command (codes "show")).top) (reader_command (codes "tidy")).top
+
+-- ---- what it finds
+
+-- the number of a flag, where the flag is given
+abbrev pub IsFlag : ℕ → ℕ → Option Text → Option ℕ → Type 0
+IsFlag low high None number = number ≡ None
+IsFlag low high (Some text) number = IsUnsignedIn low high text × (number ≡ Some (digits_value 10 (without_leading_plus text)))
+
+-- the same, with another number where the flag is absent
+abbrev pub IsFlagOr : ℕ → ℕ → ℕ → Option Text → ℕ → Type 0
+IsFlagOr other low high None number = number ≡ other
+IsFlagOr other low high (Some text) number = IsUnsignedIn low high text × (number ≡ digits_value 10 (without_leading_plus text))
+
+-- a subcommand's entries are FILE and the two flags
+pub record HasEntries (rows : List Row) (file : Option (String Global)) (longest : Option ℕ) (bits : ℕ) : Type 0 where
+  pub file_is : option_map string_bytes file ≡ first_of (codes "file") rows
+  pub longest_is : IsFlag 1 (2 ^ 40) (first_of (codes "longest") rows) longest
+  pub bits_are : IsFlagOr 127 31 127 (first_of (codes "bits") rows) bits
+
+-- the name of a subcommand that reads a file
+abbrev pub IsReader : Text → Type 0
+IsReader name = (name ≡ codes "show") ⊎ (name ≡ codes "tidy")
+
+-- the subcommand that the words name, with its entries, asks for the job
+abbrev pub AsksFor : Option (Text × List Row) → Job → Type 0
+AsksFor None job = ⊥
+AsksFor (Some named) (Show file longest bits) = (named.0 ≡ codes "show") × HasEntries named.1 file longest bits
+AsksFor (Some named) (Tidy file longest bits) = (named.0 ≡ codes "tidy") × HasEntries named.1 file longest bits
+
+abbrev pub AreInRange : Option ℕ → ℕ → Type 0
+AreInRange longest bits = IfSome longest (λ n. (1 ≤ n) × (n ≤ 2 ^ 40)) × (31 ≤ bits) × (bits ≤ 127)
+
+abbrev pub HasRanges : Job → Type 0
+HasRanges (Show file longest bits) = AreInRange longest bits
+HasRanges (Tidy file longest bits) = AreInRange longest bits
+
+-- ---- why it finds nothing
+
+-- memory ran out, or the flag is given with something else than a number of its range
+abbrev pub IsFlagFault : ℕ → ℕ → Option Text → WordsFault → Type 0
+IsFlagFault low high text (Words e) = (kind_of e ≡ ValueValidation) × IsSomeAnd text (λ t. ¬ IsUnsignedIn low high t)
+IsFlagFault low high text Memory = Unit {0}
+
+abbrev pub HasWrongNumber : List Row → Type 0
+HasWrongNumber rows =
+    IsSomeAnd (first_of (codes "longest") rows) (λ t. ¬ IsUnsignedIn 1 (2 ^ 40) t)
+    ⊎ IsSomeAnd (first_of (codes "bits") rows) (λ t. ¬ IsUnsignedIn 31 127 t)
+
+abbrev pub IsEntryFault : List Row → WordsFault → Type 0
+IsEntryFault rows (Words e) = (kind_of e ≡ ValueValidation) × HasWrongNumber rows
+IsEntryFault rows Memory = Unit {0}
+
+-- The words ask for help, are no words of the command or give a wrong number; or memory ran out, as
+-- `Memory` after they were found to be words of the command.
+abbrev pub ExplainsWords : List Text → WordsFault → Type 0
+ExplainsWords words (Words e) =
+    HasKind (fault_of pb_command words) e
+    ⊎ ((fault_of pb_command words ≡ [])
+    × IsSomeAnd (subcommand_of pb_command words) (λ named. IsEntryFault named.1 (Words e)))
+ExplainsWords words Memory = fault_of pb_command words ≡ []

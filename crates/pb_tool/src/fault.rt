@@ -1,0 +1,146 @@
+//! Why a command gave up, its line on standard error and its exit status.
+
+ghost use Rattle.std.specs.Prelude.{◌≡◌, ◌++◌, ◌∷◌, []};
+ghost use Rattle.std.specs.List.{flat_map};
+ghost use Rattle.pb_text.specs.Writing.{Writes};
+ghost use Rattle.pb_tool.specs.Faults.{exit_status, fault_line, hex_of, place_text, prefix_of};
+ghost use Rattle.pb_tool.specs.Faults.{reason_of};
+
+use itoa::Buffer;
+use pb_text::{Failed, Place, Sink, Stop, Why, write_bytes};
+use thiserror::Error;
+
+/// The input that a fault is about.
+#[derive(Clone, Copy, Debug, PartialEq, Eq)]
+pub enum Input {
+    /// The one file of a command.
+    File,
+    /// The instance that a proof speaks of.
+    Instance,
+    /// The proof.
+    Proof,
+}
+
+/// Why a command gave up.
+#[derive(Debug, Drop, Error)]
+pub enum ToolFault {
+    /// The text stopped its reader at a place.
+    #[error("the reader stopped")]
+    Text { input: Input, stop: Stop },
+    /// The file could not be opened.
+    #[error("a file could not be opened")]
+    Open(Input),
+    /// A number of the whole input, and of no place in it, passes the limit.
+    #[error("a number passes the limit")]
+    Overflow(Input),
+    /// Memory ran out at no place of the input.
+    #[error("memory ran out")]
+    Memory(Input),
+    /// The output could not be written.
+    #[error("the output could not be written")]
+    Write,
+}
+
+/// The exit status of a fault: 1 where the input was refused, and 3 where a file could not be opened,
+/// read or written or memory ran out.
+pub fn status(fault: &ToolFault) -> u8
+    ensures { result ≡ exit_status fault.now }
+{
+    match fault {
+        ToolFault::Text { stop, .. } => match stop.why {
+            Why::Read | Why::Memory => 3,
+            _ => 1,
+        },
+        ToolFault::Overflow(_) => 1,
+        ToolFault::Open(_) | ToolFault::Memory(_) | ToolFault::Write => 3,
+    }
+}
+
+/// Writes the line of a fault, with its line feed. It fails where the sink does, and what went out
+/// is then a front of the line.
+pub fn write_fault<S: Sink>(fault: &ToolFault, out: &mut S) -> Result<(), Failed>
+    ensures { Writes S.contents S.faults out.old (fault_line fault.now) result out.new }
+{
+    match fault {
+        ToolFault::Text { input, stop } => write_stop(*input, *stop, out),
+        ToolFault::Open(input) => write_whole(*input, b"cannot open", out),
+        ToolFault::Overflow(input) => write_whole(*input, b"overflow", out),
+        ToolFault::Memory(input) => write_whole(*input, b"out of memory", out),
+        ToolFault::Write => write_bytes(b"output: write fault\n", out),
+    }
+}
+
+/// The line of a fault that has no place.
+fn write_whole<S: Sink>(input: Input, reason: &'static [u8], out: &mut S) -> Result<(), Failed>
+    ensures { Writes S.contents S.faults out.old
+        (prefix_of input ++ reason.now ++ 10 ∷ []) result out.new }
+{
+    write_parts(&[prefix(input), reason, b"\n"], out)
+}
+
+/// The line of a fault at a place.
+fn write_stop<S: Sink>(input: Input, stop: Stop, out: &mut S) -> Result<(), Failed>
+    ensures { Writes S.contents S.faults out.old
+        (prefix_of input ++ place_text stop.place ++ reason_of stop.why ++ 10 ∷ [])
+        result out.new }
+{
+    write_bytes(prefix(input), out)?;
+    write_place(stop.place, out)?;
+    write_reason(stop.why, out)?;
+    write_bytes(b"\n", out)
+}
+
+/// The word before a fault of the input.
+fn prefix(input: Input) -> &'static [u8]
+    ensures { result.now ≡ prefix_of input }
+{
+    match input {
+        Input::File => b"file: ",
+        Input::Instance => b"instance: ",
+        Input::Proof => b"proof: ",
+    }
+}
+
+/// The place, as far as its colon and space.
+fn write_place<S: Sink>(place: Place, out: &mut S) -> Result<(), Failed>
+    ensures { Writes S.contents S.faults out.old (place_text place) result out.new }
+{
+    let mut line = Buffer::new();
+    let mut column = Buffer::new();
+    let line = line.format(place.line).as_bytes();
+    let column = column.format(place.column).as_bytes();
+    write_parts(&[b"line ", line, b" column ", column, b": "], out)
+}
+
+/// Why a reader stopped.
+fn write_reason<S: Sink>(why: Why, out: &mut S) -> Result<(), Failed>
+    ensures { Writes S.contents S.faults out.old (reason_of why) result out.new }
+{
+    match why {
+        Why::Byte(byte) => write_parts(&[b"byte 0x", &hex(byte)], out),
+        Why::TooLarge => write_bytes(b"number too large", out),
+        Why::Ended => write_bytes(b"input ended", out),
+        Why::TooLong => write_bytes(b"input too long", out),
+        Why::Read => write_bytes(b"read fault", out),
+        Why::Memory => write_bytes(b"out of memory", out),
+    }
+}
+
+/// A byte as two hexadecimal digits, in lower case.
+fn hex(byte: u8) -> [u8; 2]
+    ensures { result ≡ hex_of byte }
+{
+    let digits = b"0123456789abcdef";
+    [digits[byte as usize / 16], digits[byte as usize % 16]]
+}
+
+/// Writes texts one after another.
+fn write_parts<S: Sink>(parts: &[&[u8]], out: &mut S) -> Result<(), Failed>
+    ensures { Writes S.contents S.faults out.old
+        (flat_map (λ part. part.now) parts.now) result out.new }
+{
+    for part in parts {
+        write_bytes(part, out)?;
+    }
+    Ok(())
+}

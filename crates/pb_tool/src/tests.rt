@@ -1,0 +1,4 @@
+//! The lines of faults, and words.
+
+mod faults;
+mod words;

@@ -1,0 +1,260 @@
+//! The words of the command line.
+
+ghost use Rattle.std.specs.Prelude.{◌≡◌, IfErr, IfOk, OnOk, [], Some, codes, option_map, false};
+ghost use Rattle.std.specs.Prelude.{string_bytes};
+ghost use Rattle.std.specs.Option.{SomeIff};
+ghost use Rattle.std.specs.Str.Parse.{digits_value, without_leading_plus};
+ghost use Rattle.clap.specs.Words.{IsUnsignedIn, app_of, fault_of, first_of, found_of, kind_of};
+ghost use Rattle.clap.specs.Words.{rows_of, rule_of, subcommand_of};
+ghost use Rattle.clap.specs.Walk.{texts};
+ghost use Rattle.clap.specs.declared.builder.Command.TheViews.{out-Command as fields_of};
+ghost use Rattle.pb_tool.specs.Words.{AsksFor, ExplainsWords, HasRanges, IsEntryFault, IsFlag};
+ghost use Rattle.pb_tool.specs.Words.{IsFlagFault, IsReader, file_rule, flag_rule, pb_command};
+ghost use Rattle.pb_tool.specs.Words.{reader_command};
+
+use clap::error::ErrorKind;
+use clap::{Arg, ArgMatches, Command};
+use std::alloc::{AllocError, Global};
+use thiserror::Error;
+
+/// The most bytes that a statement may be allowed.
+const MOST_BYTES: u64 = 1 << 40;
+
+const PB_EXAMPLE: &str = "\
+Example: pb tidy instance.opb
+prints the instance in its canonical spelling, or says on standard error where and why the text
+is no instance.";
+
+const SHOW_EXAMPLE: &str = "\
+Example: where instance.opb has the lines
+  * #variable= 2 #constraint= 1
+  1 x1   1 x2>=1;
+pb show instance.opb prints
+  1:1 * #variable= 2 #constraint= 1
+  2:1 +1 x1 +1 x2 >= 1 ;";
+
+const TIDY_EXAMPLE: &str = "\
+Example: where instance.opb has the lines
+  * #variable= 2 #constraint= 1
+  1 x1   1 x2>=1;
+pb tidy instance.opb prints
+  * #variable= 2 #constraint= 1
+  +1 x1 +1 x2 >= 1 ;";
+
+/// What the words ask for. `longest` is the most bytes of a statement, 1 to `2^40`, where there is
+/// such a limit; `bits` are those of the largest magnitude of a number, 31 to 127.
+#[derive(Debug, Drop)]
+pub enum Job {
+    /// Each statement of the file, or of standard input, with its place.
+    Show {
+        file: Option<String>,
+        longest: Option<u64>,
+        bits: u32,
+    },
+    /// The canonical spelling of the file, or of standard input.
+    Tidy {
+        file: Option<String>,
+        longest: Option<u64>,
+        bits: u32,
+    },
+}
+
+/// Why the words ask for nothing.
+#[derive(Debug, Drop, Error)]
+pub enum WordsFault {
+    /// They ask for help, or are wrong, or memory ran out while they were read.
+    #[error(transparent)]
+    Words(clap::Error),
+    /// Memory ran out after the words were found to be right.
+    #[error("out of memory")]
+    Memory,
+}
+
+impl From<clap::Error> for WordsFault {
+    ghost use Rattle.pb_tool.specs.declared.words.WordsFault.TheVariants.{Words};
+
+    ghost from_gives = { λ error fault. fault ≡ Words error };
+
+    fn from(error: clap::Error) -> WordsFault {
+        WordsFault::Words(error)
+    }
+}
+
+impl From<AllocError> for WordsFault {
+    ghost use Rattle.pb_tool.specs.declared.words.WordsFault.TheVariants.{Memory};
+
+    ghost from_gives = { λ _ fault. fault ≡ Memory };
+
+    fn from(_error: AllocError) -> WordsFault {
+        WordsFault::Memory
+    }
+}
+
+/// What the words ask for, of which the first is the program's name.
+pub fn read_words(alloc: Global, words: &[&str]) -> Result<Job, WordsFault>
+    ensures job { IfOk result (AsksFor (subcommand_of pb_command (texts words.now))) }
+    ensures right { OnOk result (fault_of pb_command (texts words.now) ≡ []) }
+    ensures ranges { IfOk result HasRanges }
+    ensures fault { IfErr result (ExplainsWords (texts words.now)) }
+{
+    let mut command = command(alloc)?;
+    let matches = command.try_get_matches_from_mut(words)?;
+    let Some((name, given)) = matches.subcommand() else {
+        unreachable!()
+    };
+    job_of(alloc, &mut command, name, given)
+}
+
+/// What a subcommand asks for with its entries.
+fn job_of(
+    alloc: Global,
+    command: &mut Command<'_>,
+    name: &str,
+    given: &ArgMatches<'_>,
+) -> Result<Job, WordsFault>
+    requires { IsReader name.now }
+    ensures ok { IfOk result (AsksFor (Some (name.now, rows_of (found_of given.now)))) }
+    ensures ranges { IfOk result HasRanges }
+    ensures err { IfErr result (IsEntryFault (rows_of (found_of given.now))) }
+{
+    let longest = number(alloc, command, given, "longest", 1, MOST_BYTES)?;
+    let bits = number(alloc, command, given, "bits", 31, 127)?;
+    let bits = bits.unwrap_or(127) as u32;
+    let file = file_name(alloc, given)?;
+    match name {
+        "show" => Ok(Job::Show {
+            file,
+            longest,
+            bits,
+        }),
+        _ => Ok(Job::Tidy {
+            file,
+            longest,
+            bits,
+        }),
+    }
+}
+
+/// The file's name, where one is given.
+fn file_name(alloc: Global, given: &ArgMatches<'_>) -> Result<Option<String>, AllocError>
+    ensures { IfOk result (λ name.
+        option_map string_bytes name ≡ first_of (codes "file") (rows_of (found_of given.now))) }
+{
+    match given.get_str("file") {
+        Some(name) => Ok(Some(String::from_str(alloc, name)?)),
+        None => Ok(None),
+    }
+}
+
+/// The number of a flag, where the flag is given.
+fn number(
+    alloc: Global,
+    command: &mut Command<'_>,
+    given: &ArgMatches<'_>,
+    flag: &str,
+    low: u64,
+    high: u64,
+) -> Result<Option<u64>, WordsFault>
+    ensures ok { IfOk result (IsFlag low high (first_of flag.now (rows_of (found_of given.now)))) }
+    ensures err { IfErr result
+        (IsFlagFault low high (first_of flag.now (rows_of (found_of given.now)))) }
+{
+    let Some(text) = given.get_str(flag) else {
+        return Ok(None);
+    };
+    if let Some(number) = number_within(text, low, high) {
+        return Ok(Some(number));
+    }
+    let message = format!(in alloc;
+        "invalid value '{text}' for '--{flag}': it takes a number from {low} to {high}"
+    )?;
+    let error = command.error(ErrorKind::ValueValidation, message.as_str())?;
+    Err(WordsFault::Words(error))
+}
+
+/// The number that a text spells, where it lies from `low` to `high`.
+fn number_within(text: &str, low: u64, high: u64) -> Option<u64>
+    ensures { SomeIff result (IsUnsignedIn low high text.now)
+        (digits_value 10 (without_leading_plus text.now)) }
+{
+    match text.parse::<u64>() {
+        Ok(number) if low <= number && number <= high => Some(number),
+        _ => None,
+    }
+}
+
+/// The program and its subcommands.
+fn command<'a>(alloc: Global) -> Result<Command<'a>, clap::Error>
+    ensures ok { IfOk result (λ c. app_of c ≡ pb_command) }
+    ensures err { IfErr result (λ e. kind_of e ≡ ErrorKind.OutOfMemory) }
+{
+    let show = reader(
+        alloc,
+        "show",
+        "Print each statement of an instance as it comes, after its line and column",
+        SHOW_EXAMPLE,
+    )?;
+    let tidy = reader(
+        alloc,
+        "tidy",
+        "Print the canonical spelling of an instance, once all of it was read",
+        TIDY_EXAMPLE,
+    )?;
+    let command = Command::new(alloc, "pb")
+        .about("Reads and writes pseudo-Boolean instances in the OPB format")
+        .after_help(PB_EXAMPLE)
+        .subcommand_required(true)
+        .arg_required_else_help(true)
+        .subcommand(show)?
+        .subcommand(tidy)?;
+    Ok(command)
+}
+
+/// A subcommand that reads one file.
+fn reader<'a>(
+    alloc: Global,
+    name: &'a str,
+    about: &'a str,
+    example: &'a str,
+) -> Result<Command<'a>, AllocError>
+    ensures app { IfOk result (λ c. app_of c ≡ reader_command name.entry.now) }
+    ensures local { IfOk result (λ c. (fields_of c).has_globals ≡ false) }
+{
+    Command::new(alloc, name)
+        .about(about)
+        .after_help(example)
+        .arg(file(alloc))?
+        .arg(flag(
+            alloc,
+            "longest",
+            "B",
+            "Refuse a statement of more than B bytes, 1 to 2^40",
+        ))?
+        .arg(flag(
+            alloc,
+            "bits",
+            "K",
+            "Refuse numbers past 2^K - 1, K from 31 to 127; 127 if absent",
+        ))
+}
+
+/// The file that a subcommand reads.
+fn file<'a>(alloc: Global) -> Arg<'a>
+    ensures rule { rule_of result ≡ file_rule }
+    ensures local { result.global ≡ false }
+{
+    Arg::new(alloc, "file")
+        .value_name("FILE")
+        .help("The file to read; standard input if absent")
+}
+
+/// A flag with a number.
+fn flag<'a>(alloc: Global, name: &'a str, value: &'a str, help: &'a str) -> Arg<'a>
+    ensures rule { rule_of result ≡ flag_rule name.entry.now }
+    ensures local { result.global ≡ false }
+{
+    Arg::new(alloc, name)
+        .long(name)
+        .value_name(value)
+        .help(help)
+}
