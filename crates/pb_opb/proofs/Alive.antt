@@ -47,7 +47,7 @@ before s next b goes inside h = record {
   after = h.after;
   reads = reads_longer s next b h.text h.event h.after goes inside h.reads;
   rest = h.rest;
-  accepts = h.accepts
+  accepts = h.accepts;
 }
 
 -- a byte that ends a statement
@@ -58,7 +58,7 @@ last s next b e ends rest accepts = record {
   after = next;
   reads = (ends, refl);
   rest = rest;
-  accepts = accepts
+  accepts = accepts;
 }
 
 -- what a state that is alive accepts
@@ -110,7 +110,7 @@ owed_read s may (suc n) =
       after = after (between s may (suc n)) phase.TheVariants.Constraint;
       reads = within (between s may (suc n)) phase.TheVariants.Constraint constraint_gives r.0 mid.inner r.2 r.1 r.3;
       rest = more.0;
-      accepts = subst (λ (k : ℕ). Accepts opb (between s false k) more.0) (sym (one_less n)) more.1
+      accepts = subst (λ (k : ℕ). Accepts opb (between s false k) more.0) (sym (one_less n)) more.1;
     }))
 
 -- a state in which bytes are given is alive
@@ -269,10 +269,11 @@ module _ (limit top : ℕ) where
     min_begun zero h i = absurd (omega arith)
     min_begun (suc zero) h i = before (in_phase (phase.TheVariants.Min 1)) (in_phase (phase.TheVariants.Min 2)) 105 refl refl (min_begun_2)
       where
-      min_begun_3 : IsAlive (in_phase (phase.TheVariants.Min 3))
-      min_begun_3 = before (in_phase (phase.TheVariants.Min 3)) (giving (in_phase phase.TheVariants.AfterMin) phase.TheVariants.AfterMin (objectives limit)) 58 refl refl (objective_owed _ refl)
-      min_begun_2 : IsAlive (in_phase (phase.TheVariants.Min 2))
-      min_begun_2 = before (in_phase (phase.TheVariants.Min 2)) (in_phase (phase.TheVariants.Min 3)) 110 refl refl min_begun_3
+        min_begun_3 : IsAlive (in_phase (phase.TheVariants.Min 3))
+        min_begun_3 = before (in_phase (phase.TheVariants.Min 3)) (giving (in_phase phase.TheVariants.AfterMin) phase.TheVariants.AfterMin (objectives limit)) 58 refl refl (objective_owed _ refl)
+
+        min_begun_2 : IsAlive (in_phase (phase.TheVariants.Min 2))
+        min_begun_2 = before (in_phase (phase.TheVariants.Min 2)) (in_phase (phase.TheVariants.Min 3)) 110 refl refl min_begun_3
     min_begun (suc (suc zero)) h i = before (in_phase (phase.TheVariants.Min 2)) (in_phase (phase.TheVariants.Min 3)) 110 refl refl
         (before (in_phase (phase.TheVariants.Min 3)) (giving (in_phase phase.TheVariants.AfterMin) phase.TheVariants.AfterMin (objectives limit)) 58 refl refl (objective_owed _ refl))
     min_begun (suc (suc (suc zero))) h i = before (in_phase (phase.TheVariants.Min 3)) (giving (in_phase phase.TheVariants.AfterMin) phase.TheVariants.AfterMin (objectives limit)) 58 refl refl (objective_owed _ refl)
@@ -337,9 +338,12 @@ live s h = by_phase s s.phase refl h.fits h.holds
 
 -- a byte before a state that is alive is admitted, and one that ends a statement
 pub admits_before : (s next : OpbState) (b : ℕ) → opb.step s b ≡ Go next → opb.begun next ≡ true → IsAlive next → Admits opb s b
-admits_before s next b goes inside h =
-    (record { gap = []; text = record { byte = b; numeral = opb.in_number next } ∷ h.text; event = h.event } ∷ h.rest,
-      (s, h.after, refl, reads_longer s next b h.text h.event h.after goes inside h.reads, h.accepts), _, refl)
+admits_before s next b goes inside h = (
+  record { gap = []; text = record { byte = b; numeral = opb.in_number next } ∷ h.text; event = h.event } ∷ h.rest,
+  (s, h.after, refl, reads_longer s next b h.text h.event h.after goes inside h.reads, h.accepts),
+  _,
+  refl,
+)
 
 pub admits_last : (s next : OpbState) (b : ℕ) (e : OpbEvent) → opb.step s b ≡ End e next → (rest : List (Item OpbEvent)) → Accepts opb next rest → Admits opb s b
 admits_last s next b e ends rest accepts =

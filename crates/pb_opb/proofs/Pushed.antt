@@ -73,7 +73,7 @@ knows s (phase.TheVariants.Between may) h b =
     knows_cond s (phase.TheVariants.Between may) (is_white b) (To (phase.TheVariants.Between may)) _ h
     (knows_cond s (phase.TheVariants.Between may) (nat_eq b 42) (To (phase.TheVariants.Comment may)) _ (h.0, h.1.1)
     (knows_cond s (phase.TheVariants.Between may) (nat_eq b 109 && may) (To (phase.TheVariants.Min 1)) (Give phase.TheVariants.Constraint) h
-      (record { gives = constraint_gives; owed = h.0; text = h.1.0; number = sym (ap sums.in_number h.1.1) })))
+    (record { gives = constraint_gives; owed = h.0; text = h.1.0; number = sym (ap sums.in_number h.1.1) })))
 knows s (phase.TheVariants.Comment may) h b = knows_cond s (phase.TheVariants.Comment may) (nat_eq b 10) (EndComment may) (Keep b) tt (h.1, refl, λ text. h)
 knows s (phase.TheVariants.Min k) h b =
     knows_cond s (phase.TheVariants.Min k) (nat_eq b (slice_index min_word k)) _ Stop
@@ -91,7 +91,13 @@ known s h b m e = subst (Knows s s.phase) e (knows s s.phase h.holds b)
 -- the state where the machine goes on
 pub to_order : (s : OpbState) → IsInOrder s → (b : ℕ) (p : Phase) → plan s.top s.phase b ≡ To p → PhaseFits s.top p → IsInOrder (at s p)
 to_order s h b p e fits = record {
-  limit = h.limit; top = h.top; fits = fits; holds = known s h b (To p) e; spaces = h.spaces; limits = h.limits; state = h.state
+  limit = h.limit;
+  top = h.top;
+  fits = fits;
+  holds = known s h b (To p) e;
+  spaces = h.spaces;
+  limits = h.limits;
+  state = h.state;
 }
 
 -- what the machine of sums keeps
@@ -110,8 +116,13 @@ give_order s h b p inner e goes state =
     let k = known s h b (Give p) e in
     let i = inner_goes s.inner inner b goes in
     record {
-      limit = h.limit; top = h.top; fits = k.gives.fits s.top; holds = k.gives.holds (giving s p inner) k.owed k.text i.2;
-      spaces = i.0 ∙ h.spaces; limits = i.1 ∙ h.limits; state = state
+      limit = h.limit;
+      top = h.top;
+      fits = k.gives.fits s.top;
+      holds = k.gives.holds (giving s p inner) k.owed k.text i.2;
+      spaces = i.0 ∙ h.spaces;
+      limits = i.1 ∙ h.limits;
+      state = state;
     }
 
 -- a state between two statements
@@ -128,8 +139,8 @@ owing_fits top may (suc n) = tt
 module _ (s : OpbState) (h : IsInOrder s) (b : ℕ) (p : Phase) (next again : SumState) (x : SumEvent) (planned : plan s.top s.phase b ≡ Give p) (ends : sums.step s.inner b ≡ End x next) (begins : again ≡ first next.spaces part.TheVariants.Linear next.limit) where
   again_is : again ≡ linears s.limit
   again_is =
-    let i = inner_ends s.inner next b x ends in
-    begins ∙ (ap (λ (y : _). first y part.TheVariants.Linear next.limit) (i.0 ∙ h.spaces) ∙ ap (λ (y : ℕ). first White part.TheVariants.Linear y) (i.1 ∙ h.limits))
+      let i = inner_ends s.inner next b x ends in
+      begins ∙ (ap (λ (y : _). first y part.TheVariants.Linear next.limit) (i.0 ∙ h.spaces) ∙ ap (λ (y : ℕ). first White part.TheVariants.Linear y) (i.1 ∙ h.limits))
 
   abbrev ended : OpbState
   ended = record s { owed = owed_after p s.owed; phase = phase_owing false (owed_after p s.owed); inner = again }
@@ -139,12 +150,16 @@ module _ (s : OpbState) (h : IsInOrder s) (b : ℕ) (p : Phase) (next again : Su
 
   pub end_order : IsState sums again → IsInOrder ended
   end_order state =
-    let k = known s h b (Give p) planned in
-    record {
-      limit = h.limit; top = h.top; fits = owing_fits s.top false (owed_after p s.owed);
-      holds = rw k.text (owing_holds s false (owed_after p s.owed) again again_is);
-      spaces = ap (λ (y : SumState). y.spaces) again_is; limits = ap (λ (y : SumState). y.limit) again_is; state = state
-    }
+      let k = known s h b (Give p) planned in
+      record {
+        limit = h.limit;
+        top = h.top;
+        fits = owing_fits s.top false (owed_after p s.owed);
+        holds = rw k.text (owing_holds s false (owed_after p s.owed) again again_is);
+        spaces = ap (λ (y : SumState). y.spaces) again_is;
+        limits = ap (λ (y : SumState). y.limit) again_is;
+        state = state;
+      }
 
   pub end_step : opb.step s b ≡ End (statement_of x) ended
   end_step = ap (act s b) planned ∙ (ap (over s p) ends ∙ ap (λ (y : OpbState). End (statement_of x) y) (sym ended_is))
@@ -158,12 +173,12 @@ give_refused s h b p planned stops =
 module _ (s : OpbState) (h : IsInOrder s) (b : ℕ) (p : Phase) (planned : plan s.top s.phase b ≡ Give p) where
   by_step : (n : Next SumState SumEvent) → sums.step s.inner b ≡ n → Admits sums s.inner b → Admits opb s b
   by_step (Go inner) e a =
-    let k = known s h b (Give p) planned in
-    let i = inner_goes s.inner inner b e in
-    admits_before s (giving s p inner) b (ap (act s b) planned ∙ ap (over s p) e) k.gives.within (giving_alive s p k.gives inner i.2)
+      let k = known s h b (Give p) planned in
+      let i = inner_goes s.inner inner b e in
+      admits_before s (giving s p inner) b (ap (act s b) planned ∙ ap (over s p) e) k.gives.within (giving_alive s p k.gives inner i.2)
   by_step (End x inner) e a =
-    let more = owed_read s false (owed_after p s.owed) in
-    admits_last s (after s p) b (statement_of x) (ap (act s b) planned ∙ ap (over s p) e) more.0 more.1
+      let more = owed_read s false (owed_after p s.owed) in
+      admits_last s (after s p) b (statement_of x) (ap (act s b) planned ∙ ap (over s p) e) more.0 more.1
   by_step Refuse e a = absurd (refuses sums s.inner s.inner b e a.0 a.1 (a.2, a.3))
 
   pub give_admits : IsTrue (sums.asks s.inner b) → Admits sums s.inner b → IsTrue (opb.asks s b) × Admits opb s b
@@ -206,7 +221,7 @@ module _ (s : OpbState) (h : IsInOrder s) (b : ℕ) (p : Phase) (planned : plan 
 
   same_begin : (n : Next SumState SumEvent) → sums.step s.inner b ≡ n → begins_with sums (sums.begun s.inner) n ≡ begins_with opb (is_within s.phase) (over s p n)
   same_begin (Go inner) e =
-    ap (λ (x : Bool). begins_with sums x (Go inner)) fresh_inner ∙ (goes-midway s.inner inner b e ∙ (sym (known s h b (Give p) planned).gives.within ∙ ap (λ (x : Bool). begins_with opb x (over s p (Go inner))) (sym out)))
+      ap (λ (x : Bool). begins_with sums x (Go inner)) fresh_inner ∙ (goes-midway s.inner inner b e ∙ (sym (known s h b (Give p) planned).gives.within ∙ ap (λ (x : Bool). begins_with opb x (over s p (Go inner))) (sym out)))
   same_begin (End x inner) e = ap (λ (y : Bool). begins_with sums y (End x inner)) fresh_inner ∙ ap (λ (y : Bool). begins_with opb y (over s p (End x inner))) (sym out)
   same_begin Refuse e = ap (λ (y : Bool). begins_with sums y Refuse) fresh_inner ∙ ap (λ (y : Bool). begins_with opb y (over s p Refuse)) (sym out)
 

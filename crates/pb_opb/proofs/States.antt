@@ -161,5 +161,5 @@ is_state s h = record {
   plain = λ o. (outside s s.phase o h.holds).0;
   grows = λ b next e. (at_go (λ t. Goes s t) (λ t. opb.begun t ≡ false) (opb.step s b) next e (steps s h.state b)).grows;
   bounds = omega (arith, h.state.bounds);
-  empties = λ o. nothing_spent s (outside s s.phase o h.holds).1
+  empties = λ o. nothing_spent s (outside s s.phase o h.holds).1;
 }

@@ -39,7 +39,13 @@ objectives limit = first White part.TheVariants.Sum limit
 -- before an instance
 abbrev pub begin : ℕ → ℕ → OpbState
 begin limit top = record {
-  limit = limit; top = top; variables = 0; owed = 0; phase = phase.TheVariants.Start; text = []; inner = linears limit
+  limit = limit;
+  top = top;
+  variables = 0;
+  owed = 0;
+  phase = phase.TheVariants.Start;
+  text = [];
+  inner = linears limit;
 }
 
 -- where so many constraints are to come
@@ -50,8 +56,13 @@ phase_owing may (suc n) = phase.TheVariants.Between may
 -- between two statements
 abbrev pub between : OpbState → Bool → ℕ → OpbState
 between s may owed = record {
-  limit = s.limit; top = s.top; variables = s.variables; owed = owed; phase = phase_owing may owed; text = [];
-  inner = linears s.limit
+  limit = s.limit;
+  top = s.top;
+  variables = s.variables;
+  owed = owed;
+  phase = phase_owing may owed;
+  text = [];
+  inner = linears s.limit;
 }
 
 abbrev pub at : OpbState → Phase → OpbState
@@ -129,5 +140,5 @@ opb = record {
   in_number = λ s. is_in_number s s.phase;
   asks = λ s b. asks s b (plan s.top s.phase b);
   kept = λ s. min (length s.text + sums.kept s.inner) (2 ^ 64 - 1);
-  spent = λ s. length s.text + sums.spent s.inner
+  spent = λ s. length s.text + sums.spent s.inner;
 }

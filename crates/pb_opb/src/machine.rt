@@ -127,10 +127,7 @@ impl OpbMachine {
             }
             Move::EndComment(may) => {
                 self.phase = phase_owing(may, self.owed);
-                Push::Event(OpbEvent::Comment(mem::replace(
-                    &mut self.text,
-                    Bytes::new(self.alloc),
-                )))
+                Push::Event(OpbEvent::Comment(mem::replace(&mut self.text, Bytes::new(self.alloc))))
             }
             Move::BeginSum => {
                 self.inner.restart(Part::Sum);
@@ -175,7 +172,11 @@ impl OpbMachine {
 fn phase_owing(may: bool, owed: u64) -> Phase
     ensures { result ≡ phase_owing may owed }
 {
-    if owed == 0 { Phase::Done } else { Phase::Between(may) }
+    if owed == 0 {
+        Phase::Done
+    } else {
+        Phase::Between(may)
+    }
 }
 
 /// How many constraints are to come after an objective, and after a constraint.

@@ -1,0 +1,15 @@
+pub mod Balance
+pub mod Collecting
+pub mod Faults
+pub mod Maps
+pub mod Measures
+pub mod Merging
+pub mod Naming
+pub mod Numbering
+pub mod Positions
+pub mod Scales
+pub mod Sums
+pub mod Totals
+pub mod Unique
+pub mod Variables
+pub mod WrittenForms

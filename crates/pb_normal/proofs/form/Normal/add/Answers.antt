@@ -1,0 +1,45 @@
+use Rattle.std.proofs.Common.{arith, ◌≡◌}
+use Rattle.pb_normal.specs.Form.{total, each}
+use Rattle.pb_normal.specs.Rules.{IsSum}
+use Rattle.pb_normal.proofs.Faults.{overflow-Memory, overflow-Ok}
+use Rattle.pb_normal.proofs.Measures.{IsSum-measured, SumPasses-not}
+use Rattle.pb_normal.proofs.Sums.{Holds-sum}
+use Rattle.pb_normal.proofs.form.Normal.add.Goals as goal
+
+pub returns-in_err-terms-clause-overflow : goal.returns-in_err-terms-clause-overflow
+returns-in_err-terms-clause-overflow c =
+    let within = SumPasses-not _ _ _ _ _ c.measures_of_sum-size.ensures c.if-size-limit.false c.if-degree-limit.false in
+    overflow-Memory _ _ c.from_residual.ensures.1 (rw c.largest-limit.ensures.value at within)
+
+-- the merged terms are those of the sum, and so is their size
+whole : (c : goal.In_ok-terms) → IsSum c.args.self.now c.args.other.now record { terms = c.in_ok-terms.terms.items; degree = c.measures_of_sum-size.result.1 } × (total each c.in_ok-terms.terms.items ≡ c.measures_of_sum-size.result.0)
+whole c =
+    let adds = rw (c.as_slice.ensures.value, c.as_slice-2.ensures.value) at c.in_ok-terms.ensures.adds in
+    rw (← c.self.view_is, ← c.other.view_is) (IsSum-measured _ _ _ _ _ _ (rw (← c.self.view_is, ← c.other.view_is) at c.measures_of_sum-size.ensures) c.in_ok-terms.ensures.rising adds)
+
+pub invariant_of-result : goal.invariant_of-result
+invariant_of-result c = record {
+  ordered = c.in_ok-terms.ensures.rising;
+  size_in = omega (arith, (whole c).1);
+  degree_in = omega arith;
+}
+
+pub returns-clause-sum : goal.returns-clause-sum
+returns-clause-sum c = (whole c).0
+
+pub returns-clause-normal : goal.returns-clause-normal
+returns-clause-normal c = invariant_of-result c
+
+pub returns-clause-within : goal.returns-clause-within
+returns-clause-within c = record {
+  size_in = omega (arith, (whole c).1);
+  degree_in = omega arith;
+}
+
+pub returns-clause-overflow : goal.returns-clause-overflow
+returns-clause-overflow c =
+    let within = SumPasses-not _ _ _ _ _ c.measures_of_sum-size.ensures c.if-size-limit.false c.if-degree-limit.false in
+    overflow-Ok _ _ (rw c.largest-limit.ensures.value at within)
+
+pub returns-clause-sound : goal.returns-clause-sound
+returns-clause-sound c = λ a. Holds-sum a _ _ _ (returns-clause-sum c)

@@ -1,0 +1,61 @@
+use Rattle.std.proofs.Common.{arith, rules, ◌+◌, ◌≤◌, unsigned_abs, FitsSigned}
+use Rattle.std.specs.Int.{w128}
+use Rattle.pb_text.specs.Limits.{largest}
+use Rattle.pb_normal.specs.Written.{magnitude}
+use Rattle.pb_normal.proofs.WrittenForms.{total-raw, magnitude-side, shift-side-le, Collected, Collected-from, size-Collected, IsNormal-Collected, IsWithin-Collected, IsSideOf-Collected, SameSolutions-side}
+use Rattle.pb_normal.proofs.form.Normal.from_linear.Goals as goal
+
+pub collected-requires : goal.collected-requires
+collected-requires c =
+    let limit : magnitude c.args.linear.now.terms + unsigned_abs c.args.linear.now.degree ≤ largest c.args.limits = search rules in
+    rw (c.as_slice.ensures.value, c.in_ok-raw.ensures.entries, total-raw, magnitude-side) (omega arith)
+
+-- all that is known, before the degree is made, when it is made, and at the end
+before_degree : (c : goal.After-shift_of) → Collected c.numbered.new.names c.args.side c.args.linear.now c.in_ok-collected_terms.collected_terms.items c.split-up.result.0 c.split-up.result.1 c.in_ok-collected_terms.gone c.largest.result
+before_degree c =
+    let limit : magnitude c.args.linear.now.terms + unsigned_abs c.args.linear.now.degree ≤ c.largest.result = search rules in
+    let fits : FitsSigned w128 c.args.linear.now.degree = search rules in
+    let signed_fits : FitsSigned w128 c.signed.result = search rules in
+    let adds = rw c.as_slice.ensures.value at c.in_ok-collected_terms.ensures.adds in
+    Collected-from _ _ _ _ _ _ _ _ _ _ _ fits signed_fits c.as_slice-terms.ensures limit c.in_ok-raw.ensures.distinct c.in_ok-raw.ensures.named c.signed.ensures c.split-up.ensures.difference c.split-up.ensures.magnitude c.in_ok-collected_terms.ensures.rising c.in_ok-raw.ensures.entries adds
+
+pub overflow_add-up : goal.overflow_add-up
+overflow_add-up c =
+    let k = before_degree c in
+    omega (arith, k.small, c.largest.ensures.room, k.parts, shift-side-le c.args.side c.args.linear.now.terms, rw c.as_slice-terms.ensures at c.shift_of.ensures)
+
+pub overflow_add-down : goal.overflow_add-down
+overflow_add-down c =
+    let k = before_degree c in
+    omega (arith, k.small, c.largest.ensures.room, k.parts, size-Collected _ _ _ _ _ _ _ _ k)
+
+with_degree : (c : goal.After-saturating_sub-degree) → Collected c.numbered.new.names c.args.side c.args.linear.now c.in_ok-collected_terms.collected_terms.items c.split-up.result.0 c.split-up.result.1 c.in_ok-collected_terms.gone c.largest.result
+with_degree c =
+    let limit : magnitude c.args.linear.now.terms + unsigned_abs c.args.linear.now.degree ≤ c.largest.result = search rules in
+    let fits : FitsSigned w128 c.args.linear.now.degree = search rules in
+    let signed_fits : FitsSigned w128 c.signed.result = search rules in
+    let adds = rw c.as_slice.ensures.value at c.in_ok-collected_terms.ensures.adds in
+    Collected-from _ _ _ _ _ _ _ _ _ _ _ fits signed_fits c.as_slice-terms.ensures limit c.in_ok-raw.ensures.distinct c.in_ok-raw.ensures.named c.signed.ensures c.split-up.ensures.difference c.split-up.ensures.magnitude c.in_ok-collected_terms.ensures.rising c.in_ok-raw.ensures.entries adds
+
+pub invariant_of-result : goal.invariant_of-result
+invariant_of-result c = rw (c.saturating_sub-degree.ensures, c.shift_of.ensures, c.as_slice-terms.ensures) (IsNormal-Collected _ _ _ _ _ _ _ _ c.largest.ensures.room (with_degree c))
+
+at_end : (c : goal.After-drop-raw-2) → Collected c.numbered.new.names c.args.side c.args.linear.now c.in_ok-collected_terms.collected_terms.items c.split-up.result.0 c.split-up.result.1 c.in_ok-collected_terms.gone c.largest.result
+at_end c =
+    let limit : magnitude c.args.linear.now.terms + unsigned_abs c.args.linear.now.degree ≤ c.largest.result = search rules in
+    let fits : FitsSigned w128 c.args.linear.now.degree = search rules in
+    let signed_fits : FitsSigned w128 c.signed.result = search rules in
+    let adds = rw c.as_slice.ensures.value at c.in_ok-collected_terms.ensures.adds in
+    Collected-from _ _ _ _ _ _ _ _ _ _ _ fits signed_fits c.as_slice-terms.ensures limit c.in_ok-raw.ensures.distinct c.in_ok-raw.ensures.named c.signed.ensures c.split-up.ensures.difference c.split-up.ensures.magnitude c.in_ok-collected_terms.ensures.rising c.in_ok-raw.ensures.entries adds
+
+pub returns-clause-form : goal.returns-clause-form
+returns-clause-form c = rw (c.saturating_sub-degree.ensures, c.shift_of.ensures, c.as_slice-terms.ensures) (IsSideOf-Collected _ _ _ _ _ _ _ _ (at_end c))
+
+pub returns-clause-normal : goal.returns-clause-normal
+returns-clause-normal c = rw (c.saturating_sub-degree.ensures, c.shift_of.ensures, c.as_slice-terms.ensures) (IsNormal-Collected _ _ _ _ _ _ _ _ c.largest.ensures.room (at_end c))
+
+pub returns-clause-within : goal.returns-clause-within
+returns-clause-within c = rw (c.saturating_sub-degree.ensures, c.shift_of.ensures, c.as_slice-terms.ensures, ← c.largest.ensures.value) (IsWithin-Collected _ _ _ _ _ _ _ _ (at_end c))
+
+pub returns-clause-same : goal.returns-clause-same
+returns-clause-same c = let k = at_end c in SameSolutions-side _ _ _ _ k.distinct k.named (returns-clause-form c)

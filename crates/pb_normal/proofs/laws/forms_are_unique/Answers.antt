@@ -1,0 +1,9 @@
+use Rattle.pb_normal.proofs.Unique.{IsSum-unique}
+use Rattle.pb_normal.proofs.WrittenForms.{IsFormOf-unique}
+use Rattle.pb_normal.proofs.laws.forms_are_unique.Goals as goal
+
+pub returns-clause-sum : goal.returns-clause-sum
+returns-clause-sum c = IsSum-unique
+
+pub returns-clause-written : goal.returns-clause-written
+returns-clause-written c = IsFormOf-unique

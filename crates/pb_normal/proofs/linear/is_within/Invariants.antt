@@ -1,0 +1,6 @@
+use Rattle.std.proofs.Common.{◌≡◌, ◌+◌, drop, unsigned_abs}
+use Rattle.pb_normal.specs.Written.{magnitude}
+use Rattle.pb_normal.proofs.linear.is_within.Given as goal
+
+abbrev pub invariant-loop-t : goal.invariant-loop-t
+invariant-loop-t l = l.sum + magnitude (drop l.t-index l.terms) ≡ magnitude l.terms + unsigned_abs l.degree

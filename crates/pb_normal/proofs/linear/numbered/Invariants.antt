@@ -1,0 +1,6 @@
+use Rattle.std.proofs.Common.{take}
+use Rattle.pb_normal.proofs.Numbering.{Numbering}
+use Rattle.pb_normal.proofs.linear.numbered.Given as goal
+
+abbrev pub invariant-loop-t : goal.invariant-loop-t
+invariant-loop-t l = Numbering l.side l.initial.names l.names (take l.t-index l.terms) l.out.items

@@ -1,0 +1,18 @@
+use Rattle.std.proofs.Common.{arith, ◌≡◌, get_or, refl, pos, to_z}
+use Rattle.std.specs.Int.{w128}
+use Rattle.std.proofs.lemmas.Int.{fits_signed_from_abs, to_z_pos}
+use Rattle.pb_normal.proofs.Merging.{total-read, no_entry}
+use Rattle.pb_normal.proofs.Naming.{terms_push}
+use Rattle.pb_normal.proofs.written.named_terms.Goals as goal
+
+pub overflow_cast-t : goal.overflow_cast-t
+overflow_cast-t c =
+    let one = total-read c.args.terms.now c.loop-t.t-index no_entry _ (omega arith) refl in
+    fits_signed_from_abs _ _ (omega (arith, c.requires.small))
+
+pub loop-t-preserved : goal.loop-t-preserved
+loop-t-preserved c =
+    let t = get_or c.args.terms.now c.loop-t.t-index no_entry in
+    let one = total-read c.args.terms.now c.loop-t.t-index no_entry t (omega arith) refl in
+    let cast : to_z w128 t.coefficient ≡ pos t.coefficient = to_z_pos w128 _ (omega (arith, c.requires.small)) in
+    rw (c.in_ok-push.ensures.items, cast, c.from_string.ensures, c.in_ok-text.ensures.ok) (terms_push c.args.names.now c.args.terms.now c.loop-t.t-index no_entry c.loop-t.out.items c.text_of.result.now (omega arith) c.text_of.ensures c.loop-t.invariant)

@@ -1,0 +1,6 @@
+use Rattle.std.proofs.Common.{◌≡◌, take, map}
+use Rattle.pb_normal.specs.Written.{term_of}
+use Rattle.pb_normal.proofs.written.named_terms.Given as goal
+
+abbrev pub invariant-loop-t : goal.invariant-loop-t
+invariant-loop-t l = l.out.items ≡ map (term_of l.names) (take l.t-index l.terms)

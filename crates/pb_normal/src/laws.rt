@@ -1,0 +1,52 @@
+//! Laws over the definitions alone. These functions do nothing: what they ensure are the laws.
+
+ghost use Rattle.std.specs.Prelude.{◌≡◌, ◌<◌, ◌≤◌, ◌↔◌, ℕ, ℤ, Bool, List, ◌++◌};
+ghost use Rattle.pb_sums.specs.declared.values.Term.{Term};
+ghost use Rattle.pb_sums.specs.declared.values.Linear.{Linear};
+ghost use Rattle.pb_sums.specs.declared.values.Relation.TheVariants.{AtLeast, Equal};
+ghost use Rattle.pb_normal.specs.declared.side.Side.{Side};
+ghost use Rattle.pb_normal.specs.Form.{Form, Holds, Follows, FollowsBoth, IsOpposite};
+ghost use Rattle.pb_normal.specs.Names.{AreDistinct, HasNames};
+ghost use Rattle.pb_normal.specs.Rules.{IsSum, multiplied, divided, saturated, weakened, axiom_on, negation_of, IsContradiction};
+ghost use Rattle.pb_normal.specs.Written.{names_of, IsFormOf, IsSideOf, SameSolutions, SameAsForm, SameAsForms, linear_of};
+
+/// Where the operands hold, the result of each rule holds. A negation holds exactly where the form, of degree 1 at
+/// least, does not, and a contradiction nowhere.
+pub fn rules_are_sound()
+    ensures sum { (f g r : Form) → IsSum f g r → FollowsBoth f g r }
+    ensures product { (k : ℕ) (f : Form) → Follows f (multiplied k f) }
+    ensures quotient { (k : ℕ) (f : Form) → 0 < k → Follows f (divided k f) }
+    ensures saturation { (f : Form) → Follows f (saturated f) }
+    ensures weakening { (x : ℕ) (f : Form) → Follows f (weakened x f) }
+    ensures axiom { (x : ℕ) (negated : Bool) (a : ℕ → Bool) → Holds a (axiom_on x negated) }
+    ensures negation { (f : Form) → 1 ≤ f.degree → IsOpposite f (negation_of f) }
+    ensures contradiction { (f : Form) (a : ℕ → Bool) → IsContradiction f → ¬ Holds a f }
+{}
+
+/// Two forms have one sum, and a written sum with a degree has one form.
+pub fn forms_are_unique()
+    ensures sum { (f g r s : Form) → IsSum f g r → IsSum f g s → r ≡ s }
+    ensures written { (names : List (List ℕ)) (ts : List Term) (d : ℤ) (r s : Form) →
+        IsFormOf names ts d r → IsFormOf names ts d s → r ≡ s }
+{}
+
+/// The form of a side of a constraint holds exactly where that side does, so a constraint `>=` holds exactly where its
+/// form does, and a constraint `=` exactly where both of its forms do. A form stays the form of its constraint when
+/// more names appear, and written out with its names it is a constraint that holds exactly where the form does.
+pub fn written_forms_are_exact()
+    ensures same { (names : List (List ℕ)) (side : Side) (linear : Linear) (r : Form) →
+        AreDistinct names → HasNames names (names_of linear.terms) →
+        IsSideOf names side linear r → SameSolutions names side linear r }
+    ensures at_least { (names : List (List ℕ)) (linear : Linear) (r : Form) →
+        AreDistinct names → HasNames names (names_of linear.terms) →
+        IsSideOf names Side.AtLeast linear r → linear.relation ≡ AtLeast →
+        SameAsForm names linear r }
+    ensures equal { (names : List (List ℕ)) (linear : Linear) (r s : Form) →
+        AreDistinct names → HasNames names (names_of linear.terms) →
+        IsSideOf names Side.AtLeast linear r → IsSideOf names Side.AtMost linear s → linear.relation ≡ Equal →
+        SameAsForms names linear r s }
+    ensures more_names { (names more : List (List ℕ)) (side : Side) (linear : Linear) (r : Form) →
+        AreDistinct (names ++ more) → HasNames names (names_of linear.terms) →
+        IsSideOf names side linear r → IsSideOf (names ++ more) side linear r }
+    ensures written { (names : List (List ℕ)) (f : Form) → SameAsForm names (linear_of names f) f }
+{}

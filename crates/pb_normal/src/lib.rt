@@ -1,0 +1,22 @@
+//! Normal forms of linear constraints, and the rules of cutting planes on them.
+#![tactic(auto)]
+
+mod collect;
+mod entry;
+mod fault;
+mod form;
+pub mod laws;
+mod linear;
+mod merge;
+mod names;
+mod rules;
+mod side;
+#[cfg(test)]
+mod tests;
+mod written;
+
+pub use entry::Entry;
+pub use fault::NormalFault;
+pub use form::Normal;
+pub use names::Names;
+pub use side::Side;

@@ -1,0 +1,146 @@
+//! The normal form of a written constraint.
+
+ghost use Rattle.std.specs.Prelude.{◌≡◌, ◌+◌, ◌<◌, ◌≤◌, ◌^◌, ◌↔◌, ◌+ℤ◌, pos, IfOk, OnOk, OnErr, IsTrue, map, Err};
+ghost use Rattle.std.specs.Int.RustNames.{unsigned_abs};
+ghost use Rattle.pb_text.specs.Limits.{largest};
+ghost use Rattle.pb_normal.specs.Form.{IsNormal, IsWithin};
+ghost use Rattle.pb_normal.specs.Names.{AreDistinct, with_names, AfterFront, HasNames};
+ghost use Rattle.pb_normal.specs.Raw.{entry_of, raw_of, shift};
+ghost use Rattle.pb_normal.specs.Written.{names_of, magnitude, side_terms, side_number, IsSideOf, SameSolutions};
+
+use crate::collect::collected;
+use crate::entry::Entry;
+use crate::fault::NormalFault;
+use crate::form::Normal;
+use crate::names::Names;
+use crate::side::Side;
+use pb_sums::{Linear, Term};
+use pb_text::Limits;
+use std::alloc::{AllocError, Global};
+
+impl Normal {
+    /// The normal form of one side of a constraint, over the numbers of its names, whatever its relation.
+    ///
+    /// `Overflow` comes exactly where the magnitudes of all coefficients and of the degree together pass the limit,
+    /// and leaves the names as they are. After `Memory` a front of the list of names has appeared.
+    pub fn from_linear(
+        alloc: Global,
+        names: &mut Names,
+        linear: &Linear,
+        side: Side,
+        limits: Limits,
+    ) -> Result<Normal, NormalFault>
+        ensures form { IfOk result (λ r. IsSideOf names.new side linear.now r) }
+        ensures normal { IfOk result (λ r. IsNormal r) }
+        ensures within { IfOk result (λ r. IsWithin (largest limits) r) }
+        ensures same { IfOk result (λ r. SameSolutions names.new side linear.now r) }
+        ensures overflow { (result ≡ Err NormalFault.Overflow) ↔ (largest limits < magnitude linear.now.terms + unsigned_abs linear.now.degree) }
+        ensures names { OnOk result (names.new ≡ with_names names.old (names_of linear.now.terms)) }
+        ensures named { OnOk result (HasNames names.new (names_of linear.now.terms)) }
+        ensures unchanged { result ≡ Err NormalFault.Overflow → names.new ≡ names.old }
+        ensures err { OnErr result (AfterFront names.old (names_of linear.now.terms) names.new) }
+        ensures distinct { AreDistinct names.new }
+    {
+        names.tell_distinct();
+        let terms = linear.terms.as_slice();
+        if !is_within(terms, linear.degree, limits.largest()) {
+            return Err(NormalFault::Overflow);
+        }
+        let raw = numbered(alloc, names, terms, side)?;
+        let (collected_terms, gone) = collected(alloc, raw.as_slice())?;
+        let (up, down) = split(signed(linear.degree, side));
+        let degree = (up + shift_of(terms, side)).saturating_sub(down + gone);
+        Ok(Normal {
+            terms: collected_terms,
+            degree,
+        })
+    }
+}
+
+// Whether the magnitudes of all coefficients and of the degree are within the limit together.
+fn is_within(terms: &[Term], degree: i128, limit: u128) -> bool
+    requires { limit < 2 ^ 127 }
+    ensures { IsTrue result ↔ (magnitude terms.now + unsigned_abs degree ≤ limit) }
+{
+    let mut sum = degree.unsigned_abs();
+    for t in terms {
+        if sum > limit {
+            return false;
+        }
+        sum += t.coefficient.unsigned_abs();
+    }
+    sum <= limit
+}
+
+// A coefficient or degree as that side has it.
+fn signed(number: i128, side: Side) -> i128
+    requires { unsigned_abs number < 2 ^ 127 }
+    ensures { result ≡ side_number side number }
+{
+    match side {
+        Side::AtLeast => number,
+        Side::AtMost => -number,
+    }
+}
+
+// The terms of that side as positive coefficients on literals, over the numbers of their names.
+fn numbered(
+    alloc: Global,
+    names: &mut Names,
+    terms: &[Term],
+    side: Side,
+) -> Result<Vec<Entry>, AllocError>
+    requires small { magnitude terms.now < 2 ^ 127 }
+    requires names_distinct { AreDistinct names.old }
+    ensures names { OnOk result (names.new ≡ with_names names.old (names_of terms.now)) }
+    ensures named { OnOk result (HasNames names.new (names_of terms.now)) }
+    ensures entries { IfOk result (λ v. v.items ≡ map (raw_of names.new) (side_terms side terms.now)) }
+    ensures err { OnErr result (AfterFront names.old (names_of terms.now) names.new) }
+    ensures distinct { AreDistinct names.new }
+{
+    let mut out = Vec::new(alloc);
+    for t in terms {
+        let variable = names.number(t.literal.name.as_str())?;
+        let coefficient = signed(t.coefficient, side);
+        out.push(raw(variable, t.literal.negated, coefficient))?;
+    }
+    Ok(out)
+}
+
+// A negative coefficient goes to the other literal.
+fn raw(variable: usize, negated: bool, coefficient: i128) -> Entry
+    ensures { result ≡ entry_of variable negated coefficient }
+{
+    Entry {
+        variable,
+        negated: if coefficient < 0 { !negated } else { negated },
+        coefficient: coefficient.unsigned_abs(),
+    }
+}
+
+// What the negative coefficients of that side add to the degree.
+fn shift_of(terms: &[Term], side: Side) -> u128
+    requires { magnitude terms.now < 2 ^ 127 }
+    ensures { result ≡ shift (side_terms side terms.now) }
+{
+    let mut sum = 0;
+    for t in terms {
+        let coefficient = signed(t.coefficient, side);
+        if coefficient < 0 {
+            sum += coefficient.unsigned_abs();
+        }
+    }
+    sum
+}
+
+// A number as the difference of two, one of which is 0.
+fn split(number: i128) -> (u128, u128)
+    ensures difference { (number +ℤ pos result.1) ≡ pos result.0 }
+    ensures magnitude { result.0 + result.1 ≡ unsigned_abs number }
+{
+    if number < 0 {
+        (0, number.unsigned_abs())
+    } else {
+        (number.unsigned_abs(), 0)
+    }
+}

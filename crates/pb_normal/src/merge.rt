@@ -1,0 +1,112 @@
+//! The sum of two lists of terms.
+
+ghost use Rattle.std.specs.Prelude.{◌≡◌, ◌+◌, ◌<◌, ◌^◌, [], ◌∷◌, IfOk, IfSome};
+ghost use Rattle.std.specs.Option.{option_to_list};
+ghost use Rattle.pb_normal.specs.Adds.{Adds, Cancels};
+ghost use Rattle.pb_normal.specs.Form.{total, each, IsRising};
+ghost use Rattle.pb_normal.specs.Rules.{with_coefficient};
+
+use crate::entry::Entry;
+use std::alloc::{AllocError, Global};
+
+// What two terms of one variable add up to, and how much of each cancels.
+pub(crate) fn combined(left: Entry, right: Entry) -> (Option<Entry>, u128)
+    requires same_variable { left.variable ≡ right.variable }
+    requires left_positive { 0 < left.coefficient }
+    requires fits { left.coefficient + right.coefficient < 2 ^ 128 }
+    ensures adds { Adds (left ∷ []) (right ∷ []) (option_to_list result.0) result.1 }
+    ensures entry { IfSome result.0 (λ t. (t.variable ≡ left.variable) × (0 < t.coefficient)) }
+{
+    if left.negated == right.negated {
+        let sum = with_coefficient(left, left.coefficient + right.coefficient);
+        return (Some(sum), 0);
+    }
+    if left.coefficient > right.coefficient {
+        let rest = with_coefficient(left, left.coefficient - right.coefficient);
+        return (Some(rest), right.coefficient);
+    }
+    if left.coefficient < right.coefficient {
+        let rest = with_coefficient(right, right.coefficient - left.coefficient);
+        return (Some(rest), left.coefficient);
+    }
+    (None, left.coefficient)
+}
+
+// The same term with another coefficient.
+fn with_coefficient(term: Entry, coefficient: u128) -> Entry
+    ensures { result ≡ with_coefficient term coefficient }
+{
+    Entry {
+        coefficient,
+        ..term
+    }
+}
+
+// The sum of two lists whose variables rise, and how much of each cancels.
+pub(crate) fn merged(
+    alloc: Global,
+    left: &[Entry],
+    right: &[Entry],
+) -> Result<(Vec<Entry>, u128), AllocError>
+    requires left_rising { IsRising 0 left.now }
+    requires right_rising { IsRising 0 right.now }
+    requires left_size { total each left.now < 2 ^ 127 }
+    requires right_size { total each right.now < 2 ^ 127 }
+    ensures rising { IfOk result (λ r. IsRising 0 r.0.items) }
+    ensures adds { IfOk result (λ r. Adds left.now right.now r.0.items r.1) }
+{
+    let mut out = Vec::new(alloc);
+    let mut cancelled = 0;
+    let mut i = 0;
+    let mut j = 0;
+    'merge: while i < left.len() && j < right.len() {
+        let x = left[i];
+        let y = right[j];
+        if x.variable < y.variable {
+            out.push(x)?;
+            i += 1;
+        } else if y.variable < x.variable {
+            out.push(y)?;
+            j += 1;
+        } else {
+            let (sum, gone) = combined(x, y);
+            if let Some(t) = sum {
+                out.push(t)?;
+            }
+            cancelled += gone;
+            i += 1;
+            j += 1;
+        }
+    }
+    out.extend_from_slice(&left[i..])?;
+    out.extend_from_slice(&right[j..])?;
+    Ok((out, cancelled))
+}
+
+// How much of each cancels in the sum of two lists whose variables rise.
+pub(crate) fn cancelled(left: &[Entry], right: &[Entry]) -> u128
+    requires left_rising { IsRising 0 left.now }
+    requires right_rising { IsRising 0 right.now }
+    requires left_size { total each left.now < 2 ^ 127 }
+    requires right_size { total each right.now < 2 ^ 127 }
+    ensures { Cancels left.now right.now result }
+{
+    let mut cancelled = 0;
+    let mut i = 0;
+    let mut j = 0;
+    'merge: while i < left.len() && j < right.len() {
+        let l = left[i];
+        let r = right[j];
+        if l.variable < r.variable {
+            i += 1;
+        } else if r.variable < l.variable {
+            j += 1;
+        } else {
+            let (_, gone) = combined(l, r);
+            cancelled += gone;
+            i += 1;
+            j += 1;
+        }
+    }
+    cancelled
+}

@@ -1,0 +1,100 @@
+//! Numbers for names.
+
+ghost use Rattle.std.specs.Prelude.{◌≡◌, ◌<◌, [], length, position, slice_get, Some, IfOk, IfSome, OnOk, OnErr};
+ghost use Rattle.std.specs.Option.{option_copied};
+ghost use Rattle.std.specs.Str.{bytes_eq};
+ghost use Rattle.pb_normal.specs.Names.{AreDistinct, with_name};
+
+use indexmap::IndexSet;
+use std::alloc::{AllocError, Global};
+use std::marker::Model;
+
+/// The names that have a number, in the order of their first appearance; the first has the number 0.
+#[derive(Drop)]
+pub struct Names {
+    set: IndexSet<String>,
+    alloc: Global,
+}
+
+impl Model for Names {
+    ghost use Rattle.std.specs.Prelude.{List, ℕ, map};
+    ghost use Rattle.std.specs.String.{string_bytes};
+    ghost use Rattle.pb_normal.specs.Names.{AreDistinct};
+
+    ghost Value = { List (List ℕ) };
+
+    ghost view = { λ n. map string_bytes n.set.keys };
+
+    ghost invariant = { λ n. AreDistinct (map string_bytes n.set.keys) };
+}
+
+impl Names {
+    /// No names. It takes no memory.
+    pub fn new(alloc: Global) -> Names
+        ensures { result ≡ [] }
+    {
+        Names {
+            set: IndexSet::new(alloc),
+            alloc,
+        }
+    }
+
+    /// How many names have a number.
+    pub fn len(&self) -> usize
+        ensures length { result ≡ length self.now }
+        ensures distinct { AreDistinct self.now }
+    {
+        self.set.len()
+    }
+
+    // Tells a proof that no name stands twice.
+    pub(crate) fn tell_distinct(&self)
+        ensures { AreDistinct self.now }
+    {
+        let _ = &self.set;
+    }
+
+    /// The number of a name, or `None` where it has none.
+    pub fn number_of(&self, name: &str) -> Option<usize>
+        ensures number { result ≡ position (bytes_eq name.now) self.now }
+        ensures named { IfSome result (λ n. slice_get self.now n ≡ Some name.now) }
+    {
+        self.set.get_index_of(name)
+    }
+
+    /// The name with a number, or `None` where no name has it.
+    pub fn name_of(&self, number: usize) -> Option<&str>
+        ensures { option_copied result ≡ slice_get self.now number }
+    {
+        match self.set.get_index(number) {
+            Some(name) => Some(name.as_str()),
+            None => None,
+        }
+    }
+
+    // The name with a number that one has.
+    pub(crate) fn text_of(&self, number: usize) -> &str
+        requires { number < length self.now }
+        ensures { slice_get self.now number ≡ Some result.now }
+    {
+        self.set.as_slice()[number].as_str()
+    }
+
+    /// The number of a name, which gets the next one where it has none.
+    ///
+    /// Where memory was refused nothing has changed.
+    pub fn number(&mut self, name: &str) -> Result<usize, AllocError>
+        ensures names { OnOk result (self.new ≡ with_name self.old name.now) }
+        ensures number { IfOk result (λ n. position (bytes_eq name.now) self.new ≡ Some n) }
+        ensures named { IfOk result (λ n. slice_get self.new n ≡ Some name.now) }
+        ensures err { OnErr result (self.new ≡ self.old) }
+        ensures distinct { AreDistinct self.new }
+    {
+        if let Some(number) = self.set.get_index_of(name) {
+            return Ok(number);
+        }
+        let owned = String::from_str(self.alloc, name)?;
+        let (number, _) = self.set.insert_full(owned)?;
+        Ok(number)
+    }
+}

@@ -1,0 +1,200 @@
+//! The rules of cutting planes.
+
+ghost use Rattle.std.specs.Prelude.{◌≡◌, ◌*◌, ◌<◌, ◌≤◌, ◌≤ℤ◌, ◌^◌, ◌↔◌, pos, IfOk, IfErr, IsTrue, All, map, min, nat_lt, filter, Err};
+ghost use Rattle.std.specs.Int.{div_ceil};
+ghost use Rattle.std.specs.Int.RustNames.{unsigned_abs};
+ghost use Rattle.pb_text.specs.Limits.{largest};
+ghost use Rattle.pb_normal.specs.Form.{IsNormal, IsWithin, Follows, FollowsBoth, IsOpposite};
+ghost use Rattle.pb_normal.specs.Rules.{IsSum, Passes, SumPasses, SumMeasures, SumIsContradiction, multiplied, divided, saturated, weakened, axiom_on, negation_of, with_coefficient, opposite};
+
+use crate::entry::Entry;
+use crate::fault::NormalFault;
+use crate::form::{Normal, size_of};
+use crate::merge::{cancelled, merged};
+use pb_text::Limits;
+use std::alloc::{AllocError, Global};
+
+impl Normal {
+    /// The sum of two forms. `Overflow` comes exactly where its coefficients' sum or its degree passes the limit.
+    pub fn add(&self, other: &Normal, limits: Limits) -> Result<Normal, NormalFault>
+        ensures sum { IfOk result (λ r. IsSum self.now other.now r) }
+        ensures normal { IfOk result (λ r. IsNormal r) }
+        ensures within { IfOk result (λ r. IsWithin (largest limits) r) }
+        ensures overflow { (result ≡ Err NormalFault.Overflow) ↔ SumPasses (largest limits) self.now other.now }
+        ensures sound { IfOk result (λ r. FollowsBoth self.now other.now r) }
+    {
+        let limit = limits.largest();
+        let (size, degree) = measures_of_sum(self, other);
+        if size > limit || degree > limit {
+            return Err(NormalFault::Overflow);
+        }
+        let alloc = *self.terms.allocator();
+        let (terms, _) = merged(alloc, self.terms.as_slice(), other.terms.as_slice())?;
+        Ok(Normal { terms, degree })
+    }
+
+    /// The form with all coefficients and the degree multiplied. `Overflow` comes exactly where the
+    /// coefficients' sum or the degree of the result passes the limit.
+    pub fn multiply(&self, factor: i128, limits: Limits) -> Result<Normal, NormalFault>
+        requires { pos 1 ≤ℤ factor }
+        ensures product { IfOk result (λ r. r ≡ multiplied (unsigned_abs factor) self.now) }
+        ensures normal { IfOk result (λ r. IsNormal r) }
+        ensures within { IfOk result (λ r. IsWithin (largest limits) r) }
+        ensures overflow { (result ≡ Err NormalFault.Overflow) ↔ Passes (largest limits) (multiplied (unsigned_abs factor) self.now) }
+        ensures sound { IfOk result (λ r. Follows self.now r) }
+    {
+        let k = factor.unsigned_abs();
+        let most = limits.largest() / k;
+        if size_of(self.terms.as_slice()) > most || self.degree > most {
+            return Err(NormalFault::Overflow);
+        }
+        let terms = multiplied_terms(*self.terms.allocator(), self.terms.as_slice(), k)?;
+        let degree = self.degree * k;
+        Ok(Normal { terms, degree })
+    }
+
+    /// The form with all coefficients and the degree divided and rounded up.
+    pub fn divide(&self, divisor: i128) -> Result<Normal, NormalFault>
+        requires { pos 1 ≤ℤ divisor }
+        ensures quotient { IfOk result (λ r. r ≡ divided (unsigned_abs divisor) self.now) }
+        ensures normal { IfOk result (λ r. IsNormal r) }
+        ensures sound { IfOk result (λ r. Follows self.now r) }
+        ensures memory { IfErr result (λ e. e ≡ NormalFault.Memory) }
+    {
+        let k = divisor.unsigned_abs();
+        let terms = divided_terms(*self.terms.allocator(), self.terms.as_slice(), k)?;
+        let degree = self.degree.div_ceil(k);
+        Ok(Normal { terms, degree })
+    }
+
+    /// The form with every coefficient at most the degree.
+    pub fn saturate(&self) -> Result<Normal, NormalFault>
+        ensures saturated { IfOk result (λ r. r ≡ saturated self.now) }
+        ensures normal { IfOk result (λ r. IsNormal r) }
+        ensures sound { IfOk result (λ r. Follows self.now r) }
+        ensures memory { IfErr result (λ e. e ≡ NormalFault.Memory) }
+    {
+        let terms = saturated_terms(*self.terms.allocator(), self.terms.as_slice(), self.degree)?;
+        Ok(Normal {
+            terms,
+            degree: self.degree,
+        })
+    }
+
+    /// The form without the term on a variable, whose coefficient is taken from the degree.
+    pub fn weaken(&self, variable: usize) -> Result<Normal, NormalFault>
+        ensures weakened { IfOk result (λ r. r ≡ weakened variable self.now) }
+        ensures normal { IfOk result (λ r. IsNormal r) }
+        ensures sound { IfOk result (λ r. Follows self.now r) }
+        ensures memory { IfErr result (λ e. e ≡ NormalFault.Memory) }
+    {
+        let mut terms = Vec::new(*self.terms.allocator());
+        let mut dropped = 0;
+        for t in self.terms.iter() {
+            if t.variable == variable {
+                dropped += t.coefficient;
+            } else {
+                terms.push(*t)?;
+            }
+        }
+        let degree = self.degree.saturating_sub(dropped);
+        Ok(Normal { terms, degree })
+    }
+
+    /// A literal with coefficient 1 and degree 0, which always holds.
+    pub fn axiom(alloc: Global, variable: usize, negated: bool) -> Result<Normal, NormalFault>
+        ensures axiom { IfOk result (λ r. r ≡ axiom_on variable negated) }
+        ensures normal { IfOk result (λ r. IsNormal r) }
+        ensures memory { IfErr result (λ e. e ≡ NormalFault.Memory) }
+    {
+        let mut terms = Vec::new(alloc);
+        terms.push(Entry {
+            variable,
+            negated,
+            coefficient: 1,
+        })?;
+        Ok(Normal { terms, degree: 0 })
+    }
+
+    /// The form that holds exactly where this one, of degree 1 at least, does not.
+    pub fn negation(&self) -> Result<Normal, NormalFault>
+        requires { 1 ≤ self.now.degree }
+        ensures negation { IfOk result (λ r. r ≡ negation_of self.now) }
+        ensures normal { IfOk result (λ r. IsNormal r) }
+        ensures opposite { IfOk result (λ r. IsOpposite self.now r) }
+        ensures memory { IfErr result (λ e. e ≡ NormalFault.Memory) }
+    {
+        let terms = opposite_terms(*self.terms.allocator(), self.terms.as_slice())?;
+        let degree = (size_of(self.terms.as_slice()) + 1).saturating_sub(self.degree);
+        Ok(Normal { terms, degree })
+    }
+
+    /// Whether the sum of the two, in whole numbers without limit, is a contradiction. It takes no memory.
+    pub fn refutes(&self, other: &Normal) -> bool
+        ensures { IsTrue result ↔ SumIsContradiction self.now other.now }
+    {
+        let (size, degree) = measures_of_sum(self, other);
+        size < degree
+    }
+}
+
+// The coefficients' sum and the degree of the sum of two forms.
+fn measures_of_sum(left: &Normal, right: &Normal) -> (u128, u128)
+    ensures { SumMeasures left.now right.now result.0 result.1 }
+{
+    let gone = cancelled(left.terms.as_slice(), right.terms.as_slice());
+    let sizes = size_of(left.terms.as_slice()) + size_of(right.terms.as_slice());
+    let degrees = left.degree + right.degree;
+    (sizes - 2 * gone, degrees.saturating_sub(gone))
+}
+
+fn multiplied_terms(alloc: Global, terms: &[Entry], k: u128) -> Result<Vec<Entry>, AllocError>
+    requires { All (λ t. t.coefficient * k < 2 ^ 128) terms.now }
+    ensures { IfOk result (λ v. v.items ≡ map (λ t. with_coefficient t (t.coefficient * k)) terms.now) }
+{
+    terms
+        .iter()
+        .map(|t| Entry {
+            coefficient: t.coefficient * k,
+            ..*t
+        })
+        .collect(alloc)
+}
+
+fn divided_terms(alloc: Global, terms: &[Entry], k: u128) -> Result<Vec<Entry>, AllocError>
+    requires { 0 < k }
+    ensures { IfOk result (λ v. v.items ≡ map (λ t. with_coefficient t (div_ceil t.coefficient k)) terms.now) }
+{
+    terms
+        .iter()
+        .map(|t| Entry {
+            coefficient: t.coefficient.div_ceil(k),
+            ..*t
+        })
+        .collect(alloc)
+}
+
+fn saturated_terms(alloc: Global, terms: &[Entry], degree: u128) -> Result<Vec<Entry>, AllocError>
+    ensures { IfOk result (λ v. v.items ≡ filter (λ t. nat_lt 0 t.coefficient) (map (λ t. with_coefficient t (min t.coefficient degree)) terms.now)) }
+{
+    terms
+        .iter()
+        .map(|t| Entry {
+            coefficient: t.coefficient.min(degree),
+            ..*t
+        })
+        .filter(|t| t.coefficient > 0)
+        .collect(alloc)
+}
+
+fn opposite_terms(alloc: Global, terms: &[Entry]) -> Result<Vec<Entry>, AllocError>
+    ensures { IfOk result (λ v. v.items ≡ map opposite terms.now) }
+{
+    terms
+        .iter()
+        .map(|t| Entry {
+            negated: !t.negated,
+            ..*t
+        })
+        .collect(alloc)
+}

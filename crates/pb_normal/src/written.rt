@@ -1,0 +1,49 @@
+//! A form written out with names.
+
+ghost use Rattle.std.specs.Prelude.{◌≡◌, ◌<◌, ◌^◌, IfOk, IfErr, All, map, length};
+ghost use Rattle.pb_normal.specs.Form.{total, each};
+ghost use Rattle.pb_normal.specs.Written.{term_of, linear_of};
+
+use crate::entry::Entry;
+use crate::fault::NormalFault;
+use crate::form::Normal;
+use crate::names::Names;
+use pb_sums::{Linear, Literal, Name, Relation, Term};
+use pb_text::Sequence;
+use std::alloc::{AllocError, Global};
+
+impl Normal {
+    /// The form as a constraint `>=` over the names of its variables, which all have one.
+    pub fn to_linear(&self, names: &Names) -> Result<Linear, NormalFault>
+        requires { All (λ t. t.variable < length names.now) self.now.terms }
+        ensures linear { IfOk result (λ r. r ≡ linear_of names.now self.now) }
+        ensures memory { IfErr result (λ e. e ≡ NormalFault.Memory) }
+    {
+        let terms = named_terms(*self.terms.allocator(), names, self.terms.as_slice())?;
+        Ok(Linear {
+            terms: Sequence::from_vec(terms),
+            relation: Relation::AtLeast,
+            degree: self.degree as i128,
+        })
+    }
+}
+
+fn named_terms(alloc: Global, names: &Names, terms: &[Entry]) -> Result<Vec<Term>, AllocError>
+    requires named { All (λ t. t.variable < length names.now) terms.now }
+    requires small { total each terms.now < 2 ^ 127 }
+    ensures { IfOk result (λ v. v.items ≡ map (term_of names.now) terms.now) }
+{
+    let mut out = Vec::new(alloc);
+    for t in terms {
+        let text = String::from_str(alloc, names.text_of(t.variable))?;
+        let literal = Literal {
+            name: Name::from_string(text),
+            negated: t.negated,
+        };
+        out.push(Term {
+            coefficient: t.coefficient as i128,
+            literal,
+        })?;
+    }
+    Ok(out)
+}
