@@ -1,11 +1,14 @@
 //! The command `pb`: its words, its files and its answer.
 #![tactic(auto)]
 
-mod output;
+ghost use Rattle.std.specs.Prelude.{IfOk};
+ghost use Rattle.pb_tool.specs.Words.{HasRanges};
 
 use clap::error::ErrorKind;
-use output::Output;
-use pb_tool::{Input, Job, ToolFault, WordsFault, read_words, status, write_fault};
+use pb_text::Over;
+use pb_tool::{
+    Input, Job, ToolFault, WordsFault, limits_of, read_words, show, status, tidy, write_fault,
+};
 use std::alloc::Global;
 use std::io::{self, BufRead, BufReader, BufWriter, Read, Write};
 use std::process::ExitCode;
@@ -49,7 +52,9 @@ fn words_of<R: Env + AllocGlobal>(rt: &R) -> io::Result<Vec<String>> {
     Ok(words)
 }
 
-fn job_of(alloc: Global, words: &[String]) -> Result<Job, WordsFault> {
+fn job_of(alloc: Global, words: &[String]) -> Result<Job, WordsFault>
+    ensures { IfOk result HasRanges }
+{
     let texts: Vec<&str> = words.iter().map(|word| word.as_str()).collect(alloc)?;
     read_words(alloc, texts.as_slice())
 }
@@ -92,12 +97,14 @@ fn answer_memory<E: Write>(errors: &mut E) -> u8 {
 
 /// Writes the line of a fault. Where standard error cannot be written the exit status alone tells it.
 fn answer_fault<E: Write>(fault: &ToolFault, errors: &mut E) -> u8 {
-    let _ = write_fault(fault, &mut Output::new(errors));
+    let _ = write_fault(fault, &mut Over::new(errors));
     status(fault)
 }
 
 /// Opens the job's file, or takes standard input, and does the job over it.
-fn do_job<R: Files + io::Input + Print + AllocGlobal>(rt: &R, job: &Job) -> Result<(), ToolFault> {
+fn do_job<R: Files + io::Input + Print + AllocGlobal>(rt: &R, job: &Job) -> Result<(), ToolFault>
+    requires { HasRanges job.now }
+{
     match file_of(job) {
         Some(path) => match fs::open(rt, path) {
             Ok(file) => do_over(rt, job, file),
@@ -122,14 +129,16 @@ fn do_over<R: Print + AllocGlobal, I: Read + Drop>(
     rt: &R,
     job: &Job,
     input: I,
-) -> Result<(), ToolFault> {
-    let Ok(mut input) = BufReader::with_capacity(rt.alloc(), CAPACITY, input) else {
+) -> Result<(), ToolFault>
+    requires { HasRanges job.now }
+{
+    let Ok(input) = BufReader::with_capacity(rt.alloc(), CAPACITY, input) else {
         return Err(ToolFault::Memory(Input::File));
     };
     let Ok(mut out) = BufWriter::with_capacity(rt.alloc(), CAPACITY, io::writer(rt)) else {
         return Err(ToolFault::Memory(Input::File));
     };
-    let done = run_job(job, &mut input, &mut out);
+    let done = run_job(rt.alloc(), job, Over::new(input), &mut out);
     match out.flush() {
         Ok(()) => done,
         Err(_) => Err(ToolFault::Write),
@@ -137,10 +146,21 @@ fn do_over<R: Print + AllocGlobal, I: Read + Drop>(
 }
 
 /// Does the job from a reader to a writer.
-fn run_job<I: BufRead, O: Write>(
-    _job: &Job,
-    _input: &mut I,
-    _out: &mut O,
-) -> Result<(), ToolFault> {
-    Ok(())
+fn run_job<I: BufRead + Drop, O: Write>(
+    alloc: Global,
+    job: &Job,
+    mut input: Over<I>,
+    out: &mut O,
+) -> Result<(), ToolFault>
+    requires { HasRanges job.now }
+{
+    let mut out = Over::new(out);
+    match job {
+        Job::Show { longest, bits, .. } => {
+            show(alloc, &mut input, &mut out, *longest, limits_of(*bits))
+        }
+        Job::Tidy { longest, bits, .. } => {
+            tidy(alloc, &mut input, &mut out, *longest, limits_of(*bits))
+        }
+    }
 }

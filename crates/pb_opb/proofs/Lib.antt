@@ -1,3 +1,25 @@
+mod ByteCases
+mod EntryFront
+mod EntryWalk
+mod FirstLetters
+mod Fronts
+mod HeaderFront
+mod HeaderWalk
+mod Inners
+mod Objectives
+mod Stands
+mod Walking
+mod Within
+pub mod Again
 pub mod Alive
-pub mod States
+pub mod Bodies
+pub mod Exactly
+pub mod Gathered
+pub mod Kept
+pub mod Larger
+pub mod Meets
 pub mod Pushed
+pub mod Spelled
+pub mod States
+pub mod Texts
+pub mod Told

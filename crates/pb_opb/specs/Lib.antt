@@ -1,4 +1,11 @@
+pub mod Building
+pub mod Canonical
+pub mod Formats
 pub mod Instances
+pub mod Led
 pub mod Machine
-pub mod State
 pub mod Order
+pub mod State
+pub mod Statements
+pub mod Values
+pub mod Whole

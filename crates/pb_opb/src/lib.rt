@@ -1,10 +1,28 @@
 //! Instances in OPB, read one byte at a time and written.
 #![tactic(auto)]
 
+mod building;
 mod event;
+mod instance;
+mod laws;
 mod machine;
 mod phase;
 mod plan;
+mod read;
+#[cfg(test)]
+mod rows;
+mod rules;
+#[cfg(test)]
+mod tests;
+mod write;
 
 pub use event::OpbEvent;
+pub use instance::{Comment, Instance};
+pub use laws::{
+    canonical_instance_spells, instances_are_exact, instances_are_values, larger_limits, no_front,
+    one_instance,
+};
 pub use machine::OpbMachine;
+pub use read::{read_instance, read_instance_within};
+pub use rules::instance_is_value;
+pub use write::{write_event, write_instance};

@@ -4,7 +4,9 @@ pub mod Answer
 pub mod Begin
 pub mod Blanks
 pub mod Cutting
+pub mod Deterministic
 pub mod Follows
+pub mod Formats
 pub mod Languages
 pub mod Lists
 pub mod Numbers

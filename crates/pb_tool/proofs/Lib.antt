@@ -2,3 +2,4 @@ mod Entries
 mod Named
 mod Parsed
 mod Sequence
+mod Feeds

@@ -56,6 +56,16 @@ pub fn status(fault: &ToolFault) -> u8
     }
 }
 
+/// The fault of a file whose text was refused.
+pub fn refused(stop: Stop) -> ToolFault
+    ensures { result ≡ ToolFault.Text (Input.File) stop }
+{
+    ToolFault::Text {
+        input: Input::File,
+        stop,
+    }
+}
+
 /// Writes the line of a fault, with its line feed. It fails where the sink does, and what went out
 /// is then a front of the line.
 pub fn write_fault<S: Sink>(fault: &ToolFault, out: &mut S) -> Result<(), Failed>

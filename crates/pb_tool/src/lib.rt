@@ -2,9 +2,15 @@
 #![tactic(auto)]
 
 mod fault;
+mod limiting;
+mod showing;
 #[cfg(test)]
 mod tests;
+mod tidying;
 mod words;
 
 pub use fault::{Input, ToolFault, status, write_fault};
+pub use limiting::limits_of;
+pub use showing::show;
+pub use tidying::tidy;
 pub use words::{Job, WordsFault, read_words};

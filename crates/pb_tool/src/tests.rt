@@ -1,4 +1,5 @@
 //! The lines of faults, and words.
 
+mod engines;
 mod faults;
 mod words;

@@ -1,0 +1,66 @@
+-- Statements that are put together one by one have the value that they say.
+use Rattle.std.proofs.Common.{◌≡◌, ℕ, ◌+◌, List, [], ◌∷◌, ◌++◌, Option, Some, None, refl, sym, ap, ◌∙◌, append_assoc, append-nil}
+use Rattle.pb_text.specs.Spelling.{Item}
+use Rattle.pb_text.specs.Whole.{gathered, events_of, IsWhole, StopsAfter, Reading as reading, Keeping as keeping, ReadsWhole}
+use Rattle.pb_text.specs.declared.Spanned.{Spanned}
+use Rattle.pb_text.specs.declared.Stop.{Stop}
+use Rattle.pb_opb.specs.Building.{with, ended_with, nothing}
+use Rattle.pb_opb.specs.Values.{IsValueOf, last_or, variables_in, tails_in, objectives_in, constraints_in, comments_in, comment_at}
+use Rattle.pb_opb.specs.Whole.{IsRead, StopsIn, Reading, Keeping}
+use Rattle.pb_opb.specs.declared.building.Building.{Building}
+use Rattle.pb_opb.specs.declared.instance.Instance.{Instance}
+use Rattle.pb_opb.specs.declared.event.OpbEvent.{OpbEvent}
+use Rattle.pb_opb.specs.declared.event.OpbEvent.TheVariants.{Header, Comment, Objective, Constraint}
+
+abbrev pub one_more : Building → OpbEvent → Building
+one_more b e = record { instance = with b.ended b.instance e; ended = ended_with b.ended e }
+
+-- what comes of more statements
+pub record Adds (b : Building) (events : List OpbEvent) (v : Instance) : Type 0 where
+  pub variables : v.variables ≡ last_or b.instance.variables (variables_in events)
+  pub tail : v.tail ≡ last_or b.instance.tail (tails_in events)
+  pub objective : v.objective ≡ last_or b.instance.objective (objectives_in events)
+  pub comments : v.comments ≡ b.instance.comments ++ comments_in b.ended events
+  pub constraints : v.constraints ≡ b.instance.constraints ++ constraints_in events
+
+pub adds : (events : List OpbEvent) (b : Building) → Adds b events (gathered one_more b events).instance
+adds [] b = record { variables = refl; tail = refl; objective = refl; comments = sym (append-nil b.instance.comments); constraints = sym (append-nil b.instance.constraints) }
+adds (Header variables constraints tail ∷ events) b =
+    let k = adds events (one_more b (Header variables constraints tail)) in
+    record { variables = k.variables; tail = k.tail; objective = k.objective; comments = k.comments; constraints = k.constraints }
+adds (Comment text ∷ events) b =
+    let k = adds events (one_more b (Comment text)) in
+    record { variables = k.variables; tail = k.tail; objective = k.objective; comments = k.comments ∙ append_assoc b.instance.comments (comment_at b.ended text ∷ []) (comments_in b.ended events); constraints = k.constraints }
+adds (Objective terms ∷ events) b =
+    let k = adds events (one_more b (Objective terms)) in
+    record { variables = k.variables; tail = k.tail; objective = k.objective; comments = k.comments; constraints = k.constraints }
+adds (Constraint linear ∷ events) b =
+    let k = adds events (one_more b (Constraint linear)) in
+    record { variables = k.variables; tail = k.tail; objective = k.objective; comments = k.comments; constraints = k.constraints ∙ append_assoc b.instance.constraints (linear ∷ []) (constraints_in events) }
+
+value_of : (events : List OpbEvent) (b v : Building) → b.instance ≡ nothing → b.ended ≡ 0 → v ≡ gathered one_more b events → IsValueOf events v.instance
+value_of events b v i n e =
+    let k = adds events (record { instance = nothing; ended = 0 }) in
+    let same : b ≡ record { instance = nothing; ended = 0 } = rw (i, n) refl in
+    let is : v.instance ≡ (gathered one_more (record { instance = nothing; ended = 0 }) events).instance = ap (λ (x : Building). x.instance) (e ∙ ap (λ (x : Building). gathered one_more x events) same) in
+    record {
+      variables = ap (λ (x : Instance). x.variables) is ∙ k.variables;
+      tail = ap (λ (x : Instance). x.tail) is ∙ k.tail;
+      objective = ap (λ (x : Instance). x.objective) is ∙ k.objective;
+      comments = ap (λ (x : Instance). x.comments) is ∙ k.comments;
+      constraints = ap (λ (x : Instance). x.constraints) is ∙ k.constraints;
+    }
+
+module _ (format : List (Item OpbEvent) → Type 0) (longest : ℕ) (b : Building) (i : b.instance ≡ nothing) (n : b.ended ≡ 0) (used : List ℕ) where
+  pub is_read : (m : Spanned Building) → IsWhole format longest one_more b used m → (let r : Spanned Instance = record { event = m.event.instance; first = m.first; past = m.past } in IsRead format longest IsValueOf used r)
+  is_read m w = record {
+    marks = w.marks;
+    spelled = w.spelled;
+    value = value_of (events_of w.spelled.items) b m.event i n w.value_is;
+    first = w.first_is;
+    past = w.past_is;
+  }
+
+  pub stops_in : (seen : List ℕ) (s : Stop) → StopsAfter format longest one_more b used seen s → StopsIn format longest used seen s
+  stops_in seen s (reading marks r) = Reading marks r
+  stops_in seen s (keeping v e) = Keeping v e

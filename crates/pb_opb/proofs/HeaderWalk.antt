@@ -1,0 +1,189 @@
+-- The machine reads each header: one lemma for each word of the grammar.
+use Rattle.std.proofs.Common.{◌≡◌, ℕ, zero, suc, ◌+◌, ◌-◌, ◌*◌, ◌^◌, ◌<◌, ◌≤◌, Bool, true, false, cond, List, [], ◌∷◌, ◌++◌, length, map, refl, sym, ap, subst, arith, ◌∙◌, append_assoc, length-append}
+use Rattle.std.proofs.Math.Nat.{pow-succ', le-mul_of_pos_right}
+use Rattle.std.proofs.Math.Seq.{get_or-append_seam}
+use Rattle.std.proofs.lemmas.Bool.{le-leb}
+use Rattle.std.proofs.lemmas.Bool.Decides.{nat_tests}
+use Rattle.std.specs.Prelude.{IsTrue, nat_eq, slice_index}
+use Rattle.pb_text.specs.Automaton.{Go, Reads}
+use Rattle.pb_text.specs.Classes.{is_blank}
+use Rattle.pb_text.specs.Languages.{unmarked, digit, Language, ◌⋅◌, Byte, Bytes, Each}
+use Rattle.pb_text.specs.Numbers.{value}
+use Rattle.pb_text.specs.Spelling.{Letter, plain}
+use Rattle.pb_opb.specs.Instances.{variable_word, constraint_word, Blanks0, Blanks1, Count, IsTail, SpellsHeader}
+use Rattle.pb_opb.specs.Machine.{word_of, spell, count, behind_count, plan}
+use Rattle.pb_opb.specs.State.{OpbState, opb, begin, act}
+use Rattle.pb_opb.specs.declared.event.OpbEvent.TheVariants.{Header}
+use Rattle.pb_opb.specs.declared.phase.Field.{Field}
+use Rattle.pb_opb.specs.declared.phase.Field.TheVariants.{Variables, Constraints}
+use Rattle.pb_opb.specs.declared.phase.Phase.{Phase}
+use Rattle.pb_opb.specs.declared.phase.Phase as phase
+use Rattle.pb_opb.specs.declared.phase.Move.TheVariants.{To}
+use Rattle.pb_opb.proofs.ByteCases.{blank_each, digit-byte, digit-blank}
+use Rattle.pb_opb.proofs.Stands.{stands, idle, stays_many, Keeps, line_reads}
+use Rattle.pb_opb.proofs.Walking.{Walks, Leads, leads_then, longer, reads_behind}
+
+nat-same : (b : ℕ) → nat_eq b b ≡ true
+nat-same b = grind (arith, nat_tests)
+
+spell_next : (w front left : List ℕ) (b : ℕ) (more whole : Phase) (x : Bool) → w ≡ front ++ b ∷ left → nat_eq (length front + 1) (length w) ≡ x
+    → spell w (length front) b more whole ≡ To (cond x whole more)
+spell_next w front left b more whole x e f =
+    let g : slice_index w (length front) ≡ b = ap (λ y. slice_index y (length front)) e ∙ get_or-append_seam front b left 0 in
+    rw (g, nat-same b, f) refl
+
+ten_pos : (k : ℕ) → 0 < 10 ^ k
+ten_pos zero = omega arith
+ten_pos (suc k) = rw (pow-succ' 10 k) (omega (arith, ten_pos k))
+
+count_next : (top : ℕ) (f : Field) (m d : ℕ) → d < 10 → 10 * m + d ≤ top → count top f m (48 + d) ≡ To (phase.TheVariants.Count f (10 * m + d))
+count_next top f m d h l =
+    let e : (48 + d) - 48 ≡ d = omega arith in
+    rw (digit-byte d h, e, le-leb (10 * m + d) top l) refl
+
+first_digit : (top : ℕ) (f : Field) (d : ℕ) → d < 10 → 10 * 0 + d ≤ top
+    → plan top (phase.TheVariants.BeforeCount f) (48 + d) ≡ To (phase.TheVariants.Count f (10 * 0 + d))
+first_digit top f d h l = rw (digit-blank d h) (count_next top f 0 d h l)
+
+next_digit : (top : ℕ) (f : Field) (m d : ℕ) → d < 10 → 10 * m + d ≤ top → plan top (phase.TheVariants.Count f m) (48 + d) ≡ To (phase.TheVariants.Count f (10 * m + d))
+next_digit top f m d h l = ap (λ x. cond x (count top f m (48 + d)) (behind_count f m (48 + d))) (digit-byte d h) ∙ count_next top f m d h l
+
+module _ (limit top : ℕ) where
+  -- before the tail of a header
+  abbrev head : ℕ → Phase → OpbState
+  head v p = stands limit top v 0 p []
+
+  abbrev IsBlank : ℕ → Type 0
+  IsBlank b = IsTrue (is_blank b)
+
+  blanks_before_word : (f : Field) (v : ℕ) → Leads opb (head v (phase.TheVariants.BeforeWord f)) Blanks0 (head v (phase.TheVariants.BeforeWord f))
+  blanks_before_word f v = stays_many IsBlank (head v (phase.TheVariants.BeforeWord f)) (λ b h. rw h refl) refl refl
+
+  blanks_before_count : (f : Field) (v : ℕ) → Leads opb (head v (phase.TheVariants.BeforeCount f)) Blanks0 (head v (phase.TheVariants.BeforeCount f))
+  blanks_before_count f v = stays_many IsBlank (head v (phase.TheVariants.BeforeCount f)) (λ b h. rw h refl) refl refl
+
+  -- the bytes of a word that are left
+  spelled : (f : Field) (v : ℕ) (front left : List ℕ) (b : ℕ) → word_of f ≡ front ++ b ∷ left
+      → Walks opb (head v (phase.TheVariants.Word f (length front))) (plain (b ∷ left)) (head v (phase.TheVariants.BeforeCount f))
+  spelled f v front [] b e =
+      let n : nat_eq (length front + 1) (length (word_of f)) ≡ true = ap (λ x. nat_eq (length front + 1) (length x)) e ∙ ap (λ x. nat_eq (length front + 1) x) (length-append front (b ∷ [])) ∙ nat-same (length front + 1) in (
+        head v (phase.TheVariants.BeforeCount f),
+        ap (λ x. act (head v (phase.TheVariants.Word f (length front))) b x) (spell_next (word_of f) front [] b (phase.TheVariants.Word f (length front + 1)) (phase.TheVariants.BeforeCount f) true e n),
+        refl,
+        refl,
+        refl,
+      )
+  spelled f v front (c ∷ left) b e =
+      let m : length (word_of f) ≡ length front + (2 + length left) = ap length e ∙ (length-append front (b ∷ c ∷ left) ∙ omega arith) in
+      let n : nat_eq (length front + 1) (length (word_of f)) ≡ false = rw m (grind (arith, nat_tests)) in (
+        head v (phase.TheVariants.Word f (length front + 1)),
+        ap (λ x. act (head v (phase.TheVariants.Word f (length front))) b x) (spell_next (word_of f) front (c ∷ left) b (phase.TheVariants.Word f (length front + 1)) (phase.TheVariants.BeforeCount f) false e n),
+        refl,
+        refl,
+        subst (λ k. Walks opb (head v (phase.TheVariants.Word f k)) (plain (c ∷ left)) (head v (phase.TheVariants.BeforeCount f))) (length-append front (b ∷ []))
+            (spelled f v (front ++ b ∷ []) left c (e ∙ sym (append_assoc front (b ∷ []) (c ∷ left)))),
+      )
+
+  begins_word : (f : Field) (v : ℕ) (left : List ℕ) (b : ℕ) → word_of f ≡ 35 ∷ b ∷ left
+      → Walks opb (head v (phase.TheVariants.BeforeWord f)) (plain (35 ∷ b ∷ left)) (head v (phase.TheVariants.BeforeCount f))
+  begins_word f v left b e = (head v (phase.TheVariants.Word f 1), refl, refl, refl, spelled f v (35 ∷ []) left b e)
+
+  word_leads : (f : Field) (v : ℕ) → Leads opb (head v (phase.TheVariants.BeforeWord f)) (Bytes (word_of f)) (head v (phase.TheVariants.BeforeCount f))
+  word_leads Variables v t e = subst (λ x. Walks opb (head v (phase.TheVariants.BeforeWord Variables)) x (head v (phase.TheVariants.BeforeCount Variables))) (sym e) (begins_word Variables v _ 118 refl)
+  word_leads Constraints v t e = subst (λ x. Walks opb (head v (phase.TheVariants.BeforeWord Constraints)) x (head v (phase.TheVariants.BeforeCount Constraints))) (sym e) (begins_word Constraints v _ 99 refl)
+
+  -- digits of a count
+  digits_walk : (f : Field) (v m n : ℕ) (ds : List ℕ) → Each (λ e. e < 10) ds → n ≡ m * 10 ^ length ds + value ds → n ≤ top
+      → Walks opb (head v (phase.TheVariants.Count f m)) (map digit ds) (head v (phase.TheVariants.Count f n))
+  digits_walk f v m n [] h e l =
+      let g : n ≡ m = omega arith in
+      ap (λ x. head v (phase.TheVariants.Count f x)) g
+  digits_walk f v m n (d ∷ ds) h e l =
+      let p : 10 ^ suc (length ds) ≡ 10 * 10 ^ length ds = pow-succ' 10 (length ds) in
+      let i : 10 * m + d ≤ (10 * m + d) * 10 ^ length ds = le-mul_of_pos_right (10 * m + d) (ten_pos (length ds)) in
+      let w : n ≡ (10 * m + d) * 10 ^ length ds + value ds = e ∙ rw p (omega arith) in
+      let u : 10 * m + d ≤ top = omega arith in (
+        head v (phase.TheVariants.Count f (10 * m + d)),
+        ap (λ x. act (head v (phase.TheVariants.Count f m)) (48 + d) x) (next_digit top f m d h.0 u),
+        refl,
+        refl,
+        digits_walk f v (10 * m + d) n ds h.1 w l,
+      )
+
+  count_leads : (f : Field) (v n : ℕ) → Leads opb (head v (phase.TheVariants.BeforeCount f)) (Count top n) (head v (phase.TheVariants.Count f n))
+  count_leads f v n t (l, (d, ds, h, e, g)) =
+      let i : d ≤ d * 10 ^ length ds = le-mul_of_pos_right d (ten_pos (length ds)) in
+      let u : 10 * 0 + d ≤ top = omega arith in
+      let w : n ≡ (10 * 0 + d) * 10 ^ length ds + value ds = g ∙ omega arith in
+      subst (λ x. Walks opb (head v (phase.TheVariants.BeforeCount f)) x (head v (phase.TheVariants.Count f n))) (sym e) (
+        head v (phase.TheVariants.Count f (10 * 0 + d)),
+        ap (λ x. act (head v (phase.TheVariants.BeforeCount f)) (48 + d) x) (first_digit top f d h.0 u),
+        refl,
+        refl,
+        digits_walk f v (10 * 0 + d) n ds h.1 w l,
+      )
+
+  declares : (v n b : ℕ) → is_blank b ≡ true → opb.step (head v (phase.TheVariants.Count Variables n)) b ≡ Go (head n (phase.TheVariants.BeforeWord Constraints))
+  declares v n = blank_each (λ b. opb.step (head v (phase.TheVariants.Count Variables n)) b ≡ Go (head n (phase.TheVariants.BeforeWord Constraints))) refl refl refl
+
+  blanks_between : (v n : ℕ) → Leads opb (head v (phase.TheVariants.Count Variables n)) Blanks1 (head n (phase.TheVariants.BeforeWord Constraints))
+  blanks_between v n t (b, bs, h, i, e) =
+      subst (λ x. Walks opb (head v (phase.TheVariants.Count Variables n)) x (head n (phase.TheVariants.BeforeWord Constraints))) (sym e)
+      (head n (phase.TheVariants.BeforeWord Constraints), declares v n b h, refl, refl, blanks_before_word Constraints n (plain bs) (bs, i, refl))
+
+  -- a word, and its count
+  field_leads : (f : Field) (v n : ℕ) (P : Language) → Leads opb (head 0 phase.TheVariants.Start) P (head v (phase.TheVariants.BeforeWord f))
+      → Leads opb (head 0 phase.TheVariants.Start) (P ⋅ Bytes (word_of f) ⋅ Blanks0 ⋅ Count top n) (head v (phase.TheVariants.Count f n))
+  field_leads f v n P h =
+      leads_then opb (P ⋅ Bytes (word_of f) ⋅ Blanks0) (Count top n) (head 0 phase.TheVariants.Start) (head v (phase.TheVariants.BeforeCount f)) (head v (phase.TheVariants.Count f n))
+      (leads_then opb (P ⋅ Bytes (word_of f)) Blanks0 (head 0 phase.TheVariants.Start) (head v (phase.TheVariants.BeforeCount f)) (head v (phase.TheVariants.BeforeCount f))
+      (leads_then opb P (Bytes (word_of f)) (head 0 phase.TheVariants.Start) (head v (phase.TheVariants.BeforeWord f)) (head v (phase.TheVariants.BeforeCount f)) h
+      (word_leads f v)) (blanks_before_count f v)) (count_leads f v n)
+
+  star_leads : Leads opb (head 0 phase.TheVariants.Start) (Byte 42) (head 0 (phase.TheVariants.BeforeWord Variables))
+  star_leads t e = subst (λ x. Walks opb (head 0 phase.TheVariants.Start) x (head 0 (phase.TheVariants.BeforeWord Variables))) (sym e) (head 0 (phase.TheVariants.BeforeWord Variables), refl, refl, refl, refl)
+
+  abbrev FirstCount : ℕ → Language
+  FirstCount v = Byte 42 ⋅ Blanks0 ⋅ Bytes variable_word ⋅ Blanks0 ⋅ Count top v
+
+  abbrev Counts : ℕ → ℕ → Language
+  Counts v n = FirstCount v ⋅ Blanks1 ⋅ Bytes constraint_word ⋅ Blanks0 ⋅ Count top n
+
+  counts_lead : (v n : ℕ) → Leads opb (head 0 phase.TheVariants.Start) (Counts v n) (head v (phase.TheVariants.Count Constraints n))
+  counts_lead v n =
+      field_leads Constraints v n (FirstCount v ⋅ Blanks1)
+      (leads_then opb (FirstCount v) Blanks1 (head 0 phase.TheVariants.Start) (head 0 (phase.TheVariants.Count Variables v)) (head v (phase.TheVariants.BeforeWord Constraints))
+      (field_leads Variables 0 v (Byte 42 ⋅ Blanks0)
+      (leads_then opb (Byte 42) Blanks0 (head 0 phase.TheVariants.Start) (head 0 (phase.TheVariants.BeforeWord Variables)) (head 0 (phase.TheVariants.BeforeWord Variables)) star_leads
+      (blanks_before_word Variables 0)))
+      (blanks_between 0 v))
+
+  -- the tail
+  tail_keeps : (v n : ℕ) → Keeps (λ kept. stands limit top v n phase.TheVariants.Tail kept) (λ kept. Header v n kept) (idle limit top v true n)
+  tail_keeps v n = record {
+    keep = λ kept b h. rw h refl;
+    stop = λ kept. refl;
+    within = λ kept. refl;
+    number = λ kept. refl;
+  }
+
+  begins_tail : (v n b : ℕ) → is_blank b ≡ true → opb.step (head v (phase.TheVariants.Count Constraints n)) b ≡ Go (stands limit top v n phase.TheVariants.Tail (b ∷ []))
+  begins_tail v n = blank_each (λ b. opb.step (head v (phase.TheVariants.Count Constraints n)) b ≡ Go (stands limit top v n phase.TheVariants.Tail (b ∷ []))) refl refl refl
+
+  tail_reads : (v n : ℕ) (tail : List ℕ) → IsTail tail
+      → Reads opb (head v (phase.TheVariants.Count Constraints n)) (plain tail ++ unmarked 10 ∷ []) (Header v n tail) (idle limit top v true n)
+  tail_reads v n [] h = (refl, refl)
+  tail_reads v n (b ∷ bs) h =
+      longer opb (unmarked b) (plain bs ++ unmarked 10 ∷ []) (head v (phase.TheVariants.Count Constraints n)) (stands limit top v n phase.TheVariants.Tail (b ∷ [])) (idle limit top v true n) (Header v n (b ∷ bs))
+      (begins_tail v n b h.0) refl refl
+      (line_reads (λ kept. stands limit top v n phase.TheVariants.Tail kept) (λ kept. Header v n kept) (idle limit top v true n) (tail_keeps v n) bs (b ∷ []) h.1)
+
+  -- The machine reads each header.
+  pub header_reads : (v n : ℕ) (tail : List ℕ) (t : List Letter) → IsTail tail → SpellsHeader top v n tail t
+      → Reads opb (begin limit top) t (Header v n tail) (idle limit top v true n)
+  header_reads v n tail t h (ab, c, e, (a, b, f, counts, g), k) =
+      let parts : t ≡ a ++ (plain tail ++ unmarked 10 ∷ []) =
+      e ∙ (ap (λ x. x ++ c) (f ∙ ap (λ x. a ++ x) g) ∙ (ap (λ x. (a ++ plain tail) ++ x) k ∙ append_assoc a (plain tail) (unmarked 10 ∷ []))) in
+      subst (λ x. Reads opb (begin limit top) x (Header v n tail) (idle limit top v true n)) (sym parts)
+      (reads_behind opb a (plain tail ++ unmarked 10 ∷ []) (begin limit top) (head v (phase.TheVariants.Count Constraints n)) (idle limit top v true n) (Header v n tail)
+      (counts_lead v n a counts) (tail_reads v n tail h))

@@ -1,0 +1,5 @@
+use Rattle.pb_opb.proofs.Bodies.{reads_instances}
+use Rattle.pb_opb.proofs.laws.instances_are_exact.Goals as goal
+
+pub returns : goal.returns
+returns c = reads_instances

@@ -1,0 +1,5 @@
+use Rattle.pb_opb.proofs.Larger.{instance_grows}
+use Rattle.pb_opb.proofs.laws.larger_limits.Goals as goal
+
+pub returns : goal.returns
+returns c = λ limit limit' top top' items h j. instance_grows limit limit' top top' h j items

@@ -1,0 +1,40 @@
+use Rattle.std.proofs.Common.{[], ◌∷◌, ◌++◌, refl, arith, subst, List, ℕ, ap, add-zero, sym}
+use Rattle.pb_text.specs.Writing.{Wrote}
+use Rattle.pb_text.proofs.Writing.{writes_nothing}
+use Rattle.pb_text.proofs.Parts.{part_then, part_broke, part_wrote}
+use Rattle.pb_sums.specs.Canonical.{linear_bytes}
+use Rattle.pb_opb.specs.Canonical.{in_order, constraint_events, comment_events}
+use Rattle.pb_opb.specs.Led.{led_lines}
+use Rattle.pb_opb.proofs.Texts.{constraint_turn, constraint_done, constraints_end}
+use Rattle.pb_opb.proofs.write.write_constraints.Goals as goal
+
+pub loop-index-init : goal.loop-index-init
+loop-index-init g c = (
+  [],
+  ap (λ (n : ℕ). led_lines (in_order n c.args.comments.now (constraint_events c.args.constraints.now))) (sym (add-zero c.args.first)),
+  writes_nothing g.S.Sink.contents g.S.Sink.faults c.args.out.now,
+)
+
+pub returns-in_err-write_comments : goal.returns-in_err-write_comments
+returns-in_err-write_comments g c =
+    part_then g.S.Sink.contents g.S.Sink.faults _ _ _ _ _ _ _ (constraint_turn _ c.loop-index.invariant.0 c.args.first c.loop-index.index c.count_due.result c.loop-index.rest.now c.split_at.result.0.now c.split_at.result.1.now c.args.constraints.now c.index-constraints-index.result (omega arith) c.count_due.ensures.count c.split_at.ensures.front c.split_at.ensures.back c.index-constraints-index.is c.loop-index.invariant.1) c.loop-index.invariant.2
+    (part_broke g.S.Sink.contents g.S.Sink.faults _ _ _ _ _ _ refl c.from_residual.ensures.0 c.in_err-write_comments.ensures)
+
+pub returns-in_err-write_line : goal.returns-in_err-write_line
+returns-in_err-write_line g c =
+    part_then g.S.Sink.contents g.S.Sink.faults _ _ _ _ _ _ _ (constraint_turn _ c.loop-index.invariant.0 c.args.first c.loop-index.index c.count_due.result c.loop-index.rest.now c.split_at.result.0.now c.split_at.result.1.now c.args.constraints.now c.index-constraints-index.result (omega arith) c.count_due.ensures.count c.split_at.ensures.front c.split_at.ensures.back c.index-constraints-index.is c.loop-index.invariant.1) c.loop-index.invariant.2
+    (part_then g.S.Sink.contents g.S.Sink.faults _ _ _ _ _ _ _ refl c.in_ok-write_comments.ensures
+    (part_broke g.S.Sink.contents g.S.Sink.faults _ _ _ _ _ _ refl c.from_residual-in_err-write_line.ensures.0 c.in_err-write_line.ensures))
+
+pub loop-index-preserved : goal.loop-index-preserved
+loop-index-preserved g c = (
+  c.loop-index.invariant.0 ++ (led_lines (comment_events c.split_at.result.0.now) ++ (10 ∷ linear_bytes c.index-constraints-index.result)),
+  constraint_done _ c.loop-index.invariant.0 (led_lines (comment_events c.split_at.result.0.now)) (10 ∷ linear_bytes c.index-constraints-index.result) _
+      (constraint_turn _ c.loop-index.invariant.0 c.args.first c.loop-index.index c.count_due.result c.loop-index.rest.now c.split_at.result.0.now c.split_at.result.1.now c.args.constraints.now c.index-constraints-index.result (omega arith) c.count_due.ensures.count c.split_at.ensures.front c.split_at.ensures.back c.index-constraints-index.is c.loop-index.invariant.1),
+  part_wrote g.S.Sink.contents g.S.Sink.faults _ _ _ _ _ _ refl c.loop-index.invariant.2 (part_wrote g.S.Sink.contents g.S.Sink.faults _ _ _ _ _ _ refl c.in_ok-write_comments.ensures c.in_ok-write_line.ensures),
+)
+
+pub returns : goal.returns
+returns g c =
+    subst (λ (z : List ℕ). Wrote g.S.Sink.contents g.S.Sink.faults c.args.out.now z c.loop-index.out)
+    (constraints_end _ c.loop-index.invariant.0 c.args.first c.loop-index.index c.loop-index.rest.now c.args.constraints.now c.loop-index-test.false c.loop-index.invariant.1) c.loop-index.invariant.2

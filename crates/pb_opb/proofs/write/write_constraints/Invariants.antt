@@ -1,0 +1,12 @@
+use Rattle.std.proofs.Common.{◌≡◌, ℕ, ◌+◌, List, ◌++◌, drop}
+use Rattle.pb_text.specs.Writing.{Wrote}
+use Rattle.pb_opb.specs.Canonical.{in_order, constraint_events}
+use Rattle.pb_opb.specs.Led.{led_lines}
+use Rattle.pb_opb.proofs.write.write_constraints.Given as goal
+
+-- what was written, and what the rest is
+abbrev pub invariant-loop-index : goal.invariant-loop-index
+invariant-loop-index g l =
+    (front : List ℕ)
+    × (led_lines (in_order l.first l.comments (constraint_events l.constraints)) ≡ front ++ led_lines (in_order (l.first + l.index) l.rest (constraint_events (drop l.index l.constraints))))
+    × Wrote g.S.Sink.contents g.S.Sink.faults l.initial.out front l.out

@@ -1,0 +1,24 @@
+-- An instance as its statements come.
+use Rattle.std.specs.Prelude.{ℕ, ◌+◌, List, [], ◌∷◌, ◌++◌, Option, Some, None}
+use Rattle.pb_opb.specs.Values.{comment_at}
+use Rattle.pb_opb.specs.declared.event.OpbEvent.{OpbEvent}
+use Rattle.pb_opb.specs.declared.event.OpbEvent.TheVariants.{Header, Comment, Objective, Constraint}
+use Rattle.pb_opb.specs.declared.instance.Instance.{Instance}
+
+-- the instance with one statement more, where so many objectives and constraints came before
+abbrev pub with : ℕ → Instance → OpbEvent → Instance
+with n v (Header variables constraints tail) = record v { variables = variables; tail = tail }
+with n v (Comment text) = record v { comments = v.comments ++ comment_at n text ∷ [] }
+with n v (Objective terms) = record v { objective = Some terms }
+with n v (Constraint linear) = record v { constraints = v.constraints ++ linear ∷ [] }
+
+-- how many came with it
+abbrev pub ended_with : ℕ → OpbEvent → ℕ
+ended_with n (Header variables constraints tail) = n
+ended_with n (Comment text) = n
+ended_with n (Objective terms) = n + 1
+ended_with n (Constraint linear) = n + 1
+
+-- before any statement
+abbrev pub nothing : Instance
+nothing = record { variables = 0; tail = []; objective = None; comments = []; constraints = [] }

@@ -1,0 +1,29 @@
+//! Instances.
+
+use pb_sums::{Linear, Term};
+use pb_text::{Bytes, Sequence};
+
+/// A comment, and where it stands.
+#[derive(Debug, Drop, PartialEq)]
+pub struct Comment {
+    /// How many of the objective and the constraints ended before it.
+    pub before: u64,
+    /// The bytes between its `*` and its line feed.
+    pub text: Bytes,
+}
+
+/// An instance in OPB, as written. White space is not kept, and a comment behind the last constraint is no part
+/// of it.
+#[derive(Debug, Drop, PartialEq)]
+pub struct Instance {
+    /// The first count of the header, as declared. The second is the number of constraints.
+    pub variables: u64,
+    /// The bytes of the header between its second count and its line feed.
+    pub tail: Bytes,
+    /// The terms of the objective.
+    pub objective: Option<Sequence<Term>>,
+    /// The comments in order.
+    pub comments: Sequence<Comment>,
+    /// The constraints in order.
+    pub constraints: Sequence<Linear>,
+}

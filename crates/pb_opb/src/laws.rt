@@ -1,0 +1,34 @@
+//! The laws of instances and their texts.
+
+ghost use Rattle.pb_opb.specs.Formats.{ReadsInstances, OneInstance, NoFront, LargerLimits};
+ghost use Rattle.pb_opb.specs.Statements.{CanonicalInstance, InstanceValues};
+
+/// A new machine accepts exactly the instances.
+pub fn instances_are_exact()
+    ensures { ReadsInstances }
+{}
+
+/// A text spells one instance.
+pub fn one_instance()
+    ensures { OneInstance }
+{}
+
+/// No instance is a front of another.
+pub fn no_front()
+    ensures { NoFront }
+{}
+
+/// An instance under limits is the same instance under larger ones.
+pub fn larger_limits()
+    ensures { LargerLimits }
+{}
+
+/// What is written of an instance that meets the rules reads as that instance.
+pub fn canonical_instance_spells()
+    ensures { CanonicalInstance }
+{}
+
+/// What is read of an instance meets the rules, and its header declares as many constraints as there are.
+pub fn instances_are_values()
+    ensures { InstanceValues }
+{}

@@ -1,0 +1,109 @@
+-- What a canonical spelling ends with.
+use Rattle.std.proofs.Common.{◌≡◌, ℕ, zero, suc, ◌+◌, Bool, true, false, cond, ◌==◌, List, [], ◌∷◌, ◌++◌, length, map, take, drop, Option, Some, None, refl, sym, ap, ◌∙◌, append_assoc, append-nil, subst}
+use Rattle.pb_text.specs.Pulling.{Took}
+use Rattle.pb_sums.specs.declared.Term.{Term}
+use Rattle.pb_sums.specs.declared.Linear.{Linear}
+use Rattle.pb_sums.specs.Canonical.{head_bytes}
+use Rattle.pb_opb.specs.Canonical.{header_bytes, event_bytes, lines, objective_events, constraint_events, comment_events, due, in_order, body_events, instance_bytes}
+use Rattle.pb_opb.specs.declared.OpbEvent.{OpbEvent}
+use Rattle.pb_opb.specs.declared.OpbEvent.TheVariants.{Header, Comment, Objective, Constraint}
+use Rattle.pb_opb.specs.declared.Instance.{Instance}
+use Rattle.pb_opb.specs.declared.Comment as comment
+use Rattle.pb_tool.specs.Tidying.{ends_in_feed, is_bare, tidied}
+
+-- the text ends with this byte
+abbrev EndsWith : ℕ → List ℕ → Type 0
+EndsWith b text = (front : List ℕ) × (text ≡ front ++ b ∷ [])
+
+at_end : (b : ℕ) (front : List ℕ) → ends_in_feed (front ++ b ∷ []) ≡ (b == 10)
+at_end b [] = refl
+at_end b (c ∷ []) = refl
+at_end b (c ∷ d ∷ front) = at_end b (d ∷ front)
+
+ends_longer : (b : ℕ) (a text : List ℕ) → EndsWith b text → EndsWith b (a ++ text)
+ends_longer b a text (front, e) = (a ++ front, ap (λ (x : List ℕ). a ++ x) e ∙ sym (append_assoc a front (b ∷ [])))
+
+ends_more : (b c : ℕ) (text : List ℕ) → EndsWith b text → EndsWith b (c ∷ text)
+ends_more b c text (front, e) = (c ∷ front, ap (λ (x : List ℕ). c ∷ x) e)
+
+-- an objective and a constraint end with `;`
+linear_ends : (linear : Linear) → EndsWith 59 (event_bytes (Constraint linear))
+linear_ends linear = ends_longer 59 _ _ (ends_longer 59 _ _ (ends_more 59 32 _ (ends_longer 59 _ _ (32 ∷ [], refl))))
+
+objective_ends : (terms : List Term) → EndsWith 59 (event_bytes (Objective terms))
+objective_ends terms = ends_longer 59 (109 ∷ 105 ∷ 110 ∷ 58 ∷ []) (32 ∷ (head_bytes terms ++ 59 ∷ [])) (ends_more 59 32 (head_bytes terms ++ 59 ∷ []) (ends_longer 59 (head_bytes terms) (59 ∷ []) ([], refl)))
+
+-- lines end as the last of them
+lines_end : (first : List OpbEvent) (e : OpbEvent) (rest : List OpbEvent) → EndsWith 59 (lines (e ∷ rest)) → EndsWith 59 (lines (first ++ e ∷ rest))
+lines_end [] e rest h = h
+lines_end (f ∷ []) e rest h = ends_longer 59 (event_bytes f) (10 ∷ lines (e ∷ rest)) (ends_more 59 10 (lines (e ∷ rest)) h)
+lines_end (f ∷ g ∷ first) e rest h = ends_longer 59 (event_bytes f) (10 ∷ lines ((g ∷ first) ++ e ∷ rest)) (ends_more 59 10 (lines ((g ∷ first) ++ e ∷ rest)) (lines_end (g ∷ first) e rest h))
+
+-- statements of which each ends with `;`
+abbrev AllEnd : List OpbEvent → Type 0
+AllEnd [] = Unit {0}
+AllEnd (e ∷ events) = EndsWith 59 (event_bytes e) × AllEnd events
+
+-- one statement in front
+one_front : (e : OpbEvent) (front : List OpbEvent) (f : OpbEvent) (rest : List OpbEvent) → EndsWith 59 (lines (front ++ f ∷ rest)) → EndsWith 59 (lines (e ∷ (front ++ f ∷ rest)))
+one_front e [] f rest k = ends_longer 59 (event_bytes e) (10 ∷ lines (f ∷ rest)) (ends_more 59 10 (lines (f ∷ rest)) k)
+one_front e (g ∷ front) f rest k = ends_longer 59 (event_bytes e) (10 ∷ lines ((g ∷ front) ++ f ∷ rest)) (ends_more 59 10 (lines ((g ∷ front) ++ f ∷ rest)) k)
+
+-- a statement and those behind it
+after_ends : (n : ℕ) (comments : List comment.Comment) (e : OpbEvent) (events : List OpbEvent) → EndsWith 59 (event_bytes e) → AllEnd events → EndsWith 59 (lines (e ∷ in_order n comments events))
+after_ends n comments e [] h k = h
+after_ends n comments e (f ∷ events) h k =
+    let later = in_order (n + 1) (drop (due n comments) comments) events in
+    let front = comment_events (take (due n comments) comments) in
+    let behind : EndsWith 59 (lines (f ∷ later)) = after_ends (n + 1) (drop (due n comments) comments) f events k.0 k.1 in
+    one_front e front f later (lines_end front f later behind)
+
+in_order_ends : (n : ℕ) (comments : List comment.Comment) (e : OpbEvent) (events : List OpbEvent) → AllEnd (e ∷ events) → EndsWith 59 (lines (in_order n comments (e ∷ events)))
+in_order_ends n comments e events h =
+    lines_end (comment_events (take (due n comments) comments)) e (in_order (n + 1) (drop (due n comments) comments) events) (after_ends (n + 1) (drop (due n comments) comments) e events h.0 h.1)
+
+all_constraints : (constraints : List Linear) → AllEnd (constraint_events constraints)
+all_constraints [] = tt
+all_constraints (c ∷ constraints) = (linear_ends c, all_constraints constraints)
+
+not_feed : (text : List ℕ) → EndsWith 59 text → ends_in_feed text ≡ false
+not_feed text (front, e) = ap ends_in_feed e ∙ at_end 59 front
+
+behind : (v : Instance) (objective : Option (List Term)) (constraints : List Linear) → v.objective ≡ objective → v.constraints ≡ constraints → ends_in_feed (instance_bytes v) ≡ is_bare objective constraints
+behind v None [] o c =
+    let events : objective_events v.objective ++ constraint_events v.constraints ≡ [] = rw (o, c) refl in
+    ap (λ (x : List OpbEvent). ends_in_feed (header_bytes v.variables (length v.constraints) v.tail ++ (10 ∷ lines (in_order 0 v.comments x)))) events ∙ at_end 10 (header_bytes v.variables (length v.constraints) v.tail)
+behind v None (x ∷ constraints) o c =
+    let events : objective_events v.objective ++ constraint_events v.constraints ≡ Constraint x ∷ constraint_events constraints = rw (o, c) refl in
+    let body : EndsWith 59 (lines (body_events v)) = subst (λ (es : List OpbEvent). EndsWith 59 (lines (in_order 0 v.comments es))) (sym events) (in_order_ends 0 v.comments (Constraint x) (constraint_events constraints) (linear_ends x, all_constraints constraints)) in
+    not_feed (instance_bytes v) (ends_longer 59 (header_bytes v.variables (length v.constraints) v.tail) (10 ∷ lines (body_events v)) (ends_more 59 10 (lines (body_events v)) body))
+behind v (Some terms) constraints o c =
+    let events : objective_events v.objective ++ constraint_events v.constraints ≡ Objective terms ∷ constraint_events constraints = rw (o, c) refl in
+    let body : EndsWith 59 (lines (body_events v)) = subst (λ (es : List OpbEvent). EndsWith 59 (lines (in_order 0 v.comments es))) (sym events) (in_order_ends 0 v.comments (Objective terms) (constraint_events constraints) (objective_ends terms, all_constraints constraints)) in
+    not_feed (instance_bytes v) (ends_longer 59 (header_bytes v.variables (length v.constraints) v.tail) (10 ∷ lines (body_events v)) (ends_more 59 10 (lines (body_events v)) body))
+
+-- the canonical spelling ends in a line feed exactly where it is the header alone
+pub ends_bare : (v : Instance) → ends_in_feed (instance_bytes v) ≡ is_bare v.objective v.constraints
+ends_bare v = behind v v.objective v.constraints refl refl
+
+-- what is written where there is nothing but a header, and where there is more
+pub tidied_bare : (v : Instance) → is_bare v.objective v.constraints ≡ true → tidied v ≡ instance_bytes v
+tidied_bare v e = ap (λ (b : Bool). cond b (instance_bytes v) (instance_bytes v ++ 10 ∷ [])) (ends_bare v ∙ e)
+
+pub tidied_more : (v : Instance) → is_bare v.objective v.constraints ≡ false → tidied v ≡ instance_bytes v ++ 10 ∷ []
+tidied_more v e = ap (λ (b : Bool). cond b (instance_bytes v) (instance_bytes v ++ 10 ∷ [])) (ends_bare v ∙ e)
+
+-- What was read of a source in two parts.
+pub took_join : (a b c : Option (List ℕ)) (x y s t : List ℕ) → Took a x s b → Took b y t c → Took a (x ++ y) t c
+took_join None b c x y s t h k = tt
+took_join (Some bytes) b c x y s t h k =
+    let now : Took (Some s) y t c = subst (λ (z : Option (List ℕ)). Took z y t c) h.1 k in
+    (h.0 ∙ ap (λ (z : List ℕ). x ++ z) now.0 ∙ sym (append_assoc x y t), now.1)
+
+-- What is written is the canonical spelling, and perhaps more.
+pub tidied_parts : (v : Instance) → (rest : List ℕ) × (tidied v ≡ instance_bytes v ++ rest)
+tidied_parts v = by_end (ends_in_feed (instance_bytes v))
+  where
+    by_end : (b : Bool) → (rest : List ℕ) × (cond b (instance_bytes v) (instance_bytes v ++ 10 ∷ []) ≡ instance_bytes v ++ rest)
+    by_end true = ([], sym (append-nil (instance_bytes v)))
+    by_end false = (10 ∷ [], refl)

@@ -1,0 +1,73 @@
+-- What `pb tidy` writes.
+use Rattle.std.specs.Prelude.{◌≡◌, ◌⊎◌, ℕ, ◌==◌, Bool, true, false, cond, List, [], ◌∷◌, ◌++◌, Option, Some, None, Result, Ok, Err}
+use Rattle.pb_text.specs.Blank.{IsBlank, ReadsBlank}
+use Rattle.pb_text.specs.Limits.{largest, top_of}
+use Rattle.pb_text.specs.Pulling.{Took}
+use Rattle.pb_text.specs.Spelling.{Item}
+use Rattle.pb_text.specs.Writing.{Wrote, Broke}
+use Rattle.pb_text.specs.declared.Limits.{Limits}
+use Rattle.pb_text.specs.declared.Spanned.{Spanned}
+use Rattle.pb_text.specs.declared.Stop.{Stop}
+use Rattle.pb_sums.specs.declared.Term.{Term}
+use Rattle.pb_sums.specs.declared.Linear.{Linear}
+use Rattle.pb_opb.specs.Canonical.{instance_bytes}
+use Rattle.pb_opb.specs.Instances.{IsInstance}
+use Rattle.pb_opb.specs.Values.{IsValueOf}
+use Rattle.pb_opb.specs.Whole.{IsRead, ReadsValue}
+use Rattle.pb_opb.specs.declared.Instance.{Instance}
+use Rattle.pb_opb.specs.declared.OpbEvent.{OpbEvent}
+use Rattle.pb_tool.specs.declared.fault.ToolFault.{ToolFault}
+use Rattle.pb_tool.specs.declared.fault.ToolFault.TheVariants.{Text, Open, Overflow, Memory, Write}
+use Rattle.pb_tool.specs.declared.fault.Input.TheVariants.{File, Instance as InInstance, Proof}
+
+-- the last byte is a line feed
+abbrev pub ends_in_feed : List ℕ → Bool
+ends_in_feed [] = false
+ends_in_feed (b ∷ []) = b == 10
+ends_in_feed (b ∷ c ∷ text) = ends_in_feed (c ∷ text)
+
+-- the text, and a line feed if it does not end in one
+abbrev pub with_feed : List ℕ → List ℕ
+with_feed text = cond (ends_in_feed text) text (text ++ 10 ∷ [])
+
+-- what is written for an instance
+abbrev pub tidied : Instance → List ℕ
+tidied v = with_feed (instance_bytes v)
+
+-- there is nothing but a header
+abbrev pub is_bare : Option (List Term) → List Linear → Bool
+is_bare None [] = true
+is_bare None (c ∷ constraints) = false
+is_bare (Some terms) constraints = false
+
+-- the instances under the limits
+abbrev pub IsOpb : Limits → List (Item OpbEvent) → Type 0
+IsOpb limits = IsInstance (largest limits) (top_of limits)
+
+module _ (limits : Limits) (longest : ℕ) where
+  -- The input was an instance and a blank rest, and ended there.
+  pub record IsFile (before after : Option (List ℕ)) (v : Instance) : Type 0 where
+    pub used : List ℕ
+    pub rest : List ℕ
+    pub took : Took before (used ++ rest) [] after
+    pub read : Spanned Instance
+    pub spelled : IsRead (IsOpb limits) longest IsValueOf used read
+    pub blank : IsBlank rest
+    pub value : read.event ≡ v
+
+  -- The input was refused: it is no instance, or the rest behind it is not blank.
+  pub data IsRefused (before after : Option (List ℕ)) (s : Stop) : Type 0 where
+    InText : ReadsValue (IsOpb limits) longest IsValueOf before (Err s) after → IsRefused before after s
+    InRest : (m : Spanned Instance) (mid : Option (List ℕ)) → ReadsValue (IsOpb limits) longest IsValueOf before (Ok m) mid → ReadsBlank m.past mid (Err s) after → IsRefused before after s
+
+  module _ {W : Type 0} (contents : W → Option (List ℕ)) (faults : W → ℕ) where
+    -- what was read of the source, and what was written: nothing before the whole input was accepted
+    abbrev pub Tidies : Option (List ℕ) → W → Result Unit ToolFault → Option (List ℕ) → W → Type 0
+    Tidies before old (Ok u) after new = (v : Instance) × IsFile before after v × Wrote contents faults old (tidied v) new
+    Tidies before old (Err Write) after new = (v : Instance) × IsFile before after v × Broke contents faults old (tidied v) new
+    Tidies before old (Err (Text File s)) after new = IsRefused before after s × (new ≡ old)
+    Tidies before old (Err (Text InInstance s)) after new = ⊥
+    Tidies before old (Err (Text Proof s)) after new = ⊥
+    Tidies before old (Err (Open i)) after new = ⊥
+    Tidies before old (Err (Overflow i)) after new = ⊥
+    Tidies before old (Err (Memory i)) after new = ⊥
