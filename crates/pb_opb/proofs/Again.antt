@@ -1,15 +1,15 @@
 -- What is written of an instance reads as that instance.
 use Rattle.std.proofs.Common.{◌≡◌, ℕ, suc, ◌+◌, ◌<◌, ◌≤◌, ◌^◌, List, [], ◌∷◌, ◌++◌, length, refl, ap, sym, ◌∙◌, append_assoc, arith, false, true, Option, Some, None}
-use Rattle.pb_text.specs.Spelling.{Item, bytes, bytes_of}
+use Rattle.pb_text.specs.Spelling.{Item, bytes_of}
 use Rattle.pb_text.specs.Whole.{events_of}
 use Rattle.pb_sums.specs.declared.values.Term.{Term}
 use Rattle.pb_sums.specs.declared.values.Linear.{Linear}
-use Rattle.pb_opb.specs.Instances.{IsInstance, IsBody}
-use Rattle.pb_opb.specs.Values.{IsValueOf, IsInstanceValue, IsObjective, AreLinears, AreComments, is_one, statements}
+use Rattle.pb_opb.specs.Instances.{IsBody}
+use Rattle.pb_opb.specs.Values.{IsValueOf, IsObjective, AreLinears, AreComments, is_one, statements}
 use Rattle.pb_opb.specs.Canonical.{header_bytes, lines, objective_events, constraint_events, in_order, body_events, instance_bytes}
 use Rattle.pb_opb.specs.Statements.{CanonicalInstance}
 use Rattle.pb_opb.specs.declared.event.OpbEvent.{OpbEvent}
-use Rattle.pb_opb.specs.declared.event.OpbEvent.TheVariants.{Header, Constraint}
+use Rattle.pb_opb.specs.declared.event.OpbEvent.TheVariants.{Header}
 use Rattle.pb_opb.specs.declared.instance.Instance.{Instance}
 use Rattle.pb_opb.specs.declared.instance.Comment.{Comment}
 use Rattle.pb_opb.proofs.Spelled.{AreMain, AreInLines, spelled, header_text, header-spelled, header-bytes, item-bytes, body-bytes, constraints-body, objective-body}

@@ -1,15 +1,13 @@
 -- Each state that a machine of instances can be in has texts before it.
-use Rattle.std.proofs.Common.{◌≡◌, ℕ, zero, suc, ◌+◌, ◌-◌, ◌*◌, ◌^◌, ◌<◌, ◌≤◌, Bool, true, false, cond, ◌&&◌, nat_le, nat_eq, List, [], ◌∷◌, ◌++◌, length, refl, sym, ap, ◌∙◌, subst, arith, le-leb, IsTrue}
-use Rattle.pb_text.specs.Automaton.{Automaton, Next, Go, End, Refuse, Reads, Skips, Accepts, Admits, IsState}
-use Rattle.pb_text.specs.Spelling.{Letter, Item, bytes_of}
+use Rattle.std.proofs.Common.{◌≡◌, ℕ, zero, suc, ◌-◌, ◌<◌, Bool, true, false, cond, List, [], ◌∷◌, length, refl, sym, ap, ◌∙◌, subst, arith, le-leb}
+use Rattle.pb_text.specs.Automaton.{Next, Go, End, Reads, Accepts, Admits}
+use Rattle.pb_text.specs.Spelling.{Letter, Item}
 use Rattle.pb_sums.specs.State.{SumState, sums}
-use Rattle.pb_sums.specs.Machine.{is_midway, is_done as sum_done}
 use Rattle.pb_sums.specs.declared.SumEvent.{SumEvent}
 use Rattle.pb_sums.specs.declared.Spaces as grammar
 use Rattle.pb_sums.specs.declared.Part as part
 use Rattle.pb_sums.specs.declared.phase.Phase as sum_phase
-use Rattle.pb_sums.proofs.Links.{reads_something, midway-not-done}
-use Rattle.pb_sums.proofs.States.{goes-midway}
+use Rattle.pb_sums.proofs.Links.{reads_something}
 use Rattle.pb_opb.specs.Machine.{plan, count, word_of}
 use Rattle.pb_opb.specs.Order.{PhaseFits, Holds, IsIdle, IsInOrder}
 use Rattle.pb_opb.specs.declared.event.OpbEvent as event
@@ -19,7 +17,6 @@ use Rattle.pb_opb.specs.declared.phase.Field.{Field}
 use Rattle.pb_opb.specs.declared.phase.Field.TheVariants.{Variables, Constraints}
 use Rattle.pb_opb.specs.declared.phase.Phase.{Phase}
 use Rattle.pb_opb.specs.declared.phase.Phase as phase
-use Rattle.pb_opb.specs.declared.phase.Move.{Move}
 use Rattle.pb_opb.specs.declared.phase.Move.TheVariants.{To, Give, Stop}
 
 abbrev N : Type 0

@@ -1,5 +1,5 @@
 -- What the machine reads, said of instances.
-use Rattle.std.proofs.Common.{◌≡◌, ℕ, List}
+use Rattle.std.proofs.Common.{ℕ, List}
 use Rattle.pb_text.specs.Automaton.{Accepts}
 use Rattle.pb_text.specs.Spelling.{Item}
 use Rattle.pb_text.specs.declared.Spanned.{Spanned}

@@ -1,14 +1,14 @@
 -- What is read of an instance meets the rules.
-use Rattle.std.proofs.Common.{◌≡◌, ℕ, zero, suc, ◌+◌, ◌<◌, ◌≤◌, List, [], ◌∷◌, length, refl, ap, sym, ◌∙◌, subst, arith, Bool, true, false, Option, Some, None, ◌⊎◌, inl, inr}
+use Rattle.std.proofs.Common.{◌≡◌, ℕ, zero, suc, ◌+◌, ◌<◌, ◌≤◌, List, [], ◌∷◌, length, refl, ap, sym, ◌∙◌, subst, arith, Bool, true, false, Option, Some, None}
 use Rattle.std.specs.Prelude.{IsTrue}
 use Rattle.pb_text.specs.Spelling.{Letter, Item}
 use Rattle.pb_text.specs.Whole.{events_of}
-use Rattle.pb_sums.specs.Canonical.{AreTerms, IsLinear}
+use Rattle.pb_sums.specs.Canonical.{AreTerms}
 use Rattle.pb_sums.specs.declared.values.Term.{Term}
 use Rattle.pb_sums.specs.declared.values.Linear.{Linear}
 use Rattle.pb_sums.specs.declared.grammar.Spaces.TheVariants.{White}
-use Rattle.pb_opb.specs.Instances.{IsTail, IsInLine, SpellsHeader, SpellsObjective, IsEntry, IsBody, IsBegun, IsInstance}
-use Rattle.pb_opb.specs.Values.{last_or, variables_in, tails_in, objectives_in, constraints_in, comments_in, IsValueOf, IsInstanceValue, IsObjective, AreLinears, AreComments, is_one, statements}
+use Rattle.pb_opb.specs.Instances.{IsTail, SpellsHeader, SpellsObjective, IsEntry, IsBody, IsBegun}
+use Rattle.pb_opb.specs.Values.{last_or, variables_in, tails_in, objectives_in, constraints_in, comments_in, IsValueOf, IsInstanceValue, IsObjective, AreLinears, AreComments, is_one}
 use Rattle.pb_opb.specs.Statements.{InstanceValues, IsOneHeader}
 use Rattle.pb_opb.specs.declared.event.OpbEvent.{OpbEvent}
 use Rattle.pb_opb.specs.declared.event.OpbEvent.TheVariants.{Header, Comment, Objective, Constraint}

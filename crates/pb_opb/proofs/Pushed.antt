@@ -1,22 +1,20 @@
 -- What a byte leaves a machine of instances with.
-use Rattle.std.proofs.Common.{◌≡◌, ℕ, zero, suc, ◌+◌, ◌-◌, ◌*◌, ◌^◌, ◌<◌, ◌≤◌, Bool, true, false, cond, ◌&&◌, nat_le, nat_eq, List, [], ◌∷◌, ◌++◌, length, refl, sym, ap, ◌∙◌, subst, arith, IsTrue}
+use Rattle.std.proofs.Common.{◌≡◌, ℕ, zero, suc, ◌+◌, ◌-◌, ◌*◌, ◌<◌, Bool, true, false, cond, ◌&&◌, nat_le, nat_eq, List, [], ◌∷◌, ◌++◌, length, refl, sym, ap, ◌∙◌, subst, arith, IsTrue}
 use Rattle.std.specs.Prelude.{slice_index}
 use Rattle.pb_text.specs.Classes.{is_blank, is_white, is_digit}
-use Rattle.pb_text.specs.Automaton.{Automaton, Next, Go, End, Refuse, Accepts, Admits, IsState, is_large, begins, begins_with}
+use Rattle.pb_text.specs.Automaton.{Next, Go, End, Refuse, Admits, IsState, is_large, begins, begins_with}
 use Rattle.pb_text.proofs.Residual.{refuses}
 use Rattle.pb_text.proofs.Admitted.{admits_within}
-use Rattle.pb_sums.specs.State.{SumState, sums, first, with_work}
-use Rattle.pb_sums.specs.Machine.{finished}
+use Rattle.pb_sums.specs.State.{SumState, sums, first}
 use Rattle.pb_sums.specs.declared.Spaces.TheVariants.{White}
 use Rattle.pb_sums.specs.declared.Part as part
 use Rattle.pb_sums.specs.declared.SumEvent.{SumEvent}
 use Rattle.pb_sums.proofs.States.{goes, goes-midway, ended-last}
 use Rattle.pb_sums.proofs.Links.{midway-not-done}
 use Rattle.pb_opb.specs.Instances.{min_word}
-use Rattle.pb_opb.specs.Machine.{plan, count, spell, behind_count, word_of}
-use Rattle.pb_opb.specs.State.{OpbState, opb, at, asks, between, after, owed_after, phase_owing, statement_of, giving, linears, objectives, act, over, step, is_within, is_done, is_in_number}
+use Rattle.pb_opb.specs.Machine.{plan, count, behind_count, word_of}
+use Rattle.pb_opb.specs.State.{OpbState, opb, at, asks, after, owed_after, phase_owing, statement_of, giving, linears, act, over, is_within, is_done, is_in_number}
 use Rattle.pb_opb.specs.Order.{PhaseFits, Holds, IsIdle, IsInOrder}
-use Rattle.pb_opb.specs.declared.event.OpbEvent.{OpbEvent}
 use Rattle.pb_opb.specs.declared.phase.Field.{Field}
 use Rattle.pb_opb.specs.declared.phase.Field.TheVariants.{Variables, Constraints}
 use Rattle.pb_opb.specs.declared.phase.Phase.{Phase}

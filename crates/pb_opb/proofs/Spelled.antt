@@ -1,18 +1,18 @@
 -- The canonical text of an instance is a spelling.
-use Rattle.std.proofs.Common.{◌≡◌, ℕ, zero, suc, ◌+◌, ◌<◌, ◌≤◌, ◌^◌, List, [], ◌∷◌, ◌++◌, length, take, drop, map, refl, ap, sym, ◌∙◌, append_assoc, append-nil, arith, Bool, true, false, subst, Option, Some, None}
+use Rattle.std.proofs.Common.{◌≡◌, ℕ, zero, suc, ◌+◌, ◌<◌, ◌≤◌, ◌^◌, List, [], ◌∷◌, ◌++◌, length, take, drop, refl, ap, sym, ◌∙◌, append_assoc, append-nil, arith, Bool, true, false}
 use Rattle.std.specs.Prelude.{decimal, IsTrue}
 use Rattle.pb_text.specs.Languages.{unmarked, Each}
 use Rattle.pb_text.specs.Classes.{is_white}
 use Rattle.pb_text.specs.Spelling.{Letter, Item, plain, digits_of, bytes, letters_of, bytes_of}
 use Rattle.pb_text.proofs.Languages.{bytes-append, bytes-plain, bytes-digits}
 use Rattle.pb_text.proofs.Numbers.{decimal-digits}
-use Rattle.pb_sums.specs.Canonical.{AreTerms, IsLinear, sum_text, linear_text, head_bytes, linear_bytes, space}
+use Rattle.pb_sums.specs.Canonical.{AreTerms, sum_text, linear_text, head_bytes, linear_bytes, space}
 use Rattle.pb_sums.specs.declared.values.Term.{Term}
 use Rattle.pb_sums.specs.declared.values.Linear.{Linear}
 use Rattle.pb_sums.specs.declared.grammar.Spaces.TheVariants.{White}
 use Rattle.pb_sums.proofs.CanonicalLaws.{linear-spelled, sum-spelled, bytes-linear, bytes-sum}
 use Rattle.pb_opb.specs.Instances.{variable_word, constraint_word, min_word, IsInLine, SpellsHeader, SpellsComment, SpellsObjective, IsBody}
-use Rattle.pb_opb.specs.Canonical.{header_bytes, objective_bytes, event_bytes, lines, comment_events, constraint_events, objective_events, due, in_order}
+use Rattle.pb_opb.specs.Canonical.{header_bytes, objective_bytes, event_bytes, lines, comment_events, constraint_events, due, in_order}
 use Rattle.pb_opb.specs.Led.{led_lines}
 use Rattle.pb_opb.specs.Values.{AreLinears}
 use Rattle.pb_opb.specs.declared.event.OpbEvent.{OpbEvent}

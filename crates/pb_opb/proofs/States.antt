@@ -1,15 +1,15 @@
 -- What holds of each state that a machine of instances can be in.
-use Rattle.std.proofs.Common.{◌≡◌, ℕ, zero, suc, ◌+◌, ◌-◌, ◌*◌, ◌^◌, ◌<◌, ◌≤◌, min, Bool, true, false, cond, ◌&&◌, nat_le, nat_eq, List, [], ◌∷◌, ◌++◌, length, length-append, refl, sym, ap, ◌∙◌, subst, arith, IsTrue}
+use Rattle.std.proofs.Common.{◌≡◌, ℕ, zero, suc, ◌+◌, ◌-◌, ◌*◌, ◌≤◌, Bool, true, false, cond, ◌&&◌, nat_le, nat_eq, [], ◌∷◌, length, length-append, refl, sym, ap, subst, arith}
 use Rattle.std.specs.Prelude.{slice_index}
 use Rattle.std.proofs.lemmas.Bool.{false≢true}
 use Rattle.pb_text.specs.Classes.{is_blank, is_white, is_digit}
-use Rattle.pb_text.specs.Automaton.{Automaton, Next, Go, End, Refuse, Accepts, IsState}
+use Rattle.pb_text.specs.Automaton.{Next, Go, End, Refuse, IsState}
 use Rattle.pb_sums.specs.State.{SumState, sums}
 use Rattle.pb_sums.specs.declared.SumEvent.{SumEvent}
 use Rattle.pb_opb.specs.Instances.{min_word}
-use Rattle.pb_opb.specs.Machine.{plan, count, spell, behind_count, word_of}
-use Rattle.pb_opb.specs.State.{OpbState, opb, at, between, after, owed_after, phase_owing, statement_of, giving, keeping, linears, objectives, act, over, step, is_within, is_done, is_in_number}
-use Rattle.pb_opb.specs.Order.{PhaseFits, Holds, IsIdle, IsInOrder}
+use Rattle.pb_opb.specs.Machine.{plan, count, behind_count, word_of}
+use Rattle.pb_opb.specs.State.{OpbState, opb, owed_after, phase_owing, act, over, is_within, is_done, is_in_number}
+use Rattle.pb_opb.specs.Order.{Holds, IsIdle, IsInOrder}
 use Rattle.pb_opb.specs.declared.event.OpbEvent.{OpbEvent}
 use Rattle.pb_opb.specs.declared.phase.Field.{Field}
 use Rattle.pb_opb.specs.declared.phase.Field.TheVariants.{Variables, Constraints}

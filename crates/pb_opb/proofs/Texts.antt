@@ -1,5 +1,5 @@
 -- What is written of an instance, in parts.
-use Rattle.std.proofs.Common.{◌≡◌, ℕ, zero, suc, ◌+◌, ◌<◌, ◌≤◌, List, [], ◌∷◌, ◌++◌, map, take, drop, length, refl, ap, ap₂, sym, append_assoc, ◌∙◌, arith, get_or, Option, Some, None}
+use Rattle.std.proofs.Common.{◌≡◌, ℕ, zero, suc, ◌+◌, ◌<◌, ◌≤◌, List, [], ◌∷◌, ◌++◌, take, drop, length, refl, ap, ap₂, sym, append_assoc, ◌∙◌, arith, get_or, Option, Some, None}
 use Rattle.std.proofs.lemmas.List.{append-nil, take_more, drop_all}
 use Rattle.std.proofs.Math.Seq.{drop-cons}
 use Rattle.pb_sums.specs.Canonical.{sum_bytes, linear_bytes}

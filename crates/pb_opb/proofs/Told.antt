@@ -1,11 +1,10 @@
 -- What statements in order say.
-use Rattle.std.proofs.Common.{◌≡◌, ℕ, zero, suc, ◌+◌, ◌<◌, ◌≤◌, List, [], ◌∷◌, ◌++◌, length, take, drop, map, refl, ap, sym, ◌∙◌, arith, Bool, true, false, cond, subst, Option, Some, None, nat_le, take-append-drop}
-use Rattle.pb_text.specs.Spelling.{Item}
+use Rattle.std.proofs.Common.{◌≡◌, ℕ, suc, ◌+◌, ◌≤◌, List, [], ◌∷◌, ◌++◌, length, take, drop, refl, ap, sym, ◌∙◌, arith, Bool, true, false, cond, subst, Option, Some, None, nat_le, take-append-drop}
 use Rattle.pb_text.specs.Whole.{events_of}
 use Rattle.pb_sums.specs.declared.values.Term.{Term}
 use Rattle.pb_sums.specs.declared.values.Linear.{Linear}
 use Rattle.pb_opb.specs.Canonical.{comment_events, constraint_events, objective_events, due, in_order}
-use Rattle.pb_opb.specs.Values.{last_or, variables_in, tails_in, objectives_in, constraints_in, comments_in, comment_at, AreComments, is_one}
+use Rattle.pb_opb.specs.Values.{last_or, variables_in, tails_in, objectives_in, constraints_in, comments_in, comment_at, AreComments}
 use Rattle.pb_opb.specs.declared.event.OpbEvent.{OpbEvent}
 use Rattle.pb_opb.specs.declared.event.OpbEvent.TheVariants.{Header, Comment, Objective, Constraint}
 use Rattle.pb_opb.specs.declared.instance.Comment as comment

@@ -1,6 +1,6 @@
 -- What is spelled within a limit is within it.
-use Rattle.std.proofs.Common.{◌≡◌, ℕ, zero, suc, ◌≤◌, List, [], ◌∷◌, Bool, true, false, subst, sym}
-use Rattle.std.specs.Prelude.{ℤ, pos, negsuc, nat_abs}
+use Rattle.std.proofs.Common.{ℕ, zero, suc, ◌≤◌, List, [], ◌∷◌, Bool, true, false, subst, sym}
+use Rattle.std.specs.Prelude.{ℤ, nat_abs}
 use Rattle.pb_text.specs.Spelling.{Letter}
 use Rattle.pb_text.specs.Numbers.{Number, signed}
 use Rattle.pb_sums.specs.Sums.{SpellsTerm, SpellsFurther, SpellsSum, Head, SpellsLinear}
@@ -8,7 +8,6 @@ use Rattle.pb_sums.specs.Canonical.{IsTerm, AreTerms, IsLinear}
 use Rattle.pb_sums.specs.declared.values.Term.{Term}
 use Rattle.pb_sums.specs.declared.values.Linear.{Linear}
 use Rattle.pb_sums.specs.declared.grammar.Spaces.{Spaces}
-use Rattle.pb_opb.specs.Instances.{SpellsObjective}
 
 signed-within : (limit : ℕ) (negative : Bool) (n : ℕ) → n ≤ limit → nat_abs (signed negative n) ≤ limit
 signed-within limit false n h = h

@@ -1,15 +1,7 @@
 -- The machine of an instance: what it does with one byte.
-use Rattle.std.specs.Prelude.{ℕ, zero, suc, ◌+◌, ◌-◌, ◌*◌, Bool, true, false, cond, not, ◌&&◌, ◌||◌, List, [], ◌∷◌, ◌++◌, length, slice_index, nat_eq, nat_le, Option}
-use Rattle.pb_text.specs.Automaton.{Next, Go, End, Refuse}
+use Rattle.std.specs.Prelude.{ℕ, ◌+◌, ◌-◌, ◌*◌, cond, ◌&&◌, List, length, slice_index, nat_eq, nat_le}
 use Rattle.pb_text.specs.Classes.{is_blank, is_white, is_digit}
-use Rattle.pb_sums.specs.State.{SumState, sums, first}
-use Rattle.pb_sums.specs.declared.Spaces.TheVariants.{White}
-use Rattle.pb_sums.specs.declared.Part as part
-use Rattle.pb_sums.specs.declared.SumEvent.{SumEvent}
-use Rattle.pb_sums.specs.declared.SumEvent as sum
 use Rattle.pb_opb.specs.Instances.{variable_word, constraint_word, min_word}
-use Rattle.pb_opb.specs.declared.event.OpbEvent.{OpbEvent}
-use Rattle.pb_opb.specs.declared.event.OpbEvent as event
 use Rattle.pb_opb.specs.declared.phase.Field.{Field}
 use Rattle.pb_opb.specs.declared.phase.Field.TheVariants.{Variables, Constraints}
 use Rattle.pb_opb.specs.declared.phase.Phase.{Phase}

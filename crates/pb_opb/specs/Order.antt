@@ -1,14 +1,14 @@
 -- What a machine of instances keeps of its state.
-use Rattle.std.specs.Prelude.{◌≡◌, ℕ, ◌<◌, ◌≤◌, ◌^◌, false, List, [], length}
+use Rattle.std.specs.Prelude.{◌≡◌, ℕ, ◌<◌, ◌≤◌, ◌^◌, false, [], length}
 use Rattle.pb_text.specs.Automaton.{IsState}
-use Rattle.pb_sums.specs.State.{SumState, sums}
+use Rattle.pb_sums.specs.State.{sums}
 use Rattle.pb_sums.specs.declared.Spaces.TheVariants.{White}
 use Rattle.pb_opb.specs.Machine.{word_of}
 use Rattle.pb_opb.specs.State.{OpbState, linears, objectives}
 use Rattle.pb_opb.specs.declared.phase.Phase.{Phase}
 use Rattle.pb_opb.specs.declared.phase.Phase as phase
 use Rattle.pb_opb.specs.declared.phase.Move.{Move}
-use Rattle.pb_opb.specs.declared.phase.Move.TheVariants.{To, Declare, BeginTail, Keep, EndHeader, EndTail, EndComment, BeginSum, Give, Stop}
+use Rattle.pb_opb.specs.declared.phase.Move.TheVariants.{To, Declare, BeginTail, EndHeader, Give}
 
 -- a word is not read to its end, and a count is at most top
 abbrev pub PhaseFits : ℕ → Phase → Type 0

@@ -1,15 +1,12 @@
 -- The states of a machine of instances, and its automaton.
-use Rattle.std.specs.Prelude.{◌≡◌, ℕ, zero, suc, ◌+◌, ◌-◌, ◌^◌, ◌<◌, ◌≤◌, min, Bool, true, false, List, [], ◌∷◌, ◌++◌, length, IsTrue}
+use Rattle.std.specs.Prelude.{ℕ, zero, suc, ◌+◌, ◌-◌, ◌^◌, min, Bool, true, false, List, [], ◌∷◌, ◌++◌, length}
 use Rattle.pb_text.specs.Automaton.{Automaton, Next, Go, End, Refuse}
-use Rattle.pb_text.specs.Limits.{largest, top_of}
-use Rattle.pb_text.specs.declared.Limits.{Limits}
 use Rattle.pb_sums.specs.State.{SumState, sums, first}
 use Rattle.pb_sums.specs.declared.Spaces.TheVariants.{White}
 use Rattle.pb_sums.specs.declared.Part as part
 use Rattle.pb_sums.specs.declared.SumEvent.{SumEvent}
 use Rattle.pb_sums.specs.declared.SumEvent as sum
 use Rattle.pb_opb.specs.Machine.{plan}
-use Rattle.pb_opb.specs.Instances.{min_word}
 use Rattle.pb_opb.specs.declared.event.OpbEvent.{OpbEvent}
 use Rattle.pb_opb.specs.declared.event.OpbEvent as event
 use Rattle.pb_opb.specs.declared.phase.Field as field

@@ -1,5 +1,5 @@
 -- A whole read, where a relation says which value events have.
-use Rattle.std.specs.Prelude.{◌≡◌, ℕ, List, [], ◌∷◌, ◌++◌, false, Option, Some, Result, Ok, Err}
+use Rattle.std.specs.Prelude.{◌≡◌, ℕ, List, [], ◌++◌, false, Option, Some, Result, Ok, Err}
 use Rattle.pb_text.specs.Spelling.{Item, place_after}
 use Rattle.pb_text.specs.Reading.{Reads, IsSpelled, Viable}
 use Rattle.pb_text.specs.Pulling.{Took}

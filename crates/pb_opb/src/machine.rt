@@ -56,10 +56,15 @@ impl Model for OpbMachine {
 }
 
 impl OpbMachine {
+    ghost use Rattle.std.specs.Prelude.{List, ◌↔◌};
+    ghost use Rattle.pb_text.specs.Automaton.{Accepts};
+    ghost use Rattle.pb_text.specs.Spelling.{Item};
+    ghost use Rattle.pb_opb.specs.Instances.{IsInstance};
     ghost use Rattle.pb_opb.specs.State.{opb, begin};
 
-    /// A machine before an instance. It takes no memory.
+    /// A machine before an instance, which accepts exactly the instances under the limits. It takes no memory.
     pub fn new(alloc: Global, limits: Limits) -> Self
+        ensures accepts { (items : List (Item OpbEvent)) → Accepts opb result items ↔ IsInstance (largest limits) (top_of limits) items }
         ensures begins { result ≡ begin (largest limits) (top_of limits) }
         ensures between { opb.begun result ≡ false }
     {

@@ -1,10 +1,9 @@
 -- A byte that is taken is admitted.
-use Rattle.std.proofs.Common.{◌≡◌, ℕ, List, ◌∷◌, Bool, true, false, ap}
-use Rattle.pb_text.specs.Spelling.{Letter, Item, bytes, letters_of}
+use Rattle.std.proofs.Common.{◌≡◌, ℕ, ◌∷◌, true, false, ap}
+use Rattle.pb_text.specs.Spelling.{Letter, bytes, letters_of}
 use Rattle.pb_text.specs.Automaton.{Automaton, Go, Admits, IsState}
 use Rattle.pb_text.proofs.Residual.{takes_within}
 use Rattle.pb_text.proofs.Lists.{letter_advances}
-use Rattle.pb_text.specs.declared.place.Place.{Place}
 use Rattle.std.proofs.Common.{None, []}
 
 module _ {S E : Type 0} (m : Automaton S E) where

@@ -1,23 +1,18 @@
 -- Where a state stands to its text is what a read of the text owes.
-use Rattle.std.proofs.Common.{min, ◌-◌, ◌≡◌, ◌≢◌, ℕ, zero, suc, ◌+◌, ◌<◌, ◌≤◌, List, [], ◌∷◌, ◌++◌, length, take, map, filter, nat_le, Bool, true, false, cond, IsTrue, Option, Some, None, refl, sym, ap, ◌∙◌, append_assoc, arith, length-append, subst, add-one, ◌⊎◌, inl, inr, eq-or-lt_of_le, ◌↔◌, le-leb, rules}
-use Rattle.std.proofs.Math.Seq.{take-length, take-append_seam}
-use Rattle.std.proofs.lemmas.List.{map-append, length-map, append_cancel_left, append-nil, take-append-le, nil_from_length}
-use Rattle.std.proofs.lemmas.Bool.{lt-leb, false≢true}
+use Rattle.std.proofs.Common.{min, ◌-◌, ◌≡◌, ◌≢◌, ℕ, ◌+◌, ◌<◌, ◌≤◌, List, [], ◌∷◌, ◌++◌, length, take, nat_le, Bool, cond, IsTrue, Option, Some, None, refl, sym, ap, ◌∙◌, append_assoc, arith, length-append, subst, ◌⊎◌, inl, inr, eq-or-lt_of_le, le-leb}
+use Rattle.std.proofs.Math.Seq.{take-append_seam}
+use Rattle.std.proofs.lemmas.List.{append_cancel_left, append-nil, nil_from_length}
+use Rattle.std.proofs.lemmas.Bool.{lt-leb}
 use Rattle.std.proofs.lemmas.List.Elements.{filter-append}
-use Rattle.pb_text.specs.Spelling.{Letter, Item, plain, bytes, letters_of, bytes_of, place_after, place_or, marks_since, marks_of}
-use Rattle.pb_text.specs.Reading.{ended_within, IsFront, Reads, Answers, IsUnderWay, IsBad, IsShort, IsFull, IsSpelled, AreShort, Overruns, HasOpen, open_bytes, Viable, AreSeen, HasNoSpelling, EndsInNumber, Explains, last_numeral, byte_limit}
-use Rattle.pb_text.specs.Standing.{EndBy, Follows, IsJoined, Stands, Waits, Halts}
-use Rattle.pb_text.specs.Automaton.{Automaton, Accepts, Admits, IsState, is_large}
-use Rattle.pb_text.specs.Classes.{is_digit}
-use Rattle.pb_text.specs.Limit.{end_of, SpentSince}
-use Rattle.pb_text.proofs.Residual.{IsResidual, BeginsWith, Refuses, residual, refuses}
+use Rattle.pb_text.specs.Spelling.{Letter, Item, bytes, letters_of, bytes_of, place_after, place_or, marks_since}
+use Rattle.pb_text.specs.Reading.{ended_within, IsFront, IsUnderWay, IsShort, IsFull, AreShort, Overruns, HasOpen, open_bytes, Viable, AreSeen, HasNoSpelling, EndsInNumber, last_numeral, byte_limit}
+use Rattle.pb_text.specs.Standing.{EndBy, Follows}
+use Rattle.pb_text.specs.Limit.{end_of}
+use Rattle.pb_text.proofs.Residual.{IsResidual, Refuses}
 use Rattle.pb_text.proofs.Short.{place_after-offset, AreShort-append, since_short, Overruns-append, Overruns-split, since_fits, begun_bytes, open-ended}
 use Rattle.pb_text.specs.declared.place.Place.{Place}
 use Rattle.pb_text.specs.declared.place.Spanned.{Spanned}
-use Rattle.pb_text.specs.declared.place.Stop.{Stop}
-use Rattle.pb_text.specs.declared.place.Why.{Why}
-use Rattle.pb_text.specs.declared.place.Why.TheVariants.{Byte, TooLarge, Ended, TooLong, Read, Memory}
-use Rattle.pb_text.proofs.Lists.{bytes-append, bytes-plain, length-bytes}
+use Rattle.pb_text.proofs.Lists.{bytes-append, length-bytes}
 use Rattle.pb_text.proofs.Follows.{no_letters}
 
 -- marks that have ended stay

@@ -1,8 +1,8 @@
 -- A machine that has taken nothing, and more input that it does not take.
-use Rattle.std.proofs.Common.{◌≡◌, ℕ, ◌+◌, ◌<◌, List, [], ◌∷◌, ◌++◌, length, Bool, true, false, IsTrue, Option, Some, None, refl, sym, ap, ◌∙◌, arith, inr, inl, ◌⊎◌, append_assoc, subst}
+use Rattle.std.proofs.Common.{◌≡◌, ℕ, ◌<◌, List, [], ◌∷◌, ◌++◌, true, false, Option, Some, None, refl, sym, ap, ◌∙◌, arith, inr, inl, ◌⊎◌, append_assoc}
 use Rattle.std.proofs.lemmas.Bool.{false≢true}
-use Rattle.pb_text.specs.Spelling.{Letter, Item, bytes, place_after}
-use Rattle.pb_text.specs.Automaton.{Automaton, Accepts, IsState}
+use Rattle.pb_text.specs.Spelling.{Letter, bytes, place_after}
+use Rattle.pb_text.specs.Automaton.{Automaton, IsState}
 use Rattle.pb_text.specs.Limit.{end_of}
 use Rattle.pb_text.specs.Standing.{Stands, Waits, Halts, IsOpen, Counts}
 use Rattle.pb_text.specs.declared.place.Place.{Place}

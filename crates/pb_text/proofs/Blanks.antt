@@ -1,11 +1,10 @@
 -- White space and comments, byte by byte.
-use Rattle.std.proofs.Common.{cond, ◌==◌, ◌^◌, ◌≢◌, ◌≡◌, ℕ, ◌+◌, ◌<◌, ◌≤◌, List, [], ◌∷◌, ◌++◌, length, take, reverse, get_or, Bool, true, false, not, ◌&&◌, ◌||◌, nat_eq, IsTrue, refl, sym, ap, ap₂, ◌∙◌, subst, arith, length-append, below_more}
+use Rattle.std.proofs.Common.{cond, ◌==◌, ◌^◌, ◌≢◌, ◌≡◌, ℕ, ◌+◌, ◌<◌, ◌≤◌, List, [], ◌∷◌, ◌++◌, length, take, get_or, Bool, true, false, not, ◌&&◌, ◌||◌, nat_eq, IsTrue, refl, sym, ap, ap₂, subst, arith, length-append, below_more}
 use Rattle.std.proofs.lemmas.List.{reverse-append, take-append-le, get_or_append_left}
 use Rattle.std.proofs.Math.Seq.{get_or-append_seam, take-append_seam}
 use Rattle.pb_text.specs.Blank.{has_star, in_comment, passes, IsBlank, place_from}
-use Rattle.pb_text.specs.Spelling.{place_after, place_next}
+use Rattle.pb_text.specs.Spelling.{place_next}
 use Rattle.pb_text.specs.declared.place.Place.{Place}
-use Rattle.pb_text.proofs.Places.{place_after-snoc}
 
 -- whether a text ends in a comment, with one byte more
 pub in_comment-snoc : (text : List ℕ) (b : ℕ) → in_comment (text ++ b ∷ []) ≡ (not (nat_eq b 10) && (nat_eq b 42 || in_comment text))

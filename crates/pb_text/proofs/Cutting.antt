@@ -1,5 +1,5 @@
 -- Feeds in a row are one feed of what they were fed.
-use Rattle.std.proofs.Common.{◌≡◌, ℕ, List, [], ◌∷◌, ◌++◌, Result, refl, subst, subst₂, append-nil, append_assoc}
+use Rattle.std.proofs.Common.{ℕ, List, [], ◌∷◌, ◌++◌, Result, refl, subst, subst₂, append-nil, append_assoc}
 use Rattle.pb_text.specs.Automaton.{Accepts}
 use Rattle.pb_text.specs.Spelling.{bytes}
 use Rattle.pb_text.specs.Reading.{Reads}

@@ -1,14 +1,13 @@
 -- A state that follows a text follows it with one byte more.
-use Rattle.std.proofs.Common.{◌≡◌, ◌≢◌, ℕ, zero, suc, ◌+◌, ◌<◌, ◌≤◌, List, [], ◌∷◌, ◌++◌, length, take, map, filter, nat_le, Bool, true, false, cond, Option, Some, None, refl, sym, ap, ◌∙◌, append_assoc, arith, length-append, subst, add-one, ◌⊎◌, inl, inr, eq-or-lt_of_le}
-use Rattle.std.proofs.Math.Seq.{take-length, take-append_seam}
-use Rattle.std.proofs.lemmas.List.{map-append, length-map, append_cancel_left, append-nil, take-append-le}
-use Rattle.pb_text.specs.Spelling.{Letter, Item, plain, bytes, letters_of, bytes_of, place_after, place_or, marks_since, marks_of}
-use Rattle.pb_text.specs.Reading.{ended_within, IsFront}
+use Rattle.std.proofs.Common.{◌≡◌, ℕ, ◌<◌, ◌≤◌, List, [], ◌∷◌, ◌++◌, length, take, Option, refl, sym, ap, ◌∙◌, append_assoc, arith, length-append, subst, ◌⊎◌, inl, inr, eq-or-lt_of_le}
+use Rattle.std.proofs.Math.Seq.{take-length}
+use Rattle.std.proofs.lemmas.List.{append_cancel_left, append-nil, take-append-le}
+use Rattle.pb_text.specs.Spelling.{Letter, Item, plain, bytes, letters_of, bytes_of, marks_since}
 use Rattle.pb_text.specs.Standing.{EndBy, Follows, IsJoined}
-use Rattle.pb_text.proofs.Residual.{Takes, IsResidual, BeginsWith}
+use Rattle.pb_text.proofs.Residual.{Takes, IsResidual}
 use Rattle.pb_text.specs.declared.place.Place.{Place}
 use Rattle.pb_text.specs.declared.place.Spanned.{Spanned}
-use Rattle.pb_text.proofs.Lists.{bytes-append, bytes-plain, length-bytes, Advances}
+use Rattle.pb_text.proofs.Lists.{bytes-append, length-bytes, Advances}
 
 pub EndBy-append : {E : Type 0} (n m : ℕ) (a b : List (Spanned E)) → EndBy n a → n ≤ m → EndBy m b → EndBy m (a ++ b)
 EndBy-append n m [] b h le k = k

@@ -1,9 +1,7 @@
 -- What is said of a read under a format, under a format with the same spellings.
-use Rattle.std.proofs.Common.{◌≡◌, ℕ, List, ◌∷◌, ◌++◌, length, Bool, true, false, Option, Some, None, [], inl, inr}
-use Rattle.std.specs.Prelude.{IsTrue, ◌⊎◌}
-use Rattle.pb_text.specs.Classes.{is_digit}
+use Rattle.std.proofs.Common.{ℕ, List, ◌∷◌, ◌++◌, Bool, true, false, Option, Some, None, [], inl, inr}
 use Rattle.pb_text.specs.Spelling.{Item}
-use Rattle.pb_text.specs.Reading.{Viable, AreSeen, HasNoSpelling, EndsInNumber, IsShort, IsFull, IsUnderWay, IsBad, Explains, IsSpelled, Answers, Reads}
+use Rattle.pb_text.specs.Reading.{Viable, IsFull, IsUnderWay, IsBad, Explains, IsSpelled, Answers, Reads}
 use Rattle.pb_text.specs.declared.place.Place.{Place}
 use Rattle.pb_text.specs.declared.place.Spanned.{Spanned}
 use Rattle.pb_text.specs.declared.place.Stop.{Stop}

@@ -1,9 +1,7 @@
 -- Lists, letters and marks.
-use Rattle.std.proofs.Common.{◌≡◌, ◌≢◌, ℕ, zero, suc, ◌+◌, ◌<◌, ◌≤◌, List, [], ◌∷◌, ◌++◌, length, take, map, filter, nat_le, Bool, true, false, cond, Option, Some, None, refl, sym, ap, ◌∙◌, append_assoc, arith, length-append, subst, add-one}
-use Rattle.std.proofs.lemmas.List.{map-append, length-map, append_cancel_left, append-nil, take-append-le}
-use Rattle.pb_text.specs.Spelling.{Letter, Item, plain, bytes, letters_of, bytes_of, place_after, place_or, marks_since, marks_of}
-use Rattle.pb_text.specs.Reading.{ended_within}
-use Rattle.pb_text.specs.Standing.{EndBy}
+use Rattle.std.proofs.Common.{◌≡◌, ℕ, List, [], ◌∷◌, ◌++◌, length, Bool, true, false, Option, Some, None, refl, sym, ap, ◌∙◌, append_assoc}
+use Rattle.std.proofs.lemmas.List.{map-append, length-map, append-nil}
+use Rattle.pb_text.specs.Spelling.{Letter, Item, plain, bytes, letters_of, place_after, place_or, marks_since}
 use Rattle.pb_text.proofs.Residual.{Put, PutGap, PutLetter, PutLast}
 use Rattle.pb_text.specs.declared.place.Place.{Place}
 use Rattle.pb_text.specs.declared.place.Spanned.{Spanned}

@@ -1,5 +1,5 @@
 -- A reader that is looked at is a source that is.
-use Rattle.std.proofs.Common.{◌≡◌, ℕ, zero, suc, ◌≤◌, List, [], ◌∷◌, Option, Some, None, Result, Ok, Err, refl, arith}
+use Rattle.std.proofs.Common.{ℕ, zero, suc, List, Option, Some, None, Ok, refl, arith}
 use Rattle.std.specs.Io.KnownBytes.{Keeps}
 use Rattle.pb_text.specs.Source.{StartWith, HaveEnded, Peeks}
 use Rattle.pb_text.specs.declared.over.Over.{Over}

@@ -1,7 +1,6 @@
 -- The bytes that statements have of a text.
-use Rattle.std.proofs.Common.{◌≡◌, ◌≢◌, ℕ, zero, suc, ◌+◌, ◌-◌, ◌^◌, ◌<◌, ◌≤◌, min, List, [], ◌∷◌, ◌++◌, length, nat_le, Bool, true, false, cond, Option, Some, None, refl, sym, ap, ◌∙◌, arith, length-append, ◌⊎◌, inl, inr, le-leb}
-use Rattle.std.proofs.lemmas.Bool.{lt-leb}
-use Rattle.pb_text.specs.Spelling.{Letter, Item, bytes, place_after, place_or, marks_since}
+use Rattle.std.proofs.Common.{◌≡◌, ℕ, ◌-◌, ◌<◌, ◌≤◌, List, [], ◌∷◌, ◌++◌, length, Bool, cond, Option, Some, None, refl, ap, ◌∙◌, arith, length-append, inl, inr, le-leb}
+use Rattle.pb_text.specs.Spelling.{Item, bytes, place_after, marks_since}
 use Rattle.pb_text.specs.Reading.{AreShort, Overruns, open_bytes, byte_limit}
 use Rattle.pb_text.specs.Standing.{EndBy}
 use Rattle.pb_text.specs.Limit.{end_of}

@@ -1,18 +1,17 @@
 -- A byte that the machine is given moves what stands to the text.
-use Rattle.std.proofs.Common.{◌≡◌, ◌≢◌, ℕ, zero, suc, ◌+◌, ◌-◌, ◌<◌, ◌≤◌, min, List, [], ◌∷◌, ◌++◌, ap₂, length, Bool, true, false, IsTrue, Option, Some, None, is_some, refl, sym, ap, ◌∙◌, append_assoc, arith, length-append, subst, ◌⊎◌, inl, inr}
+use Rattle.std.proofs.Common.{◌≡◌, ℕ, ◌+◌, ◌<◌, ◌≤◌, List, [], ◌∷◌, ◌++◌, ap₂, length, Bool, true, false, IsTrue, Option, Some, None, is_some, refl, sym, ap, ◌∙◌, arith, length-append, subst, inl, inr}
 use Rattle.std.proofs.lemmas.List.{append-nil}
 use Rattle.std.proofs.lemmas.Bool.{false≢true}
-use Rattle.pb_text.specs.Spelling.{Letter, Item, bytes, place_after, place_next, place_or, marks_since}
+use Rattle.pb_text.specs.Spelling.{Letter, bytes, place_after, place_next, place_or}
 use Rattle.pb_text.specs.Reading.{last_numeral, byte_limit, AreShort}
-use Rattle.pb_text.specs.Automaton.{Automaton, Next, Go, End, Refuse, Accepts, Admits, IsState, is_large, begins, begins_with}
+use Rattle.pb_text.specs.Automaton.{Automaton, Go, End, Refuse, Accepts, Admits, IsState, is_large, begins, begins_with}
 use Rattle.pb_text.specs.Limit.{end_of, SpentSince}
 use Rattle.pb_text.specs.Standing.{EndBy, Follows, Stands, Waits, Halts, opened}
 use Rattle.pb_text.specs.declared.place.Place.{Place}
 use Rattle.pb_text.specs.declared.place.Spanned.{Spanned}
 use Rattle.pb_text.specs.declared.place.Stop.{Stop}
-use Rattle.pb_text.specs.declared.place.Why.{Why}
-use Rattle.pb_text.specs.declared.place.Why.TheVariants.{Byte, TooLarge, Ended, TooLong, Read, Memory}
-use Rattle.pb_text.proofs.Residual.{Put, PutLast, Takes, residual, takes_between, takes_within, takes_last}
+use Rattle.pb_text.specs.declared.place.Why.TheVariants.{Byte, TooLarge, TooLong, Memory}
+use Rattle.pb_text.proofs.Residual.{Put, PutLast, residual, takes_between, takes_within, takes_last}
 use Rattle.pb_text.proofs.Lists.{bytes-append, length-bytes, gap_advances, letter_advances, last_advances}
 use Rattle.pb_text.proofs.Follows.{step}
 use Rattle.pb_text.proofs.Places.{place_after-snoc}

@@ -1,22 +1,22 @@
 -- What a state that stands to its text says is what a read of the text owes.
-use Rattle.std.proofs.Common.{◌≡◌, ℕ, ◌+◌, ◌-◌, ◌<◌, ◌≤◌, List, [], ◌∷◌, ◌++◌, length, Bool, true, false, ◌&&◌, IsTrue, Option, Some, None, is_some, refl, sym, ap, ◌∙◌, append_assoc, arith, subst, ◌⊎◌, inl, inr}
+use Rattle.std.proofs.Common.{◌≡◌, ℕ, ◌≤◌, List, [], ◌∷◌, ◌++◌, length, Bool, true, false, ◌&&◌, IsTrue, Option, Some, None, is_some, refl, sym, ap, ◌∙◌, append_assoc, arith, subst, inl, inr}
 use Rattle.std.proofs.lemmas.List.{append-nil}
 use Rattle.std.proofs.lemmas.Bool.{false≢true}
 use Rattle.pb_text.specs.Classes.{is_digit}
-use Rattle.pb_text.specs.Spelling.{Letter, Item, bytes, letters_of, bytes_of, place_after}
-use Rattle.pb_text.specs.Reading.{Reads, Answers, Explains, IsUnderWay, Viable, EndsInNumber, HasOpen, last_numeral, AreShort, byte_limit}
-use Rattle.pb_text.specs.Automaton.{Automaton, Refuse, Accepts, Admits, IsState, is_large}
+use Rattle.pb_text.specs.Spelling.{bytes}
+use Rattle.pb_text.specs.Reading.{Reads, Answers, Explains, IsUnderWay, Viable, HasOpen, AreShort, byte_limit}
+use Rattle.pb_text.specs.Automaton.{Automaton, Accepts, Admits}
 use Rattle.pb_text.specs.Limit.{end_of, SpentSince}
-use Rattle.pb_text.specs.Standing.{Follows, Stands, Waits, Halts}
+use Rattle.pb_text.specs.Standing.{Stands, Waits, Halts}
 use Rattle.pb_text.specs.declared.place.Place.{Place}
 use Rattle.pb_text.specs.declared.place.Spanned.{Spanned}
 use Rattle.pb_text.specs.declared.place.Stop.{Stop}
 use Rattle.pb_text.specs.declared.place.Why.{Why}
 use Rattle.pb_text.specs.declared.place.Why.TheVariants.{Byte, TooLarge, Ended, TooLong, Read, Memory}
-use Rattle.pb_text.proofs.Lists.{bytes-append, length-bytes}
+use Rattle.pb_text.proofs.Lists.{length-bytes}
 use Rattle.pb_text.proofs.Residual.{IsResidual, residual, refuses}
 use Rattle.pb_text.proofs.Short.{begun_bytes}
-use Rattle.pb_text.proofs.Answer.{bytes_joined, is_viable, is_under_way, is_refused, is_full, has_room, has_open, ends_in_number, in_number_ends}
+use Rattle.pb_text.proofs.Answer.{bytes_joined, is_under_way, is_refused, is_full, has_room, has_open, ends_in_number, in_number_ends}
 
 both : (a b : Bool) → IsTrue a → IsTrue b → (a && b) ≡ true
 both true b p q = q

@@ -1,11 +1,11 @@
 -- For the tests: what holds of each state of the toy machine.
-use Rattle.std.proofs.Common.{◌≡◌, ℕ, zero, suc, ◌+◌, ◌-◌, ◌*◌, ◌≤◌, List, [], ◌∷◌, Bool, true, false, not, ◌&&◌, cond, nat_eq, nat_lt, IsTrue, refl, sym, ap, ◌∙◌, subst, ◌⊎◌, inl, inr, arith}
+use Rattle.std.proofs.Common.{◌≡◌, ℕ, zero, suc, ◌+◌, ◌-◌, ◌*◌, ◌≤◌, List, [], ◌∷◌, Bool, true, false, not, ◌&&◌, cond, nat_eq, refl, sym, ap, ◌∙◌, ◌⊎◌, inl, inr, arith}
 use Rattle.std.proofs.lemmas.Bool.{false≢true}
 use Rattle.std.proofs.lemmas.Bool.Decides.{nat_tests}
 use Rattle.pb_text.specs.Classes.{is_digit}
-use Rattle.pb_text.specs.Spelling.{Letter, Item}
-use Rattle.pb_text.specs.Automaton.{Automaton, Next, Go, End, Refuse, Accepts, IsState}
-use Rattle.pb_text.specs.Toy.{ToyState, between, within, toy, toy_step}
+use Rattle.pb_text.specs.Spelling.{Item}
+use Rattle.pb_text.specs.Automaton.{Next, Go, End, Refuse, Accepts, IsState}
+use Rattle.pb_text.specs.Toy.{ToyState, between, within, toy}
 
 abbrev N : Type 0
 N = Next ToyState ℕ

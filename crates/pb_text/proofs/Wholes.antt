@@ -1,15 +1,14 @@
 -- Pulls in a row are a whole read.
-use Rattle.std.proofs.Common.{◌≡◌, ℕ, ◌+◌, List, [], ◌∷◌, ◌++◌, length, map, take, Bool, true, false, Option, Some, None, Result, Ok, Err, refl, sym, ap, ap₂, ◌∙◌, subst, subst₂, append-nil, append_assoc, arith, length-append}
+use Rattle.std.proofs.Common.{◌≡◌, ℕ, List, [], ◌∷◌, ◌++◌, length, map, take, true, false, Option, Some, None, Result, Ok, Err, refl, sym, ap, ap₂, ◌∙◌, subst, subst₂, append-nil, append_assoc, arith, length-append}
 use Rattle.std.proofs.Math.Seq.{take-append_seam}
-use Rattle.std.proofs.lemmas.Bool.{false≢true}
-use Rattle.pb_text.specs.Automaton.{Automaton, Accepts, IsState}
-use Rattle.pb_text.specs.Spelling.{Letter, Item, bytes, bytes_of, marks_of, marks_since, place_after, place_or}
-use Rattle.pb_text.specs.Reading.{Reads, IsSpelled, IsUnderWay, Viable}
+use Rattle.pb_text.specs.Automaton.{Automaton, Accepts}
+use Rattle.pb_text.specs.Spelling.{Letter, Item, bytes, marks_since, place_after}
+use Rattle.pb_text.specs.Reading.{Reads, IsSpelled, Viable}
 use Rattle.pb_text.specs.Limit.{end_of}
-use Rattle.pb_text.specs.Standing.{Stands, IsOpen, Waits}
+use Rattle.pb_text.specs.Standing.{Stands, Waits}
 use Rattle.pb_text.specs.Feeding.{StandsAt, is_complete}
 use Rattle.pb_text.specs.Pulling.{Pulls, Took}
-use Rattle.pb_text.specs.Whole.{gathered, events_of, IsWhole, StopsAfter, Reading, Keeping, ReadsWhole}
+use Rattle.pb_text.specs.Whole.{gathered, events_of, Reading, Keeping, ReadsWhole}
 use Rattle.pb_text.specs.declared.place.Place.{Place}
 use Rattle.pb_text.specs.declared.place.Spanned.{Spanned}
 use Rattle.pb_text.specs.declared.place.Stop.{Stop}

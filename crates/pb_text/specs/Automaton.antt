@@ -1,5 +1,5 @@
 -- What a machine is: a step from state to state for each byte, and what a state accepts.
-use Rattle.std.specs.Prelude.{◌≡◌, ◌≢◌, ℕ, ◌+◌, ◌≤◌, List, [], ◌∷◌, Bool, true, false, ◌&&◌, IsTrue}
+use Rattle.std.specs.Prelude.{◌≡◌, ℕ, ◌+◌, ◌≤◌, List, [], ◌∷◌, Bool, true, false, ◌&&◌, IsTrue}
 use Rattle.pb_text.specs.Classes.{is_digit}
 use Rattle.pb_text.specs.Spelling.{Letter, Item, bytes_of}
 use Rattle.pb_text.specs.declared.machine.Push.{Push}

@@ -1,5 +1,5 @@
 -- White space and comments.
-use Rattle.std.specs.Prelude.{◌≡◌, ◌≢◌, ℕ, ◌+◌, ◌^◌, ◌<◌, ◌≤◌, List, [], ◌∷◌, ◌++◌, length, take, reverse, slice_index, Bool, true, false, not, ◌&&◌, ◌||◌, nat_eq, IsTrue, Option, Result, Ok, Err}
+use Rattle.std.specs.Prelude.{◌≡◌, ◌≢◌, ℕ, ◌+◌, ◌<◌, ◌≤◌, List, [], ◌∷◌, length, take, reverse, slice_index, Bool, false, not, ◌&&◌, ◌||◌, nat_eq, IsTrue, Option, Result, Ok, Err}
 use Rattle.pb_text.specs.Classes.{is_white}
 use Rattle.pb_text.specs.Spelling.{place_next}
 use Rattle.pb_text.specs.Reading.{byte_limit}

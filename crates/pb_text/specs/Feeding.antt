@@ -1,7 +1,7 @@
 -- What a feed says of the whole input.
 use Rattle.std.specs.Prelude.{◌≡◌, ℕ, ◌≤◌, List, [], ◌∷◌, ◌++◌, take, Bool, IsTrue, Option, Some, None, Result, Ok, Err}
-use Rattle.pb_text.specs.Spelling.{Item, place_after}
-use Rattle.pb_text.specs.Automaton.{Automaton, Accepts}
+use Rattle.pb_text.specs.Spelling.{place_after}
+use Rattle.pb_text.specs.Automaton.{Accepts}
 use Rattle.pb_text.specs.Reading.{IsFront, HasOpen}
 use Rattle.pb_text.specs.Standing.{Stands, IsOpen}
 use Rattle.pb_text.specs.declared.place.Place.{Place}

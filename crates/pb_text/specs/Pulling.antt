@@ -1,5 +1,5 @@
 -- What a pull takes of a source.
-use Rattle.std.specs.Prelude.{◌≡◌, ◌+◌, ℕ, List, [], ◌∷◌, ◌++◌, length, Option, Some, None, Result, Ok, Err}
+use Rattle.std.specs.Prelude.{◌≡◌, ◌+◌, ℕ, List, [], ◌++◌, length, Option, Some, None, Result, Ok, Err}
 use Rattle.pb_text.specs.Writing.{one_more}
 use Rattle.pb_text.specs.Feeding.{StandsAt, marks_in}
 use Rattle.pb_text.specs.declared.place.Spanned.{Spanned}

@@ -1,6 +1,6 @@
 -- What a source shows, and what is taken of it.
 use Rattle.std.specs.Prelude.{◌≡◌, ℕ, List, [], ◌∷◌, Option, Some, None, Result, Ok, Err}
-use Rattle.std.specs.Io.KnownBytes.{Keeps, Consumes}
+use Rattle.std.specs.Io.KnownBytes.{Keeps}
 use Rattle.pb_text.specs.Writing.{one_more}
 use Rattle.pb_text.specs.declared.source.Failed.{Failed}
 

@@ -1,8 +1,7 @@
 -- How the state of a machine stands to the text that it has taken.
-use Rattle.std.specs.Prelude.{◌≡◌, ◌≢◌, ◌⊎◌, ℕ, ◌+◌, ◌≤◌, ◌<◌, min, List, [], ◌∷◌, ◌++◌, length, take, Bool, true, false, IsTrue, Option, None, Some, is_some}
-use Rattle.pb_text.specs.Classes.{is_digit}
+use Rattle.std.specs.Prelude.{◌≡◌, ◌≢◌, ◌⊎◌, ℕ, ◌≤◌, ◌<◌, List, [], ◌∷◌, ◌++◌, length, take, Bool, true, false, IsTrue, Option, None, Some, is_some}
 use Rattle.pb_text.specs.Spelling.{Letter, Item, bytes, letters_of, bytes_of, marks_since, marks_of, place_after}
-use Rattle.pb_text.specs.Reading.{IsFront, byte_limit, last_numeral, AreShort}
+use Rattle.pb_text.specs.Reading.{IsFront, last_numeral, AreShort}
 use Rattle.pb_text.specs.Automaton.{Automaton, Refuse, Accepts, Admits, IsState, is_large}
 use Rattle.pb_text.specs.Limit.{end_of, SpentSince}
 use Rattle.pb_text.specs.declared.place.Place.{Place}

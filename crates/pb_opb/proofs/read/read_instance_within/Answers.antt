@@ -1,4 +1,3 @@
-use Rattle.std.proofs.Common.{◌≡◌}
 use Rattle.pb_text.specs.Automaton.{Accepts}
 use Rattle.pb_text.specs.Limits.{largest, top_of}
 use Rattle.pb_opb.specs.State.{opb, begin}

@@ -1,4 +1,4 @@
-use Rattle.std.proofs.Common.{◌≡◌, ◌≢◌, ◌+◌, ◌≤◌, ◌<◌, ◌^◌, ◌||◌, ◌&&◌, not, ℕ, List, [], ◌∷◌, ◌++◌, length, Bool, true, false, nat_eq, IsTrue, sym, ap, ◌∙◌, refl, arith, length-append}
+use Rattle.std.proofs.Common.{◌≡◌, ◌||◌, ◌&&◌, not, ℕ, List, [], ◌∷◌, ◌++◌, Bool, nat_eq, sym, ap, ◌∙◌, refl, arith, length-append}
 use Rattle.pb_text.specs.Classes.{is_white}
 use Rattle.pb_text.specs.Spelling.{place_next}
 use Rattle.pb_text.specs.Blank.{passes, in_comment}

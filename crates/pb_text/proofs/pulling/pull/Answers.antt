@@ -1,8 +1,6 @@
-use Rattle.std.proofs.Common.{◌≡◌, ◌+◌, ◌≤◌, ℕ, List, [], ◌∷◌, ◌++◌, length, subst, sym, ap, ◌∙◌, refl, append-nil, append_assoc, length-append, None, Some, Option, true, false, Ok, arith}
-use Rattle.pb_text.specs.Writing.{one_more}
+use Rattle.std.proofs.Common.{◌≡◌, ℕ, List, [], ◌∷◌, ◌++◌, subst, sym, ap, ◌∙◌, refl, append-nil, append_assoc, length-append, None, Some, Option, true, arith}
 use Rattle.pb_text.specs.Standing.{Stands}
 use Rattle.pb_text.specs.declared.place.Place.{Place}
-use Rattle.pb_text.specs.declared.place.Spanned.{Spanned}
 use Rattle.pb_text.specs.declared.place.Stop.{Stop}
 use Rattle.pb_text.specs.Feeding.{StandsAt}
 use Rattle.pb_text.proofs.Begin.{stands_more, stands_ended, stands_failed}

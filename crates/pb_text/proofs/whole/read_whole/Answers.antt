@@ -1,8 +1,7 @@
-use Rattle.std.proofs.Common.{◌≡◌, ◌+◌, ◌-◌, ◌≤◌, ◌<◌, ◌^◌, ℕ, List, [], ◌∷◌, ◌++◌, map, sym, ap, ◌∙◌, refl, None, Some, Option, arith}
+use Rattle.std.proofs.Common.{◌≡◌, ◌+◌, ◌-◌, ◌≤◌, ◌<◌, ◌^◌, ℕ, [], ◌∷◌, ◌++◌, ap, ◌∙◌, refl, Option, arith}
 use Rattle.pb_text.specs.Limit.{end_of}
 use Rattle.pb_text.proofs.Short.{end_limit}
 use Rattle.pb_text.specs.declared.place.Place.{Place}
-use Rattle.pb_text.specs.declared.place.Spanned.{Spanned}
 use Rattle.pb_text.proofs.Pulled.{lost_nothing}
 use Rattle.pb_text.proofs.Wholes.{whole_done, whole_stopped, whole_event, whole_unkept, gathered_more}
 use Rattle.pb_text.proofs.whole.read_whole.Goals as goal

@@ -1,4 +1,4 @@
-use Rattle.std.proofs.Common.{◌≡◌, ℕ, ◌+◌, ◌-◌, ◌^◌, ◌<◌, ◌≤◌, arith, refl, subst}
+use Rattle.std.proofs.Common.{ℕ, ◌+◌, ◌-◌, ◌^◌, ◌<◌, ◌≤◌, arith, refl, subst}
 use Rattle.pb_text.specs.Blank.{IsInReach}
 use Rattle.pb_text.specs.declared.Place.{Place}
 use Rattle.pb_tool.proofs.showing.show_each.Goals as goal

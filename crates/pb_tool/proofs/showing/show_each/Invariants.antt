@@ -1,4 +1,4 @@
-use Rattle.std.proofs.Common.{ℕ, ◌+◌, ◌-◌, ◌^◌}
+use Rattle.std.proofs.Common.{◌+◌, ◌-◌, ◌^◌}
 use Rattle.pb_text.specs.Feeding.{place_of}
 use Rattle.pb_tool.proofs.showing.show_each.Given as goal
 

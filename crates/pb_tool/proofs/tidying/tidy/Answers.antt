@@ -1,7 +1,7 @@
-use Rattle.std.proofs.Common.{◌≡◌, ℕ, [], Ok, Err, refl, subst}
+use Rattle.std.proofs.Common.{ℕ, [], Ok, Err, refl, subst}
 use Rattle.pb_opb.specs.Values.{IsValueOf}
 use Rattle.pb_opb.specs.Whole.{IsRead, ReadsValue}
-use Rattle.pb_tool.specs.Tidying.{IsFile, IsRefused, IsOpb}
+use Rattle.pb_tool.specs.Tidying.{IsOpb}
 use Rattle.pb_tool.specs.Tidying.IsRefused.{InText, InRest}
 use Rattle.pb_tool.proofs.Feeds.{took_join}
 use Rattle.pb_tool.proofs.tidying.tidy.Goals as goal

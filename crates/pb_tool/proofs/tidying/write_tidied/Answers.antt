@@ -1,5 +1,5 @@
-use Rattle.std.proofs.Common.{◌≡◌, ◌∙◌, sym, subst, List, ℕ}
-use Rattle.pb_text.specs.Writing.{Writes, Wrote}
+use Rattle.std.proofs.Common.{◌∙◌, sym, subst, List, ℕ}
+use Rattle.pb_text.specs.Writing.{Wrote}
 use Rattle.pb_text.proofs.Parts.{part_then, part_broke}
 use Rattle.pb_tool.proofs.Feeds.{tidied_bare, tidied_more, tidied_parts}
 use Rattle.pb_tool.proofs.tidying.write_tidied.Goals as goal

@@ -1,4 +1,4 @@
-use Rattle.std.proofs.Common.{◌≡◌, ◌∙◌, ◌++◌, ◌∷◌, ℕ, List, [], Bool, true, false, not, cond, IsTrue, ap, sym, subst}
+use Rattle.std.proofs.Common.{◌≡◌, ◌∙◌, ℕ, List, Bool, true, false, not, cond, IsTrue, ap, sym, subst}
 use Rattle.pb_text.specs.Automaton.{Admits}
 use Rattle.pb_opb.specs.Machine.{plan}
 use Rattle.pb_opb.specs.Order.{PhaseFits}

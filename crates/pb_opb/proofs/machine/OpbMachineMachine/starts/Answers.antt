@@ -1,4 +1,4 @@
-use Rattle.std.proofs.Common.{◌≡◌, ◌∙◌, ℕ, ap, sym, subst, Bool}
+use Rattle.std.proofs.Common.{◌≡◌, ◌∙◌, ℕ, ap, sym}
 use Rattle.pb_text.specs.Automaton.{begins}
 use Rattle.pb_opb.specs.Machine.{plan}
 use Rattle.pb_opb.specs.State.{OpbState, opb}

@@ -1,4 +1,4 @@
-use Rattle.std.proofs.Common.{◌≡◌, Option, Some, None, subst, refl, ap, true, false, sym, ◌∙◌}
+use Rattle.std.proofs.Common.{◌≡◌, Option, None, subst, refl, true, false, sym}
 use Rattle.pb_text.specs.Spelling.{bytes}
 use Rattle.pb_text.specs.Standing.{Stands}
 use Rattle.pb_text.specs.declared.place.Stop.{Stop}

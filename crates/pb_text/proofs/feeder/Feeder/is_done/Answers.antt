@@ -1,4 +1,3 @@
-use Rattle.std.proofs.Common.{ap}
 use Rattle.pb_text.specs.Spelling.{bytes}
 use Rattle.pb_text.proofs.Told.{stands_reads}
 use Rattle.pb_text.proofs.feeder.Feeder.is_done.Goals as goal
