@@ -12,6 +12,7 @@ mod Walking
 mod Within
 pub mod Again
 pub mod Alive
+pub mod Back
 pub mod Bodies
 pub mod Exactly
 pub mod Gathered

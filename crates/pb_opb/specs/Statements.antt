@@ -2,9 +2,11 @@
 use Rattle.std.specs.Prelude.{◌≡◌, ℕ, ◌^◌, ◌<◌, ◌≤◌, List, [], ◌∷◌, length}
 use Rattle.pb_text.specs.Spelling.{Item, bytes_of}
 use Rattle.pb_text.specs.Whole.{events_of}
+use Rattle.pb_text.specs.declared.Spanned.{Spanned}
 use Rattle.pb_opb.specs.Instances.{IsInstance}
 use Rattle.pb_opb.specs.Values.{IsValueOf, IsInstanceValue, objectives_in, variables_in}
 use Rattle.pb_opb.specs.Canonical.{instance_bytes}
+use Rattle.pb_opb.specs.Whole.{IsRead}
 use Rattle.pb_opb.specs.declared.event.OpbEvent.{OpbEvent}
 use Rattle.pb_opb.specs.declared.event.OpbEvent.TheVariants.{Header}
 use Rattle.pb_opb.specs.declared.instance.Instance.{Instance}
@@ -25,3 +27,8 @@ pub record IsOneHeader (events : List OpbEvent) (v : Instance) : Type 0 where
 abbrev pub InstanceValues : Type 0
 InstanceValues = (limit top : ℕ) (items : List (Item OpbEvent)) (v : Instance) → IsInstance limit top items → IsValueOf (events_of items) v →
     IsInstanceValue limit top v × IsOneHeader (events_of items) v
+
+-- What is written of a value that meets the rules is read as that value alone.
+abbrev pub ReadsBack : Type 0
+ReadsBack = (limit top longest : ℕ) (v : Instance) (m : Spanned Instance) → limit < 2 ^ 127 → top < 2 ^ 63 → IsInstanceValue limit top v →
+    IsRead (IsInstance limit top) longest IsValueOf (instance_bytes v) m → m.event ≡ v

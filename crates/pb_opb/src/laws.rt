@@ -1,7 +1,7 @@
 //! The laws of instances and their texts.
 
 ghost use Rattle.pb_opb.specs.Formats.{ReadsInstances, OneInstance, NoFront, LargerLimits};
-ghost use Rattle.pb_opb.specs.Statements.{CanonicalInstance, InstanceValues};
+ghost use Rattle.pb_opb.specs.Statements.{CanonicalInstance, InstanceValues, ReadsBack};
 
 /// A new machine accepts exactly the instances.
 pub fn instances_are_exact()
@@ -23,9 +23,14 @@ pub fn larger_limits()
     ensures { LargerLimits }
 {}
 
-/// What is written of an instance that meets the rules reads as that instance.
+/// What is written of an instance that meets the rules spells that instance.
 pub fn canonical_instance_spells()
     ensures { CanonicalInstance }
+{}
+
+/// What is written of an instance that meets the rules reads as no other instance.
+pub fn written_instance_reads_back()
+    ensures { ReadsBack }
 {}
 
 /// What is read of an instance meets the rules, and its header declares as many constraints as there are.
