@@ -5,12 +5,12 @@ use Rattle.std.proofs.lemmas.Bool.Decides.{nat_tests}
 use Rattle.std.specs.Prelude.{IsTrue, nat_eq, nat_le, slice_index}
 use Rattle.pb_text.specs.Automaton.{Reads}
 use Rattle.pb_text.specs.Classes.{is_blank, is_digit}
-use Rattle.pb_text.specs.Languages.{unmarked, digit, Language, ◌⋅◌, Byte, Bytes}
-use Rattle.pb_text.specs.Numbers.{Digits}
+use Rattle.pb_text.specs.Languages.{unmarked, digit, Language, ◌⋅◌, Byte, Bytes, Blanks0, Blanks1}
+use Rattle.pb_text.specs.Numbers.{Digits, Count}
 use Rattle.pb_text.specs.Spelling.{Letter, plain}
 use Rattle.pb_text.proofs.Languages.{grown, next, none_yet, behind_it, many-grown, some-grown, some-one}
 use Rattle.pb_text.proofs.Numbers.{digits-grown, digits-one}
-use Rattle.pb_opb.specs.Instances.{variable_word, constraint_word, Blanks0, Blanks1, Count, IsTail, SpellsHeader}
+use Rattle.pb_opb.specs.Instances.{variable_word, constraint_word, IsTail, SpellsHeader}
 use Rattle.pb_opb.specs.Machine.{word_of, behind_count, plan}
 use Rattle.pb_opb.specs.State.{OpbState, opb, begin, act, is_in_number}
 use Rattle.pb_opb.specs.declared.event.OpbEvent.{OpbEvent}

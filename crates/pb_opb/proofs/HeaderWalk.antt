@@ -7,10 +7,10 @@ use Rattle.std.proofs.lemmas.Bool.Decides.{nat_tests}
 use Rattle.std.specs.Prelude.{IsTrue, nat_eq, slice_index}
 use Rattle.pb_text.specs.Automaton.{Go, Reads}
 use Rattle.pb_text.specs.Classes.{is_blank}
-use Rattle.pb_text.specs.Languages.{unmarked, digit, Language, ◌⋅◌, Byte, Bytes, Each}
-use Rattle.pb_text.specs.Numbers.{value}
+use Rattle.pb_text.specs.Languages.{unmarked, digit, Language, ◌⋅◌, Byte, Bytes, Each, Blanks0, Blanks1}
+use Rattle.pb_text.specs.Numbers.{value, Count}
 use Rattle.pb_text.specs.Spelling.{Letter, plain}
-use Rattle.pb_opb.specs.Instances.{variable_word, constraint_word, Blanks0, Blanks1, Count, IsTail, SpellsHeader}
+use Rattle.pb_opb.specs.Instances.{variable_word, constraint_word, IsTail, SpellsHeader}
 use Rattle.pb_opb.specs.Machine.{word_of, spell, count, behind_count, plan}
 use Rattle.pb_opb.specs.State.{OpbState, opb, begin, act}
 use Rattle.pb_opb.specs.declared.event.OpbEvent.TheVariants.{Header}

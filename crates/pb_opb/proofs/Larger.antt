@@ -1,6 +1,7 @@
 -- An instance stays one where numbers may be larger.
 use Rattle.std.proofs.Common.{ℕ, zero, suc, ◌≤◌, Bool, true, false, List, [], ◌∷◌, arith, refl}
-use Rattle.pb_text.specs.Languages.{Language, ◌⋅◌, Byte, Bytes}
+use Rattle.pb_text.specs.Languages.{Language, ◌⋅◌, Byte, Bytes, Blanks0, Blanks1}
+use Rattle.pb_text.specs.Numbers.{Count}
 use Rattle.pb_text.specs.Spelling.{Item, Letter}
 use Rattle.pb_text.proofs.Languages.{inside, behind_it}
 use Rattle.pb_sums.specs.Sums.{Spells}
@@ -9,7 +10,7 @@ use Rattle.pb_sums.specs.declared.grammar.Spaces.TheVariants.{White}
 use Rattle.pb_sums.specs.declared.values.SumEvent as sum
 use Rattle.pb_sums.specs.declared.values.Term.{Term}
 use Rattle.pb_sums.proofs.Larger.{spells_larger}
-use Rattle.pb_opb.specs.Instances.{variable_word, constraint_word, Blanks0, Blanks1, Count, SpellsHeader, SpellsObjective, IsEntry, IsBody, IsBegun, IsInstance}
+use Rattle.pb_opb.specs.Instances.{variable_word, constraint_word, SpellsHeader, SpellsObjective, IsEntry, IsBody, IsBegun, IsInstance}
 use Rattle.pb_opb.specs.declared.event.OpbEvent.{OpbEvent}
 use Rattle.pb_opb.specs.declared.event.OpbEvent.TheVariants.{Header, Comment, Objective, Constraint}
 use Rattle.pb_opb.proofs.Objectives.{MinFront, objective_of, objective_parts}

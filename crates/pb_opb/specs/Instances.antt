@@ -2,8 +2,8 @@
 use Rattle.std.specs.Prelude.{◌≡◌, ℕ, zero, suc, ◌≤◌, Bool, true, false, not, nat_eq, List, [], ◌∷◌, IsTrue}
 use Rattle.pb_text.specs.Classes.{is_blank, is_white}
 use Rattle.pb_text.specs.Spelling.{Item, Letter}
-use Rattle.pb_text.specs.Languages.{Language, ◌⋅◌, Byte, Bytes, Each, Many, Some}
-use Rattle.pb_text.specs.Numbers.{Digits}
+use Rattle.pb_text.specs.Languages.{Language, ◌⋅◌, Byte, Bytes, Each, Many, Blanks0, Blanks1}
+use Rattle.pb_text.specs.Numbers.{Count}
 use Rattle.pb_sums.specs.Sums.{SpellsSum, SpellsLinear}
 use Rattle.pb_sums.specs.declared.Term.{Term}
 use Rattle.pb_sums.specs.declared.Spaces.TheVariants.{White}
@@ -22,19 +22,9 @@ constraint_word = 35 ∷ 99 ∷ 111 ∷ 110 ∷ 115 ∷ 116 ∷ 114 ∷ 97 ∷ 1
 abbrev pub min_word : List ℕ
 min_word = 109 ∷ 105 ∷ 110 ∷ 58 ∷ []
 
--- blank*, blank+ and white*
-abbrev pub Blanks0 : Language
-Blanks0 = Many (λ b. IsTrue (is_blank b))
-
-abbrev pub Blanks1 : Language
-Blanks1 = Some (λ b. IsTrue (is_blank b))
-
+-- white*
 abbrev pub Whites0 : Language
 Whites0 = Many (λ b. IsTrue (is_white b))
-
--- digits, with a value of at most top
-abbrev pub Count : ℕ → ℕ → Language
-Count top n = λ t. (n ≤ top) × Digits n t
 
 abbrev pub IsInLine : List ℕ → Type 0
 IsInLine = Each (λ b. IsTrue (not (nat_eq b 10)))

@@ -23,7 +23,7 @@ impl Model for Name {
 
 impl Name {
     /// The empty name, which takes no memory.
-    pub(crate) fn new(alloc: Global) -> Name
+    pub fn new(alloc: Global) -> Name
         ensures { result ≡ [] }
     {
         Name {
@@ -53,7 +53,7 @@ impl Name {
     }
 
     /// Adds an ASCII byte at the end. Where memory ran out the name is unchanged.
-    pub(crate) fn push(&mut self, byte: u8) -> Result<(), AllocError>
+    pub fn push(&mut self, byte: u8) -> Result<(), AllocError>
         requires { byte < 128 }
         ensures { self.new ≡ (if is_ok result then self.old ++ byte ∷ [] else self.old) }
     {

@@ -35,7 +35,8 @@ fn write_weight<S: Sink>(value: i128, out: &mut S) -> Result<(), Failed>
     write_number(value, out)
 }
 
-fn write_literal<S: Sink>(literal: &Literal, out: &mut S) -> Result<(), Failed>
+/// Writes a literal: its name, and `~` before it where it is negated.
+pub fn write_literal<S: Sink>(literal: &Literal, out: &mut S) -> Result<(), Failed>
     ensures { Writes S.contents S.faults out.old (literal_bytes literal.now.negated literal.now.name) result out.new }
 {
     let name = literal.name.as_str().as_bytes();

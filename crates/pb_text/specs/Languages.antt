@@ -1,5 +1,6 @@
 -- Languages: sets of texts over letters.
-use Rattle.std.specs.Prelude.{◌≡◌, ℕ, ◌+◌, true, false, List, [], ◌∷◌, ◌++◌}
+use Rattle.std.specs.Prelude.{◌≡◌, ℕ, ◌+◌, true, false, List, [], ◌∷◌, ◌++◌, IsTrue}
+use Rattle.pb_text.specs.Classes.{is_blank}
 use Rattle.pb_text.specs.Spelling.{Letter, plain}
 
 -- a byte that is no digit of a number
@@ -41,3 +42,10 @@ Many P = λ t. (bs : List ℕ) × Each P bs × Bytes bs t
 
 abbrev pub Some : (ℕ → Type 0) → Language
 Some P = λ t. (b : ℕ) × (bs : List ℕ) × P b × Each P bs × Bytes (b ∷ bs) t
+
+-- blank*, and blank+
+abbrev pub Blanks0 : Language
+Blanks0 = Many (λ b. IsTrue (is_blank b))
+
+abbrev pub Blanks1 : Language
+Blanks1 = Some (λ b. IsTrue (is_blank b))

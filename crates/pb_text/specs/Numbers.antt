@@ -23,3 +23,7 @@ signed false n = pos n
 -- a sign directly followed by digits, its magnitude at most limit
 abbrev pub Number : ℕ → ℤ → Language
 Number limit z = λ t. (negative : Bool) × (n : ℕ) × (n ≤ limit) × (z ≡ signed negative n) × (Sign negative ⋅ Digits n) t
+
+-- digits, with a value of at most top
+abbrev pub Count : ℕ → ℕ → Language
+Count top n = λ t. (n ≤ top) × Digits n t

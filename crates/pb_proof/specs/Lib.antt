@@ -1,0 +1,5 @@
+pub mod Canonical
+pub mod Lines
+pub mod Postfix
+pub mod Proofs
+pub mod Values

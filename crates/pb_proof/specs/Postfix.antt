@@ -1,0 +1,29 @@
+-- Expressions of cutting planes and their postfix words.
+use Rattle.std.specs.Prelude.{◌≡◌, ℕ, ℤ, List, [], ◌∷◌, ◌++◌}
+use Rattle.pb_sums.specs.declared.Literal.{Literal}
+use Rattle.pb_proof.specs.declared.word.PolWord.{PolWord}
+use Rattle.pb_proof.specs.declared.word.PolWord.TheVariants.{Id, Axiom, Add, Multiply, Divide, Saturate, Weaken}
+
+-- a constraint, an axiom, a sum of two expressions, or one expression under a rule
+pub data Tree : Type 0 where
+  Constraint : (id : ℤ) → Tree
+  True : (literal : Literal) → Tree
+  Sum : (a b : Tree) → Tree
+  Times : (a : Tree) → (factor : ℤ) → Tree
+  Divided : (a : Tree) → (divisor : ℤ) → Tree
+  Saturated : (a : Tree) → Tree
+  Weakened : (a : Tree) → (name : List ℕ) → Tree
+
+-- the postfix words of an expression
+abbrev pub words : Tree → List PolWord
+words (Constraint id) = Id id ∷ []
+words (True literal) = Axiom literal ∷ []
+words (Sum a b) = words a ++ words b ++ (Add ∷ [])
+words (Times a factor) = words a ++ (Multiply factor ∷ [])
+words (Divided a divisor) = words a ++ (Divide divisor ∷ [])
+words (Saturated a) = words a ++ (Saturate ∷ [])
+words (Weakened a name) = words a ++ (Weaken name ∷ [])
+
+-- the words of one expression
+abbrev pub IsPostfix : List PolWord → Type 0
+IsPostfix ws = (tree : Tree) × (ws ≡ words tree)

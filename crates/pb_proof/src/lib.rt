@@ -1,0 +1,12 @@
+//! Proofs in VeriPB 2.0, read one byte at a time and written.
+#![tactic(auto)]
+
+mod conclusion;
+mod proof;
+mod statement;
+mod word;
+
+pub use conclusion::{Bound, Conclusion};
+pub use proof::Proof;
+pub use statement::Statement;
+pub use word::PolWord;

@@ -1,0 +1,32 @@
+//! The statements of a proof.
+
+use crate::conclusion::Conclusion;
+use crate::word::PolWord;
+use pb_sums::{Linear, Literal};
+use pb_text::Sequence;
+
+/// A statement of a proof in VeriPB 2.0, as it is read: a line from its first word through its line feed, and the
+/// closing words without one.
+#[derive(Debug, Drop, PartialEq)]
+pub enum Statement {
+    /// `pseudo-Boolean proof version 2.0`.
+    Header,
+    /// `f`: the formula's constraints are loaded, of which there are so many where a number is given.
+    F(Option<u64>),
+    /// `pol`: a constraint by the rules of cutting planes, in postfix words.
+    Pol(Sequence<PolWord>),
+    /// `rup`: a constraint by reverse unit propagation.
+    Rup(Linear),
+    /// `soli`: a solution, which the objective is to improve on.
+    Soli(Sequence<Literal>),
+    /// `solx`: a solution, which is excluded.
+    Solx(Sequence<Literal>),
+    /// `del id`: the constraints of these ids are deleted.
+    Delete(Sequence<i64>),
+    /// `output NONE`.
+    Output,
+    /// `conclusion`.
+    Conclude(Conclusion),
+    /// `end pseudo-Boolean proof`.
+    End,
+}

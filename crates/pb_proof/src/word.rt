@@ -1,0 +1,22 @@
+//! The words of a postfix expression.
+
+use pb_sums::{Literal, Name};
+
+/// A word of a postfix expression of cutting planes.
+#[derive(Debug, Drop, PartialEq)]
+pub enum PolWord {
+    /// The constraint with an id, counted back from the newest one where it is negative.
+    Id(i64),
+    /// The axiom that a literal is at least 0.
+    Axiom(Literal),
+    /// The sum of the last two constraints.
+    Add,
+    /// The last constraint times a factor.
+    Multiply(i128),
+    /// The last constraint divided by a divisor, rounded up.
+    Divide(i128),
+    /// The last constraint with no coefficient above its degree.
+    Saturate,
+    /// The last constraint without a variable.
+    Weaken(Name),
+}
