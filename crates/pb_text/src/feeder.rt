@@ -199,6 +199,7 @@ impl<M: Machine> Feeder<M> {
         ensures stop { halt_of self.new ≡ stop_of result }
         ensures counted { IsOpen (halt_of self.new) }
         ensures offset { OnOk result ((place_of self.new).offset ≡ (place_of self.old).offset + 1) }
+        ensures past { (event : Spanned M.Event) → result ≡ Ok (Some event) → event.past ≡ place_of self.new }
         ensures still { OnErr result ((place_of self.new).offset ≡ (place_of self.old).offset) }
         ensures unfinished { result ≡ Ok None → is_complete self.new ≡ false }
         ensures state { IsState M.automaton (state_of self.new) }

@@ -1,10 +1,11 @@
-use Rattle.std.proofs.Common.{◌≡◌, ℕ, List, [], ◌∷◌, ◌++◌, subst, sym, ap, ◌∙◌, refl, append-nil, append_assoc, length-append, None, Some, Option, true, arith}
+use Rattle.std.proofs.Common.{◌≡◌, ℕ, List, [], ◌∷◌, ◌++◌, subst, sym, ap, ◌∙◌, refl, append-nil, append_assoc, length-append, None, Some, Option, Ok, Err, true, arith}
 use Rattle.pb_text.specs.Standing.{Stands}
 use Rattle.pb_text.specs.declared.place.Place.{Place}
 use Rattle.pb_text.specs.declared.place.Stop.{Stop}
 use Rattle.pb_text.specs.Feeding.{StandsAt}
 use Rattle.pb_text.proofs.Begin.{stands_more, stands_ended, stands_failed}
 use Rattle.pb_text.proofs.Pulled.{lost_nothing, lost_byte, seen_byte, seen_end, seen_rest, seen_after, faults_with_other}
+use Rattle.pb_text.proofs.Rows.{row}
 use Rattle.pb_text.proofs.pulling.pull.Goals as goal
 
 pub returns-in-Some-clause-pulls : goal.returns-in-Some-clause-pulls
@@ -143,3 +144,31 @@ returns-in-Err-take-clause-faults g c =
     let p = rw (c.in-Ok-Some.is, c.in-Ok-Some.field-0-is) at c.peek.ensures in
     let none : c.args.feeder.now.stop ≡ None = sym c.in_default.ensures in
     rw none (p.3 ∙ (c.loop-byte.invariant.faults ∙ sym (faults_with_other c.in-Err-take.stop.why (g.S.Source.faults c.args.source.now) t.unread)))
+
+pub returns-then-is_done-clause-row : goal.returns-then-is_done-clause-row
+returns-then-is_done-clause-row g c longest start before marks h =
+    let f = c.args.feeder.now in
+    let now = g.S.Source.left c.args.source.now in
+    row {g = g.M.Machine} longest start before now now marks f f h (Ok None) (returns-then-is_done-clause-pulls g c longest start h.used marks (rw h.running tt) h.stands) h.running (λ e. sym c.if-is_done.ensures.done) (λ m e. cc e)
+
+pub returns-in-Ok-None-clause-row : goal.returns-in-Ok-None-clause-row
+returns-in-Ok-None-clause-row g c longest start before marks h =
+    let f = c.args.feeder.now in
+    row {g = g.M.Machine} longest start before (g.S.Source.left c.args.source.now) (g.S.Source.left c.peek.new.self) marks f c.halt.new.self h (Err c.halt.result) (returns-in-Ok-None-clause-pulls g c longest start h.used marks (rw h.running tt) h.stands) c.halt.ensures.stop (λ e. cc e) (λ m e. cc e)
+
+pub returns-in-Err-clause-row : goal.returns-in-Err-clause-row
+returns-in-Err-clause-row g c longest start before marks h =
+    let f = c.args.feeder.now in
+    row {g = g.M.Machine} longest start before (g.S.Source.left c.args.source.now) (g.S.Source.left c.peek.new.self) marks f c.halt-in-Err.new.self h (Err c.halt-in-Err.result) (returns-in-Err-clause-pulls g c longest start h.used marks (rw h.running tt) h.stands) c.halt-in-Err.ensures.stop (λ e. cc e) (λ m e. cc e)
+
+pub returns-in-Ok-Some-take-clause-row : goal.returns-in-Ok-Some-take-clause-row
+returns-in-Ok-Some-take-clause-row g c longest start before marks h =
+    let f = c.args.feeder.now in
+    let t = rw (c.in-Ok-Some-take.is, c.in-Ok-Some-take.field-0-is) at c.take.ensures in
+    row {g = g.M.Machine} longest start before (g.S.Source.left c.args.source.now) (g.S.Source.left c.skip-in-Ok-Some-take.new.self) marks f c.take.new.self h (Ok (Some c.in-Ok-Some-take.event)) (returns-in-Ok-Some-take-clause-pulls g c longest start h.used marks (rw h.running tt) h.stands) t.stop (λ e. cc e) t.past
+
+pub returns-in-Err-take-clause-row : goal.returns-in-Err-take-clause-row
+returns-in-Err-take-clause-row g c longest start before marks h =
+    let f = c.args.feeder.now in
+    let t = rw c.in-Err-take.is at c.take.ensures in
+    row {g = g.M.Machine} longest start before (g.S.Source.left c.args.source.now) (g.S.Source.left c.peek.new.self) marks f c.take.new.self h (Err c.in-Err-take.stop) (returns-in-Err-take-clause-pulls g c longest start h.used marks (rw h.running tt) h.stands) t.stop (λ e. cc e) (λ m e. cc e)
