@@ -219,6 +219,16 @@ impl Machine for OpbMachine {
 
     ghost automaton = { opb };
 
+    #[inline(always)]
+    fn goes(&mut self, byte: u8) -> bool {
+        let went = match self.phase {
+            Phase::Constraint | Phase::Objective => self.inner.goes(byte),
+            _ => false,
+        };
+        let _ = self.is_done();
+        went
+    }
+
     fn push(&mut self, byte: u8) -> Push<OpbEvent> {
         let answer = self.take(byte);
         let _ = self.is_done();

@@ -54,6 +54,10 @@ pub fn pull<S: Source, M: Machine>(
             Ok(None) => return Err(feeder.halt(Why::Ended)),
             Err(Failed) => return Err(feeder.halt(Why::Read)),
         };
+        if feeder.goes(byte) {
+            source.skip();
+            continue;
+        }
         match feeder.take(byte) {
             Ok(None) => source.skip(),
             Ok(Some(event)) => {

@@ -79,8 +79,31 @@ returns-in-Err-clause-pulls g c longest start input marks counts s =
       stands = (c.halt-in-Err.ensures.longest ∙ i.3.0, rw (append-nil, ← append_assoc input i.0 seen.0, c.halt-in-Err.ensures.stop, c.halt-in-Err.ensures.result, c.halt-in-Err.ensures.machine, c.halt-in-Err.ensures.place, c.halt-in-Err.ensures.first) e);
     }
 
+pub loop-byte-preserved-then-goes : goal.loop-byte-preserved-then-goes
+loop-byte-preserved-then-goes g c =
+    let t = c.goes.ensures in
+    let p = rw (c.in-Ok-Some.is, c.in-Ok-Some.field-0-is) at c.peek.ensures in
+    let b : ℕ = c.in-Ok-Some.byte in
+    record {
+      running = t.running;
+      unfinished = t.unfinished;
+      state = t.state;
+      onward = omega (arith, t.offset c.if-goes.true, c.loop-byte.invariant.onward);
+      faults = c.skip.ensures.1 ∙ (p.3 ∙ c.loop-byte.invariant.faults);
+      stands = λ longest start input marks s.
+          let i = c.loop-byte.invariant.stands longest start input marks s in
+          let k = t.goes c.if-goes.true longest start (input ++ i.0) marks i.3 in
+          let m : StandsAt longest start (input ++ (i.0 ++ b ∷ [])) marks c.goes.new.self = rw (← append_assoc input i.0 (b ∷ [])) k in (
+            i.0 ++ b ∷ [],
+            lost_byte (g.S.Source.left c.args.source.now) i.0 (g.S.Source.left c.loop-byte.source) (g.S.Source.left c.peek.new.self) (g.S.Source.left c.skip.new.self) b i.1 p.0 p.1 c.skip.ensures.0,
+            omega (arith, t.offset c.if-goes.true, i.2, length-append i.0 (b ∷ [])),
+            m,
+          );
+    }
+
 pub loop-byte-preserved : goal.loop-byte-preserved
 loop-byte-preserved g c =
+    let still = ap (λ (p : Place). p.offset) (c.goes.ensures.still c.if-goes.false) in
     let t = rw (c.in-Ok-None-take.is, c.in-Ok-None-take.field-0-is) at c.take.ensures in
     let p = rw (c.in-Ok-Some.is, c.in-Ok-Some.field-0-is) at c.peek.ensures in
     let b : ℕ = c.in-Ok-Some.byte in
@@ -88,26 +111,27 @@ loop-byte-preserved g c =
       running = t.stop;
       unfinished = t.unfinished refl;
       state = t.state;
-      onward = omega (arith, t.offset, c.loop-byte.invariant.onward);
-      faults = c.skip.ensures.1 ∙ (p.3 ∙ c.loop-byte.invariant.faults);
+      onward = omega (arith, t.offset, still, c.loop-byte.invariant.onward);
+      faults = c.skip-in-Ok-None-take.ensures.1 ∙ (p.3 ∙ c.loop-byte.invariant.faults);
       stands = λ longest start input marks s.
           let i = c.loop-byte.invariant.stands longest start input marks s in
-          let k = t.stands longest start (input ++ i.0) marks i.3 in
+          let k = t.stands longest start (input ++ i.0) marks (c.goes.ensures.stays c.if-goes.false longest start (input ++ i.0) marks i.3) in
           let m : StandsAt longest start (input ++ (i.0 ++ b ∷ [])) marks c.take.new.self = rw (← append_assoc input i.0 (b ∷ [])) (rw append-nil at k) in (
             i.0 ++ b ∷ [],
-            lost_byte (g.S.Source.left c.args.source.now) i.0 (g.S.Source.left c.loop-byte.source) (g.S.Source.left c.peek.new.self) (g.S.Source.left c.skip.new.self) b i.1 p.0 p.1 c.skip.ensures.0,
-            omega (arith, t.offset, i.2, length-append i.0 (b ∷ [])),
+            lost_byte (g.S.Source.left c.args.source.now) i.0 (g.S.Source.left c.loop-byte.source) (g.S.Source.left c.peek.new.self) (g.S.Source.left c.skip-in-Ok-None-take.new.self) b i.1 p.0 p.1 c.skip-in-Ok-None-take.ensures.0,
+            omega (arith, t.offset, still, i.2, length-append i.0 (b ∷ [])),
             m,
           );
     }
 
 pub returns-in-Ok-Some-take-clause-pulls : goal.returns-in-Ok-Some-take-clause-pulls
 returns-in-Ok-Some-take-clause-pulls g c longest start input marks counts s =
+    let still = ap (λ (p : Place). p.offset) (c.goes.ensures.still c.if-goes.false) in
     let t = rw (c.in-Ok-Some-take.is, c.in-Ok-Some-take.field-0-is) at c.take.ensures in
     let p = rw (c.in-Ok-Some.is, c.in-Ok-Some.field-0-is) at c.peek.ensures in
     let b : ℕ = c.in-Ok-Some.byte in
     let i = c.loop-byte.invariant.stands longest start input marks s in
-    let k = t.stands longest start (input ++ i.0) marks i.3 in
+    let k = t.stands longest start (input ++ i.0) marks (c.goes.ensures.stays c.if-goes.false longest start (input ++ i.0) marks i.3) in
     let last = g.S.Source.left c.skip-in-Ok-Some-take.new.self in
     let lost = lost_byte (g.S.Source.left c.args.source.now) i.0 (g.S.Source.left c.loop-byte.source) (g.S.Source.left c.peek.new.self) last b i.1 p.0 p.1 c.skip-in-Ok-Some-take.ensures.0 in
     let seen = seen_after (g.S.Source.left c.args.source.now) (i.0 ++ b ∷ []) last lost in
@@ -115,18 +139,19 @@ returns-in-Ok-Some-take-clause-pulls g c longest start input marks counts s =
       taken = i.0 ++ b ∷ [];
       seen = seen.0;
       took = seen.1;
-      offset_is = omega (arith, t.offset, i.2, length-append i.0 (b ∷ []));
+      offset_is = omega (arith, t.offset, still, i.2, length-append i.0 (b ∷ []));
       stands = rw (← append_assoc input i.0 (b ∷ [])) k;
     }
 
 pub returns-in-Err-take-clause-pulls : goal.returns-in-Err-take-clause-pulls
 returns-in-Err-take-clause-pulls g c longest start input marks counts s =
+    let still = ap (λ (p : Place). p.offset) (c.goes.ensures.still c.if-goes.false) in
     let t = rw c.in-Err-take.is at c.take.ensures in
     let p = rw (c.in-Ok-Some.is, c.in-Ok-Some.field-0-is) at c.peek.ensures in
     let b : ℕ = c.in-Ok-Some.byte in
     let n = c.take.new.self in
     let i = c.loop-byte.invariant.stands longest start input marks s in
-    let k = t.stands longest start (input ++ i.0) marks i.3 in
+    let k = t.stands longest start (input ++ i.0) marks (c.goes.ensures.stays c.if-goes.false longest start (input ++ i.0) marks i.3) in
     let seen = seen_byte (g.S.Source.left c.args.source.now) i.0 (g.S.Source.left c.loop-byte.source) (g.S.Source.left c.peek.new.self) b i.1 p.0 p.1 in
     let m = stands_more g.M.Machine.automaton longest start n.machine ((input ++ i.0) ++ b ∷ []) (marks ++ []) n.place n.first seen.0 n.stop t.counted (λ e. cc t.stop) k.1 in
     let same : ((input ++ i.0) ++ b ∷ []) ++ seen.0 ≡ input ++ (i.0 ++ (b ∷ seen.0)) = append_assoc (input ++ i.0) (b ∷ []) seen.0 ∙ append_assoc input i.0 (b ∷ seen.0) in
@@ -134,7 +159,7 @@ returns-in-Err-take-clause-pulls g c longest start input marks counts s =
       taken = i.0;
       seen = b ∷ seen.0;
       took = seen.1;
-      offset_is = t.still ∙ i.2;
+      offset_is = t.still ∙ (still ∙ i.2);
       stands = (k.0, subst (λ (x : List ℕ). Stands g.M.Machine.automaton longest start x (marks ++ []) n.machine n.place n.first n.stop) same m);
     }
 
