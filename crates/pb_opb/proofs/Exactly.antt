@@ -1,7 +1,9 @@
 -- What the machine reads, said of instances.
-use Rattle.std.proofs.Common.{ℕ, List}
+use Rattle.std.proofs.Common.{ℕ, List, Bool, Option}
 use Rattle.pb_text.specs.Automaton.{Accepts}
 use Rattle.pb_text.specs.Spelling.{Item}
+use Rattle.pb_text.specs.Reading.{Reads}
+use Rattle.pb_text.specs.declared.Place.{Place}
 use Rattle.pb_text.specs.declared.Spanned.{Spanned}
 use Rattle.pb_text.specs.declared.Stop.{Stop}
 use Rattle.pb_text.proofs.Formats as formats
@@ -19,6 +21,9 @@ module _ (limit top longest : ℕ) where
 
   abbrev spelled : List (Item OpbEvent) → Type 0
   spelled = IsInstance limit top
+
+  pub reads_exactly : (input used : List ℕ) (marks : List (Spanned OpbEvent)) (place : Place) (done : Bool) (stop : Option Stop) → Reads accepted longest input used marks place done stop → Reads spelled longest input used marks place done stop
+  reads_exactly = formats.reads accepted spelled (instance_only limit top) (instance_each limit top) longest
 
   pub read_exactly : (used : List ℕ) (m : Spanned Instance) → IsRead accepted longest IsValueOf used m → IsRead spelled longest IsValueOf used m
   read_exactly used m r = record {

@@ -1,8 +1,8 @@
 -- What a byte leaves a machine of instances with.
-use Rattle.std.proofs.Common.{◌≡◌, ℕ, zero, suc, ◌+◌, ◌-◌, ◌*◌, ◌<◌, Bool, true, false, cond, ◌&&◌, nat_le, nat_eq, List, [], ◌∷◌, ◌++◌, length, refl, sym, ap, ◌∙◌, subst, arith, IsTrue}
+use Rattle.std.proofs.Common.{◌≡◌, ℕ, zero, suc, ◌+◌, ◌-◌, ◌*◌, ◌<◌, Bool, true, false, cond, ◌&&◌, nat_le, nat_eq, List, [], ◌∷◌, ◌++◌, length, refl, sym, ap, ◌∙◌, subst, arith, IsTrue, ◌⊎◌, inl, inr}
 use Rattle.std.specs.Prelude.{slice_index}
 use Rattle.pb_text.specs.Classes.{is_blank, is_white, is_digit}
-use Rattle.pb_text.specs.Automaton.{Next, Go, End, Refuse, Admits, IsState, is_large, begins, begins_with}
+use Rattle.pb_text.specs.Automaton.{Next, Go, End, Refuse, Admits, IsState, Goes, is_large, begins, begins_with}
 use Rattle.pb_text.proofs.Residual.{refuses}
 use Rattle.pb_text.proofs.Admitted.{admits_within}
 use Rattle.pb_sums.specs.State.{SumState, sums, first}
@@ -122,6 +122,15 @@ give_order s h b p inner e goes state =
       limits = i.1 ∙ h.limits;
       state = state;
     }
+
+-- a byte that is given to the machine of sums and goes on keeps the order
+pub goes_order : (s : OpbState) → IsInOrder s → (b : ℕ) (went : Bool) (inner : SumState) → (s.phase ≡ phase.TheVariants.Constraint) ⊎ (s.phase ≡ phase.TheVariants.Objective)
+    → Goes sums s.inner b went inner → IsState sums inner → IsInOrder (giving s s.phase inner)
+goes_order s h b false inner at same state = subst (λ (i : SumState). IsInOrder (giving s s.phase i)) (sym same) h
+goes_order s h b true inner (inl e) goes state =
+    subst (λ (p : Phase). IsInOrder (giving s p inner)) (sym e) (give_order s h b phase.TheVariants.Constraint inner (ap (λ (p : Phase). plan s.top p b) e) goes state)
+goes_order s h b true inner (inr e) goes state =
+    subst (λ (p : Phase). IsInOrder (giving s p inner)) (sym e) (give_order s h b phase.TheVariants.Objective inner (ap (λ (p : Phase). plan s.top p b) e) goes state)
 
 -- a state between two statements
 owing_holds : (s : OpbState) (may : Bool) (n : ℕ) (inner : SumState) → inner ≡ linears s.limit

@@ -56,8 +56,12 @@ impl Model for OpbMachine {
 }
 
 impl OpbMachine {
-    ghost use Rattle.std.specs.Prelude.{List, ◌↔◌};
+    ghost use Rattle.std.specs.Prelude.{ℕ, List, Bool, Option, ◌↔◌};
     ghost use Rattle.pb_text.specs.Automaton.{Accepts};
+    ghost use Rattle.pb_text.specs.Reading.{Reads};
+    ghost use Rattle.pb_text.specs.declared.Place.{Place};
+    ghost use Rattle.pb_text.specs.declared.Spanned.{Spanned};
+    ghost use Rattle.pb_text.specs.declared.Stop.{Stop};
     ghost use Rattle.pb_text.specs.Spelling.{Item};
     ghost use Rattle.pb_opb.specs.Instances.{IsInstance};
     ghost use Rattle.pb_opb.specs.State.{opb, begin};
@@ -65,6 +69,10 @@ impl OpbMachine {
     /// A machine before an instance, which accepts exactly the instances under the limits. It takes no memory.
     pub fn new(alloc: Global, limits: Limits) -> Self
         ensures accepts { (items : List (Item OpbEvent)) → Accepts opb result items ↔ IsInstance (largest limits) (top_of limits) items }
+        // What is read by it is read of the instances.
+        ensures reads { (longest : ℕ) (input used : List ℕ) (marks : List (Spanned OpbEvent)) (place : Place) (done : Bool) (stop : Option Stop)
+            → Reads (Accepts opb result) longest input used marks place done stop
+            → Reads (IsInstance (largest limits) (top_of limits)) longest input used marks place done stop }
         ensures begins { result ≡ begin (largest limits) (top_of limits) }
         ensures between { opb.begun result ≡ false }
     {
@@ -210,6 +218,16 @@ impl Machine for OpbMachine {
     type Event = OpbEvent;
 
     ghost automaton = { opb };
+
+    #[inline(always)]
+    fn goes(&mut self, byte: u8) -> bool {
+        let went = match self.phase {
+            Phase::Constraint | Phase::Objective => self.inner.goes(byte),
+            _ => false,
+        };
+        let _ = self.is_done();
+        went
+    }
 
     fn push(&mut self, byte: u8) -> Push<OpbEvent> {
         let answer = self.take(byte);

@@ -75,6 +75,7 @@ fn behind_count(top: u64, field: Field, value: u64, byte: u8) -> Move
 }
 
 /// What a machine does with a byte.
+#[inline(always)]
 pub fn plan(top: u64, phase: Phase, byte: u8) -> Move
     requires top { top < 2 ^ 63 }
     requires phase { PhaseFits top phase }

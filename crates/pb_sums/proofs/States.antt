@@ -4,7 +4,7 @@ use Rattle.std.proofs.Math.Nat.{min-le_left}
 use Rattle.pb_text.specs.Automaton.{Next, Go, End, Refuse, Reads, Skips, Accepts, Admits, IsState}
 use Rattle.pb_text.specs.Spelling.{Letter, Item, bytes}
 use Rattle.pb_sums.specs.declared.values.Term.{Term}
-use Rattle.pb_sums.specs.Machine.{PhaseFits, Work, Outcome, act, step, plan, kind, letter_at, is_numeric, is_in_number, is_midway, is_done, finished, flushed}
+use Rattle.pb_sums.specs.Machine.{PhaseFits, Work, Outcome, act, step, plan, kind, letter_at, is_numeric, is_in_number, is_midway, is_done, finished, flushed, is_more}
 use Rattle.pb_sums.specs.State.{SumState, sums, over, first, last, with_work, units, in_hand, ready, all_units, IsInOrder, IsOneText}
 use Rattle.pb_sums.specs.declared.values.SumEvent.{SumEvent}
 use Rattle.pb_sums.specs.declared.phase.Kind.{Kind}
@@ -207,3 +207,12 @@ midway_state spaces part limit xs name q h i =
   where
     apart : (x : Bool) → x ≡ true → x ≡ false → ⊥
     apart x e f = cc
+
+-- a state within a name
+pub more_state : (spaces : Spaces) (part : Part) (limit : ℕ) (xs : List Term) (name : List ℕ) (q : Phase) → PhaseFits limit q → is_more q ≡ true
+    → IsState sums (record { spaces = spaces; part = part; limit = limit; work = record { terms = xs; name = name; phase = q } })
+more_state spaces part limit xs name q h more = midway_state spaces part limit xs name q h (more_midway q more)
+  where
+    more_midway : (p : Phase) → is_more p ≡ true → is_midway p ≡ true
+    more_midway (phase.TheVariants.More z negated) e = refl
+    more_midway _ e = cc e

@@ -39,7 +39,8 @@ pub fn is_letter(byte: u8) -> bool
 
 /// Whether a name may hold the byte.
 pub fn is_name_byte(byte: u8) -> bool
-    ensures { result ≡ is_name_byte byte }
+    ensures byte { result ≡ is_name_byte byte }
+    ensures ascii { IsTrue result → byte < 128 }
 {
     is_letter(byte)
         || is_digit(byte)
@@ -51,6 +52,7 @@ pub fn is_name_byte(byte: u8) -> bool
         || byte == b'^'
 }
 
+#[inline(always)]
 fn symbol(byte: u8) -> Kind
     ensures { result ≡ symbol byte }
 {
@@ -75,6 +77,7 @@ fn symbol(byte: u8) -> Kind
     Kind::Other
 }
 
+#[inline(always)]
 fn plain_kind(spaces: Spaces, byte: u8) -> Kind
     ensures kind { result ≡ kind_of_plain spaces byte }
 {
@@ -91,6 +94,7 @@ fn plain_kind(spaces: Spaces, byte: u8) -> Kind
 }
 
 /// The kind of a byte where digits are those of a number, or of a name.
+#[inline(always)]
 pub fn kind(spaces: Spaces, numeric: bool, byte: u8) -> Kind
     ensures kind { result ≡ kind spaces (letter_at numeric byte) }
     ensures fits { KindFits result }

@@ -8,11 +8,11 @@ ghost use Rattle.pb_text.specs.Classes.{is_digit};
 ghost use Rattle.pb_sums.specs.Machine.{flushed, is_more, is_in_number};
 ghost use Rattle.pb_sums.specs.State.{units};
 
-use crate::classes::{is_digit, kind};
+use crate::classes::{is_digit, is_name_byte, kind};
 use crate::grammar::{Part, Spaces};
 use crate::name::Name;
 use crate::phase::{Move, Phase};
-use crate::plans::{in_hand, is_done, is_in_number, is_numeric, plan};
+use crate::plans::{in_hand, is_done, is_in_number, is_more, is_numeric, plan};
 use crate::values::{Linear, Literal, SumEvent, Term};
 use pb_text::{Limits, Machine, Push, Sequence};
 use std::alloc::{AllocError, Global};
@@ -48,6 +48,7 @@ impl Model for SumMachine {
 }
 
 /// Ends the term whose literal is whole.
+#[inline(always)]
 fn flush(
     alloc: Global,
     terms: &mut Sequence<Term>,
@@ -71,7 +72,9 @@ fn flush(
             return Err(AllocError);
         }
     }
-    *name = Name::new(alloc);
+    if !name.as_str().is_empty() {
+        *name = Name::new(alloc);
+    }
     Ok(())
 }
 
@@ -153,6 +156,43 @@ impl Machine for SumMachine {
     type Event = SumEvent;
 
     ghost automaton = { sums };
+
+    #[inline(always)]
+    fn goes(&mut self, byte: u8) -> bool {
+        if is_more(self.phase) && is_name_byte(byte) {
+            if self.name.push(byte).is_err() {
+                return false;
+            }
+            return true;
+        }
+        let kind = kind(self.spaces, is_numeric(self.phase), byte);
+        match plan(self.part, self.limit, self.phase, kind) {
+            Move::Begin(phase, first) => {
+                let mut name = Name::new(self.alloc);
+                if name.push(first).is_err() {
+                    return false;
+                }
+                self.name = name;
+                self.phase = phase;
+                true
+            }
+            Move::Add(phase, next) => {
+                if self.name.push(next).is_err() {
+                    return false;
+                }
+                self.phase = phase;
+                true
+            }
+            Move::To(phase) => {
+                if flush(self.alloc, &mut self.terms, &mut self.name, self.phase).is_err() {
+                    return false;
+                }
+                self.phase = phase;
+                true
+            }
+            _ => false,
+        }
+    }
 
     fn push(&mut self, byte: u8) -> Push<SumEvent> {
         let kind = kind(self.spaces, is_numeric(self.phase), byte);

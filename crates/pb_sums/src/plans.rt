@@ -3,7 +3,7 @@
 ghost use Rattle.std.specs.Prelude.{◌≡◌, ℕ, ◌<◌, ◌≤◌, ◌^◌, Bool, None};
 ghost use Rattle.pb_text.specs.Numbers.{signed};
 ghost use Rattle.pb_sums.specs.Sums.{reads_sums, allows};
-ghost use Rattle.pb_sums.specs.Machine.{digits, number, behind, plan, KindFits, PhaseFits, MoveFits, is_numeric, is_in_number, is_done};
+ghost use Rattle.pb_sums.specs.Machine.{digits, number, behind, plan, KindFits, PhaseFits, MoveFits, is_numeric, is_in_number, is_more, is_done};
 ghost use Rattle.pb_sums.specs.State.{in_hand};
 
 use crate::grammar::Part;
@@ -40,6 +40,16 @@ pub fn is_done(phase: Phase) -> bool
 {
     match phase {
         Phase::Done => true,
+        _ => false,
+    }
+}
+
+/// Whether two bytes of a name were read, or more.
+pub fn is_more(phase: Phase) -> bool
+    ensures { result ≡ is_more phase }
+{
+    match phase {
+        Phase::More(_, _) => true,
         _ => false,
     }
 }
@@ -81,6 +91,10 @@ fn signed(negative: bool, magnitude: u128) -> i128
     if negative { -value } else { value }
 }
 
+/// Numbers that may be continued with no division.
+const SMALL: u128 = 1 << 60;
+
+#[inline(always)]
 fn digits(limit: u128, role: Option<Relation>, negative: bool, magnitude: u128, digit: u8) -> Move
     requires room { limit < 2 ^ 127 }
     requires fits { magnitude ≤ limit }
@@ -89,12 +103,20 @@ fn digits(limit: u128, role: Option<Relation>, negative: bool, magnitude: u128, 
     ensures fits { MoveFits limit result }
 {
     let digit = digit as u128;
+    if magnitude < SMALL {
+        let next = 10 * magnitude + digit;
+        if next > limit {
+            return Move::Stop;
+        }
+        return Move::To(Phase::Digits(role, negative, next));
+    }
     if digit > limit || magnitude > (limit - digit) / 10 {
         return Move::Stop;
     }
     Move::To(Phase::Digits(role, negative, 10 * magnitude + digit))
 }
 
+#[inline(always)]
 fn number(limit: u128, role: Option<Relation>, kind: Kind) -> Move
     requires room { limit < 2 ^ 127 }
     requires fits { KindFits kind }
@@ -109,6 +131,7 @@ fn number(limit: u128, role: Option<Relation>, kind: Kind) -> Move
     }
 }
 
+#[inline(always)]
 fn behind(part: Part, kind: Kind) -> Move
     ensures plan { result ≡ behind part kind }
     ensures fits { (limit : ℕ) → MoveFits limit result }
@@ -122,6 +145,7 @@ fn behind(part: Part, kind: Kind) -> Move
 }
 
 /// What a machine does with a kind of byte. It asks for no memory.
+#[inline(always)]
 pub fn plan(part: Part, limit: u128, phase: Phase, kind: Kind) -> Move
     requires room { limit < 2 ^ 127 }
     requires phase { PhaseFits limit phase }

@@ -15,6 +15,7 @@ pub mod Parts
 pub mod Places
 pub mod Pulled
 pub mod Residual
+pub mod Rows
 pub mod Runs
 pub mod Short
 pub mod Steps

@@ -1,5 +1,5 @@
 -- A byte that the machine is given moves what stands to the text.
-use Rattle.std.proofs.Common.{◌≡◌, ℕ, ◌+◌, ◌<◌, ◌≤◌, List, [], ◌∷◌, ◌++◌, ap₂, length, Bool, true, false, IsTrue, Option, Some, None, is_some, refl, sym, ap, ◌∙◌, arith, length-append, subst, inl, inr}
+use Rattle.std.proofs.Common.{◌≡◌, ◌≢◌, ℕ, ◌+◌, ◌<◌, ◌≤◌, List, [], ◌∷◌, ◌++◌, ap₂, length, Bool, true, false, IsTrue, Option, Some, None, is_some, refl, sym, ap, ◌∙◌, arith, length-append, subst, inl, inr}
 use Rattle.std.proofs.lemmas.List.{append-nil}
 use Rattle.std.proofs.lemmas.Bool.{false≢true}
 use Rattle.pb_text.specs.Spelling.{Letter, bytes, place_after, place_next, place_or}
@@ -21,6 +21,10 @@ last_numeral-snoc : (ls : List Letter) (l : Letter) → last_numeral (ls ++ l �
 last_numeral-snoc [] l = refl
 last_numeral-snoc (m ∷ []) l = refl
 last_numeral-snoc (m ∷ n ∷ ls) l = last_numeral-snoc (n ∷ ls) l
+
+-- the place of the next byte is one of a byte that may be taken
+pub before_end : (longest longest' end offset : ℕ) (first : Option Place) → longest ≡ longest' → end ≡ end_of longest first → offset ≤ end → offset ≢ end → offset < end_of longest' first
+before_end longest longest' end offset first e is le ne = omega (arith, is ∙ ap (λ (l : ℕ). end_of l first) e)
 
 module _ {S E : Type 0} (m : Automaton S E) (longest : ℕ) (start old new : S) (input : List ℕ) (marks : List (Spanned E)) (place : Place) (first : Option Place)
     (s : Stands m longest start input marks old place first None) (unfinished : m.done old ≡ false) (b : ℕ) where

@@ -21,7 +21,7 @@ use Rattle.pb_text.proofs.Answer.{is_viable}
 use Rattle.pb_text.proofs.Short.{place_after-offset}
 use Rattle.pb_text.proofs.Told.{stands_reads}
 
-same_front : (a b x y : List ℕ) → a ++ x ≡ b ++ y → length a ≡ length b → a ≡ b
+pub same_front : (a b x y : List ℕ) → a ++ x ≡ b ++ y → length a ≡ length b → a ≡ b
 same_front a b x y e n = sym (take-append_seam a x) ∙ (ap₂ (λ (k : ℕ) (z : List ℕ). take k z) n e ∙ take-append_seam b y)
 
 -- what was lost before and what was taken now
@@ -38,7 +38,7 @@ lost_all None after taken seen t = tt
 lost_all (Some bytes) after taken seen t = (seen, t.0, t.1)
 
 -- a machine that stopped is not done
-halted : {S E : Type 0} (m : Automaton S E) (state : S) (end : ℕ) (letters : List Letter) (left : List ℕ) (place : Place) (stop : Option Stop) (halt : Stop) → stop ≡ Some halt → Waits m state end letters left place stop → (m.done state ≡ false) × (halt.place ≡ place)
+pub halted : {S E : Type 0} (m : Automaton S E) (state : S) (end : ℕ) (letters : List Letter) (left : List ℕ) (place : Place) (stop : Option Stop) (halt : Stop) → stop ≡ Some halt → Waits m state end letters left place stop → (m.done state ≡ false) × (halt.place ≡ place)
 halted m state end letters left place None halt e w = cc
 halted m state end letters left place (Some s) halt e w = (w.0, ap (λ (x : Stop). x.place) (sym (let k : s ≡ halt = cc in k)) ∙ w.1)
 

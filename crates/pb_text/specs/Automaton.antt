@@ -78,6 +78,11 @@ module _ {S E : Type 0} (m : Automaton S E) where
   Pushes old b push.Large new = (m.step old b ≡ Refuse) × (is_large old b ≡ true) × (new ≡ old)
   Pushes old b push.Memory new = IsTrue (m.asks old b) × Admits old b × (new ≡ old)
 
+  -- The machine took the byte and goes on, or nothing changes.
+  abbrev pub Goes : S → ℕ → Bool → S → Type 0
+  Goes old b true new = m.step old b ≡ Go new
+  Goes old b false new = new ≡ old
+
   abbrev pub begins_with : Bool → Next S E → Bool
   begins_with true next = false
   begins_with false (Go s) = m.begun s

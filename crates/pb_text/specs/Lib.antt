@@ -10,6 +10,7 @@ pub mod Numbers
 pub mod Over
 pub mod Pulling
 pub mod Reading
+pub mod Rows
 pub mod Source
 pub mod Spelling
 pub mod Standing

@@ -148,6 +148,9 @@ impl<M: Machine> Feeder<M> {
             });
         }
         for (i, byte) in piece.iter().enumerate() {
+            if self.goes(*byte) {
+                continue;
+            }
             match self.take(*byte) {
                 Ok(None) => {}
                 Ok(Some(event)) => {
@@ -188,6 +191,34 @@ impl<M: Machine> Feeder<M> {
         stop
     }
 
+    /// Takes one byte of a statement that goes on with it, or leaves all as it is.
+    #[inline(always)]
+    pub(crate) fn goes(&mut self, byte: u8) -> bool
+        requires unfinished { is_complete self.old ≡ false }
+        requires running { halt_of self.old ≡ None }
+        requires state { IsState M.automaton (state_of self.old) }
+        ensures goes { result ≡ true → (longest : ℕ) (start : M) (input : List ℕ) (marks : List (Spanned M.Event))
+            → StandsAt longest start input marks self.old
+            → StandsAt longest start (input ++ byte ∷ []) marks self.new }
+        ensures offset { result ≡ true → (place_of self.new).offset ≡ (place_of self.old).offset + 1 }
+        ensures running { halt_of self.new ≡ None }
+        ensures unfinished { is_complete self.new ≡ false }
+        ensures state { IsState M.automaton (state_of self.new) }
+        ensures stays { result ≡ false → (longest : ℕ) (start : M) (input : List ℕ) (marks : List (Spanned M.Event))
+            → StandsAt longest start input marks self.old
+            → StandsAt longest start input marks self.new }
+        ensures still { result ≡ false → place_of self.new ≡ place_of self.old }
+    {
+        if self.first.is_none() || self.place.offset == self.end {
+            return false;
+        }
+        if !self.machine.goes(byte) {
+            return false;
+        }
+        self.place = self.place.after(byte);
+        true
+    }
+
     /// Takes one byte.
     pub(crate) fn take(&mut self, byte: u8) -> Result<Option<Spanned<M::Event>>, Stop>
         requires unfinished { is_complete self.old ≡ false }
@@ -199,6 +230,7 @@ impl<M: Machine> Feeder<M> {
         ensures stop { halt_of self.new ≡ stop_of result }
         ensures counted { IsOpen (halt_of self.new) }
         ensures offset { OnOk result ((place_of self.new).offset ≡ (place_of self.old).offset + 1) }
+        ensures past { (event : Spanned M.Event) → result ≡ Ok (Some event) → event.past ≡ place_of self.new }
         ensures still { OnErr result ((place_of self.new).offset ≡ (place_of self.old).offset) }
         ensures unfinished { result ≡ Ok None → is_complete self.new ≡ false }
         ensures state { IsState M.automaton (state_of self.new) }

@@ -1,7 +1,7 @@
 //! A machine that takes a text byte by byte.
 
 ghost use Rattle.std.specs.Prelude.{◌≡◌};
-ghost use Rattle.pb_text.specs.Automaton.{Automaton, IsState, Pushes, begins};
+ghost use Rattle.pb_text.specs.Automaton.{Automaton, IsState, Pushes, Goes, begins};
 
 /// What a machine answers to a byte.
 #[derive(Drop)]
@@ -31,6 +31,17 @@ pub trait Machine {
     fn push(&mut self, byte: u8) -> Push<Self::Event>
         ensures pushes { Pushes automaton self.old byte result self.new }
         ensures state { IsState automaton self.new };
+
+    /// Takes a byte where that is done soon: where it ends no statement, and no memory is refused. Else it
+    /// leaves the machine as it is, and `push` says why.
+    fn goes(&mut self, byte: u8) -> bool
+        ensures goes { Goes automaton self.old byte result self.new }
+        ensures state { IsState automaton self.new }
+    {
+        let _ = self.is_done();
+        let _ = byte;
+        false
+    }
 
     /// Whether the text is complete.
     fn is_done(&self) -> bool

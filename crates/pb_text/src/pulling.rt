@@ -5,6 +5,7 @@ ghost use Rattle.pb_text.specs.Automaton.{IsState};
 ghost use Rattle.pb_text.specs.Standing.{IsOpen};
 ghost use Rattle.pb_text.specs.Feeding.{StandsAt, WantsMemory, stop_of, state_of, place_of, halt_of, is_complete};
 ghost use Rattle.pb_text.specs.Pulling.{Pulls, faults_after};
+ghost use Rattle.pb_text.specs.Rows.{HasPulled, PullsOn};
 ghost use Rattle.pb_text.specs.declared.place.Spanned.{Spanned};
 ghost use Rattle.pb_text.specs.declared.place.Stop.{Stop};
 
@@ -23,6 +24,10 @@ pub fn pull<S: Source, M: Machine>(
         → IsOpen (halt_of feeder.old)
         → StandsAt longest start input marks feeder.old
         → Pulls longest start input marks feeder.old (S.left source.old) result feeder.new (S.left source.new) }
+    // Pulls in a row are a read of what they have taken.
+    ensures row { (longest : ℕ) (start : M) (before : Option (List ℕ)) (marks : List (Spanned M.Event))
+        → HasPulled longest start before marks feeder.old (S.left source.old)
+        → PullsOn longest start before marks result feeder.new (S.left source.new) }
     ensures again { (stop : Stop) → halt_of feeder.old ≡ Some stop
         → (result ≡ Err stop) × (feeder.new ≡ feeder.old) × (source.new ≡ source.old) }
     ensures done { is_complete feeder.old ≡ true → halt_of feeder.old ≡ None
@@ -30,6 +35,7 @@ pub fn pull<S: Source, M: Machine>(
     ensures stop { halt_of feeder.new ≡ stop_of result }
     ensures last { result ≡ Ok None → is_complete feeder.new ≡ true }
     ensures onward { (event : Spanned M.Event) → result ≡ Ok (Some event) → (place_of feeder.old).offset < (place_of feeder.new).offset }
+    ensures past { (event : Spanned M.Event) → result ≡ Ok (Some event) → event.past ≡ place_of feeder.new }
     // `Read` is first answered only where the source failed in this call.
     ensures faults { S.faults source.new ≡ faults_after (halt_of feeder.old) result (S.faults source.old) }
     // Memory is wanted only at a byte that may ask for it.
@@ -48,6 +54,10 @@ pub fn pull<S: Source, M: Machine>(
             Ok(None) => return Err(feeder.halt(Why::Ended)),
             Err(Failed) => return Err(feeder.halt(Why::Read)),
         };
+        if feeder.goes(byte) {
+            source.skip();
+            continue;
+        }
         match feeder.take(byte) {
             Ok(None) => source.skip(),
             Ok(Some(event)) => {

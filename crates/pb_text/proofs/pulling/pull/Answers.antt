@@ -1,10 +1,11 @@
-use Rattle.std.proofs.Common.{◌≡◌, ℕ, List, [], ◌∷◌, ◌++◌, subst, sym, ap, ◌∙◌, refl, append-nil, append_assoc, length-append, None, Some, Option, true, arith}
+use Rattle.std.proofs.Common.{◌≡◌, ℕ, List, [], ◌∷◌, ◌++◌, subst, sym, ap, ◌∙◌, refl, append-nil, append_assoc, length-append, None, Some, Option, Ok, Err, true, arith}
 use Rattle.pb_text.specs.Standing.{Stands}
 use Rattle.pb_text.specs.declared.place.Place.{Place}
 use Rattle.pb_text.specs.declared.place.Stop.{Stop}
 use Rattle.pb_text.specs.Feeding.{StandsAt}
 use Rattle.pb_text.proofs.Begin.{stands_more, stands_ended, stands_failed}
 use Rattle.pb_text.proofs.Pulled.{lost_nothing, lost_byte, seen_byte, seen_end, seen_rest, seen_after, faults_with_other}
+use Rattle.pb_text.proofs.Rows.{row}
 use Rattle.pb_text.proofs.pulling.pull.Goals as goal
 
 pub returns-in-Some-clause-pulls : goal.returns-in-Some-clause-pulls
@@ -78,8 +79,31 @@ returns-in-Err-clause-pulls g c longest start input marks counts s =
       stands = (c.halt-in-Err.ensures.longest ∙ i.3.0, rw (append-nil, ← append_assoc input i.0 seen.0, c.halt-in-Err.ensures.stop, c.halt-in-Err.ensures.result, c.halt-in-Err.ensures.machine, c.halt-in-Err.ensures.place, c.halt-in-Err.ensures.first) e);
     }
 
+pub loop-byte-preserved-then-goes : goal.loop-byte-preserved-then-goes
+loop-byte-preserved-then-goes g c =
+    let t = c.goes.ensures in
+    let p = rw (c.in-Ok-Some.is, c.in-Ok-Some.field-0-is) at c.peek.ensures in
+    let b : ℕ = c.in-Ok-Some.byte in
+    record {
+      running = t.running;
+      unfinished = t.unfinished;
+      state = t.state;
+      onward = omega (arith, t.offset c.if-goes.true, c.loop-byte.invariant.onward);
+      faults = c.skip.ensures.1 ∙ (p.3 ∙ c.loop-byte.invariant.faults);
+      stands = λ longest start input marks s.
+          let i = c.loop-byte.invariant.stands longest start input marks s in
+          let k = t.goes c.if-goes.true longest start (input ++ i.0) marks i.3 in
+          let m : StandsAt longest start (input ++ (i.0 ++ b ∷ [])) marks c.goes.new.self = rw (← append_assoc input i.0 (b ∷ [])) k in (
+            i.0 ++ b ∷ [],
+            lost_byte (g.S.Source.left c.args.source.now) i.0 (g.S.Source.left c.loop-byte.source) (g.S.Source.left c.peek.new.self) (g.S.Source.left c.skip.new.self) b i.1 p.0 p.1 c.skip.ensures.0,
+            omega (arith, t.offset c.if-goes.true, i.2, length-append i.0 (b ∷ [])),
+            m,
+          );
+    }
+
 pub loop-byte-preserved : goal.loop-byte-preserved
 loop-byte-preserved g c =
+    let still = ap (λ (p : Place). p.offset) (c.goes.ensures.still c.if-goes.false) in
     let t = rw (c.in-Ok-None-take.is, c.in-Ok-None-take.field-0-is) at c.take.ensures in
     let p = rw (c.in-Ok-Some.is, c.in-Ok-Some.field-0-is) at c.peek.ensures in
     let b : ℕ = c.in-Ok-Some.byte in
@@ -87,26 +111,27 @@ loop-byte-preserved g c =
       running = t.stop;
       unfinished = t.unfinished refl;
       state = t.state;
-      onward = omega (arith, t.offset, c.loop-byte.invariant.onward);
-      faults = c.skip.ensures.1 ∙ (p.3 ∙ c.loop-byte.invariant.faults);
+      onward = omega (arith, t.offset, still, c.loop-byte.invariant.onward);
+      faults = c.skip-in-Ok-None-take.ensures.1 ∙ (p.3 ∙ c.loop-byte.invariant.faults);
       stands = λ longest start input marks s.
           let i = c.loop-byte.invariant.stands longest start input marks s in
-          let k = t.stands longest start (input ++ i.0) marks i.3 in
+          let k = t.stands longest start (input ++ i.0) marks (c.goes.ensures.stays c.if-goes.false longest start (input ++ i.0) marks i.3) in
           let m : StandsAt longest start (input ++ (i.0 ++ b ∷ [])) marks c.take.new.self = rw (← append_assoc input i.0 (b ∷ [])) (rw append-nil at k) in (
             i.0 ++ b ∷ [],
-            lost_byte (g.S.Source.left c.args.source.now) i.0 (g.S.Source.left c.loop-byte.source) (g.S.Source.left c.peek.new.self) (g.S.Source.left c.skip.new.self) b i.1 p.0 p.1 c.skip.ensures.0,
-            omega (arith, t.offset, i.2, length-append i.0 (b ∷ [])),
+            lost_byte (g.S.Source.left c.args.source.now) i.0 (g.S.Source.left c.loop-byte.source) (g.S.Source.left c.peek.new.self) (g.S.Source.left c.skip-in-Ok-None-take.new.self) b i.1 p.0 p.1 c.skip-in-Ok-None-take.ensures.0,
+            omega (arith, t.offset, still, i.2, length-append i.0 (b ∷ [])),
             m,
           );
     }
 
 pub returns-in-Ok-Some-take-clause-pulls : goal.returns-in-Ok-Some-take-clause-pulls
 returns-in-Ok-Some-take-clause-pulls g c longest start input marks counts s =
+    let still = ap (λ (p : Place). p.offset) (c.goes.ensures.still c.if-goes.false) in
     let t = rw (c.in-Ok-Some-take.is, c.in-Ok-Some-take.field-0-is) at c.take.ensures in
     let p = rw (c.in-Ok-Some.is, c.in-Ok-Some.field-0-is) at c.peek.ensures in
     let b : ℕ = c.in-Ok-Some.byte in
     let i = c.loop-byte.invariant.stands longest start input marks s in
-    let k = t.stands longest start (input ++ i.0) marks i.3 in
+    let k = t.stands longest start (input ++ i.0) marks (c.goes.ensures.stays c.if-goes.false longest start (input ++ i.0) marks i.3) in
     let last = g.S.Source.left c.skip-in-Ok-Some-take.new.self in
     let lost = lost_byte (g.S.Source.left c.args.source.now) i.0 (g.S.Source.left c.loop-byte.source) (g.S.Source.left c.peek.new.self) last b i.1 p.0 p.1 c.skip-in-Ok-Some-take.ensures.0 in
     let seen = seen_after (g.S.Source.left c.args.source.now) (i.0 ++ b ∷ []) last lost in
@@ -114,18 +139,19 @@ returns-in-Ok-Some-take-clause-pulls g c longest start input marks counts s =
       taken = i.0 ++ b ∷ [];
       seen = seen.0;
       took = seen.1;
-      offset_is = omega (arith, t.offset, i.2, length-append i.0 (b ∷ []));
+      offset_is = omega (arith, t.offset, still, i.2, length-append i.0 (b ∷ []));
       stands = rw (← append_assoc input i.0 (b ∷ [])) k;
     }
 
 pub returns-in-Err-take-clause-pulls : goal.returns-in-Err-take-clause-pulls
 returns-in-Err-take-clause-pulls g c longest start input marks counts s =
+    let still = ap (λ (p : Place). p.offset) (c.goes.ensures.still c.if-goes.false) in
     let t = rw c.in-Err-take.is at c.take.ensures in
     let p = rw (c.in-Ok-Some.is, c.in-Ok-Some.field-0-is) at c.peek.ensures in
     let b : ℕ = c.in-Ok-Some.byte in
     let n = c.take.new.self in
     let i = c.loop-byte.invariant.stands longest start input marks s in
-    let k = t.stands longest start (input ++ i.0) marks i.3 in
+    let k = t.stands longest start (input ++ i.0) marks (c.goes.ensures.stays c.if-goes.false longest start (input ++ i.0) marks i.3) in
     let seen = seen_byte (g.S.Source.left c.args.source.now) i.0 (g.S.Source.left c.loop-byte.source) (g.S.Source.left c.peek.new.self) b i.1 p.0 p.1 in
     let m = stands_more g.M.Machine.automaton longest start n.machine ((input ++ i.0) ++ b ∷ []) (marks ++ []) n.place n.first seen.0 n.stop t.counted (λ e. cc t.stop) k.1 in
     let same : ((input ++ i.0) ++ b ∷ []) ++ seen.0 ≡ input ++ (i.0 ++ (b ∷ seen.0)) = append_assoc (input ++ i.0) (b ∷ []) seen.0 ∙ append_assoc input i.0 (b ∷ seen.0) in
@@ -133,7 +159,7 @@ returns-in-Err-take-clause-pulls g c longest start input marks counts s =
       taken = i.0;
       seen = b ∷ seen.0;
       took = seen.1;
-      offset_is = t.still ∙ i.2;
+      offset_is = t.still ∙ (still ∙ i.2);
       stands = (k.0, subst (λ (x : List ℕ). Stands g.M.Machine.automaton longest start x (marks ++ []) n.machine n.place n.first n.stop) same m);
     }
 
@@ -143,3 +169,31 @@ returns-in-Err-take-clause-faults g c =
     let p = rw (c.in-Ok-Some.is, c.in-Ok-Some.field-0-is) at c.peek.ensures in
     let none : c.args.feeder.now.stop ≡ None = sym c.in_default.ensures in
     rw none (p.3 ∙ (c.loop-byte.invariant.faults ∙ sym (faults_with_other c.in-Err-take.stop.why (g.S.Source.faults c.args.source.now) t.unread)))
+
+pub returns-then-is_done-clause-row : goal.returns-then-is_done-clause-row
+returns-then-is_done-clause-row g c longest start before marks h =
+    let f = c.args.feeder.now in
+    let now = g.S.Source.left c.args.source.now in
+    row {g = g.M.Machine} longest start before now now marks f f h (Ok None) (returns-then-is_done-clause-pulls g c longest start h.used marks (rw h.running tt) h.stands) h.running (λ e. sym c.if-is_done.ensures.done) (λ m e. cc e)
+
+pub returns-in-Ok-None-clause-row : goal.returns-in-Ok-None-clause-row
+returns-in-Ok-None-clause-row g c longest start before marks h =
+    let f = c.args.feeder.now in
+    row {g = g.M.Machine} longest start before (g.S.Source.left c.args.source.now) (g.S.Source.left c.peek.new.self) marks f c.halt.new.self h (Err c.halt.result) (returns-in-Ok-None-clause-pulls g c longest start h.used marks (rw h.running tt) h.stands) c.halt.ensures.stop (λ e. cc e) (λ m e. cc e)
+
+pub returns-in-Err-clause-row : goal.returns-in-Err-clause-row
+returns-in-Err-clause-row g c longest start before marks h =
+    let f = c.args.feeder.now in
+    row {g = g.M.Machine} longest start before (g.S.Source.left c.args.source.now) (g.S.Source.left c.peek.new.self) marks f c.halt-in-Err.new.self h (Err c.halt-in-Err.result) (returns-in-Err-clause-pulls g c longest start h.used marks (rw h.running tt) h.stands) c.halt-in-Err.ensures.stop (λ e. cc e) (λ m e. cc e)
+
+pub returns-in-Ok-Some-take-clause-row : goal.returns-in-Ok-Some-take-clause-row
+returns-in-Ok-Some-take-clause-row g c longest start before marks h =
+    let f = c.args.feeder.now in
+    let t = rw (c.in-Ok-Some-take.is, c.in-Ok-Some-take.field-0-is) at c.take.ensures in
+    row {g = g.M.Machine} longest start before (g.S.Source.left c.args.source.now) (g.S.Source.left c.skip-in-Ok-Some-take.new.self) marks f c.take.new.self h (Ok (Some c.in-Ok-Some-take.event)) (returns-in-Ok-Some-take-clause-pulls g c longest start h.used marks (rw h.running tt) h.stands) t.stop (λ e. cc e) t.past
+
+pub returns-in-Err-take-clause-row : goal.returns-in-Err-take-clause-row
+returns-in-Err-take-clause-row g c longest start before marks h =
+    let f = c.args.feeder.now in
+    let t = rw c.in-Err-take.is at c.take.ensures in
+    row {g = g.M.Machine} longest start before (g.S.Source.left c.args.source.now) (g.S.Source.left c.peek.new.self) marks f c.take.new.self h (Err c.in-Err-take.stop) (returns-in-Err-take-clause-pulls g c longest start h.used marks (rw h.running tt) h.stands) t.stop (λ e. cc e) (λ m e. cc e)

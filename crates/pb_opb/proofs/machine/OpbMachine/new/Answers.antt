@@ -1,6 +1,10 @@
 use Rattle.pb_text.specs.Limits.{largest, top_of}
 use Rattle.pb_opb.proofs.Bodies.{reads_instances}
+use Rattle.pb_opb.proofs.Exactly.{reads_exactly}
 use Rattle.pb_opb.proofs.machine.OpbMachine.new.Goals as goal
 
 pub returns-clause-accepts : goal.returns-clause-accepts
 returns-clause-accepts c = rw (c.new.ensures, c.new-2.ensures.begins) (reads_instances (largest c.args.limits) (top_of c.args.limits))
+
+pub returns-clause-reads : goal.returns-clause-reads
+returns-clause-reads c = rw (c.new.ensures, c.new-2.ensures.begins) (reads_exactly (largest c.args.limits) (top_of c.args.limits))

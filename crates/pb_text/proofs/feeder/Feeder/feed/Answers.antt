@@ -1,6 +1,7 @@
 use Rattle.std.proofs.Common.{◌≡◌, ◌+◌, ◌<◌, ℕ, List, [], ◌∷◌, ◌++◌, length, subst, sym, ap, ◌∙◌, refl, append-nil, append_assoc, take, drop, get_or, take-append-drop, arith}
 use Rattle.std.proofs.lemmas.List.{take_more}
 use Rattle.std.proofs.Math.Seq.{take-length}
+use Rattle.pb_text.specs.declared.place.Place.{Place}
 use Rattle.pb_text.specs.Standing.{Stands}
 use Rattle.pb_text.specs.Feeding.{StandsAt}
 use Rattle.pb_text.proofs.Begin.{stands_more}
@@ -27,7 +28,7 @@ returns-in-Err-clause-feeds g c = (
   λ longest start input marks counts s.
       let t = rw c.in-Err.is at c.take.ensures in
       let n = c.take.new.self in
-      let k = t.stands longest start (input ++ take c.loop-i.i c.args.piece.now) marks (c.loop-i.invariant.stands longest start input marks s) in
+      let k = t.stands longest start (input ++ take c.loop-i.i c.args.piece.now) marks (c.goes.ensures.stays c.if-goes.false longest start (input ++ take c.loop-i.i c.args.piece.now) marks (c.loop-i.invariant.stands longest start input marks s)) in
       let m = stands_more g.M.Machine.automaton longest start n.machine _ (marks ++ []) n.place n.first (drop (c.loop-i.i + 1) c.args.piece.now) n.stop t.counted (λ e. cc t.stop) k.1 in (
         k.0,
         subst (λ (x : List ℕ). Stands g.M.Machine.automaton longest start x (marks ++ []) n.machine n.place n.first n.stop)
@@ -41,11 +42,22 @@ returns-in-Ok-Some-clause-feeds g c = (
   λ longest start input marks counts s.
       let t = rw (c.in-Ok-Some.is, c.in-Ok-Some.field-0-is) at c.take.ensures in
       let n = c.take.new.self in
-      let k = t.stands longest start (input ++ take c.loop-i.i c.args.piece.now) marks (c.loop-i.invariant.stands longest start input marks s) in
+      let k = t.stands longest start (input ++ take c.loop-i.i c.args.piece.now) marks (c.goes.ensures.stays c.if-goes.false longest start (input ++ take c.loop-i.i c.args.piece.now) marks (c.loop-i.invariant.stands longest start input marks s)) in
       subst (λ (x : List ℕ). StandsAt longest start x (marks ++ c.in-Ok-Some.event ∷ []) n)
       (one_more input c.args.piece.now c.loop-i.i c.loop-i-test.true) k,
   λ k. c.take.ensures.counted,
 )
+
+pub loop-i-preserved-then-goes : goal.loop-i-preserved-then-goes
+loop-i-preserved-then-goes g c = record {
+  running = c.goes.ensures.running;
+  unfinished = c.goes.ensures.unfinished;
+  state = c.goes.ensures.state;
+  offset = omega (arith, c.goes.ensures.offset c.if-goes.true, c.loop-i.invariant.offset);
+  stands = λ longest start input marks s.
+      let k = c.goes.ensures.goes c.if-goes.true longest start (input ++ take c.loop-i.i c.args.piece.now) marks (c.loop-i.invariant.stands longest start input marks s) in
+      subst (λ (x : List ℕ). StandsAt longest start x marks c.goes.new.self) (one_more input c.args.piece.now c.loop-i.i c.loop-i-test.true) k;
+}
 
 pub loop-i-preserved : goal.loop-i-preserved
 loop-i-preserved g c =
@@ -54,9 +66,9 @@ loop-i-preserved g c =
       running = t.stop;
       unfinished = t.unfinished refl;
       state = t.state;
-      offset = omega (arith, t.offset, c.loop-i.invariant.offset);
+      offset = omega (arith, t.offset, ap (λ (p : Place). p.offset) (c.goes.ensures.still c.if-goes.false), c.loop-i.invariant.offset);
       stands = λ longest start input marks s.
-          let k = t.stands longest start (input ++ take c.loop-i.i c.args.piece.now) marks (c.loop-i.invariant.stands longest start input marks s) in
+          let k = t.stands longest start (input ++ take c.loop-i.i c.args.piece.now) marks (c.goes.ensures.stays c.if-goes.false longest start (input ++ take c.loop-i.i c.args.piece.now) marks (c.loop-i.invariant.stands longest start input marks s)) in
           let m = rw append-nil at k in
           subst (λ (x : List ℕ). StandsAt longest start x marks c.take.new.self) (one_more input c.args.piece.now c.loop-i.i c.loop-i-test.true) m;
     }

@@ -3,11 +3,8 @@ use Rattle.pb_text.specs.Limit.{end_of}
 use Rattle.pb_text.specs.declared.place.Place.{Place}
 use Rattle.pb_text.specs.declared.place.Stop.{Stop}
 use Rattle.pb_text.specs.Standing.{Stands}
-use Rattle.pb_text.proofs.Steps.{stands_go, stands_event, stands_no, stands_large, stands_lacks, stands_long}
+use Rattle.pb_text.proofs.Steps.{before_end, stands_go, stands_event, stands_no, stands_large, stands_lacks, stands_long}
 use Rattle.pb_text.proofs.feeder.Feeder.take.Goals as goal
-
-before_end : (longest longest' end offset : ℕ) (first : Option Place) → longest ≡ longest' → end ≡ end_of longest first → offset ≤ end → offset ≢ end → offset < end_of longest' first
-before_end longest longest' end offset first e is le ne = omega (arith, is ∙ ap (λ (l : ℕ). end_of l first) e)
 
 at_end : (longest longest' end offset : ℕ) (first : Option Place) → longest ≡ longest' → end ≡ end_of longest first → offset ≡ end → offset ≡ end_of longest' first
 at_end longest longest' end offset first e is at = at ∙ (is ∙ ap (λ (l : ℕ). end_of l first) e)
