@@ -1,3 +1,4 @@
 pub mod Faults
 pub mod Words
 pub mod Tidying
+pub mod Showing

@@ -4,6 +4,7 @@
 mod fault;
 mod limiting;
 mod showing;
+mod statement;
 #[cfg(test)]
 mod tests;
 mod tidying;

@@ -1,12 +1,19 @@
-//! `pb show`: the statements of an instance, each with its place.
+//! `pb show`: the statements of a text, each with its place.
 
-ghost use Rattle.std.specs.Prelude.{◌<◌, IfSome};
+ghost use Rattle.std.specs.Prelude.{◌≡◌, ◌<◌, ◌^◌, false, unwrap_or, IfSome};
+ghost use Rattle.pb_text.specs.Automaton.{Accepts};
+ghost use Rattle.pb_text.specs.Writing.{Writes};
+ghost use Rattle.pb_opb.specs.Canonical.{event_bytes};
+ghost use Rattle.pb_tool.specs.Showing.{shown_line, Shows};
+ghost use Rattle.pb_tool.specs.Tidying.{IsOpb};
 
 use crate::fault::{ToolFault, refused};
-use pb_opb::{OpbEvent, OpbMachine, write_event};
+use crate::statement::Statement;
+use pb_opb::OpbMachine;
 use pb_sums::write_count;
 use pb_text::{
-    BYTE_LIMIT, Failed, Feeder, Limits, Sink, Source, Spanned, pull, rest_is_blank, write_bytes,
+    BYTE_LIMIT, Failed, Feeder, Limits, Machine, Sink, Source, Spanned, pull, rest_is_blank,
+    write_bytes,
 };
 use std::alloc::Global;
 
@@ -23,47 +30,55 @@ pub fn show<S: Source, W: Sink>(
     limits: Limits,
 ) -> Result<(), ToolFault>
     requires { IfSome longest (λ n. 0 < n) }
+    ensures { Shows (IsOpb limits) (unwrap_or longest (2 ^ 40)) event_bytes W.contents W.faults (S.left input.old) out.old result (S.left input.new) out.new }
 {
     let longest = longest.unwrap_or(BYTE_LIMIT);
-    let mut feeder = Feeder::within(OpbMachine::new(alloc, limits), longest);
-    show_each(input, &mut feeder, out)?;
+    show_each(OpbMachine::new(alloc, limits), longest, input, out)
+}
+
+/// The same for what a machine reads.
+fn show_each<S: Source, W: Sink, E: Statement + Drop, M: Machine<Event = E> + Drop>(
+    machine: M,
+    longest: u64,
+    input: &mut S,
+    out: &mut W,
+) -> Result<(), ToolFault>
+    requires between { M.automaton.begun machine ≡ false }
+    requires some { 0 < longest }
+    ensures { Shows (Accepts M.automaton machine) longest E.text W.contents W.faults (S.left input.old) out.old result (S.left input.new) out.new }
+{
+    let mut feeder = Feeder::within(machine, longest);
+    loop {
+        match pull(input, &mut feeder) {
+            Ok(Some(read)) => match show_one(read, out) {
+                Ok(()) => {}
+                Err(Failed) => return Err(ToolFault::Write),
+            },
+            Ok(None) => break,
+            Err(stop) => return Err(refused(stop)),
+        }
+    }
     match rest_is_blank(input, feeder.place()) {
         Ok(()) => Ok(()),
         Err(stop) => Err(refused(stop)),
     }
 }
 
-/// Writes the line of each statement that is still to come.
-fn show_each<S: Source, W: Sink>(
-    input: &mut S,
-    feeder: &mut Feeder<OpbMachine>,
-    out: &mut W,
-) -> Result<(), ToolFault> {
-    loop {
-        // Each statement takes bytes, and the place is in reach of the last one that is read.
-        let _ = feeder.place();
-        match pull(input, feeder) {
-            Ok(Some(read)) => show_one(read, out)?,
-            Ok(None) => return Ok(()),
-            Err(stop) => return Err(refused(stop)),
-        }
-    }
-}
-
 /// Writes the line of a statement, which nothing wants any more.
-fn show_one<W: Sink>(read: Spanned<OpbEvent>, out: &mut W) -> Result<(), ToolFault> {
-    match write_shown(&read, out) {
-        Ok(()) => Ok(()),
-        Err(Failed) => Err(ToolFault::Write),
-    }
+fn show_one<W: Sink, E: Statement + Drop>(read: Spanned<E>, out: &mut W) -> Result<(), Failed>
+    ensures { Writes W.contents W.faults out.old (shown_line E.text read) result out.new }
+{
+    write_shown(&read, out)
 }
 
 /// Writes the line of a statement.
-fn write_shown<W: Sink>(read: &Spanned<OpbEvent>, out: &mut W) -> Result<(), Failed> {
+fn write_shown<W: Sink, E: Statement>(read: &Spanned<E>, out: &mut W) -> Result<(), Failed>
+    ensures { Writes W.contents W.faults out.old (shown_line E.text read.now) result out.new }
+{
     write_count(read.first.line, out)?;
     write_bytes(b":", out)?;
     write_count(read.first.column, out)?;
     write_bytes(b" ", out)?;
-    write_event(&read.event, out)?;
+    read.event.write_text(out)?;
     write_bytes(b"\n", out)
 }

@@ -153,6 +153,27 @@ fn shows_places_and_statements(rt: HostRuntime) {
 }
 
 #[test]
+fn shows_where_each_statement_begins(rt: HostRuntime) {
+    let text =
+        b"* #variable= 2 #constraint= 2\n*a\nmin: -1 x1 ;\n\n  1 x1 -2 ~x2 = -1 ;  1 x2 >= 0 ; * c\n";
+    let want =
+        b"1:1 * #variable= 2 #constraint= 2\n2:1 *a\n3:1 min: -1 x1 ;\n5:3 +1 x1 -2 ~x2 = -1 ;\n5:23 +1 x2 >= 0 ;\n";
+    let done = shown(rt.alloc(), text, Limits::full());
+    assert!(rt; done.answer.is_ok() && done.written.as_slice() == want.as_slice());
+}
+
+#[test]
+fn tells_a_write_fault_within_a_line(rt: HostRuntime) {
+    let mut writer = FaultyWriter::new(Vec::new(rt.alloc()));
+    writer.fails_at = Some(3);
+    let mut out = Over::new(writer);
+    let full = Limits::full();
+    let answer = show(rt.alloc(), &mut Over::new(ONE), &mut out, None, full);
+    assert!(rt; matches!(answer, Err(ToolFault::Write)));
+    assert!(rt; out.into_inner().taken.as_slice() == b"1:".as_slice());
+}
+
+#[test]
 fn refuses_a_number_past_its_bits(rt: HostRuntime) {
     let least = limits_of(31);
     assert!(rt; least.bits() == 31 && least.top() == 2147483647);

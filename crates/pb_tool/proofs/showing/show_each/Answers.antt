@@ -1,19 +1,64 @@
-use Rattle.std.proofs.Common.{ℕ, ◌+◌, ◌-◌, ◌^◌, ◌<◌, ◌≤◌, arith, refl, subst}
-use Rattle.pb_text.specs.Blank.{IsInReach}
+use Rattle.std.proofs.Common.{ℕ, ◌+◌, ◌-◌, ◌^◌, ◌<◌, ◌≤◌, [], ◌∷◌, ◌++◌, Ok, Err, ap, arith, refl, subst}
+use Rattle.pb_text.specs.Automaton.{Accepts}
+use Rattle.pb_text.specs.Blank.{ReadsBlank}
 use Rattle.pb_text.specs.declared.Place.{Place}
+use Rattle.pb_text.proofs.Parts.{part_wrote}
+use Rattle.pb_text.proofs.Writing.{writes_nothing}
+use Rattle.pb_tool.specs.Showing.{InText}
+use Rattle.pb_tool.proofs.Shown.{first_pull, shown_more, so_far_within, spelling, stray}
 use Rattle.pb_tool.proofs.showing.show_each.Goals as goal
 
 pub loop-read-init : goal.loop-read-init
-loop-read-init g c = tt
+loop-read-init g c = (
+  [],
+  first_pull {g = g.M.Machine} c.args.longest c.args.machine (g.S.Source.left c.args.input.now) c.within-feeder.result c.within-feeder.ensures.stands c.within-feeder.ensures.running (ap (λ (p : Place). p.offset) c.within-feeder.ensures.place),
+  writes_nothing g.W.Sink.contents g.W.Sink.faults c.args.out.now,
+)
 
-fewer : (a b : ℕ) → a ≤ 2 ^ 40 → a < b → 2 ^ 40 + 1 - b < 2 ^ 40 + 1 - a
+fewer : (a b : ℕ) → b ≤ 2 ^ 40 → a < b → 2 ^ 40 + 1 - b < 2 ^ 40 + 1 - a
 fewer a b reach onward = omega arith
 
 pub loop-read-smaller : goal.loop-read-smaller
 loop-read-smaller g c =
+    let (marks, pulled, wrote) = c.loop-read.invariant in
     let t = rw (c.in-Ok-Some.is, c.in-Ok-Some.field-0-is) at c.pull.ensures in
-    let reach = subst (λ (p : Place). IsInReach p) c.place.ensures.place c.place.ensures.reach in
-    fewer _ _ reach.offset (t.onward c.in-Ok-Some.read refl)
+    let (more, sofar) = t.row c.args.longest c.args.machine (g.S.Source.left c.args.input.now) marks pulled in
+    let within = so_far_within (Accepts g.M.Machine.automaton c.args.machine) c.args.longest (g.S.Source.left c.args.input.now) (g.S.Source.left c.pull.new.source) (marks ++ c.in-Ok-Some.read ∷ []) c.in-Ok-Some.read.past sofar in
+    fewer _ _ (subst (λ (p : Place). p.offset ≤ 2 ^ 40) (t.past c.in-Ok-Some.read refl) within) (t.onward c.in-Ok-Some.read refl)
 
 pub loop-read-preserved : goal.loop-read-preserved
-loop-read-preserved g c = tt
+loop-read-preserved g c =
+    let (marks, pulled, wrote) = c.loop-read.invariant in
+    let t = rw (c.in-Ok-Some.is, c.in-Ok-Some.field-0-is) at c.pull.ensures in
+    let (more, sofar) = t.row c.args.longest c.args.machine (g.S.Source.left c.args.input.now) marks pulled in
+    (marks ++ c.in-Ok-Some.read ∷ [], more, part_wrote g.W.Sink.contents g.W.Sink.faults _ _ _ _ _ _ (shown_more g.E.Statement.text marks c.in-Ok-Some.read) wrote c.in-Ok.ensures)
+
+pub returns-in-Err-show_one : goal.returns-in-Err-show_one
+returns-in-Err-show_one g c =
+    let (marks, pulled, wrote) = c.loop-read.invariant in
+    let t = rw (c.in-Ok-Some.is, c.in-Ok-Some.field-0-is) at c.pull.ensures in
+    let (more, sofar) = t.row c.args.longest c.args.machine (g.S.Source.left c.args.input.now) marks pulled in
+    (marks, c.in-Ok-Some.read, c.loop-read.out, sofar, wrote, c.in-Err-show_one.ensures)
+
+pub returns-in-Err : goal.returns-in-Err
+returns-in-Err g c =
+    let (marks, pulled, wrote) = c.loop-read.invariant in
+    let t = rw c.in-Err.is at c.pull.ensures in
+    rw c.refused.ensures (marks, InText (t.row c.args.longest c.args.machine (g.S.Source.left c.args.input.now) marks pulled), wrote)
+
+pub returns-in-Ok-rest_is_blank : goal.returns-in-Ok-rest_is_blank
+returns-in-Ok-rest_is_blank g c =
+    let (marks, pulled, wrote) = c.loop-read.invariant in
+    let t = rw (c.in-Ok-None.is, c.in-Ok-None.field-0-is) at c.pull.ensures in
+    let all = t.row c.args.longest c.args.machine (g.S.Source.left c.args.input.now) marks pulled in
+    let blank = subst (λ (p : Place). ReadsBlank p (g.S.Source.left c.pull.new.source) (Ok tt) (g.S.Source.left c.rest_is_blank.new.source)) c.place.ensures.place c.in-Ok-rest_is_blank.ensures.blank in
+    (marks, spelling (Accepts g.M.Machine.automaton c.args.machine) c.args.longest (g.S.Source.left c.args.input.now) (g.S.Source.left c.pull.new.source) (g.S.Source.left c.rest_is_blank.new.source) marks _ all blank, wrote)
+
+pub returns : goal.returns
+returns g c =
+    let (marks, pulled, wrote) = c.loop-read.invariant in
+    let t = rw (c.in-Ok-None.is, c.in-Ok-None.field-0-is) at c.pull.ensures in
+    let all = t.row c.args.longest c.args.machine (g.S.Source.left c.args.input.now) marks pulled in
+    let s = c.in-Err-rest_is_blank.stop in
+    let blank = subst (λ (p : Place). ReadsBlank p (g.S.Source.left c.pull.new.source) (Err s) (g.S.Source.left c.rest_is_blank.new.source)) c.place.ensures.place c.in-Err-rest_is_blank.ensures.blank in
+    rw c.refused-in-Err-rest_is_blank.ensures (marks, stray (Accepts g.M.Machine.automaton c.args.machine) c.args.longest (g.S.Source.left c.args.input.now) (g.S.Source.left c.pull.new.source) (g.S.Source.left c.rest_is_blank.new.source) marks _ s all blank, wrote)

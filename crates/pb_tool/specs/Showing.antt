@@ -1,0 +1,53 @@
+-- What `pb show` writes: a line for each statement that was read.
+use Rattle.std.specs.Prelude.{ℕ, ◌≤◌, List, [], ◌∷◌, ◌++◌, length, decimal, false, Option, Some, Result, Ok, Err}
+use Rattle.pb_text.specs.Blank.{IsBlank, ReadsBlank}
+use Rattle.pb_text.specs.Pulling.{Took}
+use Rattle.pb_text.specs.Reading.{IsSpelled, byte_limit}
+use Rattle.pb_text.specs.Rows.{TookAll, TookSoFar}
+use Rattle.pb_text.specs.Spelling.{Item, place_after}
+use Rattle.pb_text.specs.Writing.{Wrote, Broke}
+use Rattle.pb_text.specs.declared.Spanned.{Spanned}
+use Rattle.pb_text.specs.declared.Stop.{Stop}
+use Rattle.pb_tool.specs.declared.fault.ToolFault.{ToolFault}
+use Rattle.pb_tool.specs.declared.fault.ToolFault.TheVariants.{Text, Open, Overflow, Memory, Write}
+use Rattle.pb_tool.specs.declared.fault.Input.TheVariants.{File, Instance, Proof}
+
+module _ {E : Type 0} (text : E → List ℕ) where
+  -- the line of a statement: `L:C `, the line and the column of its first byte, and then its canonical text and a line feed
+  abbrev pub shown_line : Spanned E → List ℕ
+  shown_line m = decimal m.first.line ++ (58 ∷ (decimal m.first.column ++ (32 ∷ (text m.event ++ (10 ∷ [])))))
+
+  -- the lines of statements, in their order
+  abbrev pub shown : List (Spanned E) → List ℕ
+  shown [] = []
+  shown (m ∷ marks) = shown_line m ++ shown marks
+
+module _ {E : Type 0} (format : List (Item E) → Type 0) (longest : ℕ) where
+  -- The input was a spelling with these marks and a blank rest, and ended there.
+  pub record IsSpelling (before after : Option (List ℕ)) (marks : List (Spanned E)) : Type 0 where
+    pub used : List ℕ
+    pub rest : List ℕ
+    pub took : Took before (used ++ rest) [] after
+    pub spelled : IsSpelled format longest used marks
+    pub blank : IsBlank rest
+    pub within : length (used ++ rest) ≤ byte_limit
+
+  -- The input was refused after these marks: in the text, or in the rest behind a whole spelling.
+  pub data IsRefusedAfter (before after : Option (List ℕ)) (marks : List (Spanned E)) (s : Stop) : Type 0 where
+    InText : TookAll format longest before after marks s.place false (Some s) → IsRefusedAfter before after marks s
+    InRest : (used seen : List ℕ) (mid : Option (List ℕ)) → Took before used seen mid → IsSpelled format longest used marks → ReadsBlank (place_after used) mid (Err s) after → IsRefusedAfter before after marks s
+
+  module _ (text : E → List ℕ) {W : Type 0} (contents : W → Option (List ℕ)) (faults : W → ℕ) where
+    -- What was read of the source, and what was written: the line of each statement that was read. After a write
+    -- fault the lines of all statements that were read but the last, and a front of the last one's.
+    abbrev pub Shows : Option (List ℕ) → W → Result Unit ToolFault → Option (List ℕ) → W → Type 0
+    Shows before old (Ok u) after new = (marks : List (Spanned E)) × IsSpelling before after marks × Wrote contents faults old (shown text marks) new
+    Shows before old (Err (Text File s)) after new = (marks : List (Spanned E)) × IsRefusedAfter before after marks s × Wrote contents faults old (shown text marks) new
+    Shows before old (Err Write) after new =
+        (marks : List (Spanned E)) × (last : Spanned E) × (mid : W) × TookSoFar format longest before after (marks ++ last ∷ []) last.past
+        × Wrote contents faults old (shown text marks) mid × Broke contents faults mid (shown_line text last) new
+    Shows before old (Err (Text Instance s)) after new = ⊥
+    Shows before old (Err (Text Proof s)) after new = ⊥
+    Shows before old (Err (Open i)) after new = ⊥
+    Shows before old (Err (Overflow i)) after new = ⊥
+    Shows before old (Err (Memory i)) after new = ⊥
