@@ -19,7 +19,7 @@ use std::alloc::Global;
 
 /// Writes a line for each statement of an instance as soon as it is complete: the line and the column of its first
 /// byte, and its canonical spelling, as in `2:1 +1 x1 >= 1 ;`. Behind the instance only white space and comments may
-/// stand.
+/// stand. Where the text is refused, the lines of all statements before that place went out.
 ///
 /// `longest` is the most bytes of a statement, where there is such a limit.
 pub fn show<S: Source, W: Sink>(
