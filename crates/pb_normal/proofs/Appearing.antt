@@ -1,10 +1,9 @@
 -- Names that appear in turn.
-use Rattle.std.proofs.Common.{◌≡◌, ℕ, ◌<◌, Bool, true, false, cond, List, [], ◌∷◌, ◌++◌, length, map, refl, sym, ◌∙◌, ap, subst, append_assoc, append-nil, get_or, pos}
+use Rattle.std.proofs.Common.{◌≡◌, ℕ, ◌<◌, Bool, true, false, cond, List, [], ◌∷◌, ◌++◌, length, map, refl, sym, ◌∙◌, ap, subst, append_assoc, append-nil, pos}
 use Rattle.std.specs.List.{All}
 use Rattle.std.proofs.lemmas.List.{get_or_append_left}
 use Rattle.std.proofs.lemmas.List.Elements.{All-head, All-tail}
 use Rattle.pb_sums.specs.declared.values.Term.{Term}
-use Rattle.pb_sums.specs.declared.values.Linear.{Linear}
 use Rattle.pb_sums.specs.declared.values.Relation.TheVariants.{AtLeast}
 use Rattle.pb_normal.specs.declared.entry.Entry.{Entry}
 use Rattle.pb_normal.specs.Form.{Form}
@@ -43,6 +42,12 @@ stays_named names others name has =
 pub named : (names others : List (List ℕ)) → HasNames (with_names names others) others
 named names [] = tt
 named names (n ∷ others) = (stays_named (with_name names n) others n (with_name-has n names), named (with_name names n) others)
+
+pub present : (names others : List (List ℕ)) → HasNames names others → with_names names others ≡ names
+present names [] h = refl
+present names (n ∷ others) h =
+    let same : with_name names n ≡ names = ap (λ (b : Bool). cond b names (names ++ n ∷ [])) h.0 in
+    rw same (present names others h.1)
 
 -- the terms of a form are written out alike over more names
 terms_alike : (names more : List (List ℕ)) (ts : List Entry) → All (λ t. t.variable < length names) ts → map (term_of (names ++ more)) ts ≡ map (term_of names) ts

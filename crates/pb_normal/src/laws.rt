@@ -54,12 +54,13 @@ pub fn written_forms_are_exact()
         All (λ t. t.variable < length names) f.terms → linear_of (names ++ more) f ≡ linear_of names f }
 {}
 
-/// When others appear in turn the names before them keep their numbers, each of the others has one, and no name stands
-/// twice where none did.
+/// When others appear in turn the names before them keep their numbers, each of the others has one, no name stands
+/// twice where none did, and nothing is new where each had a number.
 pub fn names_keep_their_numbers()
     ensures front { (names others : List (List ℕ)) → (more : List (List ℕ)) × (with_names names others ≡ names ++ more) }
     ensures named { (names others : List (List ℕ)) → HasNames (with_names names others) others }
     ensures distinct { (names others : List (List ℕ)) → AreDistinct names → AreDistinct (with_names names others) }
+    ensures present { (names others : List (List ℕ)) → HasNames names others → with_names names others ≡ names }
     ensures in_turn { (names others further : List (List ℕ)) →
         with_names names (others ++ further) ≡ with_names (with_names names others) further }
 {}

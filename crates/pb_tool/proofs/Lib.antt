@@ -3,3 +3,4 @@ mod Named
 mod Parsed
 mod Sequence
 mod Feeds
+mod Loads

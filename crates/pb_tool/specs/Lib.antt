@@ -1,3 +1,4 @@
 pub mod Faults
 pub mod Words
+pub mod Normalised
 pub mod Tidying

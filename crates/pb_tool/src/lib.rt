@@ -3,6 +3,7 @@
 
 mod fault;
 mod limiting;
+mod normalising;
 mod showing;
 #[cfg(test)]
 mod tests;

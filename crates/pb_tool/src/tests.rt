@@ -2,4 +2,5 @@
 
 mod engines;
 mod faults;
+mod normal;
 mod words;

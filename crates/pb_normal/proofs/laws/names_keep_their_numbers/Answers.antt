@@ -1,4 +1,4 @@
-use Rattle.pb_normal.proofs.Appearing.{front, named, distinct, in_turn}
+use Rattle.pb_normal.proofs.Appearing.{front, named, distinct, present, in_turn}
 use Rattle.pb_normal.proofs.laws.names_keep_their_numbers.Goals as goal
 
 pub returns-clause-front : goal.returns-clause-front
@@ -12,3 +12,6 @@ returns-clause-distinct c = distinct
 
 pub returns-clause-in_turn : goal.returns-clause-in_turn
 returns-clause-in_turn c = in_turn
+
+pub returns-clause-present : goal.returns-clause-present
+returns-clause-present c = present
