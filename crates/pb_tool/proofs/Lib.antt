@@ -4,3 +4,4 @@ mod Parsed
 mod Sequence
 mod Feeds
 mod Loads
+mod Solutions

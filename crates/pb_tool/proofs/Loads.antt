@@ -21,7 +21,7 @@ use Rattle.pb_tool.specs.Normalised.{AreFormsOf, AreLoaded, constraint_names, na
 abbrev pub AreNamed : List (List ℕ) → List (Side × Linear) → Type 0
 AreNamed names = AllByRecursion (λ side. HasNames names (names_of side.1.terms))
 
-names_split : (names xs ys : List (List ℕ)) → HasNames names (xs ++ ys) → HasNames names xs × HasNames names ys
+pub names_split : (names xs ys : List (List ℕ)) → HasNames names (xs ++ ys) → HasNames names xs × HasNames names ys
 names_split names [] ys h = (tt, h)
 names_split names (x ∷ xs) ys h = let rest = names_split names xs ys h.1 in ((h.0, rest.0), rest.1)
 
