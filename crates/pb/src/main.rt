@@ -159,8 +159,18 @@ fn run_job<I: BufRead + Drop, O: Write>(
         Job::Show { longest, bits, .. } => {
             show(alloc, &mut input, &mut out, *longest, limits_of(*bits))
         }
-        Job::Tidy { longest, bits, .. } => {
-            tidy(alloc, &mut input, &mut out, *longest, limits_of(*bits))
-        }
+        Job::Tidy {
+            normal,
+            longest,
+            bits,
+            ..
+        } => tidy(
+            alloc,
+            &mut input,
+            *normal,
+            &mut out,
+            *longest,
+            limits_of(*bits),
+        ),
     }
 }

@@ -1,3 +1,4 @@
+pub mod Appearing
 pub mod Balance
 pub mod Collecting
 pub mod Faults

@@ -55,7 +55,7 @@ with_name-keeps q k ks e =
       | false ↦ (has_name-append ks (k ∷ []) q e, number_in-append ks (k ∷ []) q e)
     ]
 
-with_name-has : (k : List ℕ) (ks : List (List ℕ)) → has_name (with_name ks k) k ≡ true
+pub with_name-has : (k : List ℕ) (ks : List (List ℕ)) → has_name (with_name ks k) k ≡ true
 with_name-has k ks = by_test (has_name ks k) refl
   where
     by_test : (b : Bool) → has_name ks k ≡ b → has_name (cond b ks (ks ++ k ∷ [])) k ≡ true

@@ -1,12 +1,12 @@
 //! Laws over the definitions alone. These functions do nothing: what they ensure are the laws.
 
-ghost use Rattle.std.specs.Prelude.{◌≡◌, ◌<◌, ◌≤◌, ◌↔◌, ℕ, ℤ, Bool, List, ◌++◌};
+ghost use Rattle.std.specs.Prelude.{◌≡◌, ◌<◌, ◌≤◌, ◌↔◌, ℕ, ℤ, Bool, List, ◌++◌, All, length};
 ghost use Rattle.pb_sums.specs.declared.values.Term.{Term};
 ghost use Rattle.pb_sums.specs.declared.values.Linear.{Linear};
 ghost use Rattle.pb_sums.specs.declared.values.Relation.TheVariants.{AtLeast, Equal};
 ghost use Rattle.pb_normal.specs.declared.side.Side.{Side};
 ghost use Rattle.pb_normal.specs.Form.{Form, Holds, Follows, FollowsBoth, IsOpposite};
-ghost use Rattle.pb_normal.specs.Names.{AreDistinct, HasNames};
+ghost use Rattle.pb_normal.specs.Names.{AreDistinct, HasNames, with_names};
 ghost use Rattle.pb_normal.specs.Rules.{IsSum, multiplied, divided, saturated, weakened, axiom_on, negation_of, IsContradiction};
 ghost use Rattle.pb_normal.specs.Written.{names_of, IsFormOf, IsSideOf, SameSolutions, SameAsForm, SameAsForms, linear_of};
 
@@ -32,7 +32,8 @@ pub fn forms_are_unique()
 
 /// The form of a side of a constraint holds exactly where that side does, so a constraint `>=` holds exactly where its
 /// form does, and a constraint `=` exactly where both of its forms do. A form stays the form of its constraint when
-/// more names appear, and written out with its names it is a constraint that holds exactly where the form does.
+/// more names appear, and it is written out alike. Written out with its names it is a constraint that holds exactly
+/// where the form does.
 pub fn written_forms_are_exact()
     ensures same { (names : List (List ℕ)) (side : Side) (linear : Linear) (r : Form) →
         AreDistinct names → HasNames names (names_of linear.terms) →
@@ -49,4 +50,17 @@ pub fn written_forms_are_exact()
         AreDistinct (names ++ more) → HasNames names (names_of linear.terms) →
         IsSideOf names side linear r → IsSideOf (names ++ more) side linear r }
     ensures written { (names : List (List ℕ)) (f : Form) → SameAsForm names (linear_of names f) f }
+    ensures written_alike { (names more : List (List ℕ)) (f : Form) →
+        All (λ t. t.variable < length names) f.terms → linear_of (names ++ more) f ≡ linear_of names f }
+{}
+
+/// When others appear in turn the names before them keep their numbers, each of the others has one, no name stands
+/// twice where none did, and nothing is new where each had a number.
+pub fn names_keep_their_numbers()
+    ensures front { (names others : List (List ℕ)) → (more : List (List ℕ)) × (with_names names others ≡ names ++ more) }
+    ensures named { (names others : List (List ℕ)) → HasNames (with_names names others) others }
+    ensures distinct { (names others : List (List ℕ)) → AreDistinct names → AreDistinct (with_names names others) }
+    ensures present { (names others : List (List ℕ)) → HasNames names others → with_names names others ≡ names }
+    ensures in_turn { (names others further : List (List ℕ)) →
+        with_names names (others ++ further) ≡ with_names (with_names names others) further }
 {}

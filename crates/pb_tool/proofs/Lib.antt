@@ -4,3 +4,5 @@ mod Parsed
 mod Sequence
 mod Feeds
 mod Shown
+mod Loads
+mod Solutions

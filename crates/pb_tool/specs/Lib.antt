@@ -1,4 +1,5 @@
 pub mod Faults
 pub mod Words
+pub mod Normalised
 pub mod Tidying
 pub mod Showing

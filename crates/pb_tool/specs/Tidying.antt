@@ -16,9 +16,10 @@ use Rattle.pb_opb.specs.Values.{IsValueOf}
 use Rattle.pb_opb.specs.Whole.{IsRead, ReadsValue}
 use Rattle.pb_opb.specs.declared.Instance.{Instance}
 use Rattle.pb_opb.specs.declared.OpbEvent.{OpbEvent}
+use Rattle.pb_tool.specs.Normalised.{IsNormalised, Overflows}
 use Rattle.pb_tool.specs.declared.fault.ToolFault.{ToolFault}
 use Rattle.pb_tool.specs.declared.fault.ToolFault.TheVariants.{Text, Open, Overflow, Memory, Write}
-use Rattle.pb_tool.specs.declared.fault.Input.TheVariants.{File, Instance as InInstance, Proof}
+use Rattle.pb_tool.specs.declared.fault.Input.TheVariants.{File}
 
 -- the last byte is a line feed
 abbrev pub ends_in_feed : List ℕ → Bool
@@ -44,6 +45,18 @@ is_bare (Some terms) constraints = false
 abbrev pub IsOpb : Limits → List (Item OpbEvent) → Type 0
 IsOpb limits = IsInstance (largest limits) (top_of limits)
 
+-- W is to be written for v: v itself, or with `normal` its normal form, where no constraint passes the limit.
+abbrev pub IsAsked : Bool → ℕ → Instance → Instance → Type 0
+IsAsked false limit v w = w ≡ v
+IsAsked true limit v w = IsNormalised v w × ¬ Overflows limit v
+
+-- Why there is no such instance: with `normal` a constraint of v passes the limit, or memory ran out.
+abbrev pub IsDenied : Bool → ℕ → Instance → ToolFault → Type 0
+IsDenied false limit v e = ⊥
+IsDenied true limit v (Overflow File) = Overflows limit v
+IsDenied true limit v (Memory File) = Unit {0}
+IsDenied true limit v _ = ⊥
+
 module _ (limits : Limits) (longest : ℕ) where
   -- The input was an instance and a blank rest, and ended there.
   pub record IsFile (before after : Option (List ℕ)) (v : Instance) : Type 0 where
@@ -60,14 +73,20 @@ module _ (limits : Limits) (longest : ℕ) where
     InText : ReadsValue (IsOpb limits) longest IsValueOf before (Err s) after → IsRefused before after s
     InRest : (m : Spanned Instance) (mid : Option (List ℕ)) → ReadsValue (IsOpb limits) longest IsValueOf before (Ok m) mid → ReadsBlank m.past mid (Err s) after → IsRefused before after s
 
-  module _ {W : Type 0} (contents : W → Option (List ℕ)) (faults : W → ℕ) where
-    -- what was read of the source, and what was written: nothing before the whole input was accepted
+  module _ (normal : Bool) {W : Type 0} (contents : W → Option (List ℕ)) (faults : W → ℕ) where
+    -- What was read of the source, and what was written: nothing before the whole input was accepted and, with
+    -- `normal`, every constraint normalised.
     abbrev pub Tidies : Option (List ℕ) → W → Result Unit ToolFault → Option (List ℕ) → W → Type 0
-    Tidies before old (Ok u) after new = (v : Instance) × IsFile before after v × Wrote contents faults old (tidied v) new
-    Tidies before old (Err Write) after new = (v : Instance) × IsFile before after v × Broke contents faults old (tidied v) new
+    Tidies before old (Ok u) after new =
+        (v : Instance) × IsFile before after v × (w : Instance) × IsAsked normal (largest limits) v w × Wrote contents faults old (tidied w) new
+    Tidies before old (Err Write) after new =
+        (v : Instance) × IsFile before after v × (w : Instance) × IsAsked normal (largest limits) v w × Broke contents faults old (tidied w) new
     Tidies before old (Err (Text File s)) after new = IsRefused before after s × (new ≡ old)
-    Tidies before old (Err (Text InInstance s)) after new = ⊥
-    Tidies before old (Err (Text Proof s)) after new = ⊥
-    Tidies before old (Err (Open i)) after new = ⊥
+    Tidies before old (Err (Overflow File)) after new =
+        (v : Instance) × IsFile before after v × IsDenied normal (largest limits) v (Overflow File) × (new ≡ old)
+    Tidies before old (Err (Memory File)) after new =
+        (v : Instance) × IsFile before after v × IsDenied normal (largest limits) v (Memory File) × (new ≡ old)
+    Tidies before old (Err (Text i s)) after new = ⊥
     Tidies before old (Err (Overflow i)) after new = ⊥
     Tidies before old (Err (Memory i)) after new = ⊥
+    Tidies before old (Err (Open i)) after new = ⊥

@@ -1,16 +1,17 @@
 -- What the words of the command line ask for.
-use Rattle.std.specs.Prelude.{◌≡◌, ◌⊎◌, ℕ, ◌^◌, ◌≤◌, List, [], Option, Some, None, String, option_map, codes, true, string_bytes, IfSome, IsSomeAnd}
+use Rattle.std.specs.Prelude.{◌≡◌, ◌⊎◌, ◌↔◌, ℕ, ◌^◌, ◌≤◌, List, [], Option, Some, None, String, option_map, codes, Bool, true, string_bytes, IfSome, IsSomeAnd, IsTrue}
 use Rattle.std.specs.Str.Parse.{digits_value, without_leading_plus}
 use Rattle.std.specs.declared.alloc.Global.{Global}
 use Rattle.clap.specs.Words.{App, HasKind, IsUnsignedIn, Row, Rule, Text, fault_of, first_of, kind_of, new_app, new_rule, subcommand_of, with_rule, with_subcommand}
 use Rattle.clap.specs.Simple.{on_top}
 use Rattle.clap.specs.declared.error.ErrorKind.TheVariants.{ValueValidation}
+use Rattle.clap.specs.declared.builder.action.ArgAction.TheVariants.{SetTrue}
 use Rattle.pb_tool.specs.declared.words.Job.{Job}
 use Rattle.pb_tool.specs.declared.words.Job.TheVariants.{Show, Tidy}
 use Rattle.pb_tool.specs.declared.words.WordsFault.{WordsFault}
 use Rattle.pb_tool.specs.declared.words.WordsFault.TheVariants.{Words, Memory}
 
--- ---- the command: `pb show` and `pb tidy`, each with FILE, `--longest` and `--bits`
+-- ---- the command: `pb show` and `pb tidy`, each with FILE, `--longest` and `--bits`, and `tidy` with `--normal`
 
 abbrev pub file_rule : Rule
 file_rule = record (new_rule (codes "file")) { value_names = 1 }
@@ -18,14 +19,20 @@ file_rule = record (new_rule (codes "file")) { value_names = 1 }
 abbrev pub flag_rule : Text → Rule
 flag_rule name = record (new_rule name) { long = Some name; value_names = 1 }
 
+abbrev pub normal_rule : Rule
+normal_rule = record (new_rule (codes "normal")) { long = Some (codes "normal"); action = Some SetTrue }
+
 abbrev pub reader_command : Text → App
 reader_command name =
     with_rule (with_rule (with_rule (new_app name) file_rule) (flag_rule (codes "longest"))) (flag_rule (codes "bits"))
 
+abbrev pub tidy_command : App
+tidy_command = with_rule (reader_command (codes "tidy")) normal_rule
+
 abbrev pub pb_command : App
 pb_command =
     let pb = on_top (λ s. record s { subcommand_required = true; arg_required_else_help = true }) (new_app (codes "pb")) in
-    with_subcommand (with_subcommand pb (reader_command (codes "show")).top) (reader_command (codes "tidy")).top
+    with_subcommand (with_subcommand pb (reader_command (codes "show")).top) tidy_command.top
 
 -- ---- what it finds
 
@@ -39,7 +46,11 @@ abbrev pub IsFlagOr : ℕ → ℕ → ℕ → Option Text → ℕ → Type 0
 IsFlagOr other low high None number = number ≡ other
 IsFlagOr other low high (Some text) number = IsUnsignedIn low high text × (number ≡ digits_value 10 (without_leading_plus text))
 
--- a subcommand's entries are FILE and the two flags
+-- a flag without a value is on where it is given, and then its text is `true`
+abbrev pub IsSwitch : Option Text → Bool → Type 0
+IsSwitch text on = IsTrue on ↔ (text ≡ Some (codes "true"))
+
+-- a subcommand's entries are FILE and the two flags with numbers
 pub record HasEntries (rows : List Row) (file : Option (String Global)) (longest : Option ℕ) (bits : ℕ) : Type 0 where
   pub file_is : option_map string_bytes file ≡ first_of (codes "file") rows
   pub longest_is : IsFlag 1 (2 ^ 40) (first_of (codes "longest") rows) longest
@@ -53,14 +64,15 @@ IsReader name = (name ≡ codes "show") ⊎ (name ≡ codes "tidy")
 abbrev pub AsksFor : Option (Text × List Row) → Job → Type 0
 AsksFor None job = ⊥
 AsksFor (Some named) (Show file longest bits) = (named.0 ≡ codes "show") × HasEntries named.1 file longest bits
-AsksFor (Some named) (Tidy file longest bits) = (named.0 ≡ codes "tidy") × HasEntries named.1 file longest bits
+AsksFor (Some named) (Tidy normal file longest bits) =
+    (named.0 ≡ codes "tidy") × IsSwitch (first_of (codes "normal") named.1) normal × HasEntries named.1 file longest bits
 
 abbrev pub AreInRange : Option ℕ → ℕ → Type 0
 AreInRange longest bits = IfSome longest (λ n. (1 ≤ n) × (n ≤ 2 ^ 40)) × (31 ≤ bits) × (bits ≤ 127)
 
 abbrev pub HasRanges : Job → Type 0
 HasRanges (Show file longest bits) = AreInRange longest bits
-HasRanges (Tidy file longest bits) = AreInRange longest bits
+HasRanges (Tidy normal file longest bits) = AreInRange longest bits
 
 -- ---- why it finds nothing
 

@@ -2,7 +2,9 @@
 #![tactic(auto)]
 
 mod fault;
+mod laws;
 mod limiting;
+mod normalising;
 mod showing;
 mod statement;
 #[cfg(test)]
@@ -11,6 +13,7 @@ mod tidying;
 mod words;
 
 pub use fault::{Input, ToolFault, status, write_fault};
+pub use laws::{normal_forms_keep_solutions, one_normal_form};
 pub use limiting::limits_of;
 pub use showing::show;
 pub use tidying::tidy;

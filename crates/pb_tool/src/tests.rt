@@ -2,4 +2,6 @@
 
 mod engines;
 mod faults;
+mod hostile;
+mod normal;
 mod words;

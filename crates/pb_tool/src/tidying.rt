@@ -1,39 +1,89 @@
 //! `pb tidy`: the canonical spelling of an instance.
 
-ghost use Rattle.std.specs.Prelude.{◌≡◌, ◌<◌, ◌^◌, unwrap_or, IfSome};
+ghost use Rattle.std.specs.Prelude.{◌≡◌, ◌<◌, ◌^◌, unwrap_or, IfSome, IfOk, IfErr};
+ghost use Rattle.pb_text.specs.Limits.{largest};
 ghost use Rattle.pb_text.specs.Writing.{Writes};
-ghost use Rattle.pb_tool.specs.Tidying.{is_bare, tidied, Tidies};
+ghost use Rattle.pb_tool.specs.Tidying.{is_bare, tidied, IsAsked, IsDenied, IsFile, IsRefused, Tidies};
 
-use crate::fault::{ToolFault, refused};
+use crate::fault::{Input, ToolFault, refused};
+use crate::normalising::normalised;
+use pb_normal::NormalFault;
 use pb_opb::{Instance, read_instance_within, write_instance};
-use pb_text::{BYTE_LIMIT, Failed, Limits, Sink, Source, rest_is_blank, write_bytes};
+use pb_text::{BYTE_LIMIT, Failed, Limits, Sink, Source, Stop, rest_is_blank, write_bytes};
 use std::alloc::Global;
 
 /// Reads an instance, behind which only white space and comments may stand, and writes its canonical spelling
 /// and a line feed if that does not end in one. It writes nothing before the whole input was accepted.
 ///
+/// With `normal` it writes the instance in normal form: each constraint `>=` as its form, each `=` as its two, with
+/// the variables and the objective of the instance and without its tail and comments. Then it writes nothing before
+/// each constraint was normalised, and answers `Overflow` where a constraint passes the limit.
+///
 /// `longest` is the most bytes of a statement, where there is such a limit.
 pub fn tidy<S: Source, W: Sink>(
     alloc: Global,
     input: &mut S,
+    normal: bool,
     out: &mut W,
     longest: Option<u64>,
     limits: Limits,
 ) -> Result<(), ToolFault>
     requires { IfSome longest (λ n. 0 < n) }
-    ensures { Tidies limits (unwrap_or longest (2 ^ 40)) W.contents W.faults (S.left input.old) out.old result (S.left input.new) out.new }
+    ensures { Tidies limits (unwrap_or longest (2 ^ 40)) normal W.contents W.faults (S.left input.old) out.old result (S.left input.new) out.new }
 {
     let longest = longest.unwrap_or(BYTE_LIMIT);
-    let read = match read_instance_within(alloc, input, longest, limits) {
-        Ok(read) => read,
+    let instance = match read_file(alloc, input, longest, limits) {
+        Ok(instance) => instance,
         Err(stop) => return Err(refused(stop)),
     };
-    if let Err(stop) = rest_is_blank(input, read.past) {
-        return Err(refused(stop));
-    }
-    match write_tidied(&read.event, out) {
+    let asked = match asked(alloc, instance, normal, limits) {
+        Ok(asked) => asked,
+        Err(fault) => return Err(fault),
+    };
+    match write_tidied(&asked, out) {
         Ok(()) => Ok(()),
         Err(Failed) => Err(ToolFault::Write),
+    }
+}
+
+/// Reads an instance, behind which only white space and comments may stand.
+fn read_file<S: Source>(
+    alloc: Global,
+    input: &mut S,
+    longest: u64,
+    limits: Limits,
+) -> Result<Instance, Stop>
+    requires { 0 < longest }
+    ensures file { IfOk result (IsFile limits longest (S.left input.old) (S.left input.new)) }
+    ensures refused { IfErr result (IsRefused limits longest (S.left input.old) (S.left input.new)) }
+{
+    let read = match read_instance_within(alloc, input, longest, limits) {
+        Ok(read) => read,
+        Err(stop) => return Err(stop),
+    };
+    match rest_is_blank(input, read.past) {
+        Ok(()) => Ok(read.event),
+        Err(stop) => Err(stop),
+    }
+}
+
+/// The instance that is to be written: this one, or its normal form.
+fn asked(
+    alloc: Global,
+    instance: Instance,
+    normal: bool,
+    limits: Limits,
+) -> Result<Instance, ToolFault>
+    ensures asked { IfOk result (IsAsked normal (largest limits) instance) }
+    ensures denied { IfErr result (IsDenied normal (largest limits) instance) }
+{
+    if !normal {
+        return Ok(instance);
+    }
+    match normalised(alloc, instance, limits) {
+        Ok(form) => Ok(form),
+        Err(NormalFault::Overflow) => Err(ToolFault::Overflow(Input::File)),
+        Err(NormalFault::Memory) => Err(ToolFault::Memory(Input::File)),
     }
 }
 

@@ -9,11 +9,11 @@ ghost use Rattle.clap.specs.Words.{rows_of, rule_of, subcommand_of};
 ghost use Rattle.clap.specs.Walk.{texts};
 ghost use Rattle.clap.specs.declared.builder.Command.TheViews.{out-Command as fields_of};
 ghost use Rattle.pb_tool.specs.Words.{AsksFor, ExplainsWords, HasRanges, IsEntryFault, IsFlag};
-ghost use Rattle.pb_tool.specs.Words.{IsFlagFault, IsReader, file_rule, flag_rule, pb_command};
-ghost use Rattle.pb_tool.specs.Words.{reader_command};
+ghost use Rattle.pb_tool.specs.Words.{IsFlagFault, IsReader, IsSwitch, file_rule, flag_rule};
+ghost use Rattle.pb_tool.specs.Words.{normal_rule, pb_command, reader_command, tidy_command};
 
 use clap::error::ErrorKind;
-use clap::{Arg, ArgMatches, Command};
+use clap::{Arg, ArgAction, ArgMatches, Command};
 use std::alloc::{AllocError, Global};
 use thiserror::Error;
 
@@ -39,7 +39,11 @@ Example: where instance.opb has the lines
   1 x1   1 x2>=1;
 pb tidy instance.opb prints
   * #variable= 2 #constraint= 1
-  +1 x1 +1 x2 >= 1 ;";
+  +1 x1 +1 x2 >= 1 ;
+and, where its second line is 1 x1 -1 x2 = 0;, pb tidy --normal instance.opb prints
+  * #variable= 2 #constraint= 2
+  +1 x1 +1 ~x2 >= 1 ;
+  +1 ~x1 +1 x2 >= 1 ;";
 
 /// What the words ask for. `longest` is the most bytes of a statement, 1 to `2^40`, where there is
 /// such a limit; `bits` are those of the largest magnitude of a number, 31 to 127.
@@ -51,8 +55,10 @@ pub enum Job {
         longest: Option<u64>,
         bits: u32,
     },
-    /// The canonical spelling of the file, or of standard input.
+    /// The canonical spelling of the file, or of standard input; where `normal` is true, with each constraint in
+    /// normal form.
     Tidy {
+        normal: bool,
         file: Option<String>,
         longest: Option<u64>,
         bits: u32,
@@ -128,6 +134,7 @@ fn job_of(
             bits,
         }),
         _ => Ok(Job::Tidy {
+            normal: is_given(given, "normal"),
             file,
             longest,
             bits,
@@ -143,6 +150,16 @@ fn file_name(alloc: Global, given: &ArgMatches<'_>) -> Result<Option<String>, Al
     match given.get_str("file") {
         Some(name) => Ok(Some(String::from_str(alloc, name)?)),
         None => Ok(None),
+    }
+}
+
+/// Whether a flag without a value is given: the parser then answers `true` for it, and else `false`.
+fn is_given(given: &ArgMatches<'_>, flag: &str) -> bool
+    ensures { IsSwitch (first_of flag.now (rows_of (found_of given.now))) result }
+{
+    match given.get_str(flag) {
+        Some(text) => text == "true",
+        None => false,
     }
 }
 
@@ -194,12 +211,7 @@ fn command<'a>(alloc: Global) -> Result<Command<'a>, clap::Error>
         "Print each statement of an instance as it comes, after its line and column",
         SHOW_EXAMPLE,
     )?;
-    let tidy = reader(
-        alloc,
-        "tidy",
-        "Print the canonical spelling of an instance, once all of it was read",
-        TIDY_EXAMPLE,
-    )?;
+    let tidy = tidy(alloc)?;
     let command = Command::new(alloc, "pb")
         .about("Reads and writes pseudo-Boolean instances in the OPB format")
         .after_help(PB_EXAMPLE)
@@ -208,6 +220,20 @@ fn command<'a>(alloc: Global) -> Result<Command<'a>, clap::Error>
         .subcommand(show)?
         .subcommand(tidy)?;
     Ok(command)
+}
+
+/// The subcommand `tidy`.
+fn tidy<'a>(alloc: Global) -> Result<Command<'a>, AllocError>
+    ensures app { IfOk result (λ c. app_of c ≡ tidy_command) }
+    ensures local { IfOk result (λ c. (fields_of c).has_globals ≡ false) }
+{
+    reader(
+        alloc,
+        "tidy",
+        "Print the canonical spelling of an instance, once all of it was read",
+        TIDY_EXAMPLE,
+    )?
+    .arg(normal(alloc))
 }
 
 /// A subcommand that reads one file.
@@ -246,6 +272,17 @@ fn file<'a>(alloc: Global) -> Arg<'a>
     Arg::new(alloc, "file")
         .value_name("FILE")
         .help("The file to read; standard input if absent")
+}
+
+/// The flag of `tidy` that asks for normal forms.
+fn normal<'a>(alloc: Global) -> Arg<'a>
+    ensures rule { rule_of result ≡ normal_rule }
+    ensures local { result.global ≡ false }
+{
+    Arg::new(alloc, "normal")
+        .long("normal")
+        .action(ArgAction::SetTrue)
+        .help("Print each constraint in normal form, an equality as two, without comments")
 }
 
 /// A flag with a number.

@@ -23,7 +23,7 @@ fn page(alloc: Global) -> Over<FaultyWriter> {
 
 fn tidied(alloc: Global, text: &[u8], limits: Limits) -> Done {
     let mut out = page(alloc);
-    let answer = tidy(alloc, &mut Over::new(text), &mut out, None, limits);
+    let answer = tidy(alloc, &mut Over::new(text), false, &mut out, None, limits);
     Done {
         written: out.into_inner().taken,
         answer,
@@ -126,7 +126,7 @@ fn tells_a_write_fault(rt: HostRuntime) {
     writer.fails_at = Some(1);
     let mut out = Over::new(writer);
     let full = Limits::full();
-    let answer = tidy(rt.alloc(), &mut Over::new(ONE), &mut out, None, full);
+    let answer = tidy(rt.alloc(), &mut Over::new(ONE), false, &mut out, None, full);
     assert!(rt; matches!(answer, Err(ToolFault::Write)));
 }
 
@@ -134,7 +134,14 @@ fn tells_a_write_fault(rt: HostRuntime) {
 fn stops_at_a_long_statement(rt: HostRuntime) {
     let mut out = page(rt.alloc());
     let full = Limits::full();
-    let answer = tidy(rt.alloc(), &mut Over::new(ONE), &mut out, Some(29), full);
+    let answer = tidy(
+        rt.alloc(),
+        &mut Over::new(ONE),
+        false,
+        &mut out,
+        Some(29),
+        full,
+    );
     let done = Done {
         written: out.into_inner().taken,
         answer,

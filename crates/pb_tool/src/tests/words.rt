@@ -14,10 +14,11 @@ fn asked(alloc: Global, words: &[&str]) -> Result<String, Fail> {
             bits,
         } => { format!(in alloc; "show {file:?} {longest:?} {bits}")? }
         Job::Tidy {
+            normal,
             file,
             longest,
             bits,
-        } => { format!(in alloc; "tidy {file:?} {longest:?} {bits}")? }
+        } => { format!(in alloc; "tidy {normal} {file:?} {longest:?} {bits}")? }
     };
     Ok(text)
 }
@@ -26,14 +27,14 @@ fn asked(alloc: Global, words: &[&str]) -> Result<String, Fail> {
 fn reads_each_command(rt: HostRuntime) -> Result<(), Fail> {
     let alloc = rt.alloc();
     let plain = asked(alloc, &["pb", "tidy"])?;
-    assert!(rt; plain.as_str() == "tidy None None 127");
+    assert!(rt; plain.as_str() == "tidy false None None 127");
     let show = asked(alloc, &["/usr/bin/pb", "show", "a.opb"])?;
     assert!(rt; show.as_str() == "show Some(\"a.opb\") None 127");
     let flags = asked(
         alloc,
         &["pb", "tidy", "--longest", "30", "--bits=31", "a.opb"],
     )?;
-    assert!(rt; flags.as_str() == "tidy Some(\"a.opb\") Some(30) 31");
+    assert!(rt; flags.as_str() == "tidy false Some(\"a.opb\") Some(30) 31");
     let most = asked(
         alloc,
         &[
@@ -46,6 +47,12 @@ fn reads_each_command(rt: HostRuntime) -> Result<(), Fail> {
         ],
     )?;
     assert!(rt; most.as_str() == "show Some(\"b\") Some(1099511627776) 127");
+    let normal = asked(alloc, &["pb", "tidy", "--normal", "--bits", "31", "a.opb"])?;
+    assert!(rt; normal.as_str() == "tidy true Some(\"a.opb\") None 31");
+    let last = asked(alloc, &["pb", "tidy", "normal", "--normal"])?;
+    assert!(rt; last.as_str() == "tidy true Some(\"normal\") None 127");
+    let named = asked(alloc, &["pb", "tidy", "--", "--normal"])?;
+    assert!(rt; named.as_str() == "tidy false Some(\"--normal\") None 127");
     let dashes = asked(alloc, &["pb", "show", "--longest", "1", "--", "--bits"])?;
     assert!(rt; dashes.as_str() == "show Some(\"--bits\") Some(1) 127");
     Ok(())
@@ -66,7 +73,8 @@ fn refuses_wrong_words(rt: HostRuntime) {
     assert!(rt; refused(alloc, &["pb"]) == missing);
     let unknown = Some((ErrorKind::UnknownArgument, 2));
     assert!(rt; refused(alloc, &["pb", "--version"]) == unknown);
-    assert!(rt; refused(alloc, &["pb", "tidy", "--normal"]) == unknown);
+    assert!(rt; refused(alloc, &["pb", "show", "--normal"]) == unknown);
+    assert!(rt; refused(alloc, &["pb", "--normal", "tidy"]) == unknown);
     assert!(rt; refused(alloc, &["pb", "tidy", "-x"]) == unknown);
     assert!(rt; refused(alloc, &["pb", "tidy", "a", "b"]) == unknown);
     assert!(rt; refused(alloc, &["pb", "--longest", "3", "tidy"]) == unknown);
@@ -75,6 +83,7 @@ fn refuses_wrong_words(rt: HostRuntime) {
     assert!(rt; refused(alloc, &["pb", "help", "nothing"]) == other);
     let twice = Some((ErrorKind::ArgumentConflict, 2));
     assert!(rt; refused(alloc, &["pb", "show", "--bits", "40", "--bits", "40"]) == twice);
+    assert!(rt; refused(alloc, &["pb", "tidy", "--normal", "--normal"]) == twice);
     let valueless = Some((ErrorKind::InvalidValue, 2));
     assert!(rt; refused(alloc, &["pb", "show", "--longest"]) == valueless);
 }

@@ -1,5 +1,6 @@
 use Rattle.pb_normal.specs.declared.side.Side.TheVariants.{AtLeast, AtMost}
 use Rattle.pb_normal.proofs.WrittenForms.{SameSolutions-side, SameAsForm-from, SameAsForms-from, SameAsForm-linear_of, IsSideOf-append}
+use Rattle.pb_normal.proofs.Appearing.{written_alike}
 use Rattle.pb_normal.proofs.laws.written_forms_are_exact.Goals as goal
 
 pub returns-clause-same : goal.returns-clause-same
@@ -16,3 +17,6 @@ returns-clause-more_names c = IsSideOf-append
 
 pub returns-clause-written : goal.returns-clause-written
 returns-clause-written c = SameAsForm-linear_of
+
+pub returns-clause-written_alike : goal.returns-clause-written_alike
+returns-clause-written_alike c = written_alike

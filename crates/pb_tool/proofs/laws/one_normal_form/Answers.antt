@@ -1,0 +1,5 @@
+use Rattle.pb_tool.proofs.Solutions.{one_form}
+use Rattle.pb_tool.proofs.laws.one_normal_form.Goals as goal
+
+pub returns : goal.returns
+returns c = one_form

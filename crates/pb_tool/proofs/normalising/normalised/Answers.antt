@@ -1,0 +1,15 @@
+use Rattle.std.proofs.Common.{refl}
+use Rattle.pb_tool.proofs.Loads.{first_distinct, loaded_all}
+use Rattle.pb_tool.proofs.normalising.normalised.Goals as goal
+
+pub loaded-requires : goal.loaded-requires
+loaded-requires c = first_distinct _ c.args.instance c.in_ok-names.ensures
+
+pub returns-clause-normal : goal.returns-clause-normal
+returns-clause-normal c = record {
+  variables = refl;
+  objective = refl;
+  tail = c.new.ensures;
+  comments = c.new-2.ensures;
+  constraints = rw c.from_vec.ensures (loaded_all c.args.instance _ _ _ _ c.as_slice.ensures c.in_ok-names.ensures c.in_ok-constraints.ensures.names c.in_ok-constraints.ensures.forms);
+}

@@ -1,0 +1,123 @@
+//! The normal forms of an instance.
+
+ghost use Rattle.std.specs.Prelude.{◌≡◌, ◌++◌, ◌∷◌, [], List, IfOk, OnOk, Err, All, Contains};
+ghost use Rattle.pb_sums.specs.declared.Linear.{Linear};
+ghost use Rattle.pb_text.specs.Limits.{largest};
+ghost use Rattle.pb_normal.specs.Names.{AreDistinct, HasNames, with_names};
+ghost use Rattle.pb_normal.specs.Written.{names_of};
+ghost use Rattle.pb_tool.specs.Normalised.{AreLoaded, IsNormalised, Overflows, Passes};
+ghost use Rattle.pb_tool.specs.Normalised.{constraint_names, objective_names, sides_in, with_sides};
+
+use pb_normal::{Names, Normal, NormalFault, Side};
+use pb_opb::Instance;
+use pb_sums::{Linear, Relation, Term};
+use pb_text::{Bytes, Limits, Sequence};
+use std::alloc::{AllocError, Global};
+
+/// The instance with each constraint in normal form, an equality as two: the side at least, and then the side at most.
+/// The variables and the objective stay; the tail and the comments do not. Terms stand in the order in which their
+/// names first appear, in the objective and then in the constraints.
+pub(crate) fn normalised(
+    alloc: Global,
+    instance: Instance,
+    limits: Limits,
+) -> Result<Instance, NormalFault>
+    ensures normal { IfOk result (IsNormalised instance) }
+    ensures fits { OnOk result (¬ Overflows (largest limits) instance) }
+    ensures overflow { result ≡ Err NormalFault.Overflow → Overflows (largest limits) instance }
+{
+    let mut names = numbered(alloc, &instance.objective)?;
+    let constraints = loaded(alloc, &mut names, instance.constraints.as_slice(), limits)?;
+    Ok(Instance {
+        variables: instance.variables,
+        tail: Bytes::new(alloc),
+        objective: instance.objective,
+        comments: Sequence::new(alloc),
+        constraints: Sequence::from_vec(constraints),
+    })
+}
+
+/// The names of an objective, numbered by first appearance.
+fn numbered(alloc: Global, objective: &Option<Sequence<Term>>) -> Result<Names, AllocError>
+    ensures { IfOk result (λ names. names ≡ with_names [] (objective_names objective.now)) }
+{
+    let mut names = Names::new(alloc);
+    if let Some(terms) = objective {
+        number_names(&mut names, terms.as_slice())?;
+    }
+    Ok(names)
+}
+
+/// Numbers the names of the terms in turn.
+fn number_names(names: &mut Names, terms: &[Term]) -> Result<(), AllocError>
+    ensures { OnOk result (names.new ≡ with_names names.old (names_of terms.now)) }
+{
+    for term in terms {
+        let _ = names.number(term.literal.name.as_str())?;
+    }
+    Ok(())
+}
+
+/// The forms of the constraints in turn, written out.
+fn loaded(
+    alloc: Global,
+    names: &mut Names,
+    constraints: &[Linear],
+    limits: Limits,
+) -> Result<Vec<Linear>, NormalFault>
+    requires { AreDistinct names.old }
+    ensures forms { IfOk result (λ v. AreLoaded names.new (sides_in constraints.now) v.items) }
+    ensures names { OnOk result (names.new ≡ with_names names.old (constraint_names constraints.now)) }
+    ensures fits { OnOk result (All (λ c. ¬ Passes (largest limits) c) constraints.now) }
+    ensures overflow { result ≡ Err NormalFault.Overflow →
+        (c : Linear) × Contains constraints.now c × Passes (largest limits) c }
+{
+    let mut forms = Vec::new(alloc);
+    for constraint in constraints {
+        load(alloc, names, constraint, limits, &mut forms)?;
+    }
+    Ok(forms)
+}
+
+/// Adds the forms of a constraint.
+fn load(
+    alloc: Global,
+    names: &mut Names,
+    constraint: &Linear,
+    limits: Limits,
+    forms: &mut Vec<Linear>,
+) -> Result<(), NormalFault>
+    ensures forms { OnOk result ((added : List Linear) ×
+        AreLoaded names.new (with_sides constraint.now.relation constraint.now) added ×
+        (forms.new.items ≡ forms.old.items ++ added)) }
+    ensures names { OnOk result (names.new ≡ with_names names.old (names_of constraint.now.terms)) }
+    ensures fits { OnOk result (¬ Passes (largest limits) constraint.now) }
+    ensures overflow { result ≡ Err NormalFault.Overflow → Passes (largest limits) constraint.now }
+{
+    load_side(alloc, names, constraint, Side::AtLeast, limits, forms)?;
+    match constraint.relation {
+        Relation::AtLeast => Ok(()),
+        Relation::Equal => load_side(alloc, names, constraint, Side::AtMost, limits, forms),
+    }
+}
+
+/// Adds the form of one side of a constraint.
+fn load_side(
+    alloc: Global,
+    names: &mut Names,
+    constraint: &Linear,
+    side: Side,
+    limits: Limits,
+    forms: &mut Vec<Linear>,
+) -> Result<(), NormalFault>
+    ensures forms { OnOk result ((added : Linear) × AreLoaded names.new ((side, constraint.now) ∷ []) (added ∷ []) ×
+        (forms.new.items ≡ forms.old.items ++ added ∷ [])) }
+    ensures names { OnOk result (names.new ≡ with_names names.old (names_of constraint.now.terms)) }
+    ensures named { OnOk result (HasNames names.new (names_of constraint.now.terms)) }
+    ensures fits { OnOk result (¬ Passes (largest limits) constraint.now) }
+    ensures overflow { result ≡ Err NormalFault.Overflow → Passes (largest limits) constraint.now }
+{
+    let form = Normal::from_linear(alloc, names, constraint, side, limits)?;
+    forms.push(form.to_linear(names)?)?;
+    Ok(())
+}
