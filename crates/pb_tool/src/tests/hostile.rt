@@ -95,7 +95,8 @@ fn reads_fail_well(alloc: Global, command: Command) -> bool {
         let mut reader = FaultyReader::new(TEXT);
         reader.fails_at = Some(call);
         let done = run(alloc, command, reader, FaultyWriter::new(Vec::new(alloc)));
-        let right = is_unread(&done, command) && call < CALLS || is_whole(&done, command) && 1 < call;
+        let right = is_unread(&done, command) && call < CALLS
+            || is_whole(&done, command) && 1 < call;
         if !right {
             return false;
         }
@@ -110,8 +111,8 @@ fn writes_fail_well(alloc: Global, command: Command) -> bool {
         writer.most = 1;
         writer.fails_at = Some(call);
         let done = run(alloc, command, FaultyReader::new(TEXT), writer);
-        let right =
-            is_unwritten(&done, command) && call < CALLS || is_whole(&done, command) && 1 < call;
+        let right = is_unwritten(&done, command) && call < CALLS
+            || is_whole(&done, command) && 1 < call;
         if !right {
             return false;
         }
