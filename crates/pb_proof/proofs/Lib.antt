@@ -1,0 +1,6 @@
+mod Choices
+mod GoalReads
+mod GoalStates
+mod LineEnds
+mod Living
+mod Walking

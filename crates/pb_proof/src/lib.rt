@@ -2,6 +2,8 @@
 #![tactic(auto)]
 
 mod conclusion;
+mod goal;
+mod goal_phase;
 mod proof;
 mod statement;
 mod word;
