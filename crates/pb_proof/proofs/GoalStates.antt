@@ -1,6 +1,7 @@
 -- What holds of each state that a machine of goals can be in.
-use Rattle.std.proofs.Common.{◌≡◌, ℕ, ◌+◌, ◌-◌, ◌^◌, ◌≤◌, min, Bool, true, false, cond, List, [], ◌∷◌, ◌++◌, length, refl, sym, ap, subst, ◌∙◌, arith}
+use Rattle.std.proofs.Common.{◌≡◌, ℕ, ◌+◌, ◌-◌, ◌^◌, ◌≤◌, ◌<◌, min, take, get_or, Bool, true, false, cond, List, [], ◌∷◌, ◌++◌, length, refl, sym, ap, subst, ◌∙◌, arith}
 use Rattle.std.proofs.Math.Nat.{min-le_left}
+use Rattle.std.proofs.lemmas.List.{take_more}
 use Rattle.std.specs.Prelude.{IsTrue, nat_eq, Option, Some, None}
 use Rattle.pb_text.specs.Automaton.{Next, Go, End, Refuse, Reads, Accepts, Admits, IsState, is_large}
 use Rattle.pb_text.specs.Classes.{is_blank, is_digit}
@@ -327,3 +328,13 @@ module _ (s : GoalState) (h : IsGoalInOrder s) (b : ℕ) (planned : goal_plan s.
 
   pub give_admits : IsTrue (sums.asks s.inner b) → Admits sums s.inner b → IsTrue (goal_automaton.asks s b) × Admits goal_automaton s b
   give_admits asking a = (subst (λ (m : GoalMove). IsTrue (goal_asks s b m)) (sym planned) asking, by_step (sums.step s.inner b) refl a)
+
+-- the count of one more literal
+pub count_more : (xs : List Term) (i : ℕ) (d : Term) (c m r : ℕ) → i < length xs → c ≡ min (units (take i xs)) (2 ^ 64 - 1) → m ≡ min (length (get_or xs i d).literal.name + 1) (2 ^ 64 - 1)
+    → r ≡ min (c + m) (2 ^ 64 - 1) → r ≡ min (units (take (i + 1) xs)) (2 ^ 64 - 1)
+count_more xs i d c m r h e f g =
+    counted (units (take i xs)) (length (get_or xs i d).literal.name) c m r e f g
+    ∙ ap (λ n. min n (2 ^ 64 - 1)) (sym (ap units (take_more xs i d h) ∙ units-append (take i xs) (get_or xs i d)))
+  where
+    counted : (u n c m r : ℕ) → c ≡ min u (2 ^ 64 - 1) → m ≡ min (n + 1) (2 ^ 64 - 1) → r ≡ min (c + m) (2 ^ 64 - 1) → r ≡ min (u + (1 + n)) (2 ^ 64 - 1)
+    counted u n c m r e f g = omega arith
