@@ -1,6 +1,15 @@
+mod Carried
 mod Choices
+mod CountComplete
+mod CountSound
+mod CountTheorems
+mod DigitWalks
 mod GoalReads
 mod GoalStates
+mod Inners
 mod LineEnds
 mod Living
+mod MarkMeanings
+mod OneLine
+mod Stubs
 mod Walking

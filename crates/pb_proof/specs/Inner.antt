@@ -32,24 +32,24 @@ inner_step (inner.TheVariants.Deleted s) b = carried inner.TheVariants.Deleted s
 inner_step (inner.TheVariants.Claimed s) b = carried inner.TheVariants.Claimed statement.TheVariants.Conclude (claim_automaton.step s b)
 
 -- what is asked of an automaton is asked of the machine that reads
-abbrev pub inner_asked : {A : Type 0} → ({S E : Type 0} → Automaton S E → S → A) → Inner → A
-inner_asked ask (inner.TheVariants.Count s) = ask count_automaton s
-inner_asked ask (inner.TheVariants.Words s) = ask pol_automaton s
-inner_asked ask (inner.TheVariants.Goal s) = ask goal_automaton s
-inner_asked ask (inner.TheVariants.Improving s) = ask literals_automaton s
-inner_asked ask (inner.TheVariants.Excluded s) = ask literals_automaton s
-inner_asked ask (inner.TheVariants.Deleted s) = ask ids_automaton s
-inner_asked ask (inner.TheVariants.Claimed s) = ask claim_automaton s
+abbrev pub inner_asked : {A : Type 0} → ((S E : Type 0) → Automaton S E → S → A) → Inner → A
+inner_asked ask (inner.TheVariants.Count s) = ask _ _ count_automaton s
+inner_asked ask (inner.TheVariants.Words s) = ask _ _ pol_automaton s
+inner_asked ask (inner.TheVariants.Goal s) = ask _ _ goal_automaton s
+inner_asked ask (inner.TheVariants.Improving s) = ask _ _ literals_automaton s
+inner_asked ask (inner.TheVariants.Excluded s) = ask _ _ literals_automaton s
+inner_asked ask (inner.TheVariants.Deleted s) = ask _ _ ids_automaton s
+inner_asked ask (inner.TheVariants.Claimed s) = ask _ _ claim_automaton s
 
 abbrev pub inners : Automaton Inner Statement
 inners = record {
   step = inner_step;
-  done = inner_asked (λ m s. m.done s);
-  begun = inner_asked (λ m s. m.begun s);
-  in_number = inner_asked (λ m s. m.in_number s);
-  asks = λ i b. inner_asked (λ m s. m.asks s b) i;
-  kept = inner_asked (λ m s. m.kept s);
-  spent = inner_asked (λ m s. m.spent s);
+  done = inner_asked (λ S E m s. m.done s);
+  begun = inner_asked (λ S E m s. m.begun s);
+  in_number = inner_asked (λ S E m s. m.in_number s);
+  asks = λ i b. inner_asked (λ S E m s. m.asks s b) i;
+  kept = inner_asked (λ S E m s. m.kept s);
+  spent = inner_asked (λ S E m s. m.spent s);
 }
 
 -- the machine behind a first word, before its text

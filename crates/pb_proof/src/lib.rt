@@ -1,14 +1,28 @@
 //! Proofs in VeriPB 2.0, read one byte at a time and written.
 #![tactic(auto)]
 
+mod claim;
+mod claim_phase;
+mod classes;
 mod conclusion;
+mod count;
+mod count_phase;
 mod goal;
 mod goal_phase;
+mod ids;
+mod inner;
+mod laws;
+mod literals;
+mod mark;
+mod phase;
+mod pol;
+mod pol_phase;
 mod proof;
 mod statement;
 mod word;
 
 pub use conclusion::{Bound, Conclusion};
+pub use laws::{larger_limits, no_front, one_proof, proofs_are_exact};
 pub use proof::Proof;
 pub use statement::Statement;
 pub use word::PolWord;

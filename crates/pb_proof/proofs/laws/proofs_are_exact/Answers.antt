@@ -1,0 +1,5 @@
+use Rattle.pb_proof.proofs.Inners.{inner_only, inner_each}
+use Rattle.pb_proof.proofs.laws.proofs_are_exact.Goals as goal
+
+pub returns : goal.returns
+returns c = ?
