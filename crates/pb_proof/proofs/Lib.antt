@@ -11,5 +11,7 @@ mod LineEnds
 mod Living
 mod MarkMeanings
 mod OneLine
+mod ProofGaps
+mod Spaced
 mod Stubs
 mod Walking
