@@ -12,6 +12,7 @@ mod Living
 mod MarkMeanings
 mod OneLine
 mod ProofGaps
+mod ProofSound
 mod Spaced
 mod Stubs
 mod Walking
