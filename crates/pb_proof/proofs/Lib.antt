@@ -11,6 +11,7 @@ mod LineEnds
 mod Living
 mod MarkMeanings
 mod OneLine
+mod ProofComplete
 mod ProofGaps
 mod ProofSound
 mod Spaced
