@@ -12,7 +12,9 @@ mod Living
 mod MarkMeanings
 mod OneLine
 mod ProofComplete
+mod ProofExact
 mod ProofGaps
+mod ProofOrders
 mod ProofSound
 mod Spaced
 mod Stubs

@@ -37,7 +37,7 @@ passing Steps b h = refl
 passing Claim b h = refl
 passing Closing b h = refl
 
-abbrev Inside : Move → Type 0
+abbrev pub Inside : Move → Type 0
 Inside (move.To p) = is_within p ≡ true
 Inside _ = Unit {0}
 
@@ -56,7 +56,7 @@ pub spell_inside : (f : Front) (k b : ℕ) (other : Move) → Inside other → I
 spell_inside f k b other h = chosen Inside (meets (slice_index (words_of f) k) b) _ _
     (λ _. chosen Inside (nat_eq (Rattle.std.proofs.Common.◌+◌ k 1) (length (words_of f))) _ _ (λ _. behind_inside f) (λ _. refl)) (λ _. h)
 
-enter_inside : (s : Stage) (b : ℕ) → Inside (enter s b)
+pub enter_inside : (s : Stage) (b : ℕ) → Inside (enter s b)
 enter_inside Opening b = spell_inside front.Header 0 b move.Stop tt
 enter_inside Formula b = spell_inside front.Formula 0 b move.Stop tt
 enter_inside Steps b = spell_inside (step_front b) 0 b move.Stop tt
