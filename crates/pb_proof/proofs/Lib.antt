@@ -14,6 +14,7 @@ mod OneLine
 mod ProofComplete
 mod ProofExact
 mod ProofGaps
+mod ProofLarger
 mod ProofOrders
 mod ProofSound
 mod Spaced
