@@ -11,12 +11,14 @@ mod LineEnds
 mod Living
 mod MarkMeanings
 mod OneLine
+mod ProofAlive
 mod ProofComplete
 mod ProofExact
 mod ProofGaps
 mod ProofLarger
 mod ProofOrders
 mod ProofSound
+mod ProofStates
 mod Spaced
 mod Stubs
 mod Walking

@@ -2,7 +2,8 @@
 use Rattle.std.proofs.Common.{◌≡◌, ℕ, Bool, true, false, List, [], ◌∷◌, refl, sym, ap, subst, ◌∙◌}
 use Rattle.std.specs.Prelude.{IsTrue}
 use Rattle.pb_text.specs.Automaton.{Automaton, Next, Go, End, Refuse, Skips, Reads, Accepts, Admits, IsState}
-use Rattle.pb_text.specs.Spelling.{Letter, Item}
+use Rattle.pb_text.specs.Spelling.{Letter, Item, bytes_of}
+use Rattle.pb_text.proofs.Residual.{First, Nothing, InGap, InText, AtLast, first_of}
 use Rattle.pb_proof.proofs.Choices.{never}
 use Rattle.pb_proof.proofs.Walking.{longer}
 
@@ -73,3 +74,27 @@ module _ {S E : Type 0} (m : Automaton S E) where
       by_items [] h = never (m.done s) h d
       by_items (i ∷ rest) (at, after, g, r, a) =
           (i.text, i.event, after, subst (λ x. Reads m x i.text i.event after) (gapless begins s at i.gap g) r)
+
+  -- What is admitted goes on to an event.
+  same_byte : (c b : ℕ) (cs more : List ℕ) → c ∷ cs ≡ b ∷ more → c ≡ b
+  same_byte c b cs more e = cc
+
+  one_state : (u v : S) → ◌≡◌ {A = Next S E} (Go u) (Go v) → u ≡ v
+  one_state u v e = cc
+
+  go_end : (u v : S) (e : E) → ◌≡◌ {A = Next S E} (Go u) (End e v) → ⊥
+  go_end u v e h = cc
+
+  pub admitted_on : BeginsAtOnce → (s next : S) (b : ℕ) → m.step s b ≡ Go next → Admits m s b → ReadsOn next
+  admitted_on begins s next b g (items, a, more, e) = by_first items (first_of m s items a) e
+    where
+      by_first : (items : List (Item E)) → First m s items → bytes_of items ≡ b ∷ more → ReadsOn next
+      by_first _ (Nothing d) e = cc
+      by_first _ (InGap c gap text x rest mid h o k) e = never (m.begun mid) (begins s mid c h) o
+      by_first _ (InText l k text x rest mid h i n (at, after, f, r, z)) e =
+          let byte : l.byte ≡ b = same_byte l.byte b _ more e in
+          let same : mid ≡ next = one_state mid next (sym h ∙ (ap (m.step s) byte ∙ g)) in
+          (k ∷ text, x, after, subst (λ y. Reads m y (k ∷ text) x after) (f ∙ same) r)
+      by_first _ (AtLast l x rest last h n k) e =
+          let byte : l.byte ≡ b = same_byte l.byte b _ more e in
+          absurd (go_end next last x (sym g ∙ (ap (m.step s) (sym byte) ∙ h)))

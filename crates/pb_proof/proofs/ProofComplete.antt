@@ -76,7 +76,7 @@ dark_blank x b d h = by_test (nat_eq x 32) refl
 nat-same : (b : ℕ) → nat_eq b b ≡ true
 nat-same b = grind (arith, nat_tests)
 
-meets_self : (c : ℕ) → nat_eq c 32 ≡ false → meets c c ≡ true
+pub meets_self : (c : ℕ) → nat_eq c 32 ≡ false → meets c c ≡ true
 meets_self c e = rw (e, nat-same c) refl
 
 meets_blank : (c b : ℕ) → nat_eq c 32 ≡ true → is_blank b ≡ true → meets c b ≡ true

@@ -142,7 +142,7 @@ steps_order (e ∷ steps) c h =
 statements_order : (v : Proof) → All IsStep v.steps → InOrder Opening (statements_of v)
 statements_order v h = (refl, (refl, steps_order v.steps v.conclusion h))
 
-no_gap : IsGap []
+pub no_gap : IsGap []
 no_gap = ((λ i lt. absurd (omega arith)), refl)
 
 module _ (limit top : ℕ) where
@@ -207,7 +207,7 @@ module _ (limit top : ℕ) where
   )
 
 -- Nothing may follow what is complete.
-done_stops : (s : ProofState) (p : Phase) (b : ℕ) → is_done p ≡ true → act s b (plan p b) ≡ Refuse
+pub done_stops : (s : ProofState) (p : Phase) (b : ℕ) → is_done p ≡ true → act s b (plan p b) ≡ Refuse
 done_stops s (phase.Between Complete) b h = refl
 done_stops s (phase.Between Opening) b h = never false h refl
 done_stops s (phase.Between Formula) b h = never false h refl

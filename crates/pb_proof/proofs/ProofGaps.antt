@@ -11,7 +11,7 @@ use Rattle.pb_text.proofs.Blanks.{in_comment-snoc, IsBlank-snoc}
 use Rattle.pb_proof.specs.Machine.{plan, enter, between, pass, spell, meets, words_of, behind, step_front}
 use Rattle.pb_proof.specs.Order.{GapAt}
 use Rattle.pb_proof.specs.Proofs.{IsGap}
-use Rattle.pb_proof.specs.State.{ProofState, proofs, at, idle, act, is_within}
+use Rattle.pb_proof.specs.State.{ProofState, proofs, at, idle, act, is_within, HasGaps}
 use Rattle.pb_proof.specs.declared.phase.Front.{Front}
 use Rattle.pb_proof.specs.declared.phase.Front.TheVariants as front
 use Rattle.pb_proof.specs.declared.phase.Stage.{Stage}
@@ -22,12 +22,6 @@ use Rattle.pb_proof.specs.declared.phase.Move.{Move}
 use Rattle.pb_proof.specs.declared.phase.Move.TheVariants as move
 use Rattle.pb_proof.specs.declared.statement.Statement.{Statement}
 use Rattle.pb_proof.proofs.Choices.{never, chosen, by_or}
-
--- the stages with gaps before their statements
-abbrev pub HasGaps : Stage → Type 0
-HasGaps Opening = ⊥
-HasGaps Complete = ⊥
-HasGaps _ = Unit {0}
 
 passing : (s : Stage) (b : ℕ) → HasGaps s → between s b ≡ pass s b
 passing Opening b h = absurd h

@@ -17,7 +17,7 @@ use Rattle.pb_proof.specs.declared.statement.Statement.{Statement}
 use Rattle.pb_proof.specs.declared.statement.Statement as statement
 use Rattle.pb_proof.proofs.Choices.{never}
 use Rattle.pb_proof.proofs.ProofComplete.{statement_each}
-use Rattle.pb_proof.proofs.ProofGaps.{HasGaps, Inside, enter_inside, gap_before, gap_skips}
+use Rattle.pb_proof.proofs.ProofGaps.{Inside, enter_inside, gap_before, gap_skips}
 use Rattle.pb_proof.proofs.ProofSound.{statement_only}
 
 refuse-go : (s : ProofState) → ◌≡◌ {A = Next ProofState Statement} Refuse (Go s) → ⊥

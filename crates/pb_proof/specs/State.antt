@@ -96,10 +96,16 @@ proofs = record {
   spent = λ s. asked 0 inners.spent s.inner;
 }
 
--- the words are not read to their end
+-- the stages with gaps before their statements
+abbrev pub HasGaps : Stage → Type 0
+HasGaps stage.TheVariants.Opening = ⊥
+HasGaps stage.TheVariants.Complete = ⊥
+HasGaps _ = Unit {0}
+
+-- a comment stands in a gap, and words are not read to their end
 abbrev pub PhaseFits : Phase → Type 0
+PhaseFits (phase.TheVariants.Comment at) = HasGaps at
 PhaseFits (phase.TheVariants.Spelling f k) = (0 < k) × (k < length (words_of f))
-PhaseFits (phase.TheVariants.Comment at) = (at ≡ stage.TheVariants.Opening → ⊥) × (at ≡ stage.TheVariants.Complete → ⊥)
 PhaseFits _ = Unit {0}
 
 -- What stands with what was read last.
