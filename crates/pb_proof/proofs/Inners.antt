@@ -19,10 +19,14 @@ use Rattle.pb_proof.specs.declared.phase.Rest.TheVariants.{Count, Words, Goal, I
 use Rattle.pb_proof.specs.declared.statement.Statement.{Statement}
 use Rattle.pb_proof.specs.declared.statement.Statement as statement
 use Rattle.pb_proof.proofs.Carried.{Carries, reads_in, reads_out, state_in, begins_in}
-use Rattle.pb_proof.proofs.CountTheorems.{count_reads, count_is_state, count_begins}
+use Rattle.pb_proof.proofs.CountTheorems.{count_reads, count_is_state, count_of_one}
 use Rattle.pb_proof.proofs.GoalReads.{goal_reads}
 use Rattle.pb_proof.proofs.GoalStates.{goal_is_state, goal_begins, goal_first_in_order}
-use Rattle.pb_proof.proofs.Stubs.{pol_reads, pol_first_state, pol_begins, literals_reads, literals_first_state, literals_begins, ids_reads, ids_first_state, ids_begins, claim_reads, claim_first_state, claim_begins}
+use Rattle.pb_proof.proofs.PolTheorems.{pol_reads, pol_is_state, pol_first_in_order}
+use Rattle.pb_proof.proofs.PolStates.{of_one}
+use Rattle.pb_proof.proofs.LiteralsTheorems.{literals_of_one, literals_reads, literals_is_state}
+use Rattle.pb_proof.proofs.IdsTheorems.{ids_of_one, ids_reads, ids_is_state}
+use Rattle.pb_proof.proofs.ClaimTheorems.{claim_of_one, claim_reads, claim_is_state}
 use Rattle.pb_proof.proofs.Living.{BeginsAtOnce}
 
 pub count_carries : Carries count_automaton inners inner.TheVariants.Count statement.TheVariants.F
@@ -48,13 +52,13 @@ claimed_carries = record { step = λ s b. refl; done = λ s. refl; begun = λ s.
 
 -- Each begins its text with the first byte.
 pub inner_begins : BeginsAtOnce inners
-inner_begins (inner.TheVariants.Count s) next b e = begins_in _ _ _ _ count_carries count_begins s next b e
-inner_begins (inner.TheVariants.Words s) next b e = begins_in _ _ _ _ words_carries pol_begins s next b e
+inner_begins (inner.TheVariants.Count s) next b e = begins_in _ _ _ _ count_carries count_of_one.begins s next b e
+inner_begins (inner.TheVariants.Words s) next b e = begins_in _ _ _ _ words_carries of_one.begins s next b e
 inner_begins (inner.TheVariants.Goal s) next b e = begins_in _ _ _ _ goal_carries goal_begins s next b e
-inner_begins (inner.TheVariants.Improving s) next b e = begins_in _ _ _ _ improving_carries literals_begins s next b e
-inner_begins (inner.TheVariants.Excluded s) next b e = begins_in _ _ _ _ excluded_carries literals_begins s next b e
-inner_begins (inner.TheVariants.Deleted s) next b e = begins_in _ _ _ _ deleted_carries ids_begins s next b e
-inner_begins (inner.TheVariants.Claimed s) next b e = begins_in _ _ _ _ claimed_carries claim_begins s next b e
+inner_begins (inner.TheVariants.Improving s) next b e = begins_in _ _ _ _ improving_carries literals_of_one.begins s next b e
+inner_begins (inner.TheVariants.Excluded s) next b e = begins_in _ _ _ _ excluded_carries literals_of_one.begins s next b e
+inner_begins (inner.TheVariants.Deleted s) next b e = begins_in _ _ _ _ deleted_carries ids_of_one.begins s next b e
+inner_begins (inner.TheVariants.Claimed s) next b e = begins_in _ _ _ _ claimed_carries claim_of_one.begins s next b e
 
 module _ (limit top : ℕ) where
   -- What a new one reads is what stands behind the first word.
@@ -70,10 +74,10 @@ module _ (limit top : ℕ) where
       subst (λ x. SpellsRest limit top Goal x t) (sym f) ((goal_reads limit top t c last).0 k).0
   inner_only Improving t e after h =
       let (c, last, f, k) = reads_out _ _ _ _ improving_carries t (literals_first false) e after h in
-      subst (λ x. SpellsRest limit top Improving x t) (sym f) ((literals_reads limit top t c last).0 k).0
+      subst (λ x. SpellsRest limit top Improving x t) (sym f) ((literals_reads false t c last).0 k).0
   inner_only Excluded t e after h =
       let (c, last, f, k) = reads_out _ _ _ _ excluded_carries t (literals_first false) e after h in
-      subst (λ x. SpellsRest limit top Excluded x t) (sym f) ((literals_reads limit top t c last).0 k).0
+      subst (λ x. SpellsRest limit top Excluded x t) (sym f) ((literals_reads false t c last).0 k).0
   inner_only Deleted t e after h =
       let (c, last, f, k) = reads_out _ _ _ _ deleted_carries t (ids_first top) e after h in
       subst (λ x. SpellsRest limit top Deleted x t) (sym f) ((ids_reads limit top t c last).0 k).0
@@ -88,9 +92,9 @@ module _ (limit top : ℕ) where
   inner_each Words t _ h = absurd h
   inner_each Goal t (statement.TheVariants.Rup c) h = (inner.TheVariants.Goal (goal_last limit), reads_in _ _ _ _ goal_carries t (goal_first limit) c (goal_last limit) ((goal_reads limit top t c (goal_last limit)).1 (h, refl)))
   inner_each Goal t _ h = absurd h
-  inner_each Improving t (statement.TheVariants.Soli c) h = (inner.TheVariants.Improving (literals_last false), reads_in _ _ _ _ improving_carries t (literals_first false) c (literals_last false) ((literals_reads limit top t c (literals_last false)).1 (h, refl)))
+  inner_each Improving t (statement.TheVariants.Soli c) h = (inner.TheVariants.Improving (literals_last false), reads_in _ _ _ _ improving_carries t (literals_first false) c (literals_last false) ((literals_reads false t c (literals_last false)).1 (h, refl)))
   inner_each Improving t _ h = absurd h
-  inner_each Excluded t (statement.TheVariants.Solx c) h = (inner.TheVariants.Excluded (literals_last false), reads_in _ _ _ _ excluded_carries t (literals_first false) c (literals_last false) ((literals_reads limit top t c (literals_last false)).1 (h, refl)))
+  inner_each Excluded t (statement.TheVariants.Solx c) h = (inner.TheVariants.Excluded (literals_last false), reads_in _ _ _ _ excluded_carries t (literals_first false) c (literals_last false) ((literals_reads false t c (literals_last false)).1 (h, refl)))
   inner_each Excluded t _ h = absurd h
   inner_each Deleted t (statement.TheVariants.Delete c) h = (inner.TheVariants.Deleted (ids_last top), reads_in _ _ _ _ deleted_carries t (ids_first top) c (ids_last top) ((ids_reads limit top t c (ids_last top)).1 (h, refl)))
   inner_each Deleted t _ h = absurd h
@@ -110,9 +114,9 @@ module _ (limit top : ℕ) where
   -- It is a state, where there are ids.
   pub inner_first_state : limit < 2 ^ 127 → top < 2 ^ 63 → 0 < top → (r : Rest) → IsState inners (inner_first limit top r)
   inner_first_state l t some Count = state_in _ _ _ _ count_carries (counting top) (count_is_state (counting top) (t, tt))
-  inner_first_state l t some Words = state_in _ _ _ _ words_carries (pol_first limit top) (pol_first_state limit top l t some)
+  inner_first_state l t some Words = state_in _ _ _ _ words_carries (pol_first limit top) (pol_is_state (pol_first limit top) (pol_first_in_order limit top some))
   inner_first_state l t some Goal = state_in _ _ _ _ goal_carries (goal_first limit) (goal_is_state (goal_first limit) (goal_first_in_order limit (first_is_state Blank part.TheVariants.AtLeast limit)))
-  inner_first_state l t some Improving = state_in _ _ _ _ improving_carries (literals_first false) literals_first_state
-  inner_first_state l t some Excluded = state_in _ _ _ _ excluded_carries (literals_first false) literals_first_state
-  inner_first_state l t some Deleted = state_in _ _ _ _ deleted_carries (ids_first top) (ids_first_state top t some)
-  inner_first_state l t some Claimed = state_in _ _ _ _ claimed_carries (claim_first limit top) (claim_first_state limit top l t some)
+  inner_first_state l t some Improving = state_in _ _ _ _ improving_carries (literals_first false) (literals_is_state (literals_first false) (λ i. (refl, refl)))
+  inner_first_state l t some Excluded = state_in _ _ _ _ excluded_carries (literals_first false) (literals_is_state (literals_first false) (λ i. (refl, refl)))
+  inner_first_state l t some Deleted = state_in _ _ _ _ deleted_carries (ids_first top) (ids_is_state (ids_first top) (t, some, tt, λ i. refl))
+  inner_first_state l t some Claimed = state_in _ _ _ _ claimed_carries (claim_first limit top) (claim_is_state (claim_first limit top) (record { limit = l; top = t; some = some; fits = tt; holds = refl; inner = λ i. (refl, refl) }))

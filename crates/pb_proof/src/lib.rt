@@ -3,6 +3,7 @@
 
 mod claim;
 mod claim_phase;
+mod claim_plan;
 mod classes;
 mod conclusion;
 mod count;
@@ -10,13 +11,18 @@ mod count_phase;
 mod goal;
 mod goal_phase;
 mod ids;
+mod ids_phase;
 mod inner;
 mod laws;
 mod literals;
+mod literals_phase;
 mod mark;
 mod phase;
 mod pol;
+mod pol_close;
+mod pol_kind;
 mod pol_phase;
+mod pol_plan;
 mod proof;
 mod statement;
 mod word;
