@@ -19,7 +19,7 @@ mod IdsComplete
 mod IdsPushes
 mod IdsSound
 mod IdsTheorems
-mod Inners
+mod InnerLaws
 mod LineEnds
 mod LiteralNames
 mod LiteralsComplete

@@ -25,7 +25,7 @@ use Rattle.pb_proof.specs.declared.phase.Phase.{Phase}
 use Rattle.pb_proof.specs.declared.phase.Phase.TheVariants as phase
 use Rattle.pb_proof.specs.declared.statement.Statement.{Statement}
 use Rattle.pb_proof.specs.declared.statement.Statement as statement
-use Rattle.pb_proof.proofs.Inners.{inner_begins, inner_fresh, inner_first_state}
+use Rattle.pb_proof.proofs.InnerLaws.{inner_begins, inner_fresh, inner_first_state}
 use Rattle.pb_proof.proofs.Living.{IsAlive, before, final, accepted, ReadsOn, reads_on}
 use Rattle.pb_proof.proofs.ProofComplete.{spelt, header_end, output_end, step_on, step_last, given_reads, meets_self}
 use Rattle.pb_proof.proofs.ProofExact.{no_gap}

@@ -27,7 +27,7 @@ use Rattle.pb_proof.specs.declared.phase.Move.TheVariants as move
 use Rattle.pb_proof.specs.declared.statement.Statement.{Statement}
 use Rattle.pb_proof.specs.declared.statement.Statement as statement
 use Rattle.pb_proof.proofs.Choices.{never, both, by_or, blank_each, fails}
-use Rattle.pb_proof.proofs.Inners.{inner_each, inner_fresh}
+use Rattle.pb_proof.proofs.InnerLaws.{inner_each, inner_fresh}
 use Rattle.pb_proof.proofs.LineEnds.{TakesBlanks, Feeds, feed_reads, MayEnd, line_reads}
 use Rattle.pb_proof.proofs.ProofSound.{stage_front, stage_rest, Before}
 use Rattle.pb_proof.proofs.Spaced.{Spaced, One, chooses, FrontWords, front_each, spaced_then}

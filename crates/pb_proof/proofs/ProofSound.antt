@@ -29,7 +29,7 @@ use Rattle.pb_proof.specs.declared.phase.Move.TheVariants as move
 use Rattle.pb_proof.specs.declared.statement.Statement.{Statement}
 use Rattle.pb_proof.specs.declared.statement.Statement as statement
 use Rattle.pb_proof.proofs.Choices.{never, chosen, both}
-use Rattle.pb_proof.proofs.Inners.{inner_only, inner_begins, inner_fresh}
+use Rattle.pb_proof.proofs.InnerLaws.{inner_only, inner_begins, inner_fresh}
 use Rattle.pb_proof.proofs.LineEnds.{as_unmarked, Gapped, Closing as Closed, blank_behind, blank_more, semicolon_behind_blanks, blank_closing, line_behind_blanks, line_closing, feed_behind_blanks}
 use Rattle.pb_proof.proofs.Spaced.{Spaced, One, one_met, spaced_more, spaced_blank, FrontWords, front_only}
 use Rattle.pb_proof.proofs.Walking.{Walks, walks_more, ends_walk, On, told}

@@ -21,7 +21,7 @@ use Rattle.pb_proof.specs.declared.phase.Move.{Move}
 use Rattle.pb_proof.specs.declared.phase.Move.TheVariants as move
 use Rattle.pb_proof.specs.declared.statement.Statement.{Statement}
 use Rattle.pb_proof.proofs.Choices.{never, chosen}
-use Rattle.pb_proof.proofs.Inners.{inner_begins, inner_fresh, inner_first_state}
+use Rattle.pb_proof.proofs.InnerLaws.{inner_begins, inner_fresh, inner_first_state}
 use Rattle.pb_proof.proofs.Living.{admits_before, admits_final, admitted_on}
 use Rattle.pb_proof.proofs.ProofAlive.{live, reading_alive, stage_accepts, example}
 use Rattle.pb_proof.proofs.ProofExact.{closes}
