@@ -34,12 +34,14 @@ mod PolComplete
 mod PolCovers
 mod PolFronts
 mod PolKinds
+mod PolPushes
 mod PolSane
 mod PolSound
 mod PolStates
 mod PolTable
 mod PolTheorems
 mod PolTrees
+mod PolUnits
 mod PolWalks
 mod ProofAlive
 mod ProofComplete
