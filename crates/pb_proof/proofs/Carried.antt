@@ -1,9 +1,7 @@
 -- An automaton within another one.
-use Rattle.std.proofs.Common.{◌≡◌, ℕ, Bool, true, false, List, [], ◌∷◌, refl, sym, ap, subst, ◌∙◌, map, arith}
-use Rattle.std.specs.Prelude.{IsTrue, ◌+◌, ◌≤◌}
-use Rattle.pb_text.specs.Automaton.{Automaton, Next, Go, End, Refuse, Skips, Reads, Accepts, Admits, IsState, is_large}
-use Rattle.pb_text.specs.Classes.{is_digit}
-use Rattle.pb_text.specs.Spelling.{Letter, Item, letters_of, bytes_of, bytes}
+use Rattle.std.proofs.Common.{◌≡◌, ℕ, true, List, [], ◌∷◌, refl, sym, ap, subst, ◌∙◌, map, ◌++◌}
+use Rattle.pb_text.specs.Automaton.{Automaton, Next, Go, End, Refuse, Skips, Reads, Accepts, Admits, IsState}
+use Rattle.pb_text.specs.Spelling.{Letter, Item, letters_of, bytes, plain}
 use Rattle.pb_proof.specs.Inner.{carried}
 
 module _ {S E R F : Type 0} (m : Automaton S E) (n : Automaton R F) (into : S → R) (event : E → F) where
@@ -38,11 +36,6 @@ module _ {S E R F : Type 0} (m : Automaton S E) (n : Automaton R F) (into : S �
     ended (End v s) f r e = (v, s, refl, (let g : f ≡ event v = cc in g), (let g : r ≡ into s = cc in g))
     ended Refuse f r e = absurd (let g : ⊥ = cc in g)
 
-    pub refused : (x : Next S E) → carried into event x ≡ Refuse → x ≡ Refuse
-    refused (Go s) e = absurd (let f : ⊥ = cc in f)
-    refused (End v s) e = absurd (let f : ⊥ = cc in f)
-    refused Refuse e = refl
-
     pub went_out : (s : S) (b : ℕ) (r : R) → n.step (into s) b ≡ Go r → (next : S) × (m.step s b ≡ Go next) × (r ≡ into next)
     went_out s b r e = went (m.step s b) r (sym (h.step s b) ∙ e)
 
@@ -72,7 +65,7 @@ module _ {S E R F : Type 0} (m : Automaton S E) (n : Automaton R F) (into : S �
 
     letters_same : (items : List (Item E)) → letters_of (map carried_item items) ≡ letters_of items
     letters_same [] = refl
-    letters_same (i ∷ rest) = ap (λ x. Rattle.std.proofs.Common.◌++◌ (Rattle.pb_text.specs.Spelling.plain i.gap) (Rattle.std.proofs.Common.◌++◌ i.text x)) (letters_same rest)
+    letters_same (i ∷ rest) = ap (λ x. plain i.gap ++ (i.text ++ x)) (letters_same rest)
 
     pub state_in : (s : S) → IsState m s → IsState n (into s)
     state_in s k = record {
@@ -89,9 +82,6 @@ module _ {S E R F : Type 0} (m : Automaton S E) (n : Automaton R F) (into : S �
 
     pub admits_in : (s : S) (b : ℕ) → Admits m s b → Admits n (into s) b
     admits_in s b (items, a, more, e) = (map carried_item items, accepts_in items s a, more, ap bytes (letters_same items) ∙ e)
-
-    pub large_in : (s : S) (b : ℕ) → is_large n (into s) b ≡ is_large m s b
-    large_in s b = ap (λ x. Rattle.std.specs.Prelude.◌&&◌ x (is_digit b)) (h.in_number s)
 
     -- each byte that is taken begins the text, or is behind its beginning
     pub begins_in : ((s next : S) (b : ℕ) → m.step s b ≡ Go next → m.begun next ≡ true) → (s : S) (r : R) (b : ℕ) → n.step (into s) b ≡ Go r → n.begun r ≡ true

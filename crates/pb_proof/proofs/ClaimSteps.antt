@@ -1,8 +1,8 @@
 -- What a machine of claims keeps from byte to byte.
-use Rattle.std.proofs.Common.{◌≡◌, ℕ, ◌+◌, ◌-◌, ◌*◌, ◌^◌, ◌<◌, ◌≤◌, Bool, true, false, cond, ◌&&◌, nat_eq, nat_le, length, refl, sym, ap, subst, arith, ◌∙◌}
+use Rattle.std.proofs.Common.{◌≡◌, ℕ, ◌+◌, ◌-◌, ◌*◌, ◌^◌, ◌<◌, ◌≤◌, Bool, true, false, cond, ◌&&◌, nat_eq, nat_le, length, refl, sym, ap, subst, arith}
 use Rattle.std.proofs.lemmas.Bool.{leb-true, false≢true}
 use Rattle.std.proofs.lemmas.Bool.Decides.{nat_tests}
-use Rattle.std.specs.Prelude.{ℤ, Option, Some, None, slice_index, List}
+use Rattle.std.specs.Prelude.{ℤ, Some, None, slice_index, List}
 use Rattle.pb_text.specs.Automaton.{Next, Go, End, Refuse}
 use Rattle.pb_text.specs.Classes.{is_blank, is_digit}
 use Rattle.pb_text.specs.Numbers.{signed}
@@ -29,7 +29,6 @@ use Rattle.pb_proof.specs.declared.claim_phase.Phase.TheVariants as phase
 use Rattle.pb_proof.specs.declared.claim_phase.Move.{Move}
 use Rattle.pb_proof.specs.declared.claim_phase.Move.TheVariants.{To, Finish, Give, Stop}
 use Rattle.pb_proof.proofs.ClaimBytes.{chosen, both}
-use Rattle.pb_proof.proofs.OneLine.{IsOfOne}
 use Rattle.pb_proof.proofs.LiteralsTheorems.{literals_of_one}
 
 abbrev N : Type 0

@@ -1,13 +1,13 @@
 -- The laws of the machine of claims.
-use Rattle.std.proofs.Common.{◌≡◌, ℕ, zero, suc, ◌+◌, ◌<◌, ◌≤◌, Bool, true, false, List, [], ◌∷◌, ◌++◌, drop, refl, inl, inr, ◌⊎◌, sym, ap, subst, arith, ◌∙◌, ◌↔◌}
+use Rattle.std.proofs.Common.{◌≡◌, ℕ, zero, suc, ◌<◌, ◌≤◌, Bool, true, false, List, [], ◌∷◌, ◌++◌, drop, refl, inl, inr, ◌⊎◌, sym, ap, subst, arith, ◌↔◌}
 use Rattle.std.proofs.lemmas.Bool.{false≢true}
 use Rattle.std.specs.Prelude.{ℤ, Option, Some, None}
-use Rattle.pb_text.specs.Automaton.{Next, Go, End, Reads, IsState}
-use Rattle.pb_text.specs.Languages.{unmarked, digit}
+use Rattle.pb_text.specs.Automaton.{Go, Reads, IsState}
+use Rattle.pb_text.specs.Languages.{unmarked}
 use Rattle.pb_text.specs.Numbers.{signed}
 use Rattle.pb_text.specs.Spelling.{Letter, plain}
 use Rattle.pb_proof.specs.Lines.{none_word, inf_word, SpellsClaim}
-use Rattle.pb_proof.specs.Claim.{word_of, behind_word, behind_bound, plan, is_within, is_done, PhaseFits}
+use Rattle.pb_proof.specs.Claim.{word_of, behind_word, behind_bound, is_within, is_done, PhaseFits}
 use Rattle.pb_proof.specs.ClaimState.{ClaimState, claim_automaton, claim_at, claim_first, claim_last, claim_value, showing_value, kept, spent, act, Holds, IsClaimInOrder}
 use Rattle.pb_proof.specs.Literals.{LiteralsState, literals_automaton, literals_first, IsLiteralsInOrder}
 use Rattle.pb_proof.specs.declared.conclusion.Bound.{Bound}
@@ -27,9 +27,9 @@ use Rattle.pb_proof.specs.declared.claim_phase.Phase.{Phase}
 use Rattle.pb_proof.specs.declared.claim_phase.Phase.TheVariants as phase
 use Rattle.pb_proof.proofs.ClaimEach.{claim_each, shown_at, shown_reads}
 use Rattle.pb_proof.proofs.ClaimFront.{claim_told}
-use Rattle.pb_proof.proofs.ClaimParts.{Opens, before_opens, spaced_opens, infinity_leads, infinity_left, signed_step, id_step, first_id_step, signed_id_step}
+use Rattle.pb_proof.proofs.ClaimParts.{before_opens, spaced_opens, infinity_leads, infinity_left, signed_step, id_step, first_id_step, signed_id_step}
 use Rattle.pb_proof.proofs.ClaimSteps.{goes, ends, not_done, done_stops, no_number, nothing_spent}
-use Rattle.pb_proof.proofs.ClaimWalk.{at, word_left, word_leads, id_steps, not_zero}
+use Rattle.pb_proof.proofs.ClaimWalk.{at, word_left, word_leads, id_steps}
 use Rattle.pb_proof.proofs.LiteralsTheorems.{literals_of_one}
 use Rattle.pb_proof.proofs.OneLine.{IsOfOne, ReadsSome, reads_last, is_state}
 use Rattle.pb_proof.proofs.Walking.{Walks, reads_behind}

@@ -1,14 +1,14 @@
 -- What a machine of goals reads is the grammar.
-use Rattle.std.proofs.Common.{◌≡◌, ℕ, true, false, List, [], ◌∷◌, ◌++◌, refl, sym, ap, subst, ◌∙◌, ◌↔◌, inl, inr}
+use Rattle.std.proofs.Common.{◌≡◌, ℕ, true, false, List, [], ◌∷◌, ◌++◌, refl, sym, ap, subst, ◌∙◌, ◌↔◌}
 use Rattle.std.proofs.lemmas.Bool.{eqb-true}
 use Rattle.std.specs.Prelude.{IsTrue, nat_eq, Option, Some, None}
 use Rattle.pb_text.specs.Automaton.{Next, Go, End, Refuse, Reads}
 use Rattle.pb_text.specs.Classes.{is_blank}
-use Rattle.pb_text.specs.Languages.{unmarked, Language, ◌⋅◌, Byte, Each, Blanks0, Blanks1}
+use Rattle.pb_text.specs.Languages.{Language, ◌⋅◌, Byte, Blanks0, Blanks1}
 use Rattle.pb_text.specs.Spelling.{Letter}
 use Rattle.pb_text.proofs.Languages.{grown, next, none_yet, regroup, many-grown, some-grown, some-one}
 use Rattle.pb_sums.specs.State.{SumState, sums}
-use Rattle.pb_sums.specs.Sums.{SpellsLinear, Spells}
+use Rattle.pb_sums.specs.Sums.{SpellsLinear, Spells, allows}
 use Rattle.pb_sums.specs.declared.Linear.{Linear}
 use Rattle.pb_sums.specs.declared.Relation.{Relation}
 use Rattle.pb_sums.specs.declared.Relation.TheVariants.{AtLeast, Equal}
@@ -18,12 +18,12 @@ use Rattle.pb_sums.specs.declared.SumEvent.{SumEvent}
 use Rattle.pb_sums.specs.declared.SumEvent as sum
 use Rattle.pb_sums.proofs.Links.{reads_grammar}
 use Rattle.pb_sums.proofs.States.{goes-midway}
-use Rattle.pb_proof.specs.Goal.{GoalState, goal_automaton, goal_first, goal_last, goals, after_goals, goal_plan, goal_act, goal_over, linear_of}
-use Rattle.pb_proof.specs.Lines.{Feed, SpellsGoal}
+use Rattle.pb_proof.specs.Goal.{GoalState, goal_automaton, goal_first, goal_last, goals, after_goals, goal_plan, goal_act, goal_over, linear_of, goal_finish}
+use Rattle.pb_proof.specs.Lines.{SpellsGoal}
 use Rattle.pb_proof.specs.declared.goal_phase.GoalPhase.{GoalPhase}
 use Rattle.pb_proof.specs.declared.goal_phase.GoalPhase.TheVariants.{Start, Gap, Inside, Tail, Done}
 use Rattle.pb_proof.specs.declared.goal_phase.GoalMove.{GoalMove}
-use Rattle.pb_proof.specs.declared.goal_phase.GoalMove.TheVariants.{To, Give, Finish, Stop}
+use Rattle.pb_proof.specs.declared.goal_phase.GoalMove.TheVariants.{Give}
 use Rattle.pb_proof.proofs.Choices.{never, chosen, blank_each, fails}
 use Rattle.pb_proof.proofs.LineEnds.{as_unmarked, TakesBlanks, blanks1_lead, Feeds, feed_reads}
 use Rattle.pb_proof.proofs.Walking.{Walks, walks_then, walks_more, ends_walk, reads_behind, On, told}
@@ -62,7 +62,7 @@ module _ (limit top : ℕ) where
         (λ h w f. (subst Blanks1 (ap (λ x. x ++ l ∷ []) (sym e)) (some-one IsBlank l.byte l (as_unmarked l l.byte refl f) h), i, n))
         (λ h. tt)
 
-    allowed : (r : Relation) → IsTrue (Rattle.pb_sums.specs.Sums.allows part.TheVariants.AtLeast r) → r ≡ AtLeast
+    allowed : (r : Relation) → IsTrue (allows part.TheVariants.AtLeast r) → r ≡ AtLeast
     allowed AtLeast h = refl
     allowed Equal h = never false h refl
 
@@ -98,7 +98,7 @@ module _ (limit top : ℕ) where
         (λ g. ends g s.linear k)
         (λ _. tt))
       where
-        ends : nat_eq l.byte 10 ≡ true → (o : Option Linear) → o ≡ Some c → Leaves (Rattle.pb_proof.specs.Goal.goal_finish s o)
+        ends : nat_eq l.byte 10 ≡ true → (o : Option Linear) → o ≡ Some c → Leaves (goal_finish s o)
         ends g None e = absurd (let f : ⊥ = cc in f)
         ends g (Some d) e = λ f.
             let same : d ≡ c = cc in
@@ -176,7 +176,7 @@ module _ (limit top : ℕ) where
       let k = gap_gives l (λ h. refuse_go mid (sym h ∙ g)) in
       (inside mid, ap (goal_act (in_phase Gap) l.byte) k ∙ ap (goal_over (in_phase Gap)) g, refl, n, given_walks (c ∷ t) mid new e r)
 
-  allows_it : (r : Relation) → r ≡ AtLeast → IsTrue (Rattle.pb_sums.specs.Sums.allows part.TheVariants.AtLeast r)
+  allows_it : (r : Relation) → r ≡ AtLeast → IsTrue (allows part.TheVariants.AtLeast r)
   allows_it AtLeast h = refl
   allows_it Equal h = cc
 

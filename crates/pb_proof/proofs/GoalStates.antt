@@ -1,30 +1,30 @@
 -- What holds of each state that a machine of goals can be in.
-use Rattle.std.proofs.Common.{◌≡◌, ℕ, ◌+◌, ◌-◌, ◌^◌, ◌≤◌, ◌<◌, min, take, get_or, Bool, true, false, cond, List, [], ◌∷◌, ◌++◌, length, refl, sym, ap, subst, ◌∙◌, arith}
-use Rattle.std.proofs.Math.Nat.{min-le_left}
+use Rattle.std.proofs.Common.{◌≡◌, ℕ, ◌+◌, ◌-◌, ◌^◌, ◌≤◌, ◌<◌, min, take, get_or, Bool, true, false, cond, List, [], ◌∷◌, ◌++◌, length, refl, sym, ap, subst, ◌∙◌, arith, ◌&&◌}
 use Rattle.std.proofs.lemmas.List.{take_more}
 use Rattle.std.specs.Prelude.{IsTrue, nat_eq, Option, Some, None}
 use Rattle.pb_text.specs.Automaton.{Next, Go, End, Refuse, Reads, Accepts, Admits, IsState, is_large}
 use Rattle.pb_text.specs.Classes.{is_blank, is_digit}
 use Rattle.pb_text.specs.Spelling.{Letter, Item}
 use Rattle.pb_text.proofs.Residual.{refuses}
-use Rattle.pb_sums.specs.Machine.{Work, Outcome, act, flushed, finished, term, plan, kind, letter_at, is_numeric}
-use Rattle.pb_sums.specs.State.{SumState, sums, over, first, units, in_hand, with_work}
+use Rattle.pb_sums.specs.Machine.{Work, Outcome, act, flushed, term, plan, kind, letter_at, is_numeric}
+use Rattle.pb_sums.specs.State.{SumState, sums, over, units, in_hand}
 use Rattle.pb_sums.specs.declared.Linear.{Linear}
 use Rattle.pb_sums.specs.declared.values.Term.{Term}
 use Rattle.pb_sums.specs.declared.phase.Phase as sum_phase
 use Rattle.pb_sums.specs.declared.phase.Move.{Move}
 use Rattle.pb_sums.specs.declared.phase.Move.TheVariants as move
 use Rattle.pb_sums.specs.declared.SumEvent.{SumEvent}
+use Rattle.pb_sums.specs.declared.SumEvent as sum
 use Rattle.pb_sums.proofs.Links.{reads_something, midway-not-done}
 use Rattle.pb_sums.proofs.States.{goes-midway, ended-last}
-use Rattle.pb_proof.specs.Goal.{GoalState, goal_automaton, goal_first, goals, goal_plan, goal_act, goal_over, goal_finish, goal_midway, goal_done, goal_in_number, goal_asks, linear_of, units_in, GoalHolds, IsGoalInOrder}
+use Rattle.pb_proof.specs.Goal.{GoalState, goal_automaton, goal_first, goals, goal_plan, goal_act, goal_over, goal_finish, goal_midway, goal_done, goal_in_number, goal_asks, linear_of, GoalHolds, IsGoalInOrder}
 use Rattle.pb_proof.specs.declared.goal_phase.GoalPhase.{GoalPhase}
 use Rattle.pb_proof.specs.declared.goal_phase.GoalPhase.TheVariants.{Start, Gap, Inside, Tail, Done}
 use Rattle.pb_proof.specs.declared.goal_phase.GoalMove.{GoalMove}
 use Rattle.pb_proof.specs.declared.goal_phase.GoalMove.TheVariants.{To, Give, Finish, Stop}
 use Rattle.pb_proof.proofs.Choices.{never, chosen}
-use Rattle.pb_proof.proofs.Living.{IsAlive, before, final, accepted, admits_before, admits_final}
-use Rattle.pb_proof.proofs.Walking.{longer, Walks, reads_behind}
+use Rattle.pb_proof.proofs.Living.{IsAlive, before, final, accepted, admits_before}
+use Rattle.pb_proof.proofs.Walking.{Walks, reads_behind}
 
 -- The constraint that the machine of sums gives has no more units than that machine had.
 units-append : (xs : List Term) (x : Term) → units (xs ++ x ∷ []) ≡ units xs + (1 + length x.literal.name)
@@ -40,8 +40,8 @@ acted-terms : (ys xs : List Term) (name : List ℕ) (m : Move) (e : SumEvent) (w
 acted-terms ys xs name (move.To p) e w h = absurd (let f : ⊥ = cc in f)
 acted-terms ys xs name (move.Begin p b) e w h = absurd (let f : ⊥ = cc in f)
 acted-terms ys xs name (move.Add p b) e w h = absurd (let f : ⊥ = cc in f)
-acted-terms ys xs name move.EndSum e w h = let f : Rattle.pb_sums.specs.declared.values.SumEvent.TheVariants.Sum ys ≡ e = cc in ap (λ x. (linear_of x).terms) (sym f)
-acted-terms ys xs name (move.EndLinear r z) e w h = let f : Rattle.pb_sums.specs.declared.values.SumEvent.TheVariants.Linear (record { terms = ys; relation = r; degree = z }) ≡ e = cc in ap (λ x. (linear_of x).terms) (sym f)
+acted-terms ys xs name move.EndSum e w h = let f : sum.TheVariants.Sum ys ≡ e = cc in ap (λ x. (linear_of x).terms) (sym f)
+acted-terms ys xs name (move.EndLinear r z) e w h = let f : sum.TheVariants.Linear (record { terms = ys; relation = r; degree = z }) ≡ e = cc in ap (λ x. (linear_of x).terms) (sym f)
 acted-terms ys xs name move.Stop e w h = absurd (let f : ⊥ = cc in f)
 
 over-ends : (s next : SumState) (e : SumEvent) (n : Outcome) → over s n ≡ End e next → (w : Work) × (n ≡ End e w)
@@ -314,7 +314,7 @@ module _ (s : GoalState) (h : IsGoalInOrder s) (b : ℕ) (planned : goal_plan s.
   pub give_refused : sums.step s.inner b ≡ Refuse → (goal_automaton.step s b ≡ Refuse) × (is_large goal_automaton s b ≡ is_large sums s.inner b)
   give_refused stops = (
     ap (goal_act s b) planned ∙ ap (goal_over s) stops,
-    ap (λ (x : Bool). Rattle.std.specs.Prelude.◌&&◌ x (is_digit b)) (given_number s s.phase b h.holds planned),
+    ap (λ (x : Bool). x && is_digit b) (given_number s s.phase b h.holds planned),
   )
 
   by_step : (n : Next SumState SumEvent) → sums.step s.inner b ≡ n → Admits sums s.inner b → Admits goal_automaton s b

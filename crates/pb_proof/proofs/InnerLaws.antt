@@ -1,17 +1,17 @@
 -- What stands behind the first word of a statement: what is known of the machines that read it.
-use Rattle.std.proofs.Common.{◌≡◌, ℕ, ◌<◌, ◌^◌, true, false, List, refl, sym, ap, subst}
-use Rattle.pb_text.specs.Automaton.{Go, Reads, IsState}
+use Rattle.std.proofs.Common.{◌≡◌, ℕ, ◌<◌, ◌^◌, false, List, refl, sym, subst}
+use Rattle.pb_text.specs.Automaton.{Reads, IsState}
 use Rattle.pb_text.specs.Spelling.{Letter}
 use Rattle.pb_sums.proofs.States.{first_is_state}
 use Rattle.pb_sums.specs.declared.Spaces.TheVariants.{Blank}
 use Rattle.pb_sums.specs.declared.Part as part
 use Rattle.pb_proof.specs.Inner.{inners, inner_first, SpellsRest}
-use Rattle.pb_proof.specs.Count.{CountState, count_automaton, counting, count_last}
-use Rattle.pb_proof.specs.PolState.{PolState, pol_automaton, pol_first, pol_last}
-use Rattle.pb_proof.specs.Goal.{GoalState, goal_automaton, goal_first, goal_last}
-use Rattle.pb_proof.specs.Literals.{LiteralsState, literals_automaton, literals_first, literals_last}
-use Rattle.pb_proof.specs.Ids.{IdsState, ids_automaton, ids_first, ids_last}
-use Rattle.pb_proof.specs.ClaimState.{ClaimState, claim_automaton, claim_first, claim_last}
+use Rattle.pb_proof.specs.Count.{count_automaton, counting, count_last}
+use Rattle.pb_proof.specs.PolState.{pol_automaton, pol_first, pol_last}
+use Rattle.pb_proof.specs.Goal.{goal_automaton, goal_first, goal_last}
+use Rattle.pb_proof.specs.Literals.{literals_automaton, literals_first, literals_last}
+use Rattle.pb_proof.specs.Ids.{ids_automaton, ids_first, ids_last}
+use Rattle.pb_proof.specs.ClaimState.{claim_automaton, claim_first, claim_last}
 use Rattle.pb_proof.specs.declared.inner.Inner.{Inner}
 use Rattle.pb_proof.specs.declared.inner.Inner as inner
 use Rattle.pb_proof.specs.declared.phase.Rest.{Rest}

@@ -1,18 +1,17 @@
 -- Each state that a machine of proofs can be in has texts before it.
-use Rattle.std.proofs.Common.{◌≡◌, ℕ, ◌+◌, ◌<◌, Bool, true, false, cond, List, [], ◌∷◌, ◌++◌, length, take, drop, refl, sym, ap, subst, ◌∙◌, arith, append_assoc, length-append, Some, None}
+use Rattle.std.proofs.Common.{◌≡◌, ℕ, ◌+◌, ◌<◌, Bool, true, false, List, [], ◌∷◌, ◌++◌, length, take, drop, refl, sym, subst, ◌∙◌, arith, append_assoc, length-append, Some, None, inl, ◌^◌, suc}
 use Rattle.std.proofs.Math.Seq.{split_at}
 use Rattle.std.proofs.lemmas.List.{length-take-le}
 use Rattle.std.proofs.lemmas.Bool.{eqb-true}
-use Rattle.std.specs.Prelude.{IsTrue, nat_eq, slice_index}
-use Rattle.pb_text.specs.Automaton.{Go, End, Reads, Accepts, Admits, IsState, Skips}
-use Rattle.pb_text.specs.Classes.{is_blank}
-use Rattle.pb_text.specs.Languages.{unmarked, Language, Bytes, Blanks1, Byte}
+use Rattle.std.specs.Prelude.{nat_eq, slice_index}
+use Rattle.pb_text.specs.Automaton.{Accepts, IsState}
+use Rattle.pb_text.specs.Languages.{unmarked, Blanks1, Byte}
 use Rattle.pb_text.specs.Spelling.{Letter, Item, plain}
 use Rattle.pb_proof.specs.Inner.{inners, inner_first}
-use Rattle.pb_proof.specs.Lines.{Feed, LineEnd, none_word, conclusion_word, f_word, SpellsStatement}
-use Rattle.pb_proof.specs.Machine.{words_of, behind, meets, plan}
-use Rattle.pb_proof.specs.Order.{stage_of, stage_after, IsOrdered}
-use Rattle.pb_proof.specs.State.{ProofState, proofs, at, idle, giving, stage_behind, act, is_done, PhaseFits, HasGaps, Holds, IsInOrder}
+use Rattle.pb_proof.specs.Lines.{Feed, LineEnd, none_word, conclusion_word, f_word}
+use Rattle.pb_proof.specs.Machine.{words_of, behind, meets}
+use Rattle.pb_proof.specs.Order.{IsOrdered}
+use Rattle.pb_proof.specs.State.{ProofState, proofs, at, idle, giving, stage_behind, act, PhaseFits, HasGaps, Holds, IsInOrder}
 use Rattle.pb_proof.specs.declared.conclusion.Conclusion.TheVariants.{NoClaim}
 use Rattle.pb_proof.specs.declared.inner.Inner.{Inner}
 use Rattle.pb_proof.specs.declared.phase.Front.{Front}
@@ -29,7 +28,6 @@ use Rattle.pb_proof.proofs.InnerLaws.{inner_begins, inner_fresh, inner_first_sta
 use Rattle.pb_proof.proofs.Living.{IsAlive, before, final, accepted, ReadsOn, reads_on}
 use Rattle.pb_proof.proofs.ProofComplete.{spelt, header_end, output_end, step_on, step_last, given_reads, meets_self}
 use Rattle.pb_proof.proofs.ProofExact.{no_gap}
-use Rattle.pb_proof.proofs.ProofGaps.{gap_skips}
 use Rattle.pb_proof.proofs.ProofOrders.{ordered_each}
 use Rattle.pb_proof.proofs.Spaced.{Spaced, One, chooses, FrontWords, front_only}
 
@@ -52,7 +50,7 @@ fed : Feed (unmarked 10 ∷ [])
 fed = ([], unmarked 10 ∷ [], refl, ([], tt, refl), refl)
 
 ended : LineEnd (unmarked 10 ∷ [])
-ended = Rattle.std.proofs.Common.inl fed
+ended = inl fed
 
 abbrev item : List Letter → Statement → Item Statement
 item text e = record { gap = []; text = text; event = e }
@@ -132,7 +130,7 @@ module _ (limit top : ℕ) where
   pub inside_alive : (r : Rest) (i : Inner) → IsState inners i → inners.done i ≡ false → IsAlive proofs (giving limit top r i)
   inside_alive r i state d = reading_alive r i (reads_on inners inner_begins i state d)
 
-  module _ (l : limit < Rattle.std.proofs.Common.◌^◌ 2 127) (t : top < Rattle.std.proofs.Common.◌^◌ 2 63) (some : 0 < top) where
+  module _ (l : limit < 2 ^ 127) (t : top < 2 ^ 63) (some : 0 < top) where
     pub first_alive : (r : Rest) → IsAlive proofs (giving limit top r (inner_first limit top r))
     first_alive r = inside_alive r (inner_first limit top r) (inner_first_state limit top l t some r) (inner_fresh limit top r).0
 
@@ -168,7 +166,7 @@ module _ (limit top : ℕ) where
     pub spelling_alive : (f : Front) (k : ℕ) → k < length (words_of f) → IsAlive proofs (spelt limit top f k)
     spelling_alive f k h =
         subst (λ j. IsAlive proofs (spelt limit top f j)) (length-take-le k (words_of f) (omega arith))
-        (spelling_on f (take k (words_of f)) (drop (Rattle.std.proofs.Common.suc k) (words_of f)) (slice_index (words_of f) k) (split_at (words_of f) k 0 h))
+        (spelling_on f (take k (words_of f)) (drop (suc k) (words_of f)) (slice_index (words_of f) k) (split_at (words_of f) k 0 h))
 
 -- the state, where no machine stands behind the words
 is_at : (s : ProofState) (p : Phase) → s.phase ≡ p → s.inner ≡ None → s ≡ at s.limit s.top p

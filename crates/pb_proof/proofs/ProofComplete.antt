@@ -1,14 +1,14 @@
 -- The machine of proofs reads each statement from its stage on.
-use Rattle.std.proofs.Common.{◌≡◌, ℕ, ◌+◌, ◌-◌, ◌<◌, Bool, true, false, cond, not, ◌&&◌, ◌||◌, List, [], ◌∷◌, ◌++◌, length, refl, sym, ap, ap₂, subst, ◌∙◌, arith, append_assoc, length-append, add-one}
+use Rattle.std.proofs.lemmas.Bool.{eqb-true}
+use Rattle.std.proofs.Common.{◌≡◌, ℕ, ◌+◌, ◌-◌, Bool, true, false, cond, not, ◌&&◌, ◌||◌, List, [], ◌∷◌, ◌++◌, length, refl, sym, ap, ap₂, subst, ◌∙◌, arith, append_assoc, length-append}
 use Rattle.std.proofs.Math.Seq.{get_or-append_seam}
 use Rattle.std.proofs.lemmas.Bool.Decides.{nat_tests}
 use Rattle.std.proofs.lemmas.List.{append-nil}
 use Rattle.std.specs.Prelude.{IsTrue, nat_eq, slice_index}
-use Rattle.pb_text.specs.Automaton.{Next, Go, End, Refuse, Reads}
+use Rattle.pb_text.specs.Automaton.{Go, Reads}
 use Rattle.pb_text.specs.Classes.{is_blank}
-use Rattle.pb_text.specs.Languages.{unmarked, Language, ◌⋅◌, Empty, Byte, Bytes, Each, Blanks1}
+use Rattle.pb_text.specs.Languages.{unmarked, Language, ◌⋅◌, Byte, Each, Blanks1}
 use Rattle.pb_text.specs.Spelling.{Letter, plain}
-use Rattle.pb_text.proofs.Languages.{regroup}
 use Rattle.pb_proof.specs.Inner.{inners, inner_first, SpellsRest}
 use Rattle.pb_proof.specs.Lines.{Feed, LineEnd, SpellsStatement}
 use Rattle.pb_proof.specs.Machine.{words_of, sol_word, behind, meets, spell, plan}
@@ -17,7 +17,6 @@ use Rattle.pb_proof.specs.State.{ProofState, proofs, at, idle, giving, stage_beh
 use Rattle.pb_proof.specs.declared.inner.Inner.{Inner}
 use Rattle.pb_proof.specs.declared.phase.Front.{Front}
 use Rattle.pb_proof.specs.declared.phase.Front.TheVariants as front
-use Rattle.pb_proof.specs.declared.phase.Stage.{Stage}
 use Rattle.pb_proof.specs.declared.phase.Stage.TheVariants.{Opening, Formula, Steps, Claim, Closing, Complete}
 use Rattle.pb_proof.specs.declared.phase.Rest.{Rest}
 use Rattle.pb_proof.specs.declared.phase.Rest.TheVariants as rest
@@ -26,12 +25,12 @@ use Rattle.pb_proof.specs.declared.phase.Move.{Move}
 use Rattle.pb_proof.specs.declared.phase.Move.TheVariants as move
 use Rattle.pb_proof.specs.declared.statement.Statement.{Statement}
 use Rattle.pb_proof.specs.declared.statement.Statement as statement
-use Rattle.pb_proof.proofs.Choices.{never, both, by_or, blank_each, fails}
+use Rattle.pb_proof.proofs.Choices.{never, both, fails}
 use Rattle.pb_proof.proofs.InnerLaws.{inner_each, inner_fresh}
-use Rattle.pb_proof.proofs.LineEnds.{TakesBlanks, Feeds, feed_reads, MayEnd, line_reads}
-use Rattle.pb_proof.proofs.ProofSound.{stage_front, stage_rest, Before}
-use Rattle.pb_proof.proofs.Spaced.{Spaced, One, chooses, FrontWords, front_each, spaced_then}
-use Rattle.pb_proof.proofs.Walking.{Walks, walks_then, walks_more, ends_walk, reads_behind, same_first}
+use Rattle.pb_proof.proofs.LineEnds.{Feeds, feed_reads, MayEnd, line_reads}
+use Rattle.pb_proof.proofs.ProofSound.{stage_front, Before}
+use Rattle.pb_proof.proofs.Spaced.{Spaced, One, chooses, FrontWords, front_each}
+use Rattle.pb_proof.proofs.Walking.{Walks, walks_then, walks_more, ends_walk, reads_behind, same_first, longer}
 
 -- Behind a space of the words stands a byte that is no blank.
 abbrev dark_first : List ℕ → Bool
@@ -69,8 +68,8 @@ dark_blank : (x b : ℕ) → is_blank x ≡ false → is_blank b ≡ true → me
 dark_blank x b d h = by_test (nat_eq x 32) refl
   where
     by_test : (t : Bool) → nat_eq x 32 ≡ t → cond t (is_blank b) (nat_eq b x) ≡ false
-    by_test true e = absurd (never (is_blank x) (subst (λ y. is_blank y ≡ true) (sym (Rattle.std.proofs.lemmas.Bool.eqb-true x 32 e)) refl) d)
-    by_test false e = fails (nat_eq b x) (λ k. never (is_blank b) h (subst (λ y. is_blank y ≡ false) (sym (Rattle.std.proofs.lemmas.Bool.eqb-true b x k)) d))
+    by_test true e = absurd (never (is_blank x) (subst (λ y. is_blank y ≡ true) (sym (eqb-true x 32 e)) refl) d)
+    by_test false e = fails (nat_eq b x) (λ k. never (is_blank b) h (subst (λ y. is_blank y ≡ false) (sym (eqb-true b x k)) d))
 
 -- a byte of the words meets itself
 nat-same : (b : ℕ) → nat_eq b b ≡ true
@@ -138,10 +137,14 @@ module _ (limit top : ℕ) where
     where
       by_test : (x : Bool) → nat_eq c 32 ≡ x → chooses x Blanks1 (Byte c) t → Walks proofs (spelt f (length front)) t (spelt f (length front + 1))
       by_test true s (b, bs, i, j, g) =
-          let is : c ≡ 32 = Rattle.std.proofs.lemmas.Bool.eqb-true c 32 s in
-          subst (λ x. Walks proofs (spelt f (length front)) x (spelt f (length front + 1))) (sym g)
-          (spelt f (length front + 1), step_on f front left c d b e (meets_blank c b s i), refl, refl,
-          blanks_stay f front left d (e ∙ ap (λ x. front ++ x ∷ d ∷ left) is) bs j)
+          let is : c ≡ 32 = eqb-true c 32 s in
+          subst (λ x. Walks proofs (spelt f (length front)) x (spelt f (length front + 1))) (sym g) (
+            spelt f (length front + 1),
+            step_on f front left c d b e (meets_blank c b s i),
+            refl,
+            refl,
+            blanks_stay f front left d (e ∙ ap (λ x. front ++ x ∷ d ∷ left) is) bs j,
+          )
       by_test false s g =
           subst (λ x. Walks proofs (spelt f (length front)) x (spelt f (length front + 1))) (sym g)
           (spelt f (length front + 1), step_on f front left c d c e (meets_self c s), refl, refl, refl)
@@ -336,7 +339,7 @@ module _ (limit top : ℕ) where
   solution_then b r t u e after g f h =
       subst (λ x. Reads proofs (idle limit top Steps) x e after) (sym (ap (λ x. x ++ u) f ∙ append_assoc (plain sol_word) (unmarked b ∷ []) u))
       (words_then front.Solution (at limit top phase.Solution) (λ k c. refl) refl refl (plain sol_word) (unmarked b ∷ u) e after refl
-      (Rattle.pb_proof.proofs.Walking.longer proofs (unmarked b) u (at limit top phase.Solution) (begun_rest r) after e (ap (act (at limit top phase.Solution) b) g) refl (sym (plain_first r)) h))
+      (longer proofs (unmarked b) u (at limit top phase.Solution) (begun_rest r) after e (ap (act (at limit top phase.Solution) b) g) refl (sym (plain_first r)) h))
 
   by_parts : (P Q : Language) (t : List Letter) (e : Statement) (s after : ProofState) → ((a b : List Letter) → P a → Q b → Reads proofs s (a ++ b) e after) → (P ⋅ Q) t → Reads proofs s t e after
   by_parts P Q t e s after f (a, b, g, h, k) = subst (λ x. Reads proofs s x e after) (sym g) (f a b h k)

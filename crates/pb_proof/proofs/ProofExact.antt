@@ -1,16 +1,15 @@
 -- The statements of a proof in order, and the machine that accepts exactly these.
-use Rattle.std.proofs.Common.{◌≡◌, ℕ, ◌<◌, Bool, true, false, List, [], ◌∷◌, ◌++◌, refl, sym, ap, subst, ◌∙◌, ◌↔◌, arith}
+use Rattle.std.proofs.Common.{◌≡◌, ℕ, true, false, List, [], ◌∷◌, ◌++◌, refl, sym, ap, subst, ◌↔◌, arith}
 use Rattle.std.proofs.lemmas.List.Elements.{All-nil, All-cons, All-head, All-tail}
 use Rattle.std.specs.Prelude.{IsTrue, All}
 use Rattle.pb_text.specs.Automaton.{Refuse, Accepts}
-use Rattle.pb_text.specs.Blank.{IsBlank, in_comment}
 use Rattle.pb_text.specs.Spelling.{Item}
 use Rattle.pb_text.specs.Whole.{events_of}
 use Rattle.pb_proof.specs.Lines.{SpellsStatement}
 use Rattle.pb_proof.specs.Machine.{plan}
 use Rattle.pb_proof.specs.Order.{stage_of, stage_after, GapAt, IsOrdered}
-use Rattle.pb_proof.specs.Proofs.{IsGap, IsStep, statements_of, AreSpelled, BeginsAtOnce, SpellsProof, IsProof}
-use Rattle.pb_proof.specs.State.{ProofState, proofs, begin, act, is_done, is_complete}
+use Rattle.pb_proof.specs.Proofs.{IsGap, IsStep, statements_of, AreSpelled, BeginsAtOnce, IsProof}
+use Rattle.pb_proof.specs.State.{ProofState, proofs, begin, act, is_done}
 use Rattle.pb_proof.specs.declared.conclusion.Conclusion.{Conclusion}
 use Rattle.pb_proof.specs.declared.proof.Proof.{Proof}
 use Rattle.pb_proof.specs.declared.phase.Stage.{Stage}

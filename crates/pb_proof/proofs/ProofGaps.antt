@@ -1,5 +1,6 @@
 -- What stands between two statements.
-use Rattle.std.proofs.Common.{◌≡◌, ℕ, ◌<◌, Bool, true, false, cond, not, ◌&&◌, ◌||◌, List, [], ◌∷◌, ◌++◌, length, take, refl, sym, ap, ap₂, subst, ◌∙◌, append_assoc, arith, length-append}
+use Rattle.std.proofs.lemmas.Bool.{eqb-true}
+use Rattle.std.proofs.Common.{◌≡◌, ℕ, Bool, true, false, cond, not, ◌&&◌, ◌||◌, List, [], ◌∷◌, ◌++◌, length, refl, sym, ap, ap₂, subst, ◌∙◌, append_assoc, arith, length-append, ◌+◌}
 use Rattle.std.proofs.lemmas.List.{append-nil}
 use Rattle.std.proofs.Math.Seq.{get_or-append_seam, take-append_seam}
 use Rattle.std.specs.Prelude.{IsTrue, nat_eq, slice_index}
@@ -8,20 +9,18 @@ use Rattle.pb_text.specs.Blank.{IsBlank, in_comment, passes}
 use Rattle.pb_text.specs.Classes.{is_white}
 use Rattle.pb_text.specs.Spelling.{Letter}
 use Rattle.pb_text.proofs.Blanks.{in_comment-snoc, IsBlank-snoc}
-use Rattle.pb_proof.specs.Machine.{plan, enter, between, pass, spell, meets, words_of, behind, step_front}
-use Rattle.pb_proof.specs.Order.{GapAt}
+use Rattle.pb_proof.specs.Machine.{enter, between, pass, spell, meets, words_of, behind, step_front}
 use Rattle.pb_proof.specs.Proofs.{IsGap}
 use Rattle.pb_proof.specs.State.{ProofState, proofs, at, idle, act, is_within, HasGaps}
 use Rattle.pb_proof.specs.declared.phase.Front.{Front}
 use Rattle.pb_proof.specs.declared.phase.Front.TheVariants as front
 use Rattle.pb_proof.specs.declared.phase.Stage.{Stage}
 use Rattle.pb_proof.specs.declared.phase.Stage.TheVariants.{Opening, Formula, Steps, Claim, Closing, Complete}
-use Rattle.pb_proof.specs.declared.phase.Phase.{Phase}
 use Rattle.pb_proof.specs.declared.phase.Phase.TheVariants as phase
 use Rattle.pb_proof.specs.declared.phase.Move.{Move}
 use Rattle.pb_proof.specs.declared.phase.Move.TheVariants as move
 use Rattle.pb_proof.specs.declared.statement.Statement.{Statement}
-use Rattle.pb_proof.proofs.Choices.{never, chosen, by_or}
+use Rattle.pb_proof.proofs.Choices.{never, chosen, white_each}
 
 passing : (s : Stage) (b : ℕ) → HasGaps s → between s b ≡ pass s b
 passing Opening b h = absurd h
@@ -48,7 +47,7 @@ behind_inside front.End = tt
 
 pub spell_inside : (f : Front) (k b : ℕ) (other : Move) → Inside other → Inside (spell f k b other)
 spell_inside f k b other h = chosen Inside (meets (slice_index (words_of f) k) b) _ _
-    (λ _. chosen Inside (nat_eq (Rattle.std.proofs.Common.◌+◌ k 1) (length (words_of f))) _ _ (λ _. behind_inside f) (λ _. refl)) (λ _. h)
+    (λ _. chosen Inside (nat_eq (k + 1) (length (words_of f))) _ _ (λ _. behind_inside f) (λ _. refl)) (λ _. h)
 
 pub enter_inside : (s : Stage) (b : ℕ) → Inside (enter s b)
 enter_inside Opening b = spell_inside front.Header 0 b move.Stop tt
@@ -88,10 +87,10 @@ module _ (limit top : ℕ) (s : Stage) (gaps : HasGaps s) where
   Leads b commented mid = (passed b commented ≡ true) × (mid ≡ gap_state (next_mode b commented))
 
   white_mode : (b : ℕ) → is_white b ≡ true → next_mode b false ≡ false
-  white_mode b h = Rattle.pb_proof.proofs.Choices.white_each (λ x. next_mode x false ≡ false) refl refl refl refl b h
+  white_mode b h = white_each (λ x. next_mode x false ≡ false) refl refl refl refl b h
 
   star_mode : (b : ℕ) → nat_eq b 42 ≡ true → next_mode b false ≡ true
-  star_mode b h = subst (λ x. next_mode x false ≡ true) (sym (Rattle.std.proofs.lemmas.Bool.eqb-true b 42 h)) refl
+  star_mode b h = subst (λ x. next_mode x false ≡ true) (sym (eqb-true b 42 h)) refl
 
   gap_byte : (commented : Bool) (b : ℕ) → InGap (Leads b commented) (proofs.step (gap_state commented) b)
   gap_byte true b = by_feed (nat_eq b 10) refl

@@ -3,7 +3,7 @@ use Rattle.std.proofs.Common.{ℕ, ◌≤◌, List, [], ◌∷◌, arith, refl}
 use Rattle.std.proofs.lemmas.List.Elements.{All-nil, All-cons, All-head, All-tail}
 use Rattle.std.specs.Prelude.{ℤ, Option, Some, None}
 use Rattle.pb_text.specs.Languages.{Language, ◌⋅◌, Byte, Bytes, Blanks0, Blanks1}
-use Rattle.pb_text.specs.Numbers.{Number, Count}
+use Rattle.pb_text.specs.Numbers.{Count}
 use Rattle.pb_text.specs.Spelling.{Item, Letter}
 use Rattle.pb_text.proofs.Languages.{inside, behind_it}
 use Rattle.pb_text.proofs.Numbers.{number-within}
@@ -13,7 +13,7 @@ use Rattle.pb_sums.specs.declared.Spaces.TheVariants.{Blank}
 use Rattle.pb_sums.specs.declared.Part as part
 use Rattle.pb_sums.specs.declared.SumEvent as sum
 use Rattle.pb_sums.proofs.Larger.{spells_larger}
-use Rattle.pb_proof.specs.Lines.{Feed, LineEnd, Listed, SpellsId, Factor, SpellsBound, Shown, IdShown, SpellsWord, SpellsConclusion, SpellsCount, SpellsGoal, SpellsStatement, pol_word, rup_word, f_word, del_word, id_word, conclusion_word, unsat_word, bounds_word}
+use Rattle.pb_proof.specs.Lines.{Feed, LineEnd, Listed, SpellsId, Factor, SpellsBound, Shown, IdShown, SpellsWord, SpellsConclusion, SpellsCount, SpellsGoal, SpellsStatement, rup_word, f_word, conclusion_word, unsat_word, bounds_word}
 use Rattle.pb_proof.specs.Proofs.{IsGap, AreSpelled, BeginsAtOnce, IsProof}
 use Rattle.pb_proof.specs.declared.word.PolWord.{PolWord}
 use Rattle.pb_proof.specs.declared.word.PolWord.TheVariants.{Id, Axiom, Add, Multiply, Divide, Saturate, Weaken}

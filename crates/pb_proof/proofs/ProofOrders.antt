@@ -1,16 +1,12 @@
 -- What a machine of proofs accepts from a stage on are the statements in order.
-use Rattle.std.proofs.Common.{◌≡◌, ℕ, Bool, true, false, List, [], ◌∷◌, refl, sym, ap, subst, ◌∙◌}
-use Rattle.std.specs.Prelude.{IsTrue}
+use Rattle.std.proofs.Common.{◌≡◌, ℕ, true, false, List, [], ◌∷◌, refl, sym, ap, subst, ◌∙◌}
 use Rattle.pb_text.specs.Automaton.{Next, Go, End, Refuse, Skips, Reads, Accepts}
 use Rattle.pb_text.specs.Spelling.{Item, Letter}
-use Rattle.pb_proof.specs.Lines.{SpellsStatement}
-use Rattle.pb_proof.specs.Machine.{plan, enter}
+use Rattle.pb_proof.specs.Machine.{enter}
 use Rattle.pb_proof.specs.Order.{stage_of, stage_after, GapAt, IsOrdered}
-use Rattle.pb_proof.specs.State.{ProofState, proofs, idle, act, is_within, is_done, is_complete}
+use Rattle.pb_proof.specs.State.{ProofState, proofs, idle, act, is_complete}
 use Rattle.pb_proof.specs.declared.phase.Stage.{Stage}
 use Rattle.pb_proof.specs.declared.phase.Stage.TheVariants.{Opening, Formula, Steps, Claim, Closing, Complete}
-use Rattle.pb_proof.specs.declared.phase.Phase.{Phase}
-use Rattle.pb_proof.specs.declared.phase.Phase.TheVariants as phase
 use Rattle.pb_proof.specs.declared.phase.Move.{Move}
 use Rattle.pb_proof.specs.declared.phase.Move.TheVariants as move
 use Rattle.pb_proof.specs.declared.statement.Statement.{Statement}

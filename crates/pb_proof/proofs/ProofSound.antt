@@ -1,20 +1,20 @@
 -- What a machine of proofs reads from a stage on is a statement of that stage.
-use Rattle.std.proofs.Common.{◌≡◌, ℕ, ◌+◌, ◌-◌, ◌<◌, Bool, true, false, cond, ◌&&◌, List, [], ◌∷◌, ◌++◌, length, take, refl, sym, ap, subst, ◌∙◌, arith, add-one, Some, None}
+use Rattle.std.proofs.Common.{◌≡◌, ℕ, ◌+◌, ◌-◌, ◌<◌, Bool, true, false, ◌&&◌, List, [], ◌∷◌, ◌++◌, length, take, refl, sym, ap, subst, ◌∙◌, arith, add-one, Some, None}
 use Rattle.std.proofs.Math.Seq.{take-suc}
 use Rattle.std.proofs.lemmas.Bool.{eqb-true}
 use Rattle.std.proofs.lemmas.Bool.Decides.{nat_tests}
 use Rattle.std.proofs.lemmas.List.{take_all}
-use Rattle.std.specs.Prelude.{IsTrue, nat_eq, slice_index}
+use Rattle.std.specs.Prelude.{nat_eq, slice_index}
 use Rattle.pb_text.specs.Automaton.{Next, Go, End, Refuse, Reads}
 use Rattle.pb_text.specs.Classes.{is_blank, is_white}
-use Rattle.pb_text.specs.Languages.{unmarked, Language, ◌⋅◌, Byte, Bytes, Blanks0}
-use Rattle.pb_text.specs.Spelling.{Letter}
-use Rattle.pb_text.proofs.Languages.{grown, next, none_yet, behind_it, many-grown}
+use Rattle.pb_text.specs.Languages.{Language, ◌⋅◌, Bytes, Blanks0}
+use Rattle.pb_text.specs.Spelling.{Letter, plain}
+use Rattle.pb_text.proofs.Languages.{grown, none_yet}
 use Rattle.pb_proof.specs.Inner.{inners, inner_first, SpellsRest}
-use Rattle.pb_proof.specs.Lines.{f_word, pol_word, rup_word, soli_word, solx_word, del_word, id_word, conclusion_word, Feed, LineEnd, SpellsStatement}
+use Rattle.pb_proof.specs.Lines.{f_word, pol_word, rup_word, soli_word, solx_word, conclusion_word, SpellsStatement}
 use Rattle.pb_proof.specs.Machine.{words_of, sol_word, behind, meets, spell, step_front, enter, pass, between, plan}
 use Rattle.pb_proof.specs.Order.{stage_of, stage_after}
-use Rattle.pb_proof.specs.State.{ProofState, proofs, idle, giving, stage_behind, over, step_inner, act, asked}
+use Rattle.pb_proof.specs.State.{ProofState, proofs, idle, stage_behind, over, step_inner, act, asked}
 use Rattle.pb_proof.specs.declared.inner.Inner.{Inner}
 use Rattle.pb_proof.specs.declared.phase.Front.{Front}
 use Rattle.pb_proof.specs.declared.phase.Front.TheVariants as front
@@ -30,8 +30,8 @@ use Rattle.pb_proof.specs.declared.statement.Statement.{Statement}
 use Rattle.pb_proof.specs.declared.statement.Statement as statement
 use Rattle.pb_proof.proofs.Choices.{never, chosen, both}
 use Rattle.pb_proof.proofs.InnerLaws.{inner_only, inner_begins, inner_fresh}
-use Rattle.pb_proof.proofs.LineEnds.{as_unmarked, Gapped, Closing as Closed, blank_behind, blank_more, semicolon_behind_blanks, blank_closing, line_behind_blanks, line_closing, feed_behind_blanks}
-use Rattle.pb_proof.proofs.Spaced.{Spaced, One, one_met, spaced_more, spaced_blank, FrontWords, front_only}
+use Rattle.pb_proof.proofs.LineEnds.{as_unmarked, Gapped, Closing as Closed, blank_more, semicolon_behind_blanks, blank_closing, line_behind_blanks, line_closing, feed_behind_blanks}
+use Rattle.pb_proof.proofs.Spaced.{Spaced, one_met, spaced_more, spaced_blank, FrontWords, front_only}
 use Rattle.pb_proof.proofs.Walking.{Walks, walks_more, ends_walk, On, told}
 
 -- the stage of the words that a statement begins with, and of what stands behind them
@@ -221,9 +221,9 @@ module _ (limit top : ℕ) (here : Stage) where
     -- `i` or `x` behind `sol`
     logged : Steps ≡ here → Bytes sol_word p → After (plan phase.Solution l.byte)
     logged at e = chosen After (nat_eq l.byte 105) _ _
-        (λ h. begins rest.Improving at (λ n. ap (λ x. x ++ l ∷ []) e ∙ ap (λ x. (Rattle.pb_text.specs.Spelling.plain sol_word) ++ x ∷ []) (as_unmarked l 105 (eqb-true l.byte 105 h) n)))
+        (λ h. begins rest.Improving at (λ n. ap (λ x. x ++ l ∷ []) e ∙ ap (λ x. plain sol_word ++ x ∷ []) (as_unmarked l 105 (eqb-true l.byte 105 h) n)))
         (λ _. chosen After (nat_eq l.byte 120) _ _
-        (λ h. begins rest.Excluded at (λ n. ap (λ x. x ++ l ∷ []) e ∙ ap (λ x. (Rattle.pb_text.specs.Spelling.plain sol_word) ++ x ∷ []) (as_unmarked l 120 (eqb-true l.byte 120 h) n)))
+        (λ h. begins rest.Excluded at (λ n. ap (λ x. x ++ l ∷ []) e ∙ ap (λ x. plain sol_word ++ x ∷ []) (as_unmarked l 120 (eqb-true l.byte 120 h) n)))
         (λ _. tt))
 
     header_ends : Opening ≡ here → Gapped (FrontWords front.Header) p → s.inner ≡ None → After (plan phase.HeaderEnd l.byte)

@@ -1,20 +1,19 @@
 -- What holds of each state that a machine of proofs can be in.
-use Rattle.std.proofs.Common.{◌≡◌, ℕ, ◌+◌, ◌-◌, ◌<◌, ◌≤◌, Bool, true, false, cond, ◌&&◌, List, [], ◌∷◌, length, refl, sym, ap, subst, ◌∙◌, arith, Option, Some, None}
+use Rattle.std.proofs.Common.{◌≡◌, ℕ, ◌+◌, ◌-◌, ◌<◌, ◌≤◌, true, false, ◌&&◌, length, refl, sym, ap, subst, ◌∙◌, arith, Option, Some, None}
 use Rattle.std.proofs.lemmas.Bool.Decides.{nat_tests}
 use Rattle.std.specs.Prelude.{IsTrue, nat_eq, slice_index}
-use Rattle.pb_text.specs.Automaton.{Next, Go, End, Refuse, Admits, IsState, is_large, begins, begins_with}
-use Rattle.pb_text.specs.Classes.{is_blank, is_white, is_digit}
+use Rattle.pb_text.specs.Automaton.{Next, Go, End, Refuse, Admits, IsState}
+use Rattle.pb_text.specs.Classes.{is_blank, is_white}
 use Rattle.pb_text.proofs.Residual.{refuses}
 use Rattle.pb_proof.specs.Inner.{inners, inner_first}
 use Rattle.pb_proof.specs.Machine.{words_of, behind, meets, spell, step_front, enter, pass, between, plan}
-use Rattle.pb_proof.specs.State.{ProofState, proofs, at, idle, begin, giving, stage_behind, over, step_inner, act, asked, asks, is_within, is_done, is_complete, HasGaps, PhaseFits, Holds, IsInOrder}
+use Rattle.pb_proof.specs.State.{ProofState, proofs, at, idle, giving, stage_behind, over, step_inner, act, asked, asks, is_within, is_done, is_complete, HasGaps, PhaseFits, Holds, IsInOrder}
 use Rattle.pb_proof.specs.declared.inner.Inner.{Inner}
 use Rattle.pb_proof.specs.declared.phase.Front.{Front}
 use Rattle.pb_proof.specs.declared.phase.Front.TheVariants as front
 use Rattle.pb_proof.specs.declared.phase.Stage.{Stage}
 use Rattle.pb_proof.specs.declared.phase.Stage.TheVariants.{Opening, Formula, Steps, Claim, Closing, Complete}
 use Rattle.pb_proof.specs.declared.phase.Rest.{Rest}
-use Rattle.pb_proof.specs.declared.phase.Rest.TheVariants as rest
 use Rattle.pb_proof.specs.declared.phase.Phase.{Phase}
 use Rattle.pb_proof.specs.declared.phase.Phase.TheVariants as phase
 use Rattle.pb_proof.specs.declared.phase.Move.{Move}
@@ -222,15 +221,12 @@ is_state s h = record {
 
 -- What a byte leaves a machine with.
 module _ (s : ProofState) (h : IsInOrder s) (b : ℕ) where
-  known : (m : Move) → plan s.phase b ≡ m → OnMove s.phase m
+  pub known : (m : Move) → plan s.phase b ≡ m → OnMove s.phase m
   known m e = subst (OnMove s.phase) e (on_plan s.phase b h.fits)
 
   -- with no machine behind the words
   pub at_order : (p : Phase) → IsPlain p → PhaseFits p → (i : Option Inner) → i ≡ None → IsInOrder (record { limit = s.limit; top = s.top; phase = p; inner = i })
   at_order p o f i e = record { limit = h.limit; top = h.top; some = h.some; fits = f; holds = holds_plain (record { limit = s.limit; top = s.top; phase = p; inner = i }) p o e }
-
-  pub plain_move : (m : Move) → plan s.phase b ≡ m → OnMove s.phase m
-  plain_move m e = known m e
 
   pub to_order : (p : Phase) → plan s.phase b ≡ move.To p → IsInOrder (record s { phase = p })
   to_order p e =
@@ -267,15 +263,6 @@ module _ (s : ProofState) (h : IsInOrder s) (b : ℕ) where
 
     stepped : (i : Inner) → s.inner ≡ Some i → (n : Next Inner Statement) → inners.step i b ≡ n → proofs.step s b ≡ over s r n
     stepped i e n g = ap (act s b) planned ∙ (ap (λ x. over s r (step_inner x b)) e ∙ ap (over s r) g)
-
-    pub give_goes : (i inner : Inner) → s.inner ≡ Some i → inners.step i b ≡ Go inner → proofs.step s b ≡ Go (giving s.limit s.top r inner)
-    give_goes i inner e g = stepped i e (Go inner) g
-
-    pub give_ends : (i last : Inner) (x : Statement) → s.inner ≡ Some i → inners.step i b ≡ End x last → proofs.step s b ≡ End x (idle s.limit s.top (stage_behind r))
-    give_ends i last x e g = stepped i e (End x last) g
-
-    pub give_refused : (i : Inner) → s.inner ≡ Some i → inners.step i b ≡ Refuse → (proofs.step s b ≡ Refuse) × (is_large proofs s b ≡ is_large inners i b)
-    give_refused i e g = (stepped i e Refuse g, ap (λ x. asked false inners.in_number x && is_digit b) e)
 
     by_step : (i : Inner) → s.inner ≡ Some i → IsState inners i → (n : Next Inner Statement) → inners.step i b ≡ n → Admits inners i b → Admits proofs s b
     by_step i e old (Go inner) g a =

@@ -1,18 +1,18 @@
 -- Words with blanks between them, byte by byte.
-use Rattle.std.proofs.Common.{◌≡◌, ℕ, Bool, true, false, not, ◌&&◌, List, [], ◌∷◌, ◌++◌, refl, sym, ap, subst, ◌∙◌, append_assoc}
+use Rattle.std.proofs.Common.{◌≡◌, ℕ, Bool, true, false, not, ◌&&◌, List, [], ◌∷◌, ◌++◌, refl, sym, ap, subst, ◌∙◌, append_assoc, cond}
 use Rattle.std.proofs.lemmas.List.{append-nil}
 use Rattle.std.proofs.lemmas.Bool.{eqb-true}
 use Rattle.std.specs.Prelude.{IsTrue, nat_eq}
 use Rattle.pb_text.specs.Classes.{is_blank}
 use Rattle.pb_text.specs.Languages.{unmarked, Language, ◌⋅◌, Empty, Byte, Bytes, Blanks1}
 use Rattle.pb_text.specs.Spelling.{Letter, plain}
-use Rattle.pb_text.proofs.Languages.{grown, none_yet, regroup, regroup⁻¹, inside, behind_it, some-grown, some-one}
+use Rattle.pb_text.proofs.Languages.{grown, none_yet, regroup, regroup⁻¹, behind_it, some-grown, some-one}
 use Rattle.pb_proof.specs.Machine.{words_of, meets}
 use Rattle.pb_proof.specs.Lines.{pseudo_word, proof_word, version_word, two_word, f_word, pol_word, rup_word, del_word, id_word, output_word, none_word, conclusion_word, end_word}
 use Rattle.pb_proof.specs.Machine.{sol_word}
 use Rattle.pb_proof.specs.declared.phase.Front.{Front}
 use Rattle.pb_proof.specs.declared.phase.Front.TheVariants.{Header, Formula, Pol, Rup, Solution, Delete, Output, Conclusion, End}
-use Rattle.pb_proof.proofs.Choices.{never, both}
+use Rattle.pb_proof.proofs.Choices.{both}
 use Rattle.pb_proof.proofs.LineEnds.{as_unmarked}
 
 abbrev pub chooses : Bool → Language → Language → Language
@@ -31,7 +31,7 @@ Spaced (c ∷ cs) = One c ⋅ Spaced cs
 pub one_met : (c : ℕ) (l : Letter) → meets c l.byte ≡ true → l.numeral ≡ false → One c (l ∷ [])
 one_met c l h n = by_test (nat_eq c 32) h
   where
-    by_test : (x : Bool) → Rattle.std.proofs.Common.cond x (is_blank l.byte) (nat_eq l.byte c) ≡ true → chooses x Blanks1 (Byte c) (l ∷ [])
+    by_test : (x : Bool) → cond x (is_blank l.byte) (nat_eq l.byte c) ≡ true → chooses x Blanks1 (Byte c) (l ∷ [])
     by_test true e = some-one (λ b. IsTrue (is_blank b)) l.byte l (as_unmarked l l.byte refl n) e
     by_test false e = ap (λ x. x ∷ []) (as_unmarked l c (eqb-true l.byte c e) n)
 

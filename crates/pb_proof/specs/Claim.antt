@@ -1,5 +1,5 @@
 -- The machine of a claim: what it does with one byte.
-use Rattle.std.specs.Prelude.{◌≡◌, ℕ, ℤ, ◌+◌, ◌-◌, ◌*◌, ◌<◌, ◌≤◌, Bool, true, false, cond, ◌&&◌, List, length, slice_index, nat_eq, nat_le, Option, Some, None}
+use Rattle.std.specs.Prelude.{ℕ, ℤ, ◌+◌, ◌-◌, ◌*◌, ◌<◌, ◌≤◌, Bool, true, false, cond, ◌&&◌, List, length, slice_index, nat_eq, nat_le, Some, None}
 use Rattle.pb_text.specs.Classes.{is_blank, is_digit}
 use Rattle.pb_text.specs.Numbers.{signed}
 use Rattle.pb_proof.specs.Lines.{none_word, unsat_word, sat_word, bounds_word, inf_word}

@@ -6,7 +6,7 @@ use Rattle.pb_proof.specs.Proofs.{IsProof}
 use Rattle.pb_proof.specs.State.{proofs, begin}
 use Rattle.pb_proof.specs.declared.statement.Statement.{Statement}
 
--- What a new machine accepts are the proofs, where there are ids.
+-- What a new machine accepts are the proofs.
 abbrev pub ReadsProofs : Type 0
 ReadsProofs = (limit top : ℕ) (items : List (Item Statement)) → Accepts proofs (begin limit top) items ↔ IsProof limit top items
 

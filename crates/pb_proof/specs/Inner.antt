@@ -1,13 +1,13 @@
 -- The machines of what stands behind the first word of a statement, as one automaton.
-use Rattle.std.specs.Prelude.{ℕ, Bool, false}
+use Rattle.std.specs.Prelude.{ℕ, false}
 use Rattle.pb_text.specs.Automaton.{Automaton, Next, Go, End, Refuse}
 use Rattle.pb_text.specs.Languages.{Language}
-use Rattle.pb_proof.specs.Count.{CountState, count_automaton, counting}
-use Rattle.pb_proof.specs.PolState.{PolState, pol_automaton, pol_first}
-use Rattle.pb_proof.specs.Goal.{GoalState, goal_automaton, goal_first}
-use Rattle.pb_proof.specs.Literals.{LiteralsState, literals_automaton, literals_first}
-use Rattle.pb_proof.specs.Ids.{IdsState, ids_automaton, ids_first}
-use Rattle.pb_proof.specs.ClaimState.{ClaimState, claim_automaton, claim_first}
+use Rattle.pb_proof.specs.Count.{count_automaton, counting}
+use Rattle.pb_proof.specs.PolState.{pol_automaton, pol_first}
+use Rattle.pb_proof.specs.Goal.{goal_automaton, goal_first}
+use Rattle.pb_proof.specs.Literals.{literals_automaton, literals_first}
+use Rattle.pb_proof.specs.Ids.{ids_automaton, ids_first}
+use Rattle.pb_proof.specs.ClaimState.{claim_automaton, claim_first}
 use Rattle.pb_proof.specs.Lines.{SpellsCount, SpellsWords, SpellsGoal, SpellsLiterals, SpellsIds, SpellsClaim}
 use Rattle.pb_proof.specs.declared.inner.Inner.{Inner}
 use Rattle.pb_proof.specs.declared.inner.Inner as inner

@@ -6,7 +6,6 @@ use Rattle.pb_proof.specs.declared.phase.Stage.{Stage}
 use Rattle.pb_proof.specs.declared.phase.Stage as stage
 use Rattle.pb_proof.specs.declared.phase.Front.{Front}
 use Rattle.pb_proof.specs.declared.phase.Front.TheVariants as front
-use Rattle.pb_proof.specs.declared.phase.Rest.{Rest}
 use Rattle.pb_proof.specs.declared.phase.Rest.TheVariants as rest
 use Rattle.pb_proof.specs.declared.phase.Phase.{Phase}
 use Rattle.pb_proof.specs.declared.phase.Phase as phase

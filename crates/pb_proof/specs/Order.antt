@@ -1,7 +1,6 @@
 -- The order of the statements of a proof.
-use Rattle.std.specs.Prelude.{◌≡◌, List, [], ◌∷◌}
+use Rattle.std.specs.Prelude.{◌≡◌, ℕ, List, [], ◌∷◌}
 use Rattle.pb_text.specs.Spelling.{Item}
-use Rattle.std.specs.Prelude.{ℕ}
 use Rattle.pb_proof.specs.Lines.{SpellsStatement}
 use Rattle.pb_proof.specs.Proofs.{IsGap}
 use Rattle.pb_proof.specs.declared.phase.Stage.{Stage}

@@ -1,5 +1,5 @@
 -- The states of a machine of proofs, and its automaton.
-use Rattle.std.specs.Prelude.{◌≡◌, ℕ, ◌+◌, ◌-◌, ◌^◌, ◌<◌, Bool, true, false, Option, Some, None, length}
+use Rattle.std.specs.Prelude.{◌≡◌, ℕ, ◌^◌, ◌<◌, Bool, true, false, Option, Some, None, length}
 use Rattle.pb_text.specs.Automaton.{Automaton, Next, Go, End, Refuse, IsState}
 use Rattle.pb_proof.specs.Inner.{inners, inner_first}
 use Rattle.pb_proof.specs.Machine.{plan, words_of}

@@ -239,7 +239,13 @@ pub(crate) fn plan(limit: u128, top: u64, phase: Phase, byte: u8) -> Move
         }
         Phase::Infinity(side, read) => {
             let more = Phase::Infinity(side, read + 1);
-            spell(b"INF", read, byte, more, behind_bound(side, Bound::Infinite))
+            spell(
+                b"INF",
+                read,
+                byte,
+                more,
+                behind_bound(side, Bound::Infinite),
+            )
         }
         Phase::Between(bound) => between(bound, byte),
         Phase::Spaced(_) if is_blank(byte) => Move::To(phase),

@@ -4,7 +4,7 @@ ghost use Rattle.std.specs.Prelude.{◌≡◌, ◌-◌, ◌^◌, min};
 ghost use Rattle.pb_text.specs.Classes.{is_blank};
 ghost use Rattle.pb_text.specs.Limits.{largest};
 ghost use Rattle.pb_sums.specs.State.{units};
-ghost use Rattle.pb_proof.specs.Goal.{goal_plan, goal_midway, goal_done, linear_of, units_in};
+ghost use Rattle.pb_proof.specs.Goal.{goal_plan, goal_done, linear_of, units_in};
 
 use crate::goal_phase::{GoalMove, GoalPhase};
 use pb_sums::{Linear, Part, Relation, Spaces, SumEvent, SumMachine, Term};
@@ -50,13 +50,6 @@ fn goal_plan(phase: GoalPhase, byte: u8) -> GoalMove
         GoalPhase::Tail if byte == b'\n' => GoalMove::Finish,
         GoalPhase::Tail | GoalPhase::Done => GoalMove::Stop,
     }
-}
-
-/// Whether something has been read, and not all.
-fn is_midway(phase: GoalPhase) -> bool
-    ensures { result ≡ goal_midway phase }
-{
-    !matches!(phase, GoalPhase::Start | GoalPhase::Done)
 }
 
 /// Whether all has been read.

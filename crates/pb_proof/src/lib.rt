@@ -18,6 +18,8 @@ mod laws;
 mod literals;
 mod literals_phase;
 mod machine;
+#[cfg(test)]
+mod machine_tests;
 mod mark;
 mod phase;
 mod plan;

@@ -88,7 +88,10 @@ impl ProofMachine {
                 Push::Go
             }
             Move::Begin(rest) => {
-                replace(&mut self.inner, Some(inner_first(self.alloc, self.limits, rest)));
+                replace(
+                    &mut self.inner,
+                    Some(inner_first(self.alloc, self.limits, rest)),
+                );
                 self.phase = Phase::Inside(rest);
                 Push::Go
             }

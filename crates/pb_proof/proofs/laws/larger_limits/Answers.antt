@@ -1,5 +1,4 @@
 use Rattle.pb_proof.proofs.ProofLarger.{proof_grows}
-use Rattle.pb_proof.proofs.ProofStates.{is_state}
 use Rattle.pb_proof.proofs.laws.larger_limits.Goals as goal
 
 pub returns : goal.returns

@@ -1,7 +1,6 @@
 use Rattle.std.proofs.Common.{subst}
 use Rattle.pb_text.specs.Automaton.{IsState}
 use Rattle.pb_proof.specs.Goal.{GoalState, goal_automaton}
-use Rattle.pb_proof.proofs.GoalReads.{goal_reads}
 use Rattle.pb_proof.proofs.GoalStates.{goal_is_state}
 use Rattle.pb_proof.proofs.goal.GoalMachineMachine.is_done.Goals as goal
 

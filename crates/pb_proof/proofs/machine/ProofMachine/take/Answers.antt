@@ -1,6 +1,5 @@
-use Rattle.std.proofs.Common.{◌≡◌, ◌∙◌, ap, sym, subst, Some}
-use Rattle.pb_proof.specs.Machine.{plan}
-use Rattle.pb_proof.specs.State.{ProofState, IsInOrder, giving}
+use Rattle.std.proofs.Common.{◌∙◌, ap, sym, subst, Some}
+use Rattle.pb_proof.specs.State.{ProofState, IsInOrder}
 use Rattle.pb_proof.specs.contracts.machine.ProofMachine.{the_view}
 use Rattle.pb_proof.specs.declared.phase.Phase.TheVariants.{Inside}
 use Rattle.pb_proof.proofs.ProofStates.{to_order, begin_order}
