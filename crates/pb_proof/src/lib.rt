@@ -1,6 +1,8 @@
 //! Proofs in VeriPB 2.0, read one byte at a time and written.
 #![tactic(auto)]
 
+mod claim_phase;
+mod claim_plan;
 mod conclusion;
 mod proof;
 mod statement;
