@@ -1,0 +1,6 @@
+pub mod ClaimBytes
+pub mod ClaimSteps
+pub mod LineEnds
+pub mod LiteralsTheorems
+pub mod OneLine
+pub mod Walking
