@@ -1,5 +1,6 @@
 pub mod ClaimBytes
 pub mod ClaimSteps
+pub mod ClaimTexts
 pub mod LineEnds
 pub mod LiteralsTheorems
 pub mod OneLine
