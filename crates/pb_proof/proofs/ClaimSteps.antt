@@ -1,5 +1,5 @@
 -- What a machine of claims keeps from byte to byte.
-use Rattle.std.proofs.Common.{◌≡◌, ℕ, ◌+◌, ◌-◌, ◌*◌, ◌<◌, ◌≤◌, Bool, true, false, cond, ◌&&◌, nat_eq, nat_le, length, refl, sym, ap, subst, arith, ◌∙◌}
+use Rattle.std.proofs.Common.{◌≡◌, ℕ, ◌+◌, ◌-◌, ◌*◌, ◌^◌, ◌<◌, ◌≤◌, Bool, true, false, cond, ◌&&◌, nat_eq, nat_le, length, refl, sym, ap, subst, arith, ◌∙◌}
 use Rattle.std.proofs.lemmas.Bool.{leb-true, false≢true}
 use Rattle.std.proofs.lemmas.Bool.Decides.{nat_tests}
 use Rattle.std.specs.Prelude.{ℤ, Option, Some, None, slice_index, List}
@@ -9,7 +9,7 @@ use Rattle.pb_text.specs.Numbers.{signed}
 use Rattle.pb_sums.specs.declared.Literal.{Literal}
 use Rattle.pb_proof.specs.Lines.{inf_word}
 use Rattle.pb_proof.specs.Claim.{word_of, behind_word, behind_bound, spell, first_word, digits, begin_bound, colon, behind, between, after_bound, id_digits, after_id, plan, is_within, is_done, PhaseFits}
-use Rattle.pb_proof.specs.ClaimState.{ClaimState, claim_automaton, claim_last, at_phase, giving, act, over, is_in_number, Holds, IsClaimInOrder}
+use Rattle.pb_proof.specs.ClaimState.{ClaimState, claim_automaton, claim_at, claim_last, giving, act, over, is_in_number, spent, Holds, IsClaimInOrder}
 use Rattle.pb_proof.specs.Literals.{LiteralsState, literals_automaton, literals_first}
 use Rattle.pb_proof.specs.declared.conclusion.Bound.{Bound}
 use Rattle.pb_proof.specs.declared.conclusion.Bound.TheVariants.{Finite, Infinite}
@@ -35,16 +35,16 @@ use Rattle.pb_proof.proofs.LiteralsTheorems.{literals_of_one}
 abbrev N : Type 0
 N = Next ClaimState Conclusion
 
--- the claim goes on, and what is kept holds again
+-- the claim goes on
 abbrev IsNext : ClaimState → Phase → Phase → Type 0
-IsNext s p q = (is_within q ≡ true) × (PhaseFits s.limit s.top p → Holds s p → PhaseFits s.limit s.top q × Holds s q)
+IsNext s p q = (is_within q ≡ true) × (PhaseFits s.limit s.top p → PhaseFits s.limit s.top q)
 
 abbrev OnMove : ClaimState → Phase → Move → Type 0
 OnMove s p (To q) = IsNext s p q
 OnMove s p (Give shows) = p ≡ phase.Shown shows
 OnMove s p _ = Unit {0}
 
-module _ (s : ClaimState) (p : Phase) (idle : Holds s p → s.inner ≡ literals_first true) where
+module _ (s : ClaimState) (p : Phase) where
   abbrev On : Move → Type 0
   On = OnMove s p
 
@@ -54,12 +54,12 @@ module _ (s : ClaimState) (p : Phase) (idle : Holds s p → s.inner ≡ literals
 
   on_digits : (x : Side) (negative : Bool) (n b : ℕ) → On (digits s.limit x negative n b)
   on_digits x negative n b = chosen On (is_digit b && nat_le (10 * n + (b - 48)) s.limit) _ Stop
-      (λ e. (refl, λ f h. (leb-true (10 * n + (b - 48)) s.limit (both (is_digit b) (nat_le (10 * n + (b - 48)) s.limit) e).1, idle h)))
+      (λ e. (refl, λ f. leb-true (10 * n + (b - 48)) s.limit (both (is_digit b) (nat_le (10 * n + (b - 48)) s.limit) e).1))
       (λ e. tt)
 
   on_id_digits : (x : Owner) (negative : Bool) (n b : ℕ) → On (id_digits s.top x negative n b)
   on_id_digits x negative n b = chosen On (is_digit b && nat_le (10 * n + (b - 48)) s.top) _ Stop
-      (λ e. (refl, λ f h. (leb-true (10 * n + (b - 48)) s.top (both (is_digit b) (nat_le (10 * n + (b - 48)) s.top) e).1, idle h)))
+      (λ e. (refl, λ f. leb-true (10 * n + (b - 48)) s.top (both (is_digit b) (nat_le (10 * n + (b - 48)) s.top) e).1))
       (λ e. tt)
 
   -- a byte of a word
@@ -70,27 +70,27 @@ module _ (s : ClaimState) (p : Phase) (idle : Holds s p → s.inner ≡ literals
 
   on_begin : (x : Side) (b : ℕ) → On (begin_bound s.limit x b)
   on_begin x b =
-      on_cond (nat_eq b 43) (To (phase.Signed x false)) _ (refl, λ f h. (tt, idle h))
-      (on_cond (nat_eq b 45) (To (phase.Signed x true)) _ (refl, λ f h. (tt, idle h))
-      (on_cond (nat_eq b 73) (To (phase.Infinity x 1)) _ (refl, λ f h. (omega arith, idle h)) (on_digits x false 0 b)))
+      on_cond (nat_eq b 43) (To (phase.Signed x false)) _ (refl, λ f. tt)
+      (on_cond (nat_eq b 45) (To (phase.Signed x true)) _ (refl, λ f. tt)
+      (on_cond (nat_eq b 73) (To (phase.Infinity x 1)) _ (refl, λ f. omega arith) (on_digits x false 0 b)))
 
   on_colon : (c : Claim) → On (colon c)
   on_colon claim.NoClaim = tt
-  on_colon (claim.Unsat None) = (refl, λ f h. (tt, idle h))
+  on_colon (claim.Unsat None) = (refl, λ f. tt)
   on_colon (claim.Unsat (Some id)) = tt
-  on_colon (claim.Shows shows) = (refl, λ f h. (tt, ap literals_automaton.done (idle h)))
+  on_colon (claim.Shows shows) = (refl, λ f. tt)
 
   on_behind : (c : Claim) (b : ℕ) → On (behind c b)
   on_behind c b =
-      on_cond (is_blank b) (To (phase.Behind c)) _ (refl, λ f h. (tt, idle h))
+      on_cond (is_blank b) (To (phase.Behind c)) _ (refl, λ f. tt)
       (on_cond (nat_eq b 10) (Finish c) _ tt
-      (on_cond (nat_eq b 59) (To (phase.Semicolon c)) _ (refl, λ f h. (tt, idle h))
+      (on_cond (nat_eq b 59) (To (phase.Semicolon c)) _ (refl, λ f. tt)
       (on_cond (nat_eq b 58) (colon c) Stop (on_colon c) tt)))
 
   on_between : (x : Bound) (b : ℕ) → On (between x b)
   on_between x b =
-      on_cond (is_blank b) (To (phase.Spaced x)) _ (refl, λ f h. (tt, idle h))
-      (on_cond (nat_eq b 58) (To (phase.BeforeId (owner.Lower x))) Stop (refl, λ f h. (tt, idle h)) tt)
+      on_cond (is_blank b) (To (phase.Spaced x)) _ (refl, λ f. tt)
+      (on_cond (nat_eq b 58) (To (phase.BeforeId (owner.Lower x))) Stop (refl, λ f. tt) tt)
 
   on_after_bound : (x : Side) (y : Bound) (b : ℕ) → On (after_bound x y b)
   on_after_bound side.Lower y b = on_between y b
@@ -98,14 +98,14 @@ module _ (s : ClaimState) (p : Phase) (idle : Holds s p → s.inner ≡ literals
 
   on_after_id : (x : Owner) (id : ℤ) (b : ℕ) → On (after_id x id b)
   on_after_id owner.Unsat id b = on_behind (claim.Unsat (Some id)) b
-  on_after_id (owner.Lower x) id b = on_cond (is_blank b) (To (phase.BeforeBound (side.Upper x (Some id)))) Stop (refl, λ f h. (tt, idle h)) tt
+  on_after_id (owner.Lower x) id b = on_cond (is_blank b) (To (phase.BeforeBound (side.Upper x (Some id)))) Stop (refl, λ f. tt) tt
 
   on_first : (b : ℕ) → On (first_word b)
   on_first b =
-      on_cond (nat_eq b 78) (To (phase.Word word.NoClaim 1)) _ (refl, λ f h. (omega arith, idle h))
-      (on_cond (nat_eq b 85) (To (phase.Word word.Unsat 1)) _ (refl, λ f h. (omega arith, idle h))
-      (on_cond (nat_eq b 83) (To (phase.Word word.Sat 1)) _ (refl, λ f h. (omega arith, idle h))
-      (on_cond (nat_eq b 66) (To (phase.Word word.Bounds 1)) Stop (refl, λ f h. (omega arith, idle h)) tt)))
+      on_cond (nat_eq b 78) (To (phase.Word word.NoClaim 1)) _ (refl, λ f. omega arith)
+      (on_cond (nat_eq b 85) (To (phase.Word word.Unsat 1)) _ (refl, λ f. omega arith)
+      (on_cond (nat_eq b 83) (To (phase.Word word.Sat 1)) _ (refl, λ f. omega arith)
+      (on_cond (nat_eq b 66) (To (phase.Word word.Bounds 1)) Stop (refl, λ f. omega arith) tt)))
 
 further : (k size : ℕ) → k < size → nat_eq (k + 1) size ≡ false → k + 1 < size
 further k size i g = grind (arith, nat_tests)
@@ -113,51 +113,52 @@ further k size i g = grind (arith, nat_tests)
 -- the plan of each phase
 module _ (s : ClaimState) where
   next_word : (w : Word) (k : ℕ) → IsNext s (phase.Word w k) (behind_word w)
-  next_word word.NoClaim k = (refl, λ f h. (tt, h))
-  next_word word.Unsat k = (refl, λ f h. (tt, h))
-  next_word word.Sat k = (refl, λ f h. (tt, h))
-  next_word word.Bounds k = (refl, λ f h. (tt, h))
+  next_word word.NoClaim k = (refl, λ f. tt)
+  next_word word.Unsat k = (refl, λ f. tt)
+  next_word word.Sat k = (refl, λ f. tt)
+  next_word word.Bounds k = (refl, λ f. tt)
 
   next_bound : (x : Side) (k : ℕ) → IsNext s (phase.Infinity x k) (behind_bound x Infinite)
-  next_bound side.Lower k = (refl, λ f h. (tt, h))
-  next_bound (side.Upper lower id) k = (refl, λ f h. (tt, h))
+  next_bound side.Lower k = (refl, λ f. tt)
+  next_bound (side.Upper lower id) k = (refl, λ f. tt)
 
   pub on_plan : (p : Phase) (b : ℕ) → OnMove s p (plan s.limit s.top p b)
-  on_plan phase.Start b = on_cond s phase.Start (λ h. h) (is_blank b) (To phase.Before) Stop (refl, λ f h. (tt, h)) tt
-  on_plan phase.Before b = on_cond s phase.Before (λ h. h) (is_blank b) (To phase.Before) _ (refl, λ f h. (tt, h)) (on_first s phase.Before (λ h. h) b)
+  on_plan phase.Start b = on_cond s phase.Start (is_blank b) (To phase.Before) Stop (refl, λ f. tt) tt
+  on_plan phase.Before b = on_cond s phase.Before (is_blank b) (To phase.Before) _ (refl, λ f. tt) (on_first s phase.Before b)
   on_plan (phase.Word w k) b =
-      on_spell s (phase.Word w k) (λ h. h) (word_of w) k b (phase.Word w (k + 1)) (behind_word w) (next_word w k)
-      (λ e. (refl, λ f h. (further k (length (word_of w)) f e, h)))
-  on_plan (phase.Behind c) b = on_behind s (phase.Behind c) (λ h. h) c b
+      on_spell s (phase.Word w k) (word_of w) k b (phase.Word w (k + 1)) (behind_word w) (next_word w k)
+      (λ e. (refl, λ f. further k (length (word_of w)) f e))
+  on_plan (phase.Behind c) b = on_behind s (phase.Behind c) c b
   on_plan (phase.Semicolon c) b =
-      on_cond s (phase.Semicolon c) (λ h. h) (is_blank b) (To (phase.Semicolon c)) _ (refl, λ f h. (tt, h))
-      (on_cond s (phase.Semicolon c) (λ h. h) (nat_eq b 10) (Finish c) Stop tt tt)
-  on_plan phase.Bounded b = on_cond s phase.Bounded (λ h. h) (is_blank b) (To (phase.BeforeBound side.Lower)) Stop (refl, λ f h. (tt, h)) tt
+      on_cond s (phase.Semicolon c) (is_blank b) (To (phase.Semicolon c)) _ (refl, λ f. tt)
+      (on_cond s (phase.Semicolon c) (nat_eq b 10) (Finish c) Stop tt tt)
+  on_plan phase.Bounded b = on_cond s phase.Bounded (is_blank b) (To (phase.BeforeBound side.Lower)) Stop (refl, λ f. tt) tt
   on_plan (phase.BeforeBound x) b =
-      on_cond s (phase.BeforeBound x) (λ h. h) (is_blank b) (To (phase.BeforeBound x)) _ (refl, λ f h. (tt, h)) (on_begin s (phase.BeforeBound x) (λ h. h) x b)
-  on_plan (phase.Signed x negative) b = on_digits s (phase.Signed x negative) (λ h. h) x negative 0 b
+      on_cond s (phase.BeforeBound x) (is_blank b) (To (phase.BeforeBound x)) _ (refl, λ f. tt) (on_begin s (phase.BeforeBound x) x b)
+  on_plan (phase.Signed x negative) b = on_digits s (phase.Signed x negative) x negative 0 b
   on_plan (phase.Digits x negative n) b =
-      on_cond s (phase.Digits x negative n) (λ h. h) (is_digit b) _ _ (on_digits s (phase.Digits x negative n) (λ h. h) x negative n b)
-      (on_after_bound s (phase.Digits x negative n) (λ h. h) x (Finite (signed negative n)) b)
+      on_cond s (phase.Digits x negative n) (is_digit b) _ _ (on_digits s (phase.Digits x negative n) x negative n b)
+      (on_after_bound s (phase.Digits x negative n) x (Finite (signed negative n)) b)
   on_plan (phase.Infinity x k) b =
-      on_spell s (phase.Infinity x k) (λ h. h) inf_word k b (phase.Infinity x (k + 1)) (behind_bound x Infinite) (next_bound x k)
-      (λ e. (refl, λ f h. (further k (length inf_word) f e, h)))
-  on_plan (phase.Between x) b = on_between s (phase.Between x) (λ h. h) x b
+      on_spell s (phase.Infinity x k) inf_word k b (phase.Infinity x (k + 1)) (behind_bound x Infinite) (next_bound x k)
+      (λ e. (refl, λ f. further k (length inf_word) f e))
+  on_plan (phase.Between x) b = on_between s (phase.Between x) x b
   on_plan (phase.Spaced x) b =
-      on_cond s (phase.Spaced x) (λ h. h) (is_blank b) (To (phase.Spaced x)) _ (refl, λ f h. (tt, h))
-      (on_cond s (phase.Spaced x) (λ h. h) (nat_eq b 58) (To (phase.BeforeId (owner.Lower x))) _ (refl, λ f h. (tt, h)) (on_begin s (phase.Spaced x) (λ h. h) (side.Upper x None) b))
+      on_cond s (phase.Spaced x) (is_blank b) (To (phase.Spaced x)) _ (refl, λ f. tt)
+      (on_cond s (phase.Spaced x) (nat_eq b 58) (To (phase.BeforeId (owner.Lower x))) _ (refl, λ f. tt) (on_begin s (phase.Spaced x) (side.Upper x None) b))
   on_plan (phase.BeforeId x) b =
-      on_cond s (phase.BeforeId x) (λ h. h) (is_blank b) (To (phase.BeforeId x)) _ (refl, λ f h. (tt, h))
-      (on_cond s (phase.BeforeId x) (λ h. h) (nat_eq b 45) (To (phase.IdSigned x)) _ (refl, λ f h. (tt, h)) (on_id_digits s (phase.BeforeId x) (λ h. h) x false 0 b))
-  on_plan (phase.IdSigned x) b = on_id_digits s (phase.IdSigned x) (λ h. h) x true 0 b
+      on_cond s (phase.BeforeId x) (is_blank b) (To (phase.BeforeId x)) _ (refl, λ f. tt)
+      (on_cond s (phase.BeforeId x) (nat_eq b 45) (To (phase.IdSigned x)) _ (refl, λ f. tt) (on_id_digits s (phase.BeforeId x) x false 0 b))
+  on_plan (phase.IdSigned x) b = on_id_digits s (phase.IdSigned x) x true 0 b
   on_plan (phase.IdDigits x negative n) b =
-      on_cond s (phase.IdDigits x negative n) (λ h. h) (is_digit b) _ _ (on_id_digits s (phase.IdDigits x negative n) (λ h. h) x negative n b)
-      (on_cond s (phase.IdDigits x negative n) (λ h. h) (nat_eq n 0) Stop _ tt (on_after_id s (phase.IdDigits x negative n) (λ h. h) x (signed negative n) b))
+      on_cond s (phase.IdDigits x negative n) (is_digit b) _ _ (on_id_digits s (phase.IdDigits x negative n) x negative n b)
+      (on_cond s (phase.IdDigits x negative n) (nat_eq n 0) Stop _ tt (on_after_id s (phase.IdDigits x negative n) x (signed negative n) b))
   on_plan (phase.Shown shows) b = refl
   on_plan phase.Done b = tt
 
 -- what a byte leads to
 pub record Goes (s next : ClaimState) : Type 0 where
+  pub fits : PhaseFits s.limit s.top s.phase → PhaseFits next.limit next.top next.phase
   pub within : claim_automaton.begun next ≡ true
   pub limits : claim_last next.limit next.top ≡ claim_last s.limit s.top
   pub keeps : IsClaimInOrder s → IsClaimInOrder next
@@ -168,55 +169,79 @@ Stepped s (Go next) = Goes s next
 Stepped s (End e next) = next ≡ claim_last s.limit s.top
 Stepped s Refuse = Unit {0}
 
-order_given : (s : ClaimState) (shows : Showing) (inner : LiteralsState) (b : ℕ) → s.phase ≡ phase.Shown shows → literals_automaton.step s.inner b ≡ Go inner → IsClaimInOrder s → IsClaimInOrder (giving s inner)
-order_given s shows inner b p e h = record {
-  limit = h.limit;
-  top = h.top;
-  some = h.some;
-  fits = h.fits;
-  holds = subst (λ q. Holds (giving s inner) q) (sym p) (literals_of_one.owes inner (literals_of_one.begins s.inner inner b e));
-  inner = literals_of_one.keeps s.inner inner b h.inner e;
-}
+-- a byte that the machine of literals takes
+module _ (s : ClaimState) (shows : Showing) (p : s.phase ≡ phase.Shown shows) (b : ℕ) where
+  given_order : (inner : LiteralsState) → literals_automaton.step s.inner b ≡ Go inner → IsClaimInOrder s → IsClaimInOrder (giving s inner)
+  given_order inner e h = record {
+    limit = h.limit;
+    top = h.top;
+    some = h.some;
+    fits = h.fits;
+    holds = subst (λ q. Holds (giving s inner) q) (sym p) (literals_of_one.owes inner (literals_of_one.begins s.inner inner b e));
+    inner = literals_of_one.keeps s.inner inner b h.inner e;
+  }
 
-given : (s : ClaimState) (shows : Showing) (b : ℕ) → s.phase ≡ phase.Shown shows → (n : Next LiteralsState (List Literal)) → literals_automaton.step s.inner b ≡ n → Stepped s (over s shows n)
-given s shows b p (Go inner) e = record {
-  within = ap is_within p;
-  limits = refl;
-  keeps = order_given s shows inner b p e;
-  grows = literals_of_one.grows s.inner inner b e;
-}
-given s shows b p (End literals inner) e = refl
-given s shows b p Refuse e = tt
+  given_grows : (inner : LiteralsState) → literals_automaton.step s.inner b ≡ Go inner → spent (giving s inner) s.phase ≤ spent s s.phase + 1
+  given_grows inner e = subst (λ q. spent (giving s inner) q ≤ spent s q + 1) (sym p) (literals_of_one.grows s.inner inner b e)
 
-order_at : (s : ClaimState) (p : Phase) → IsNext s s.phase p → IsClaimInOrder s → IsClaimInOrder (at_phase s p)
-order_at s p n h =
-    let k = n.1 h.fits h.holds in
-    record { limit = h.limit; top = h.top; some = h.some; fits = k.0; holds = holds s p p k.1; inner = h.inner }
-  where
-    -- what holds does not depend on the phase of the state
-    holds : (s : ClaimState) (p q : Phase) → Holds s q → Holds (at_phase s p) q
-    holds s p phase.Start h = h
-    holds s p phase.Before h = h
-    holds s p (phase.Word w k) h = h
-    holds s p (phase.Behind c) h = h
-    holds s p (phase.Semicolon c) h = h
-    holds s p phase.Bounded h = h
-    holds s p (phase.BeforeBound x) h = h
-    holds s p (phase.Signed x negative) h = h
-    holds s p (phase.Digits x negative n) h = h
-    holds s p (phase.Infinity x k) h = h
-    holds s p (phase.Between x) h = h
-    holds s p (phase.Spaced x) h = h
-    holds s p (phase.BeforeId x) h = h
-    holds s p (phase.IdSigned x) h = h
-    holds s p (phase.IdDigits x negative n) h = h
-    holds s p (phase.Shown shows) h = h
-    holds s p phase.Done h = h
+  given : (n : Next LiteralsState (List Literal)) → literals_automaton.step s.inner b ≡ n → Stepped s (over s shows n)
+  given (Go inner) e = record { fits = λ f. f; within = ap is_within p; limits = refl; keeps = given_order inner e; grows = given_grows inner e }
+  given (End literals inner) e = refl
+  given Refuse e = tt
+
+-- nothing is held where no literal is read
+idle_holds : (limit top : ℕ) (p : Phase) → Holds (claim_at limit top p) p
+idle_holds limit top phase.Start = refl
+idle_holds limit top phase.Before = refl
+idle_holds limit top (phase.Word w k) = refl
+idle_holds limit top (phase.Behind c) = refl
+idle_holds limit top (phase.Semicolon c) = refl
+idle_holds limit top phase.Bounded = refl
+idle_holds limit top (phase.BeforeBound x) = refl
+idle_holds limit top (phase.Signed x negative) = refl
+idle_holds limit top (phase.Digits x negative n) = refl
+idle_holds limit top (phase.Infinity x k) = refl
+idle_holds limit top (phase.Between x) = refl
+idle_holds limit top (phase.Spaced x) = refl
+idle_holds limit top (phase.BeforeId x) = refl
+idle_holds limit top (phase.IdSigned x) = refl
+idle_holds limit top (phase.IdDigits x negative n) = refl
+idle_holds limit top (phase.Shown x) = refl
+idle_holds limit top phase.Done = refl
+
+idle_spent : (limit top : ℕ) (p : Phase) → spent (claim_at limit top p) p ≤ 1
+idle_spent limit top (phase.Shown x) = omega arith
+idle_spent limit top phase.Start = omega arith
+idle_spent limit top phase.Before = omega arith
+idle_spent limit top (phase.Word w k) = omega arith
+idle_spent limit top (phase.Behind c) = omega arith
+idle_spent limit top (phase.Semicolon c) = omega arith
+idle_spent limit top phase.Bounded = omega arith
+idle_spent limit top (phase.BeforeBound x) = omega arith
+idle_spent limit top (phase.Signed x negative) = omega arith
+idle_spent limit top (phase.Digits x negative n) = omega arith
+idle_spent limit top (phase.Infinity x k) = omega arith
+idle_spent limit top (phase.Between x) = omega arith
+idle_spent limit top (phase.Spaced x) = omega arith
+idle_spent limit top (phase.BeforeId x) = omega arith
+idle_spent limit top (phase.IdSigned x) = omega arith
+idle_spent limit top (phase.IdDigits x negative n) = omega arith
+idle_spent limit top phase.Done = omega arith
+
+-- a state in which no literal is read
+pub idle_order : (limit top : ℕ) (p : Phase) → limit < 2 ^ 127 → top < 2 ^ 63 → 0 < top → PhaseFits limit top p → IsClaimInOrder (claim_at limit top p)
+idle_order limit top p l t z f = record { limit = l; top = t; some = z; fits = f; holds = idle_holds limit top p; inner = λ i. (refl, refl) }
 
 acted : (s : ClaimState) (b : ℕ) (m : Move) → OnMove s s.phase m → Stepped s (act s b m)
-acted s b (To p) h = record { within = h.0; limits = refl; keeps = order_at s p h; grows = omega arith }
+acted s b (To p) h = record {
+  fits = h.1;
+  within = h.0;
+  limits = refl;
+  keeps = λ i. idle_order s.limit s.top p i.limit i.top i.some (h.1 i.fits);
+  grows = omega (arith, idle_spent s.limit s.top p);
+}
 acted s b (Finish c) h = refl
-acted s b (Give shows) h = given s shows b h (literals_automaton.step s.inner b) refl
+acted s b (Give shows) h = given s shows h b (literals_automaton.step s.inner b) refl
 acted s b Stop h = tt
 
 pub stepped : (s : ClaimState) (b : ℕ) → Stepped s (claim_automaton.step s b)
@@ -243,7 +268,7 @@ no_number s phase.Start h = refl
 no_number s phase.Done h = refl
 no_number s _ h = absurd (false≢true (sym h))
 
-pub idle_outside : (s : ClaimState) (p : Phase) → is_within p ≡ false → Holds s p → s.inner ≡ literals_first true
-idle_outside s phase.Start h i = i
-idle_outside s phase.Done h i = i
-idle_outside s _ h i = absurd (false≢true (sym h))
+pub nothing_spent : (s : ClaimState) (p : Phase) → is_within p ≡ false → spent s p ≡ 0
+nothing_spent s phase.Start h = refl
+nothing_spent s phase.Done h = refl
+nothing_spent s _ h = absurd (false≢true (sym h))

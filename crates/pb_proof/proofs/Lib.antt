@@ -1,4 +1,5 @@
 pub mod ClaimBytes
+pub mod ClaimFront
 pub mod ClaimSteps
 pub mod ClaimTexts
 pub mod LineEnds

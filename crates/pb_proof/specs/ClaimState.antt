@@ -43,9 +43,6 @@ claim_value claim.TheVariants.NoClaim = NoClaim
 claim_value (claim.TheVariants.Unsat id) = Unsat id
 claim_value (claim.TheVariants.Shows shows) = showing_value shows None
 
-abbrev pub at_phase : ClaimState → Phase → ClaimState
-at_phase s p = record s { phase = p }
-
 abbrev pub giving : ClaimState → LiteralsState → ClaimState
 giving s inner = record s { inner = inner }
 
@@ -55,7 +52,7 @@ over s shows (End literals inner) = End (showing_value shows (Some literals)) (c
 over s shows Refuse = Refuse
 
 abbrev pub act : ClaimState → ℕ → Move → Next ClaimState Conclusion
-act s b (To p) = Go (at_phase s p)
+act s b (To p) = Go (claim_at s.limit s.top p)
 act s b (Finish claim) = End (claim_value claim) (claim_last s.limit s.top)
 act s b (Give shows) = over s shows (literals_automaton.step s.inner b)
 act s b Stop = Refuse
@@ -69,6 +66,15 @@ abbrev pub asks : ClaimState → ℕ → Move → Bool
 asks s b (Give shows) = literals_automaton.asks s.inner b
 asks s b _ = false
 
+-- nothing is kept but by the machine of literals, once it has begun
+abbrev pub kept : ClaimState → Phase → ℕ
+kept s (phase.Shown shows) = literals_automaton.kept s.inner
+kept s _ = 0
+
+abbrev pub spent : ClaimState → Phase → ℕ
+spent s (phase.Shown shows) = literals_automaton.spent s.inner
+spent s _ = 0
+
 abbrev pub claim_automaton : Automaton ClaimState Conclusion
 claim_automaton = record {
   step = λ s b. act s b (plan s.limit s.top s.phase b);
@@ -76,8 +82,8 @@ claim_automaton = record {
   begun = λ s. is_within s.phase;
   in_number = λ s. is_in_number s s.phase;
   asks = λ s b. asks s b (plan s.limit s.top s.phase b);
-  kept = λ s. literals_automaton.kept s.inner;
-  spent = λ s. literals_automaton.spent s.inner;
+  kept = λ s. kept s s.phase;
+  spent = λ s. spent s s.phase;
 }
 
 -- The machine of literals has read nothing, or some of what stands behind `:` and not all.

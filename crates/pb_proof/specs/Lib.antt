@@ -3,6 +3,7 @@ pub mod Claim
 pub mod ClaimState
 pub mod Lines
 pub mod Literals
+pub mod Marks
 pub mod Postfix
 pub mod Proofs
 pub mod Values

@@ -4,6 +4,8 @@
 mod claim_phase;
 mod claim_plan;
 mod conclusion;
+mod literals_phase;
+mod mark;
 mod proof;
 mod statement;
 mod word;
