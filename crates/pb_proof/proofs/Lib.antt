@@ -2,6 +2,7 @@ pub mod ClaimBytes
 pub mod ClaimFront
 pub mod ClaimSteps
 pub mod ClaimTexts
+pub mod ClaimWalk
 pub mod LineEnds
 pub mod LiteralsTheorems
 pub mod OneLine
