@@ -39,16 +39,8 @@ use Rattle.pb_proof.proofs.Walking.{Walks, Leads, walks_then}
 nat-same : (b : ℕ) → nat_eq b b ≡ true
 nat-same b = grind (arith, nat_tests)
 
--- digits are no other bytes
-digit-not : (d b : ℕ) → d < 10 → is_digit b ≡ false → nat_eq (48 + d) b ≡ false
-digit-not d b h e = grind (arith, nat_tests)
-
 blank-digit : (b : ℕ) → is_blank b ≡ true → is_digit b ≡ false
 blank-digit b h = grind (arith, nat_tests)
-
-ten_pos : (k : ℕ) → 0 < 10 ^ k
-ten_pos zero = omega arith
-ten_pos (suc k) = rw (pow-succ' 10 k) (omega (arith, ten_pos k))
 
 module _ (limit top : ℕ) where
   abbrev pub at : Phase → ClaimState

@@ -1,5 +1,6 @@
 pub mod ClaimBytes
 pub mod ClaimFront
+pub mod ClaimParts
 pub mod ClaimSteps
 pub mod ClaimTexts
 pub mod ClaimWalk

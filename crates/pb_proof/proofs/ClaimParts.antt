@@ -1,0 +1,237 @@
+-- A machine of claims on the way through bounds and ids.
+use Rattle.std.proofs.Common.{◌≡◌, ℕ, zero, suc, ◌+◌, ◌-◌, ◌*◌, ◌^◌, ◌<◌, ◌≤◌, Bool, true, false, cond, ◌&&◌, List, [], ◌∷◌, ◌++◌, length, map, drop, take, refl, sym, ap, subst, arith, ◌⊎◌, inl, inr, ◌∙◌, append_assoc, length-append, take-append-drop}
+use Rattle.std.proofs.Math.Nat.{pow-succ', le-mul_of_pos_right}
+use Rattle.std.proofs.Math.Seq.{get_or-append_seam}
+use Rattle.std.proofs.lemmas.List.{length-take-le, append-nil}
+use Rattle.std.proofs.lemmas.Bool.{le-leb}
+use Rattle.std.proofs.lemmas.Bool.Decides.{nat_tests}
+use Rattle.std.specs.Prelude.{IsTrue, ℤ, Option, Some, None, nat_eq, slice_index}
+use Rattle.pb_text.specs.Automaton.{Next, Go, End, Refuse, Reads}
+use Rattle.pb_text.specs.Classes.{is_blank, is_digit}
+use Rattle.pb_text.specs.Languages.{unmarked, digit, Language, ◌⋅◌, Empty, Byte, Bytes, Each, Blanks0, Blanks1}
+use Rattle.pb_text.specs.Numbers.{value, Digits, Number, signed}
+use Rattle.pb_text.specs.Spelling.{Letter, plain}
+use Rattle.pb_proof.specs.Lines.{none_word, unsat_word, sat_word, bounds_word, inf_word, SpellsId, SpellsBound, IdShown}
+use Rattle.pb_proof.specs.Claim.{word_of, behind_word, behind_bound, spell, digits, colon, behind, between, after_bound, id_digits, after_id, plan, is_within}
+use Rattle.pb_proof.specs.ClaimState.{ClaimState, claim_automaton, claim_at, claim_last, claim_value, act, is_in_number}
+use Rattle.pb_proof.specs.declared.conclusion.Bound.{Bound}
+use Rattle.pb_proof.specs.declared.conclusion.Bound.TheVariants.{Finite, Infinite}
+use Rattle.pb_proof.specs.declared.conclusion.Conclusion.{Conclusion}
+use Rattle.pb_proof.specs.declared.claim_phase.Word.{Word}
+use Rattle.pb_proof.specs.declared.claim_phase.Word.TheVariants as word
+use Rattle.pb_proof.specs.declared.claim_phase.Owner.{Owner}
+use Rattle.pb_proof.specs.declared.claim_phase.Owner.TheVariants as owner
+use Rattle.pb_proof.specs.declared.claim_phase.Side.{Side}
+use Rattle.pb_proof.specs.declared.claim_phase.Side.TheVariants as side
+use Rattle.pb_proof.specs.declared.claim_phase.Showing.{Showing}
+use Rattle.pb_proof.specs.declared.claim_phase.Showing.TheVariants as showing
+use Rattle.pb_proof.specs.declared.claim_phase.Claim.{Claim}
+use Rattle.pb_proof.specs.declared.claim_phase.Claim.TheVariants as claim
+use Rattle.pb_proof.specs.declared.claim_phase.Phase.{Phase}
+use Rattle.pb_proof.specs.declared.claim_phase.Phase.TheVariants as phase
+use Rattle.pb_proof.specs.declared.claim_phase.Move.{Move}
+use Rattle.pb_proof.specs.declared.claim_phase.Move.TheVariants.{To, Stop}
+use Rattle.pb_proof.proofs.ClaimBytes.{digit-byte, digit-blank}
+use Rattle.pb_proof.proofs.ClaimTexts.{Body}
+use Rattle.pb_proof.proofs.ClaimWalk.{at, Carries, Is, Follows, number_follows}
+use Rattle.pb_proof.proofs.LineEnds.{TakesBlanks, blanks1_lead, blanks0_lead, MayEnd}
+use Rattle.pb_proof.proofs.Walking.{Walks, Leads, walks_then}
+
+abbrev IsBlank : ℕ → Type 0
+IsBlank b = IsTrue (is_blank b)
+
+-- digits are no other bytes
+digit-not : (d b : ℕ) → d < 10 → is_digit b ≡ false → nat_eq (48 + d) b ≡ false
+digit-not d b h e = grind (arith, nat_tests)
+
+ten_pos : (k : ℕ) → 0 < 10 ^ k
+ten_pos zero = omega arith
+ten_pos (suc k) = rw (pow-succ' 10 k) (omega (arith, ten_pos k))
+
+-- the value with one digit more
+shifted : (m n d : ℕ) (ds : List ℕ) → n ≡ m * 10 ^ length (d ∷ ds) + value (d ∷ ds) → n ≡ (10 * m + d) * 10 ^ length ds + value ds
+shifted m n d ds e = let p : 10 ^ suc (length ds) ≡ 10 * 10 ^ length ds = pow-succ' 10 (length ds) in e ∙ rw p (omega arith)
+
+least : (m d n most : ℕ) (ds : List ℕ) → n ≡ (10 * m + d) * 10 ^ length ds + value ds → n ≤ most → 10 * m + d ≤ most
+least m d n most ds e l = let i : 10 * m + d ≤ (10 * m + d) * 10 ^ length ds = le-mul_of_pos_right (10 * m + d) (ten_pos (length ds)) in omega arith
+
+from_zero : (d : ℕ) (ds : List ℕ) → value (d ∷ ds) ≡ (10 * 0 + d) * 10 ^ length ds + value ds
+from_zero d ds = omega arith
+
+module _ (limit top : ℕ) where
+  abbrev here : Phase → ClaimState
+  here p = at limit top p
+
+  -- digits of a bound
+  digits_next : (x : Side) (negative : Bool) (m d : ℕ) → d < 10 → 10 * m + d ≤ limit → digits limit x negative m (48 + d) ≡ To (phase.Digits x negative (10 * m + d))
+  digits_next x negative m d h l =
+      let e : (48 + d) - 48 ≡ d = omega arith in
+      rw (digit-byte d h, e, le-leb (10 * m + d) limit l) refl
+
+  digits_step : (x : Side) (negative : Bool) (m d : ℕ) → d < 10 → 10 * m + d ≤ limit
+      → claim_automaton.step (here (phase.Digits x negative m)) (48 + d) ≡ Go (here (phase.Digits x negative (10 * m + d)))
+  digits_step x negative m d h l =
+      ap (λ y. act (here (phase.Digits x negative m)) (48 + d) (cond y (digits limit x negative m (48 + d)) (after_bound x (Finite (signed negative m)) (48 + d)))) (digit-byte d h)
+      ∙ ap (λ y. act (here (phase.Digits x negative m)) (48 + d) y) (digits_next x negative m d h l)
+
+  digits_walk : (x : Side) (negative : Bool) (m n : ℕ) (ds : List ℕ) → Each (λ e. e < 10) ds → n ≡ m * 10 ^ length ds + value ds → n ≤ limit
+      → Walks claim_automaton (here (phase.Digits x negative m)) (map digit ds) (here (phase.Digits x negative n))
+  digits_walk x negative m n [] h e l = let g : n ≡ m = omega arith in ap (λ y. here (phase.Digits x negative y)) g
+  digits_walk x negative m n (d ∷ ds) h e l =
+      let w : n ≡ (10 * m + d) * 10 ^ length ds + value ds = shifted m n d ds e in (
+        here (phase.Digits x negative (10 * m + d)),
+        digits_step x negative m d h.0 (least m d n limit ds w l),
+        refl,
+        refl,
+        digits_walk x negative (10 * m + d) n ds h.1 w l,
+      )
+
+  -- A state before a bound.
+  pub record Opens (x : Side) (s : ClaimState) : Type 0 where
+    pub plus : claim_automaton.step s 43 ≡ Go (here (phase.Signed x false))
+    pub minus : claim_automaton.step s 45 ≡ Go (here (phase.Signed x true))
+    pub letter : claim_automaton.step s 73 ≡ Go (here (phase.Infinity x 1))
+    pub first : (d : ℕ) → d < 10 → 10 * 0 + d ≤ limit → claim_automaton.step s (48 + d) ≡ Go (here (phase.Digits x false (10 * 0 + d)))
+
+  pub before_opens : (x : Side) → Opens x (here (phase.BeforeBound x))
+  before_opens x = record {
+    plus = refl;
+    minus = refl;
+    letter = refl;
+    first = λ d h l. rw (digit-blank d h, digit-not d 43 h refl, digit-not d 45 h refl, digit-not d 73 h refl, digits_next x false 0 d h l) refl;
+  }
+
+  pub spaced_opens : (x : Bound) → Opens (side.Upper x None) (here (phase.Spaced x))
+  spaced_opens x = record {
+    plus = refl;
+    minus = refl;
+    letter = refl;
+    first = λ d h l.
+        rw (digit-blank d h, digit-not d 58 h refl, digit-not d 43 h refl, digit-not d 45 h refl, digit-not d 73 h refl, digits_next (side.Upper x None) false 0 d h l) refl;
+  }
+
+  -- the digits behind a first byte
+  digits_lead : (x : Side) (negative : Bool) (s : ClaimState) → ((d : ℕ) → d < 10 → 10 * 0 + d ≤ limit → claim_automaton.step s (48 + d) ≡ Go (here (phase.Digits x negative (10 * 0 + d))))
+      → (n : ℕ) → n ≤ limit → Leads claim_automaton s (Digits n) (here (phase.Digits x negative n))
+  digits_lead x negative s f n l t (d, ds, h, e, g) =
+      let w : n ≡ (10 * 0 + d) * 10 ^ length ds + value ds = g ∙ from_zero d ds in
+      subst (λ y. Walks claim_automaton s y (here (phase.Digits x negative n))) (sym e) (
+        here (phase.Digits x negative (10 * 0 + d)),
+        f d h.0 (least 0 d n limit ds w l),
+        refl,
+        refl,
+        digits_walk x negative (10 * 0 + d) n ds h.1 w l,
+      )
+
+  signed_lead : (x : Side) (negative : Bool) (n : ℕ) → n ≤ limit → Leads claim_automaton (here (phase.Signed x negative)) (Digits n) (here (phase.Digits x negative n))
+  signed_lead x negative n l =
+      digits_lead x negative (here (phase.Signed x negative)) (λ d h i. ap (λ y. act (here (phase.Signed x negative)) (48 + d) y) (digits_next x negative 0 d h i)) n l
+
+  -- a sign
+  signed_walk : (x : Side) (negative : Bool) (b : ℕ) (s new : ClaimState) (u v : List Letter) → claim_automaton.step s b ≡ Go (here (phase.Signed x negative)) → u ≡ unmarked b ∷ []
+      → Walks claim_automaton (here (phase.Signed x negative)) v new → Walks claim_automaton s (u ++ v) new
+  signed_walk x negative b s new u v g e w = subst (λ y. Walks claim_automaton s (y ++ v) new) (sym e) (here (phase.Signed x negative), g, refl, refl, w)
+
+  number_carries : (x : Side) (z : ℤ) → Carries limit top (Opens x) (Number limit z) (Follows limit top (behind_bound x (Finite z)))
+  number_carries x z s t o (true, n, l, e, (u, v, f, sign, ds)) = (
+    here (phase.Digits x true n),
+    subst (λ y. Walks claim_automaton s y (here (phase.Digits x true n))) (sym f)
+        (signed_walk x true 45 s (here (phase.Digits x true n)) u v o.minus sign (signed_lead x true n l v ds)),
+    subst (λ y. Follows limit top (behind_bound x (Finite y)) (here (phase.Digits x true n))) (sym e) (number_follows limit top x true n),
+  )
+  number_carries x z s t o (false, n, l, e, (u, v, f, inr sign, ds)) = (
+    here (phase.Digits x false n),
+    subst (λ y. Walks claim_automaton s y (here (phase.Digits x false n))) (sym f)
+        (signed_walk x false 43 s (here (phase.Digits x false n)) u v o.plus sign (signed_lead x false n l v ds)),
+    subst (λ y. Follows limit top (behind_bound x (Finite y)) (here (phase.Digits x false n))) (sym e) (number_follows limit top x false n),
+  )
+  number_carries x z s t o (false, n, l, e, (u, v, f, inl sign, ds)) = (
+    here (phase.Digits x false n),
+    subst (λ y. Walks claim_automaton s y (here (phase.Digits x false n))) (sym (f ∙ ap (λ y. y ++ v) sign)) (digits_lead x false s o.first n l v ds),
+    subst (λ y. Follows limit top (behind_bound x (Finite y)) (here (phase.Digits x false n))) (sym e) (number_follows limit top x false n),
+  )
+
+  -- `INF`
+  infinity_walk : (x : Side) (s : ClaimState) → Opens x s → is_within (behind_bound x Infinite) ≡ true → is_in_number (here (behind_bound x Infinite)) (behind_bound x Infinite) ≡ false
+      → Walks claim_automaton s (plain inf_word) (here (behind_bound x Infinite))
+  infinity_walk x s o i n = (
+    here (phase.Infinity x 1),
+    o.letter,
+    refl,
+    refl,
+    (here (phase.Infinity x 2), refl, refl, refl, (here (behind_bound x Infinite), refl, i, sym n, refl)),
+  )
+
+  pub infinity_leads : (x : Side) (s : ClaimState) → Opens x s → Walks claim_automaton s (plain inf_word) (here (behind_bound x Infinite))
+  infinity_leads side.Lower s o = infinity_walk side.Lower s o refl refl
+  infinity_leads (side.Upper x id) s o = infinity_walk (side.Upper x id) s o refl refl
+
+  pub bound_carries : (x : Side) (y : Bound) → Carries limit top (Opens x) (SpellsBound limit y) (Follows limit top (behind_bound x y))
+  bound_carries x (Finite z) = number_carries x z
+  bound_carries x Infinite = λ s t o h. (
+    here (behind_bound x Infinite),
+    subst (λ u. Walks claim_automaton s u (here (behind_bound x Infinite))) (sym h) (infinity_leads x s o),
+    λ b e. refl,
+  )
+
+  -- digits of an id
+  id_next : (x : Owner) (negative : Bool) (m d : ℕ) → d < 10 → 10 * m + d ≤ top → id_digits top x negative m (48 + d) ≡ To (phase.IdDigits x negative (10 * m + d))
+  id_next x negative m d h l =
+      let e : (48 + d) - 48 ≡ d = omega arith in
+      rw (digit-byte d h, e, le-leb (10 * m + d) top l) refl
+
+  pub id_step : (x : Owner) (negative : Bool) (m d : ℕ) → d < 10 → 10 * m + d ≤ top
+      → claim_automaton.step (here (phase.IdDigits x negative m)) (48 + d) ≡ Go (here (phase.IdDigits x negative (10 * m + d)))
+  id_step x negative m d h l =
+      ap (λ y. act (here (phase.IdDigits x negative m)) (48 + d) (cond y (id_digits top x negative m (48 + d)) (cond (nat_eq m 0) Stop (after_id x (signed negative m) (48 + d))))) (digit-byte d h)
+      ∙ ap (λ y. act (here (phase.IdDigits x negative m)) (48 + d) y) (id_next x negative m d h l)
+
+  id_walk : (x : Owner) (negative : Bool) (m n : ℕ) (ds : List ℕ) → Each (λ e. e < 10) ds → n ≡ m * 10 ^ length ds + value ds → n ≤ top
+      → Walks claim_automaton (here (phase.IdDigits x negative m)) (map digit ds) (here (phase.IdDigits x negative n))
+  id_walk x negative m n [] h e l = let g : n ≡ m = omega arith in ap (λ y. here (phase.IdDigits x negative y)) g
+  id_walk x negative m n (d ∷ ds) h e l =
+      let w : n ≡ (10 * m + d) * 10 ^ length ds + value ds = shifted m n d ds e in (
+        here (phase.IdDigits x negative (10 * m + d)),
+        id_step x negative m d h.0 (least m d n top ds w l),
+        refl,
+        refl,
+        id_walk x negative (10 * m + d) n ds h.1 w l,
+      )
+
+  id_lead : (x : Owner) (negative : Bool) (s : ClaimState) → ((d : ℕ) → d < 10 → 10 * 0 + d ≤ top → claim_automaton.step s (48 + d) ≡ Go (here (phase.IdDigits x negative (10 * 0 + d))))
+      → (n : ℕ) → n ≤ top → Leads claim_automaton s (Digits n) (here (phase.IdDigits x negative n))
+  id_lead x negative s f n l t (d, ds, h, e, g) =
+      let w : n ≡ (10 * 0 + d) * 10 ^ length ds + value ds = g ∙ from_zero d ds in
+      subst (λ y. Walks claim_automaton s y (here (phase.IdDigits x negative n))) (sym e) (
+        here (phase.IdDigits x negative (10 * 0 + d)),
+        f d h.0 (least 0 d n top ds w l),
+        refl,
+        refl,
+        id_walk x negative (10 * 0 + d) n ds h.1 w l,
+      )
+
+  pub first_id_step : (x : Owner) (d : ℕ) → d < 10 → 10 * 0 + d ≤ top → claim_automaton.step (here (phase.BeforeId x)) (48 + d) ≡ Go (here (phase.IdDigits x false (10 * 0 + d)))
+  first_id_step x d h l = rw (digit-blank d h, digit-not d 45 h refl, id_next x false 0 d h l) refl
+
+  pub signed_id_step : (x : Owner) (d : ℕ) → d < 10 → 10 * 0 + d ≤ top → claim_automaton.step (here (phase.IdSigned x)) (48 + d) ≡ Go (here (phase.IdDigits x true (10 * 0 + d)))
+  signed_id_step x d h l = ap (λ y. act (here (phase.IdSigned x)) (48 + d) y) (id_next x true 0 d h l)
+
+  -- behind an id
+  abbrev pub AtId : Owner → ℤ → ClaimState → Type 0
+  AtId x id s = (negative : Bool) × (n : ℕ) × (0 < n) × (id ≡ signed negative n) × (s ≡ here (phase.IdDigits x negative n))
+
+  pub id_carries : (x : Owner) (id : ℤ) → Carries limit top (Is limit top (phase.BeforeId x)) (SpellsId top id) (AtId x id)
+  id_carries x id s t i (true, n, z, l, e, (u, v, f, sign, ds)) = (
+    here (phase.IdDigits x true n),
+    subst (λ y. Walks claim_automaton y t (here (phase.IdDigits x true n))) (sym i)
+        (subst (λ y. Walks claim_automaton (here (phase.BeforeId x)) y (here (phase.IdDigits x true n))) (sym (f ∙ ap (λ y. y ++ v) sign))
+        (here (phase.IdSigned x), refl, refl, refl, id_lead x true (here (phase.IdSigned x)) (signed_id_step x) n l v ds)),
+    (true, n, z, e, refl),
+  )
+  id_carries x id s t i (false, n, z, l, e, (u, v, f, sign, ds)) = (
+    here (phase.IdDigits x false n),
+    subst (λ y. Walks claim_automaton y t (here (phase.IdDigits x false n))) (sym i)
+        (subst (λ y. Walks claim_automaton (here (phase.BeforeId x)) y (here (phase.IdDigits x false n))) (sym (f ∙ ap (λ y. y ++ v) sign))
+        (id_lead x false (here (phase.BeforeId x)) (first_id_step x) n l v ds)),
+    (false, n, z, e, refl),
+  )
