@@ -119,6 +119,15 @@ module _ (limit top : ℕ) where
       (λ q k. inside (Byte 58 ⋅ (Blanks0 ⋅ L)) (Byte 58 ⋅ Blanks0 ⋅ L) R q (regroup⁻¹ (Byte 58) Blanks0 L) (regroup⁻¹ (Byte 58) (Blanks0 ⋅ L) R q k))
       (regroup⁻¹ (Byte 58) (Blanks0 ⋅ L ⋅ R) LineEnd p h)
 
+  pub line_shown : (ls : List Literal) (p : List Letter) → (SpellsShown ls ⋅ LineEnd) p → (Byte 58 ⋅ SpellsJoined true ls) p
+  line_shown [] p h = h
+  line_shown (l ∷ ls) p h =
+      let L : Language = SpellsLiteral l in
+      let R : Language = Listed SpellsLiteral ls in
+      regroup (Byte 58) (Blanks0 ⋅ L ⋅ R) LineEnd p
+      (inside (SpellsShown (l ∷ ls)) (Byte 58 ⋅ (Blanks0 ⋅ L ⋅ R)) LineEnd p
+      (λ q. within_last (Byte 58) (Byte 58 ⋅ Blanks0 ⋅ L) (Blanks0 ⋅ L) R q (regroup (Byte 58) Blanks0 L)) h)
+
   showing_some : (x : Showing) (ls : List Literal) (q : List Letter) → (Body x ⋅ (Blanks0 ⋅ SpellsShown ls)) q → SpellsConclusion limit top (showing_value x (Some ls)) q
   showing_some showing.Sat ls q h = h
   showing_some (showing.Bounds lower id upper) ls q h = h

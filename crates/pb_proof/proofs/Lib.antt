@@ -1,4 +1,5 @@
 pub mod ClaimBytes
+pub mod ClaimEach
 pub mod ClaimFront
 pub mod ClaimParts
 pub mod ClaimSteps
