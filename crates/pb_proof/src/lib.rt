@@ -1,7 +1,11 @@
 //! Proofs in VeriPB 2.0, read one byte at a time and written.
 #![tactic(auto)]
 
+mod classes;
 mod conclusion;
+mod count;
+mod count_phase;
+mod mark;
 mod proof;
 mod statement;
 mod word;
