@@ -3,6 +3,11 @@ pub mod CountSound
 pub mod CountTheorems
 pub mod DigitWalks
 pub mod LineEnds
+pub mod LiteralNames
+pub mod LiteralsComplete
+mod LiteralsPushes
+pub mod LiteralsSound
+pub mod LiteralsTheorems
 pub mod MarkMeanings
 pub mod OneLine
 pub mod Walking

@@ -22,7 +22,7 @@ NumberMeans number.TheVariants.Other b = Unit {0}
 
 abbrev pub NameMeans : NameMark → ℕ → Type 0
 NameMeans name.TheVariants.Blank b = IsTrue (is_blank b)
-NameMeans (name.TheVariants.Start c) b = (b ≡ c) × IsTrue (is_letter c)
+NameMeans (name.TheVariants.Letter c) b = (b ≡ c) × IsTrue (is_letter c)
 NameMeans (name.TheVariants.Inner c) b = (b ≡ c) × IsTrue (is_name_byte c)
 NameMeans name.TheVariants.Tilde b = b ≡ 126
 NameMeans name.TheVariants.Semicolon b = b ≡ 59
@@ -77,14 +77,14 @@ high b h = grind (arith, nat_tests)
 pub letter_is_name_byte : (b : ℕ) → IsTrue (is_letter b) → IsTrue (is_name_byte b)
 letter_is_name_byte b e = rw e refl
 
-pub name_start : (b : ℕ) → IsTrue (is_letter b) → name_mark b ≡ name.TheVariants.Start b
-name_start b e = rw (low b (high b (letter_is_name_byte b e)), e) refl
+pub name_letter : (b : ℕ) → IsTrue (is_letter b) → name_mark b ≡ name.TheVariants.Letter b
+name_letter b e = rw (low b (high b (letter_is_name_byte b e)), e) refl
 
-pub name_inner : (b : ℕ) → IsTrue (is_name_byte b) → (name_mark b ≡ name.TheVariants.Start b) ⊎ (name_mark b ≡ name.TheVariants.Inner b)
+pub name_inner : (b : ℕ) → IsTrue (is_name_byte b) → (name_mark b ≡ name.TheVariants.Letter b) ⊎ (name_mark b ≡ name.TheVariants.Inner b)
 name_inner b e = go (is_letter b) refl
   where
-    go : (x : Bool) → is_letter b ≡ x → (name_mark b ≡ name.TheVariants.Start b) ⊎ (name_mark b ≡ name.TheVariants.Inner b)
-    go true f = inl (name_start b f)
+    go : (x : Bool) → is_letter b ≡ x → (name_mark b ≡ name.TheVariants.Letter b) ⊎ (name_mark b ≡ name.TheVariants.Inner b)
+    go true f = inl (name_letter b f)
     go false f = inr (rw (low b (high b e), e, f) refl)
 
 -- a letter that is a digit of a number

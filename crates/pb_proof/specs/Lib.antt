@@ -1,6 +1,7 @@
 pub mod Canonical
 pub mod Count
 pub mod Lines
+pub mod Literals
 pub mod Marks
 pub mod Postfix
 pub mod Proofs

@@ -23,7 +23,7 @@ symbol b =
 abbrev pub name_mark : ℕ → NameMark
 name_mark b =
     cond (is_blank b) name.TheVariants.Blank
-    (cond (is_letter b) (name.TheVariants.Start b)
+    (cond (is_letter b) (name.TheVariants.Letter b)
     (cond (is_name_byte b) (name.TheVariants.Inner b) (symbol b)))
 
 -- a digit is one, and the bytes of names are ASCII
@@ -32,6 +32,6 @@ NumberMarkFits (number.TheVariants.Digit d) = d < 10
 NumberMarkFits _ = Unit {0}
 
 abbrev pub NameMarkFits : NameMark → Type 0
-NameMarkFits (name.TheVariants.Start b) = b < 128
+NameMarkFits (name.TheVariants.Letter b) = b < 128
 NameMarkFits (name.TheVariants.Inner b) = b < 128
 NameMarkFits _ = Unit {0}

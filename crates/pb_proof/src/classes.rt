@@ -81,7 +81,7 @@ pub fn name_mark(byte: u8) -> NameMark
         return NameMark::Blank;
     }
     if is_letter(byte) {
-        return NameMark::Start(byte);
+        return NameMark::Letter(byte);
     }
     if is_name_byte(byte) {
         return NameMark::Inner(byte);

@@ -17,7 +17,7 @@ pub enum NumberMark {
 pub enum NameMark {
     Blank,
     /// A byte that may begin a name.
-    Start(u8),
+    Letter(u8),
     /// Another byte that a name may hold.
     Inner(u8),
     Tilde,
