@@ -5,7 +5,16 @@ pub mod ClaimParts
 pub mod ClaimSteps
 pub mod ClaimTexts
 pub mod ClaimWalk
+pub mod CountComplete
+pub mod CountSound
+pub mod CountTheorems
+pub mod DigitWalks
 pub mod LineEnds
+pub mod LiteralNames
+pub mod LiteralsComplete
+mod LiteralsPushes
+pub mod LiteralsSound
 pub mod LiteralsTheorems
+pub mod MarkMeanings
 pub mod OneLine
 pub mod Walking

@@ -2,7 +2,7 @@
 use Rattle.std.proofs.Common.{◌≡◌, ℕ, true, false, List, [], ◌∷◌, ◌++◌, refl, ap, subst, inl, inr, sym, ◌∙◌, append_assoc}
 use Rattle.std.proofs.lemmas.List.{append-nil}
 use Rattle.std.specs.Prelude.{IsTrue}
-use Rattle.pb_text.proofs.Languages.{grown, next, none_yet, regroup, behind_it, many-grown}
+use Rattle.pb_text.proofs.Languages.{grown, next, none_yet, regroup, regroup3, behind_it, many-grown}
 use Rattle.pb_text.specs.Automaton.{Automaton, Go, End, Reads}
 use Rattle.pb_text.specs.Classes.{is_blank}
 use Rattle.pb_text.specs.Languages.{unmarked, Language, ◌⋅◌, Empty, Byte, Bytes, Each, Blanks0, Blanks1}
@@ -136,11 +136,7 @@ module _ {A : Type 0} (P : A → Language) where
   listed_append (y ∷ xs) x p h =
       let B : Language = Blanks1 ⋅ P y in
       let L : Language = Listed P xs in
-      behind_it B (L ⋅ Blanks1 ⋅ P x) (Listed P (xs ++ x ∷ [])) p (listed_append xs x)
-      (regroup B (L ⋅ Blanks1) (P x) p (inside3 B L p h))
-    where
-      inside3 : (B L : Language) (q : List Letter) → (B ⋅ L ⋅ Blanks1 ⋅ P x) q → (B ⋅ (L ⋅ Blanks1) ⋅ P x) q
-      inside3 B L q (u, v, e, k, i) = (u, v, e, regroup B L Blanks1 u k, i)
+      behind_it B (L ⋅ Blanks1 ⋅ P x) (Listed P (xs ++ x ∷ [])) p (listed_append xs x) (regroup3 B L Blanks1 (P x) p h)
 
   -- A state behind some of a list is led to one behind all of it, where each further one leads on.
   pub listed_walks : {S E : Type 0} (m : Automaton S E) (At : List A → S → Type 0)

@@ -1,6 +1,7 @@
 pub mod Canonical
 pub mod Claim
 pub mod ClaimState
+pub mod Count
 pub mod Lines
 pub mod Literals
 pub mod Marks

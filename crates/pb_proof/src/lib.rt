@@ -3,7 +3,11 @@
 
 mod claim_phase;
 mod claim_plan;
+mod classes;
 mod conclusion;
+mod count;
+mod count_phase;
+mod literals;
 mod literals_phase;
 mod mark;
 mod proof;
