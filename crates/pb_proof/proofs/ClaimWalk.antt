@@ -39,7 +39,7 @@ use Rattle.pb_proof.proofs.Walking.{Walks, Leads, walks_then}
 nat-same : (b : ℕ) → nat_eq b b ≡ true
 nat-same b = grind (arith, nat_tests)
 
-blank-digit : (b : ℕ) → is_blank b ≡ true → is_digit b ≡ false
+pub blank-digit : (b : ℕ) → is_blank b ≡ true → is_digit b ≡ false
 blank-digit b h = grind (arith, nat_tests)
 
 module _ (limit top : ℕ) where
