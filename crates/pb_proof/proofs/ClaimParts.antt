@@ -33,7 +33,7 @@ use Rattle.pb_proof.specs.declared.claim_phase.Move.{Move}
 use Rattle.pb_proof.specs.declared.claim_phase.Move.TheVariants.{To, Stop}
 use Rattle.pb_proof.proofs.ClaimBytes.{digit-byte, digit-blank}
 use Rattle.pb_proof.proofs.ClaimTexts.{Body}
-use Rattle.pb_proof.proofs.ClaimWalk.{at, Carries, Is, Follows, number_follows}
+use Rattle.pb_proof.proofs.ClaimWalk.{at, Carries, Is, Follows, number_follows, Spelled, left_walk}
 use Rattle.pb_proof.proofs.LineEnds.{TakesBlanks, blanks1_lead, blanks0_lead, MayEnd}
 use Rattle.pb_proof.proofs.Walking.{Walks, Leads, walks_then}
 
@@ -123,6 +123,9 @@ module _ (limit top : ℕ) where
         digits_walk x negative (10 * 0 + d) n ds h.1 w l,
       )
 
+  pub signed_step : (x : Side) (negative : Bool) → claim_automaton.step (here (phase.Signed x negative)) 48 ≡ Go (here (phase.Digits x negative 0))
+  signed_step x negative = ap (λ y. act (here (phase.Signed x negative)) 48 y) (digits_next x negative 0 0 (omega arith) (omega arith))
+
   signed_lead : (x : Side) (negative : Bool) (n : ℕ) → n ≤ limit → Leads claim_automaton (here (phase.Signed x negative)) (Digits n) (here (phase.Digits x negative n))
   signed_lead x negative n l =
       digits_lead x negative (here (phase.Signed x negative)) (λ d h i. ap (λ y. act (here (phase.Signed x negative)) (48 + d) y) (digits_next x negative 0 d h i)) n l
@@ -152,19 +155,20 @@ module _ (limit top : ℕ) where
   )
 
   -- `INF`
-  infinity_walk : (x : Side) (s : ClaimState) → Opens x s → is_within (behind_bound x Infinite) ≡ true → is_in_number (here (behind_bound x Infinite)) (behind_bound x Infinite) ≡ false
-      → Walks claim_automaton s (plain inf_word) (here (behind_bound x Infinite))
-  infinity_walk x s o i n = (
-    here (phase.Infinity x 1),
-    o.letter,
-    refl,
-    refl,
-    (here (phase.Infinity x 2), refl, refl, refl, (here (behind_bound x Infinite), refl, i, sym n, refl)),
-  )
+  -- what is left of it
+  infinity_spelled : (x : Side) → is_within (behind_bound x Infinite) ≡ true → is_in_number (here (behind_bound x Infinite)) (behind_bound x Infinite) ≡ false
+      → Spelled limit top inf_word (λ k. phase.Infinity x k) (behind_bound x Infinite)
+  infinity_spelled x i n = record { planned = λ k b. refl; within = λ k. refl; number = λ k. refl; within_whole = i; number_whole = n }
+
+  spelled_of : (x : Side) → Spelled limit top inf_word (λ k. phase.Infinity x k) (behind_bound x Infinite)
+  spelled_of side.Lower = infinity_spelled side.Lower refl refl
+  spelled_of (side.Upper x id) = infinity_spelled (side.Upper x id) refl refl
+
+  pub infinity_left : (x : Side) (k : ℕ) → k < length inf_word → Walks claim_automaton (here (phase.Infinity x k)) (plain (drop k inf_word)) (here (behind_bound x Infinite))
+  infinity_left x k i = left_walk limit top inf_word (λ j. phase.Infinity x j) (behind_bound x Infinite) (spelled_of x) k i
 
   pub infinity_leads : (x : Side) (s : ClaimState) → Opens x s → Walks claim_automaton s (plain inf_word) (here (behind_bound x Infinite))
-  infinity_leads side.Lower s o = infinity_walk side.Lower s o refl refl
-  infinity_leads (side.Upper x id) s o = infinity_walk (side.Upper x id) s o refl refl
+  infinity_leads x s o = (here (phase.Infinity x 1), o.letter, refl, refl, infinity_left x 1 (omega arith))
 
   pub bound_carries : (x : Side) (y : Bound) → Carries limit top (Opens x) (SpellsBound limit y) (Follows limit top (behind_bound x y))
   bound_carries x (Finite z) = number_carries x z

@@ -63,7 +63,7 @@ module _ (limit top : ℕ) where
   leads_carry p q P h s t i k = (at q, subst (λ x. Walks claim_automaton x t (at q)) (sym i) (h t k), refl)
 
   -- words
-  record Spelled (w : List ℕ) (more : ℕ → Phase) (whole : Phase) : Type 0 where
+  pub record Spelled (w : List ℕ) (more : ℕ → Phase) (whole : Phase) : Type 0 where
     pub planned : (k b : ℕ) → plan limit top (more k) b ≡ spell w k b (more (k + 1)) whole
     pub within : (k : ℕ) → is_within (more k) ≡ true
     pub number : (k : ℕ) → claim_automaton.in_number (at (more k)) ≡ false
@@ -98,7 +98,7 @@ module _ (limit top : ℕ) where
       )
 
   -- what is left of a word
-  left_walk : (w : List ℕ) (more : ℕ → Phase) (whole : Phase) → Spelled w more whole → (k : ℕ) → k < length w → Walks claim_automaton (at (more k)) (plain (drop k w)) (at whole)
+  pub left_walk : (w : List ℕ) (more : ℕ → Phase) (whole : Phase) → Spelled w more whole → (k : ℕ) → k < length w → Walks claim_automaton (at (more k)) (plain (drop k w)) (at whole)
   left_walk w more whole h k i = go (drop k w) (sym (take-append-drop k w))
     where
       size : length (take k w) ≡ k

@@ -4,6 +4,7 @@ pub mod ClaimFront
 pub mod ClaimParts
 pub mod ClaimSteps
 pub mod ClaimTexts
+pub mod ClaimTheorems
 pub mod ClaimWalk
 pub mod CountComplete
 pub mod CountSound
