@@ -272,3 +272,15 @@ pub nothing_spent : (s : ClaimState) (p : Phase) → is_within p ≡ false → s
 nothing_spent s phase.Start h = refl
 nothing_spent s phase.Done h = refl
 nothing_spent s _ h = absurd (false≢true (sym h))
+
+-- bytes are given where literals are shown
+pub give_phase : (s : ClaimState) (b : ℕ) (x : Showing) → plan s.limit s.top s.phase b ≡ Give x → s.phase ≡ phase.Shown x
+give_phase s b x e = subst (OnMove s s.phase) e (on_plan s s.phase b)
+
+-- and the machine goes on elsewhere
+pub to_idle : (s : ClaimState) (b : ℕ) (q p : Phase) → Holds s q → plan s.limit s.top q b ≡ To p → s.inner ≡ literals_first true
+to_idle s b (phase.Shown x) p h e = absurd (apart e)
+  where
+    apart : ◌≡◌ {A = Move} (Give x) (To p) → ⊥
+    apart i = cc
+to_idle s b _ p h e = h

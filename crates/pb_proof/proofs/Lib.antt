@@ -2,6 +2,7 @@ pub mod ClaimBytes
 pub mod ClaimEach
 pub mod ClaimFront
 pub mod ClaimParts
+mod ClaimPushes
 pub mod ClaimSteps
 pub mod ClaimTexts
 pub mod ClaimTheorems

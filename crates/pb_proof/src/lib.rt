@@ -1,6 +1,7 @@
 //! Proofs in VeriPB 2.0, read one byte at a time and written.
 #![tactic(auto)]
 
+mod claim;
 mod claim_phase;
 mod claim_plan;
 mod classes;
