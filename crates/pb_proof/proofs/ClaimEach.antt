@@ -26,9 +26,10 @@ use Rattle.pb_proof.specs.declared.claim_phase.Claim.{Claim}
 use Rattle.pb_proof.specs.declared.claim_phase.Claim.TheVariants as claim
 use Rattle.pb_proof.specs.declared.claim_phase.Phase.{Phase}
 use Rattle.pb_proof.specs.declared.claim_phase.Phase.TheVariants as phase
+use Rattle.pb_proof.proofs.ClaimBytes.{blank-digit}
 use Rattle.pb_proof.proofs.ClaimParts.{Opens, before_opens, spaced_opens, bound_carries, AtId, id_carries}
 use Rattle.pb_proof.proofs.ClaimTexts.{Body, line_shown}
-use Rattle.pb_proof.proofs.ClaimWalk.{blank-digit, at, Carries, carries_then, Is, leads_carry, word_leads, start_blanks, bounded_blanks, id_blanks, Follows, follows_blanks, behind_blanks_of, between_blanks, may_end, id_steps, id_follows}
+use Rattle.pb_proof.proofs.ClaimWalk.{at, Carries, carries_then, Is, leads_carry, word_leads, start_blanks, bounded_blanks, id_blanks, Follows, follows_blanks, behind_blanks_of, between_blanks, may_end, id_steps, id_follows}
 use Rattle.pb_proof.proofs.LineEnds.{TakesBlanks, blanks_stay, blanks1_lead, blanks0_lead, behind_blanks, line_reads}
 use Rattle.pb_proof.proofs.LiteralsTheorems.{literals_reads}
 use Rattle.pb_proof.proofs.Walking.{Walks, longer, reads_behind}

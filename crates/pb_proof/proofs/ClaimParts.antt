@@ -34,6 +34,7 @@ use Rattle.pb_proof.specs.declared.claim_phase.Move.TheVariants.{To, Stop}
 use Rattle.pb_proof.proofs.ClaimBytes.{digit-byte, digit-blank}
 use Rattle.pb_proof.proofs.ClaimTexts.{Body}
 use Rattle.pb_proof.proofs.ClaimWalk.{at, Carries, Is, Follows, number_follows, Spelled, left_walk}
+use Rattle.pb_proof.proofs.DigitWalks.{TakesDigits, digits_lead}
 use Rattle.pb_proof.proofs.LineEnds.{TakesBlanks, blanks1_lead, blanks0_lead, MayEnd}
 use Rattle.pb_proof.proofs.Walking.{Walks, Leads, walks_then}
 
@@ -43,20 +44,6 @@ IsBlank b = IsTrue (is_blank b)
 -- digits are no other bytes
 digit-not : (d b : ℕ) → d < 10 → is_digit b ≡ false → nat_eq (48 + d) b ≡ false
 digit-not d b h e = grind (arith, nat_tests)
-
-ten_pos : (k : ℕ) → 0 < 10 ^ k
-ten_pos zero = omega arith
-ten_pos (suc k) = rw (pow-succ' 10 k) (omega (arith, ten_pos k))
-
--- the value with one digit more
-shifted : (m n d : ℕ) (ds : List ℕ) → n ≡ m * 10 ^ length (d ∷ ds) + value (d ∷ ds) → n ≡ (10 * m + d) * 10 ^ length ds + value ds
-shifted m n d ds e = let p : 10 ^ suc (length ds) ≡ 10 * 10 ^ length ds = pow-succ' 10 (length ds) in e ∙ rw p (omega arith)
-
-least : (m d n most : ℕ) (ds : List ℕ) → n ≡ (10 * m + d) * 10 ^ length ds + value ds → n ≤ most → 10 * m + d ≤ most
-least m d n most ds e l = let i : 10 * m + d ≤ (10 * m + d) * 10 ^ length ds = le-mul_of_pos_right (10 * m + d) (ten_pos (length ds)) in omega arith
-
-from_zero : (d : ℕ) (ds : List ℕ) → value (d ∷ ds) ≡ (10 * 0 + d) * 10 ^ length ds + value ds
-from_zero d ds = omega arith
 
 module _ (limit top : ℕ) where
   abbrev here : Phase → ClaimState
@@ -74,31 +61,25 @@ module _ (limit top : ℕ) where
       ap (λ y. act (here (phase.Digits x negative m)) (48 + d) (cond y (digits limit x negative m (48 + d)) (after_bound x (Finite (signed negative m)) (48 + d)))) (digit-byte d h)
       ∙ ap (λ y. act (here (phase.Digits x negative m)) (48 + d) y) (digits_next x negative m d h l)
 
-  digits_walk : (x : Side) (negative : Bool) (m n : ℕ) (ds : List ℕ) → Each (λ e. e < 10) ds → n ≡ m * 10 ^ length ds + value ds → n ≤ limit
-      → Walks claim_automaton (here (phase.Digits x negative m)) (map digit ds) (here (phase.Digits x negative n))
-  digits_walk x negative m n [] h e l = let g : n ≡ m = omega arith in ap (λ y. here (phase.Digits x negative y)) g
-  digits_walk x negative m n (d ∷ ds) h e l =
-      let w : n ≡ (10 * m + d) * 10 ^ length ds + value ds = shifted m n d ds e in (
-        here (phase.Digits x negative (10 * m + d)),
-        digits_step x negative m d h.0 (least m d n limit ds w l),
-        refl,
-        refl,
-        digits_walk x negative (10 * m + d) n ds h.1 w l,
-      )
+  digits_first : (x : Side) (negative : Bool) (d : ℕ) → d < 10 → d ≤ limit → digits limit x negative 0 (48 + d) ≡ To (phase.Digits x negative d)
+  digits_first x negative d h l = let e : 10 * 0 + d ≡ d = omega arith in digits_next x negative 0 d h (omega arith) ∙ ap (λ y. To (phase.Digits x negative y)) e
+
+  takes_digits : (x : Side) (negative : Bool) → TakesDigits claim_automaton (λ n. here (phase.Digits x negative n)) limit
+  takes_digits x negative = record { more = digits_step x negative; begun = λ n. refl; number = λ n. refl }
 
   -- A state before a bound.
   pub record Opens (x : Side) (s : ClaimState) : Type 0 where
     pub plus : claim_automaton.step s 43 ≡ Go (here (phase.Signed x false))
     pub minus : claim_automaton.step s 45 ≡ Go (here (phase.Signed x true))
     pub letter : claim_automaton.step s 73 ≡ Go (here (phase.Infinity x 1))
-    pub first : (d : ℕ) → d < 10 → 10 * 0 + d ≤ limit → claim_automaton.step s (48 + d) ≡ Go (here (phase.Digits x false (10 * 0 + d)))
+    pub first : (d : ℕ) → d < 10 → d ≤ limit → claim_automaton.step s (48 + d) ≡ Go (here (phase.Digits x false d))
 
   pub before_opens : (x : Side) → Opens x (here (phase.BeforeBound x))
   before_opens x = record {
     plus = refl;
     minus = refl;
     letter = refl;
-    first = λ d h l. rw (digit-blank d h, digit-not d 43 h refl, digit-not d 45 h refl, digit-not d 73 h refl, digits_next x false 0 d h l) refl;
+    first = λ d h l. rw (digit-blank d h, digit-not d 43 h refl, digit-not d 45 h refl, digit-not d 73 h refl, digits_first x false d h l) refl;
   }
 
   pub spaced_opens : (x : Bound) → Opens (side.Upper x None) (here (phase.Spaced x))
@@ -107,28 +88,20 @@ module _ (limit top : ℕ) where
     minus = refl;
     letter = refl;
     first = λ d h l.
-        rw (digit-blank d h, digit-not d 58 h refl, digit-not d 43 h refl, digit-not d 45 h refl, digit-not d 73 h refl, digits_next (side.Upper x None) false 0 d h l) refl;
+        rw (digit-blank d h, digit-not d 58 h refl, digit-not d 43 h refl, digit-not d 45 h refl, digit-not d 73 h refl, digits_first (side.Upper x None) false d h l) refl;
   }
 
   -- the digits behind a first byte
-  digits_lead : (x : Side) (negative : Bool) (s : ClaimState) → ((d : ℕ) → d < 10 → 10 * 0 + d ≤ limit → claim_automaton.step s (48 + d) ≡ Go (here (phase.Digits x negative (10 * 0 + d))))
+  number_lead : (x : Side) (negative : Bool) (s : ClaimState) → ((d : ℕ) → d < 10 → d ≤ limit → claim_automaton.step s (48 + d) ≡ Go (here (phase.Digits x negative d)))
       → (n : ℕ) → n ≤ limit → Leads claim_automaton s (Digits n) (here (phase.Digits x negative n))
-  digits_lead x negative s f n l t (d, ds, h, e, g) =
-      let w : n ≡ (10 * 0 + d) * 10 ^ length ds + value ds = g ∙ from_zero d ds in
-      subst (λ y. Walks claim_automaton s y (here (phase.Digits x negative n))) (sym e) (
-        here (phase.Digits x negative (10 * 0 + d)),
-        f d h.0 (least 0 d n limit ds w l),
-        refl,
-        refl,
-        digits_walk x negative (10 * 0 + d) n ds h.1 w l,
-      )
+  number_lead x negative s f n l = digits_lead claim_automaton (λ m. here (phase.Digits x negative m)) limit (takes_digits x negative) s f n l
 
   pub signed_step : (x : Side) (negative : Bool) → claim_automaton.step (here (phase.Signed x negative)) 48 ≡ Go (here (phase.Digits x negative 0))
-  signed_step x negative = ap (λ y. act (here (phase.Signed x negative)) 48 y) (digits_next x negative 0 0 (omega arith) (omega arith))
+  signed_step x negative = ap (λ y. act (here (phase.Signed x negative)) 48 y) (digits_first x negative 0 (omega arith) (omega arith))
 
   signed_lead : (x : Side) (negative : Bool) (n : ℕ) → n ≤ limit → Leads claim_automaton (here (phase.Signed x negative)) (Digits n) (here (phase.Digits x negative n))
   signed_lead x negative n l =
-      digits_lead x negative (here (phase.Signed x negative)) (λ d h i. ap (λ y. act (here (phase.Signed x negative)) (48 + d) y) (digits_next x negative 0 d h i)) n l
+      number_lead x negative (here (phase.Signed x negative)) (λ d h i. ap (λ y. act (here (phase.Signed x negative)) (48 + d) y) (digits_first x negative d h i)) n l
 
   -- a sign
   signed_walk : (x : Side) (negative : Bool) (b : ℕ) (s new : ClaimState) (u v : List Letter) → claim_automaton.step s b ≡ Go (here (phase.Signed x negative)) → u ≡ unmarked b ∷ []
@@ -150,7 +123,7 @@ module _ (limit top : ℕ) where
   )
   number_carries x z s t o (false, n, l, e, (u, v, f, inl sign, ds)) = (
     here (phase.Digits x false n),
-    subst (λ y. Walks claim_automaton s y (here (phase.Digits x false n))) (sym (f ∙ ap (λ y. y ++ v) sign)) (digits_lead x false s o.first n l v ds),
+    subst (λ y. Walks claim_automaton s y (here (phase.Digits x false n))) (sym (f ∙ ap (λ y. y ++ v) sign)) (number_lead x false s o.first n l v ds),
     subst (λ y. Follows limit top (behind_bound x (Finite y)) (here (phase.Digits x false n))) (sym e) (number_follows limit top x false n),
   )
 
@@ -190,35 +163,21 @@ module _ (limit top : ℕ) where
       ap (λ y. act (here (phase.IdDigits x negative m)) (48 + d) (cond y (id_digits top x negative m (48 + d)) (cond (nat_eq m 0) Stop (after_id x (signed negative m) (48 + d))))) (digit-byte d h)
       ∙ ap (λ y. act (here (phase.IdDigits x negative m)) (48 + d) y) (id_next x negative m d h l)
 
-  id_walk : (x : Owner) (negative : Bool) (m n : ℕ) (ds : List ℕ) → Each (λ e. e < 10) ds → n ≡ m * 10 ^ length ds + value ds → n ≤ top
-      → Walks claim_automaton (here (phase.IdDigits x negative m)) (map digit ds) (here (phase.IdDigits x negative n))
-  id_walk x negative m n [] h e l = let g : n ≡ m = omega arith in ap (λ y. here (phase.IdDigits x negative y)) g
-  id_walk x negative m n (d ∷ ds) h e l =
-      let w : n ≡ (10 * m + d) * 10 ^ length ds + value ds = shifted m n d ds e in (
-        here (phase.IdDigits x negative (10 * m + d)),
-        id_step x negative m d h.0 (least m d n top ds w l),
-        refl,
-        refl,
-        id_walk x negative (10 * m + d) n ds h.1 w l,
-      )
+  id_first : (x : Owner) (negative : Bool) (d : ℕ) → d < 10 → d ≤ top → id_digits top x negative 0 (48 + d) ≡ To (phase.IdDigits x negative d)
+  id_first x negative d h l = let e : 10 * 0 + d ≡ d = omega arith in id_next x negative 0 d h (omega arith) ∙ ap (λ y. To (phase.IdDigits x negative y)) e
 
-  id_lead : (x : Owner) (negative : Bool) (s : ClaimState) → ((d : ℕ) → d < 10 → 10 * 0 + d ≤ top → claim_automaton.step s (48 + d) ≡ Go (here (phase.IdDigits x negative (10 * 0 + d))))
+  takes_id_digits : (x : Owner) (negative : Bool) → TakesDigits claim_automaton (λ n. here (phase.IdDigits x negative n)) top
+  takes_id_digits x negative = record { more = id_step x negative; begun = λ n. refl; number = λ n. refl }
+
+  id_lead : (x : Owner) (negative : Bool) (s : ClaimState) → ((d : ℕ) → d < 10 → d ≤ top → claim_automaton.step s (48 + d) ≡ Go (here (phase.IdDigits x negative d)))
       → (n : ℕ) → n ≤ top → Leads claim_automaton s (Digits n) (here (phase.IdDigits x negative n))
-  id_lead x negative s f n l t (d, ds, h, e, g) =
-      let w : n ≡ (10 * 0 + d) * 10 ^ length ds + value ds = g ∙ from_zero d ds in
-      subst (λ y. Walks claim_automaton s y (here (phase.IdDigits x negative n))) (sym e) (
-        here (phase.IdDigits x negative (10 * 0 + d)),
-        f d h.0 (least 0 d n top ds w l),
-        refl,
-        refl,
-        id_walk x negative (10 * 0 + d) n ds h.1 w l,
-      )
+  id_lead x negative s f n l = digits_lead claim_automaton (λ m. here (phase.IdDigits x negative m)) top (takes_id_digits x negative) s f n l
 
-  pub first_id_step : (x : Owner) (d : ℕ) → d < 10 → 10 * 0 + d ≤ top → claim_automaton.step (here (phase.BeforeId x)) (48 + d) ≡ Go (here (phase.IdDigits x false (10 * 0 + d)))
-  first_id_step x d h l = rw (digit-blank d h, digit-not d 45 h refl, id_next x false 0 d h l) refl
+  pub first_id_step : (x : Owner) (d : ℕ) → d < 10 → d ≤ top → claim_automaton.step (here (phase.BeforeId x)) (48 + d) ≡ Go (here (phase.IdDigits x false d))
+  first_id_step x d h l = rw (digit-blank d h, digit-not d 45 h refl, id_first x false d h l) refl
 
-  pub signed_id_step : (x : Owner) (d : ℕ) → d < 10 → 10 * 0 + d ≤ top → claim_automaton.step (here (phase.IdSigned x)) (48 + d) ≡ Go (here (phase.IdDigits x true (10 * 0 + d)))
-  signed_id_step x d h l = ap (λ y. act (here (phase.IdSigned x)) (48 + d) y) (id_next x true 0 d h l)
+  pub signed_id_step : (x : Owner) (d : ℕ) → d < 10 → d ≤ top → claim_automaton.step (here (phase.IdSigned x)) (48 + d) ≡ Go (here (phase.IdDigits x true d))
+  signed_id_step x d h l = ap (λ y. act (here (phase.IdSigned x)) (48 + d) y) (id_first x true d h l)
 
   -- behind an id
   abbrev pub AtId : Owner → ℤ → ClaimState → Type 0

@@ -31,16 +31,13 @@ use Rattle.pb_proof.specs.declared.claim_phase.Phase.{Phase}
 use Rattle.pb_proof.specs.declared.claim_phase.Phase.TheVariants as phase
 use Rattle.pb_proof.specs.declared.claim_phase.Move.{Move}
 use Rattle.pb_proof.specs.declared.claim_phase.Move.TheVariants.{To, Stop}
-use Rattle.pb_proof.proofs.ClaimBytes.{digit-byte, digit-blank}
+use Rattle.pb_proof.proofs.ClaimBytes.{blank-digit}
 use Rattle.pb_proof.proofs.ClaimTexts.{Body}
 use Rattle.pb_proof.proofs.LineEnds.{TakesBlanks, blanks1_lead, blanks0_lead, MayEnd}
 use Rattle.pb_proof.proofs.Walking.{Walks, Leads, walks_then}
 
 nat-same : (b : ℕ) → nat_eq b b ≡ true
 nat-same b = grind (arith, nat_tests)
-
-pub blank-digit : (b : ℕ) → is_blank b ≡ true → is_digit b ≡ false
-blank-digit b h = grind (arith, nat_tests)
 
 module _ (limit top : ℕ) where
   abbrev pub at : Phase → ClaimState
