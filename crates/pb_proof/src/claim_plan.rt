@@ -1,19 +1,12 @@
 //! What a machine of claims does with a byte, by what it has read last.
 
 ghost use Rattle.std.specs.Prelude.{◌≡◌, ℕ, ◌<◌, ◌≤◌, ◌^◌, length, Bool};
-ghost use Rattle.pb_text.specs.Classes.{is_blank};
 ghost use Rattle.pb_text.specs.Numbers.{signed};
 ghost use Rattle.pb_proof.specs.Claim.{word_of, behind_word, spell, first_word, digits, begin_bound, behind_bound, colon, behind, between, after_bound, id_digits, after_id, plan, is_within, is_done, is_in_digits, PhaseFits, MoveFits};
 
 use crate::claim_phase::{Claim, Move, Owner, Phase, Showing, Side, Word};
+use crate::classes::is_blank;
 use crate::conclusion::Bound;
-
-/// Space, tab or carriage return.
-fn is_blank(byte: u8) -> bool
-    ensures { result ≡ is_blank byte }
-{
-    byte == b' ' || byte == b'\t' || byte == b'\r'
-}
 
 /// The bytes of a first word.
 fn word_of(word: Word) -> &'static [u8]
@@ -239,7 +232,13 @@ pub(crate) fn plan(limit: u128, top: u64, phase: Phase, byte: u8) -> Move
         }
         Phase::Infinity(side, read) => {
             let more = Phase::Infinity(side, read + 1);
-            spell(b"INF", read, byte, more, behind_bound(side, Bound::Infinite))
+            spell(
+                b"INF",
+                read,
+                byte,
+                more,
+                behind_bound(side, Bound::Infinite),
+            )
         }
         Phase::Between(bound) => between(bound, byte),
         Phase::Spaced(_) if is_blank(byte) => Move::To(phase),

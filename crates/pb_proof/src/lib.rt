@@ -4,6 +4,8 @@
 mod claim;
 mod claim_phase;
 mod claim_plan;
+#[cfg(test)]
+mod claim_tests;
 mod classes;
 mod conclusion;
 mod count;
