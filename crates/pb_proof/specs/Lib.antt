@@ -1,5 +1,6 @@
 pub mod Canonical
 pub mod Count
+pub mod Ids
 pub mod Lines
 pub mod Literals
 pub mod Marks

@@ -5,6 +5,8 @@ mod classes;
 mod conclusion;
 mod count;
 mod count_phase;
+mod ids;
+mod ids_phase;
 mod literals;
 mod literals_phase;
 mod mark;
