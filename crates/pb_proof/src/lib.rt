@@ -7,6 +7,8 @@ mod count;
 mod count_phase;
 mod ids;
 mod ids_phase;
+#[cfg(test)]
+mod line_tests;
 mod literals;
 mod literals_phase;
 mod mark;
