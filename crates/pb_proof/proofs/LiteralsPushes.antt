@@ -1,7 +1,7 @@
 -- A push of a machine of literals does what was planned.
 use Rattle.std.proofs.Common.{◌≡◌, ℕ, ◌+◌, ◌-◌, ◌^◌, ◌<◌, min, take, get_or, Bool, true, false, ◌||◌, List, [], length, sym, ap, arith, ◌∙◌}
 use Rattle.std.proofs.lemmas.List.{take_more}
-use Rattle.std.specs.Prelude.{IsTrue, Result, OnOk, OnErr, is_ok, is_err, Ok, Err, if◌then◌else◌}
+use Rattle.std.specs.Prelude.{IsTrue}
 use Rattle.pb_text.specs.Automaton.{Next, Go, End, Refuse, Admits, IsState}
 use Rattle.pb_sums.specs.declared.Literal.{Literal}
 use Rattle.pb_proof.specs.Literals.{LiteralsState, literals_automaton, literals_at, flushed, act, plan, adds, is_more, is_midway, units, IsLiteralsInOrder}
@@ -51,18 +51,6 @@ module _ (joined : Bool) (ls : List Literal) (name : List ℕ) (p : LiteralsPhas
       → literals_automaton.step (literals_at joined ls name p) b ≡ Go (literals_at joined ms new q)
   goes_to ms new q z f g i =
       moved (move.To q) f g ∙ (ap (λ x. act joined x ls name (move.To q)) (sym i) ∙ ap (λ x. Go (literals_at joined ms x q)) (sym z))
-
-pub when_ok : {T E : Type 0} (r : Result T E) (P : Type 0) → OnOk r P → is_err r ≡ false → P
-when_ok (Ok x) P h e = h
-when_ok (Err x) P h e = cc
-
-pub when_err : {T E : Type 0} (r : Result T E) (P : Type 0) → OnErr r P → is_err r ≡ true → P
-when_err (Ok x) P h e = cc
-when_err (Err x) P h e = h
-
-pub unchanged : {T E : Type 0} (r : Result T E) (new more old : List ℕ) → new ≡ (if is_ok r then more else old) → is_err r ≡ true → new ≡ old
-unchanged (Ok x) new more old h e = cc
-unchanged (Err x) new more old h e = h
 
 pub same_state : (joined : Bool) (ls ms : List Literal) (m n : List ℕ) (p q : LiteralsPhase) → ls ≡ ms → m ≡ n → p ≡ q → literals_at joined ls m p ≡ literals_at joined ms n q
 same_state joined ls ms m n p q e f g = cc

@@ -1,5 +1,5 @@
 -- The machine of what stands behind `f`: a count or none, through the line feed.
-use Rattle.std.specs.Prelude.{ℕ, ◌+◌, ◌*◌, ◌^◌, ◌≤◌, ◌<◌, Bool, true, false, cond, nat_le, Option, Some, None}
+use Rattle.std.specs.Prelude.{◌≡◌, ℕ, ◌+◌, ◌*◌, ◌^◌, ◌≤◌, ◌<◌, Bool, true, false, cond, nat_le, Option, Some, None}
 use Rattle.pb_text.specs.Automaton.{Automaton, Next, Go, End, Refuse}
 use Rattle.pb_proof.specs.Marks.{number_mark}
 use Rattle.pb_proof.specs.declared.mark.NumberMark.{NumberMark}
@@ -82,7 +82,7 @@ PhaseFits top (Digits n) = n ≤ top
 PhaseFits top _ = Unit {0}
 
 abbrev pub MoveFits : ℕ → CountMove → Type 0
-MoveFits top (move.TheVariants.To p) = PhaseFits top p
+MoveFits top (move.TheVariants.To p) = PhaseFits top p × (is_midway p ≡ true)
 MoveFits top _ = Unit {0}
 
 -- what a machine keeps of its state

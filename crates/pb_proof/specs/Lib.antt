@@ -2,6 +2,7 @@ pub mod Canonical
 pub mod Claim
 pub mod ClaimState
 pub mod Count
+pub mod Ids
 pub mod Lines
 pub mod Literals
 pub mod Marks

@@ -10,6 +10,10 @@ mod classes;
 mod conclusion;
 mod count;
 mod count_phase;
+mod ids;
+mod ids_phase;
+#[cfg(test)]
+mod line_tests;
 mod literals;
 mod literals_phase;
 mod mark;

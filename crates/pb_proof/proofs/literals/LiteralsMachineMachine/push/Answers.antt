@@ -1,7 +1,8 @@
 use Rattle.std.proofs.Common.{refl, sym}
 use Rattle.pb_proof.specs.declared.literals_phase.LiteralsMove.TheVariants as move
 use Rattle.pb_proof.proofs.LiteralsTheorems.{literals_is_state}
-use Rattle.pb_proof.proofs.LiteralsPushes.{wants, goes_to, when_ok, when_err, unchanged, same_state, midway_state}
+use Rattle.pb_proof.proofs.LiteralsPushes.{wants, goes_to, same_state, midway_state}
+use Rattle.pb_proof.proofs.Results.{when_ok, when_err, unchanged}
 use Rattle.pb_proof.proofs.literals.LiteralsMachineMachine.push.Goals as goal
 
 pub returns-then-is_err-clause-pushes : goal.returns-then-is_err-clause-pushes
