@@ -1,17 +1,17 @@
 -- A machine of claims reads each claim.
-use Rattle.std.proofs.Common.{◌≡◌, ℕ, ◌<◌, Bool, true, false, List, [], ◌∷◌, ◌++◌, refl, sym, ap, subst, ◌⊎◌, inl, inr, ◌∙◌}
+use Rattle.std.proofs.Common.{◌≡◌, ℕ, ◌<◌, Bool, true, List, [], ◌∷◌, ◌++◌, refl, sym, ap, subst, ◌∙◌}
 use Rattle.std.proofs.lemmas.List.{append-nil}
 use Rattle.std.specs.Prelude.{IsTrue, ℤ, Option, Some, None}
-use Rattle.pb_text.specs.Automaton.{Next, Go, End, Reads}
+use Rattle.pb_text.specs.Automaton.{Go, Reads}
 use Rattle.pb_text.specs.Classes.{is_blank}
 use Rattle.pb_text.specs.Languages.{unmarked, Language, ◌⋅◌, Empty, Byte, Bytes, Blanks0, Blanks1}
 use Rattle.pb_text.specs.Numbers.{signed}
 use Rattle.pb_text.specs.Spelling.{Letter}
 use Rattle.pb_text.proofs.Languages.{inside, regroup, behind_it}
 use Rattle.pb_sums.specs.declared.Literal.{Literal}
-use Rattle.pb_proof.specs.Lines.{none_word, unsat_word, sat_word, bounds_word, LineEnd, SpellsId, SpellsBound, SpellsShown, Shown, IdShown, SpellsConclusion, SpellsClaim}
+use Rattle.pb_proof.specs.Lines.{none_word, unsat_word, bounds_word, LineEnd, SpellsId, SpellsBound, SpellsShown, Shown, IdShown, SpellsClaim}
 use Rattle.pb_proof.specs.Claim.{word_of, behind_word}
-use Rattle.pb_proof.specs.ClaimState.{ClaimState, claim_automaton, claim_at, claim_first, claim_last, claim_value, showing_value, giving, act, over}
+use Rattle.pb_proof.specs.ClaimState.{ClaimState, claim_automaton, claim_first, claim_last, claim_value, showing_value, giving, over}
 use Rattle.pb_proof.specs.Literals.{LiteralsState, literals_automaton, literals_first, literals_last, SpellsJoined}
 use Rattle.pb_proof.specs.declared.conclusion.Bound.{Bound}
 use Rattle.pb_proof.specs.declared.conclusion.Conclusion.{Conclusion}
@@ -30,7 +30,7 @@ use Rattle.pb_proof.proofs.ClaimBytes.{blank-digit}
 use Rattle.pb_proof.proofs.ClaimParts.{Opens, before_opens, spaced_opens, bound_carries, AtId, id_carries}
 use Rattle.pb_proof.proofs.ClaimTexts.{Body, line_shown}
 use Rattle.pb_proof.proofs.ClaimWalk.{at, Carries, carries_then, Is, leads_carry, word_leads, start_blanks, bounded_blanks, id_blanks, Follows, follows_blanks, behind_blanks_of, between_blanks, may_end, id_steps, id_follows}
-use Rattle.pb_proof.proofs.LineEnds.{TakesBlanks, blanks_stay, blanks1_lead, blanks0_lead, behind_blanks, line_reads}
+use Rattle.pb_proof.proofs.LineEnds.{TakesBlanks, blanks1_lead, blanks0_lead, behind_blanks, line_reads}
 use Rattle.pb_proof.proofs.LiteralsTheorems.{literals_reads}
 use Rattle.pb_proof.proofs.Walking.{Walks, longer, reads_behind}
 

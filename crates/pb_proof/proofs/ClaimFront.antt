@@ -1,8 +1,8 @@
 -- What a machine of claims reads is a claim.
 use Rattle.std.proofs.Common.{◌≡◌, ℕ, ◌+◌, ◌-◌, ◌*◌, ◌<◌, ◌≤◌, Bool, true, false, ◌&&◌, List, [], ◌∷◌, ◌++◌, length, take, refl, sym, ap, subst, arith, inl, inr, ◌∙◌}
-use Rattle.std.proofs.lemmas.Bool.{eqb-true, leb-true}
+use Rattle.std.proofs.lemmas.Bool.{eqb-true}
 use Rattle.std.proofs.lemmas.Bool.Decides.{nat_tests}
-use Rattle.std.specs.Prelude.{IsTrue, ℤ, Option, Some, None, nat_eq, nat_le, slice_index}
+use Rattle.std.specs.Prelude.{IsTrue, ℤ, Some, None, nat_eq, nat_le, slice_index}
 use Rattle.pb_text.specs.Automaton.{Next, Go, End, Refuse, Reads}
 use Rattle.pb_text.specs.Classes.{is_blank, is_digit}
 use Rattle.pb_text.specs.Languages.{unmarked, digit, Language, ◌⋅◌, Empty, Byte, Bytes, Blanks0, Blanks1}
@@ -31,10 +31,10 @@ use Rattle.pb_proof.specs.declared.claim_phase.Claim.TheVariants as claim
 use Rattle.pb_proof.specs.declared.claim_phase.Phase.{Phase}
 use Rattle.pb_proof.specs.declared.claim_phase.Phase.TheVariants as phase
 use Rattle.pb_proof.specs.declared.claim_phase.Move.{Move}
-use Rattle.pb_proof.specs.declared.claim_phase.Move.TheVariants.{To, Finish, Give, Stop}
+use Rattle.pb_proof.specs.declared.claim_phase.Move.TheVariants.{To}
 use Rattle.pb_proof.proofs.ClaimBytes.{chosen, both, as_unmarked, as_digit}
 use Rattle.pb_proof.proofs.ClaimSteps.{goes}
-use Rattle.pb_proof.proofs.ClaimTexts.{word_grown, word_whole, ClaimBody, Claimed, LowerRead, Lead, IdLead, Colon, BeforeIdRead, id_shown, bounds_body, claim_line, showing_line}
+use Rattle.pb_proof.proofs.ClaimTexts.{word_grown, word_whole, Claimed, LowerRead, Lead, IdLead, Colon, BeforeIdRead, id_shown, bounds_body, claim_line, showing_line}
 use Rattle.pb_proof.proofs.LineEnds.{Gapped, Closing, blank_more, blank_closing, semicolon_behind_blanks, line_behind_blanks, line_closing}
 use Rattle.pb_proof.proofs.LiteralsTheorems.{literals_reads, literals_of_one}
 use Rattle.pb_proof.proofs.Walking.{Walks, walks_more, ends_walk, On, told}

@@ -1,5 +1,5 @@
 -- A push of a machine of claims does what was planned.
-use Rattle.std.proofs.Common.{◌≡◌, ℕ, ◌-◌, ◌^◌, ◌<◌, ◌≤◌, Bool, true, false, ◌&&◌, List, IsTrue, refl, sym, ap, subst, arith, ◌∙◌}
+use Rattle.std.proofs.Common.{◌≡◌, ℕ, ◌-◌, ◌^◌, ◌<◌, ◌≤◌, false, ◌&&◌, List, IsTrue, refl, sym, ap, subst, arith, ◌∙◌}
 use Rattle.std.proofs.Math.Pow.{pow_mono}
 use Rattle.pb_text.specs.Automaton.{Next, Go, End, Refuse, Admits, is_large}
 use Rattle.pb_text.specs.Classes.{is_digit}
@@ -7,15 +7,14 @@ use Rattle.pb_text.specs.Limits.{largest, top_of}
 use Rattle.pb_text.specs.declared.limits.Limits.{Limits}
 use Rattle.pb_text.proofs.Residual.{refuses}
 use Rattle.pb_sums.specs.declared.Literal.{Literal}
-use Rattle.pb_proof.specs.Claim.{plan, PhaseFits}
-use Rattle.pb_proof.specs.ClaimState.{ClaimState, claim_automaton, claim_at, claim_first, giving, act, over, asks, is_in_number, IsClaimInOrder}
-use Rattle.pb_proof.specs.Literals.{LiteralsState, literals_automaton, literals_first}
+use Rattle.pb_proof.specs.Claim.{plan}
+use Rattle.pb_proof.specs.ClaimState.{ClaimState, claim_automaton, claim_first, giving, act, over, asks, is_in_number, IsClaimInOrder}
+use Rattle.pb_proof.specs.Literals.{LiteralsState, literals_automaton}
 use Rattle.pb_proof.specs.declared.conclusion.Conclusion.{Conclusion}
 use Rattle.pb_proof.specs.declared.claim_phase.Showing.{Showing}
-use Rattle.pb_proof.specs.declared.claim_phase.Phase.{Phase}
 use Rattle.pb_proof.specs.declared.claim_phase.Phase.TheVariants as phase
 use Rattle.pb_proof.specs.declared.claim_phase.Move.{Move}
-use Rattle.pb_proof.specs.declared.claim_phase.Move.TheVariants.{To, Give}
+use Rattle.pb_proof.specs.declared.claim_phase.Move.TheVariants.{Give}
 use Rattle.pb_proof.proofs.ClaimSteps.{goes, give_phase, idle_order}
 use Rattle.pb_proof.proofs.ClaimTheorems.{claim_of_one}
 use Rattle.pb_proof.proofs.OneLine.{admits}

@@ -1,14 +1,14 @@
 -- The texts of claims, part by part.
-use Rattle.std.proofs.Common.{◌≡◌, ℕ, ◌+◌, ◌<◌, Bool, true, false, List, [], ◌∷◌, ◌++◌, length, take, refl, sym, ap, subst, arith, ◌∙◌, add-one}
+use Rattle.std.proofs.Common.{◌≡◌, ℕ, ◌+◌, ◌<◌, true, false, List, [], ◌∷◌, ◌++◌, length, take, refl, sym, ap, subst, arith, ◌∙◌, add-one}
 use Rattle.std.proofs.Math.Seq.{take-suc}
-use Rattle.std.proofs.lemmas.List.{take_all, append-nil}
+use Rattle.std.proofs.lemmas.List.{take_all}
 use Rattle.std.specs.Prelude.{ℤ, Option, Some, None, slice_index}
 use Rattle.pb_text.specs.Languages.{unmarked, Language, ◌⋅◌, Empty, Byte, Bytes, Blanks0, Blanks1}
 use Rattle.pb_text.specs.Spelling.{Letter, plain}
 use Rattle.pb_text.proofs.Languages.{map-append, none_yet, regroup, regroup⁻¹, inside, behind_it}
 use Rattle.pb_sums.specs.Sums.{SpellsLiteral}
 use Rattle.pb_sums.specs.declared.Literal.{Literal}
-use Rattle.pb_proof.specs.Lines.{none_word, unsat_word, sat_word, bounds_word, LineEnd, Listed, SpellsId, SpellsBound, SpellsShown, Shown, IdShown, SpellsConclusion, SpellsClaim}
+use Rattle.pb_proof.specs.Lines.{none_word, unsat_word, sat_word, bounds_word, LineEnd, Listed, SpellsId, SpellsBound, SpellsShown, IdShown, SpellsConclusion, SpellsClaim}
 use Rattle.pb_proof.specs.ClaimState.{showing_value, claim_value}
 use Rattle.pb_proof.specs.Literals.{SpellsJoined}
 use Rattle.pb_proof.specs.declared.conclusion.Bound.{Bound}

@@ -1,39 +1,33 @@
 -- A machine of claims on the way through the parts of a claim.
-use Rattle.std.proofs.Common.{◌≡◌, ℕ, zero, suc, ◌+◌, ◌-◌, ◌*◌, ◌^◌, ◌<◌, ◌≤◌, Bool, true, false, cond, ◌&&◌, List, [], ◌∷◌, ◌++◌, length, map, drop, take, refl, sym, ap, subst, arith, ◌⊎◌, inl, inr, ◌∙◌, append_assoc, length-append, take-append-drop}
-use Rattle.std.proofs.Math.Nat.{pow-succ', le-mul_of_pos_right}
+use Rattle.std.proofs.Common.{◌≡◌, ℕ, ◌+◌, ◌<◌, Bool, true, false, cond, List, [], ◌∷◌, ◌++◌, length, drop, take, refl, sym, ap, subst, arith, ◌∙◌, append_assoc, length-append, take-append-drop}
 use Rattle.std.proofs.Math.Seq.{get_or-append_seam}
 use Rattle.std.proofs.lemmas.List.{length-take-le, append-nil}
-use Rattle.std.proofs.lemmas.Bool.{le-leb}
 use Rattle.std.proofs.lemmas.Bool.Decides.{nat_tests}
-use Rattle.std.specs.Prelude.{IsTrue, ℤ, Option, Some, None, nat_eq, slice_index}
-use Rattle.pb_text.specs.Automaton.{Next, Go, End, Refuse, Reads}
+use Rattle.std.specs.Prelude.{IsTrue, Some, None, nat_eq, slice_index}
+use Rattle.pb_text.specs.Automaton.{Go}
 use Rattle.pb_text.specs.Classes.{is_blank, is_digit}
-use Rattle.pb_text.specs.Languages.{unmarked, digit, Language, ◌⋅◌, Empty, Byte, Bytes, Each, Blanks0, Blanks1}
-use Rattle.pb_text.specs.Numbers.{value, Digits, Number, signed}
+use Rattle.pb_text.specs.Languages.{Language, ◌⋅◌, Bytes}
+use Rattle.pb_text.specs.Numbers.{signed}
 use Rattle.pb_text.specs.Spelling.{Letter, plain}
-use Rattle.pb_proof.specs.Lines.{none_word, unsat_word, sat_word, bounds_word, inf_word, SpellsId, SpellsBound, IdShown}
-use Rattle.pb_proof.specs.Claim.{word_of, behind_word, behind_bound, spell, digits, colon, behind, between, after_bound, id_digits, after_id, plan, is_within}
-use Rattle.pb_proof.specs.ClaimState.{ClaimState, claim_automaton, claim_at, claim_last, claim_value, act, is_in_number}
+use Rattle.pb_proof.specs.Claim.{word_of, behind_word, behind_bound, spell, digits, colon, behind, between, after_bound, after_id, plan, is_within}
+use Rattle.pb_proof.specs.ClaimState.{ClaimState, claim_automaton, claim_at, claim_last, claim_value, act}
 use Rattle.pb_proof.specs.declared.conclusion.Bound.{Bound}
-use Rattle.pb_proof.specs.declared.conclusion.Bound.TheVariants.{Finite, Infinite}
-use Rattle.pb_proof.specs.declared.conclusion.Conclusion.{Conclusion}
+use Rattle.pb_proof.specs.declared.conclusion.Bound.TheVariants.{Finite}
 use Rattle.pb_proof.specs.declared.claim_phase.Word.{Word}
 use Rattle.pb_proof.specs.declared.claim_phase.Word.TheVariants as word
 use Rattle.pb_proof.specs.declared.claim_phase.Owner.{Owner}
 use Rattle.pb_proof.specs.declared.claim_phase.Owner.TheVariants as owner
 use Rattle.pb_proof.specs.declared.claim_phase.Side.{Side}
 use Rattle.pb_proof.specs.declared.claim_phase.Side.TheVariants as side
-use Rattle.pb_proof.specs.declared.claim_phase.Showing.{Showing}
 use Rattle.pb_proof.specs.declared.claim_phase.Showing.TheVariants as showing
 use Rattle.pb_proof.specs.declared.claim_phase.Claim.{Claim}
 use Rattle.pb_proof.specs.declared.claim_phase.Claim.TheVariants as claim
 use Rattle.pb_proof.specs.declared.claim_phase.Phase.{Phase}
 use Rattle.pb_proof.specs.declared.claim_phase.Phase.TheVariants as phase
 use Rattle.pb_proof.specs.declared.claim_phase.Move.{Move}
-use Rattle.pb_proof.specs.declared.claim_phase.Move.TheVariants.{To, Stop}
+use Rattle.pb_proof.specs.declared.claim_phase.Move.TheVariants.{To}
 use Rattle.pb_proof.proofs.ClaimBytes.{blank-digit}
-use Rattle.pb_proof.proofs.ClaimTexts.{Body}
-use Rattle.pb_proof.proofs.LineEnds.{TakesBlanks, blanks1_lead, blanks0_lead, MayEnd}
+use Rattle.pb_proof.proofs.LineEnds.{TakesBlanks, MayEnd}
 use Rattle.pb_proof.proofs.Walking.{Walks, Leads, walks_then}
 
 nat-same : (b : ℕ) → nat_eq b b ≡ true

@@ -1,4 +1,3 @@
-use Rattle.pb_text.specs.Limits.{largest, top_of}
 use Rattle.pb_proof.proofs.ClaimPushes.{first_order}
 use Rattle.pb_proof.proofs.claim.ClaimMachine.new.Goals as goal
 
