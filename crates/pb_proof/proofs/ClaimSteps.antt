@@ -10,7 +10,7 @@ use Rattle.pb_sums.specs.declared.Literal.{Literal}
 use Rattle.pb_proof.specs.Lines.{inf_word}
 use Rattle.pb_proof.specs.Claim.{word_of, behind_word, behind_bound, spell, first_word, digits, begin_bound, colon, behind, between, after_bound, id_digits, after_id, plan, is_within, is_done, PhaseFits}
 use Rattle.pb_proof.specs.ClaimState.{ClaimState, claim_automaton, claim_at, claim_last, giving, act, over, is_in_number, spent, Holds, IsClaimInOrder}
-use Rattle.pb_proof.specs.Literals.{LiteralsState, literals_automaton, literals_first}
+use Rattle.pb_proof.specs.Literals.{LiteralsState, literals_automaton}
 use Rattle.pb_proof.specs.declared.conclusion.Bound.{Bound}
 use Rattle.pb_proof.specs.declared.conclusion.Bound.TheVariants.{Finite, Infinite}
 use Rattle.pb_proof.specs.declared.conclusion.Conclusion.{Conclusion}
@@ -275,11 +275,3 @@ nothing_spent s _ h = absurd (false≢true (sym h))
 -- bytes are given where literals are shown
 pub give_phase : (s : ClaimState) (b : ℕ) (x : Showing) → plan s.limit s.top s.phase b ≡ Give x → s.phase ≡ phase.Shown x
 give_phase s b x e = subst (OnMove s s.phase) e (on_plan s s.phase b)
-
--- and the machine goes on elsewhere
-pub to_idle : (s : ClaimState) (b : ℕ) (q p : Phase) → Holds s q → plan s.limit s.top q b ≡ To p → s.inner ≡ literals_first true
-to_idle s b (phase.Shown x) p h e = absurd (apart e)
-  where
-    apart : ◌≡◌ {A = Move} (Give x) (To p) → ⊥
-    apart i = cc
-to_idle s b _ p h e = h

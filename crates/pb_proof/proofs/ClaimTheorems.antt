@@ -37,73 +37,73 @@ use Rattle.pb_proof.proofs.Walking.{Walks, reads_behind}
 abbrev last : ClaimState → ClaimState
 last s = claim_last s.limit s.top
 
-abbrev Some_text : ClaimState → Type 0
-Some_text s = ReadsSome claim_automaton IsClaimInOrder last s
+abbrev SomeText : ClaimState → Type 0
+SomeText s = ReadsSome claim_automaton IsClaimInOrder last s
 
 module _ (limit top : ℕ) where
   abbrev here : Phase → ClaimState
   here p = at limit top p
 
   -- letters in front
-  in_front : (t : List Letter) (s new : ClaimState) → Walks claim_automaton s t new → Some_text new → Some_text s
+  in_front : (t : List Letter) (s new : ClaimState) → Walks claim_automaton s t new → SomeText new → SomeText s
   in_front t s new w (u, e, after, r) = (t ++ u, e, after, reads_behind claim_automaton t u s new after e w r)
 
-  one_front : (b : ℕ) (p q : Phase) → claim_automaton.step (here p) b ≡ Go (here q) → is_within q ≡ true → Some_text (here q) → Some_text (here p)
+  one_front : (b : ℕ) (p q : Phase) → claim_automaton.step (here p) b ≡ Go (here q) → is_within q ≡ true → SomeText (here q) → SomeText (here p)
   one_front b p q g i h = in_front (record { byte = b; numeral = claim_automaton.in_number (here q) } ∷ []) (here p) (here q) (here q, g, i, refl, refl) h
 
-  behind_text : (c : Claim) → Some_text (here (phase.Behind c))
+  behind_text : (c : Claim) → SomeText (here (phase.Behind c))
   behind_text c = (unmarked 10 ∷ [], claim_value c, claim_last limit top, (refl, refl))
 
-  upper_text : (x : Bound) (id : Option ℤ) → Some_text (here (phase.BeforeBound (side.Upper x id)))
+  upper_text : (x : Bound) (id : Option ℤ) → SomeText (here (phase.BeforeBound (side.Upper x id)))
   upper_text x id =
       in_front (plain inf_word) (here (phase.BeforeBound (side.Upper x id))) (here (behind_bound (side.Upper x id) Infinite))
       (infinity_leads limit top (side.Upper x id) (here (phase.BeforeBound (side.Upper x id))) (before_opens limit top (side.Upper x id)))
       (behind_text (claim.Shows (showing.Bounds x id Infinite)))
 
-  spaced_text : (x : Bound) → Some_text (here (phase.Spaced x))
+  spaced_text : (x : Bound) → SomeText (here (phase.Spaced x))
   spaced_text x =
       in_front (plain inf_word) (here (phase.Spaced x)) (here (behind_bound (side.Upper x None) Infinite))
       (infinity_leads limit top (side.Upper x None) (here (phase.Spaced x)) (spaced_opens limit top x)) (behind_text (claim.Shows (showing.Bounds x None Infinite)))
 
-  between_text : (x : Bound) → Some_text (here (phase.Between x))
+  between_text : (x : Bound) → SomeText (here (phase.Between x))
   between_text x = one_front 32 (phase.Between x) (phase.Spaced x) refl refl (spaced_text x)
 
-  bound_text : (x : Side) (y : Bound) → Some_text (here (behind_bound x y))
+  bound_text : (x : Side) (y : Bound) → SomeText (here (behind_bound x y))
   bound_text side.Lower y = between_text y
   bound_text (side.Upper x id) y = behind_text (claim.Shows (showing.Bounds x id y))
 
-  before_text : (x : Side) → Some_text (here (phase.BeforeBound x))
+  before_text : (x : Side) → SomeText (here (phase.BeforeBound x))
   before_text x =
       in_front (plain inf_word) (here (phase.BeforeBound x)) (here (behind_bound x Infinite)) (infinity_leads limit top x (here (phase.BeforeBound x)) (before_opens limit top x)) (bound_text x Infinite)
 
-  word_text : (w : Word) → Some_text (here (behind_word w))
+  word_text : (w : Word) → SomeText (here (behind_word w))
   word_text word.NoClaim = behind_text claim.NoClaim
   word_text word.Unsat = behind_text (claim.Unsat None)
   word_text word.Sat = behind_text (claim.Shows showing.Sat)
   word_text word.Bounds = one_front 32 phase.Bounded (phase.BeforeBound side.Lower) refl refl (before_text side.Lower)
 
-  digits_text : (x : Side) (negative : Bool) (n : ℕ) → Some_text (here (phase.Digits x negative n))
+  digits_text : (x : Side) (negative : Bool) (n : ℕ) → SomeText (here (phase.Digits x negative n))
   digits_text side.Lower negative n = one_front 32 (phase.Digits side.Lower negative n) _ refl refl (spaced_text _)
   digits_text (side.Upper x id) negative n = (unmarked 10 ∷ [], _, claim_last limit top, (refl, refl))
 
   -- an id that is not 0
-  id_text : (x : Owner) (negative : Bool) (n : ℕ) → 0 < n → Some_text (here (phase.IdDigits x negative n))
+  id_text : (x : Owner) (negative : Bool) (n : ℕ) → 0 < n → SomeText (here (phase.IdDigits x negative n))
   id_text owner.Unsat negative n z = (unmarked 10 ∷ [], claim_value (claim.Unsat (Some (signed negative n))), claim_last limit top, (id_steps limit top owner.Unsat negative n 10 z refl, refl))
   id_text (owner.Lower x) negative n z =
       one_front 32 (phase.IdDigits (owner.Lower x) negative n) (phase.BeforeBound (side.Upper x (Some (signed negative n)))) (id_steps limit top (owner.Lower x) negative n 32 z refl) refl
       (upper_text x (Some (signed negative n)))
 
   -- a further digit
-  more_id : (x : Owner) (negative : Bool) (n : ℕ) → 0 < top → Some_text (here (phase.IdDigits x negative n))
+  more_id : (x : Owner) (negative : Bool) (n : ℕ) → 0 < top → SomeText (here (phase.IdDigits x negative n))
   more_id x negative zero h = one_front 49 (phase.IdDigits x negative 0) (phase.IdDigits x negative 1) (id_step limit top x negative 0 1 (omega arith) (omega arith)) refl (id_text x negative 1 (omega arith))
   more_id x negative (suc n) h = id_text x negative (suc n) (omega arith)
 
-  shown_text : (x : Showing) (inner : LiteralsState) → IsLiteralsInOrder inner → literals_automaton.done inner ≡ false → Some_text (shown_at limit top x inner)
+  shown_text : (x : Showing) (inner : LiteralsState) → IsLiteralsInOrder inner → literals_automaton.done inner ≡ false → SomeText (shown_at limit top x inner)
   shown_text x inner h d =
       let (text, ls, after, r) = literals_of_one.goes_on inner h d in
       (text, showing_value x (Some ls), claim_last limit top, shown_reads limit top x text inner ls after r)
 
-  some_text : (p : Phase) → 0 < top → PhaseFits limit top p → is_done p ≡ false → Some_text (here p)
+  some_text : (p : Phase) → 0 < top → PhaseFits limit top p → is_done p ≡ false → SomeText (here p)
   some_text phase.Start z f d =
       one_front 32 phase.Start phase.Before refl refl (in_front (plain none_word) (here phase.Before) (here (phase.Behind claim.NoClaim)) (word_leads limit top word.NoClaim (plain none_word) refl) (behind_text claim.NoClaim))
   some_text phase.Before z f d = in_front (plain none_word) (here phase.Before) (here (phase.Behind claim.NoClaim)) (word_leads limit top word.NoClaim (plain none_word) refl) (behind_text claim.NoClaim)
@@ -124,20 +124,20 @@ module _ (limit top : ℕ) where
   some_text phase.Done z f d = absurd (false≢true (sym d))
 
 -- literals are shown, or none is read
-pub shown_or_idle : (s : ClaimState) (p : Phase) → Holds s p → ((x : Showing) × (p ≡ phase.Shown x)) ⊎ (s.inner ≡ literals_first true)
+shown_or_idle : (s : ClaimState) (p : Phase) → Holds s p → ((x : Showing) × (p ≡ phase.Shown x)) ⊎ (s.inner ≡ literals_first true)
 shown_or_idle s (phase.Shown x) h = inl (x, refl)
 shown_or_idle s _ h = inr h
 
 same_shown : (s : ClaimState) (x : Showing) → s.phase ≡ phase.Shown x → shown_at s.limit s.top x s.inner ≡ s
 same_shown s x e = rw e refl
 
-pub same_idle : (s : ClaimState) → s.inner ≡ literals_first true → claim_at s.limit s.top s.phase ≡ s
+same_idle : (s : ClaimState) → s.inner ≡ literals_first true → claim_at s.limit s.top s.phase ≡ s
 same_idle s e = rw e refl
 
-goes_on : (s : ClaimState) → IsClaimInOrder s → claim_automaton.done s ≡ false → Some_text s
+goes_on : (s : ClaimState) → IsClaimInOrder s → claim_automaton.done s ≡ false → SomeText s
 goes_on s h d = elim (shown_or_idle s s.phase h.holds) [
-  | inl k ↦ subst Some_text (same_shown s k.0 k.1) (shown_text s.limit s.top k.0 s.inner h.inner (subst (Holds s) k.1 h.holds))
-  | inr k ↦ subst Some_text (same_idle s k) (some_text s.limit s.top s.phase h.some h.fits d)
+  | inl k ↦ subst SomeText (same_shown s k.0 k.1) (shown_text s.limit s.top k.0 s.inner h.inner (subst (Holds s) k.1 h.holds))
+  | inr k ↦ subst SomeText (same_idle s k) (some_text s.limit s.top s.phase h.some h.fits d)
 ]
 
 bounded : (s : ClaimState) (p : Phase) → kept s p ≤ spent s p

@@ -1,34 +1,34 @@
 mod Carried
 mod Choices
-mod ClaimBytes
-mod ClaimEach
-mod ClaimFront
-mod ClaimParts
+pub mod ClaimBytes
+pub mod ClaimEach
+pub mod ClaimFront
+pub mod ClaimParts
 mod ClaimPushes
-mod ClaimSteps
-mod ClaimTexts
-mod ClaimTheorems
-mod ClaimWalk
-mod CountComplete
-mod CountSound
-mod CountTheorems
-mod DigitWalks
+pub mod ClaimSteps
+pub mod ClaimTexts
+pub mod ClaimTheorems
+pub mod ClaimWalk
+pub mod CountComplete
+pub mod CountSound
+pub mod CountTheorems
+pub mod DigitWalks
 mod GoalReads
 mod GoalStates
-mod IdsComplete
+pub mod IdsComplete
 mod IdsPushes
-mod IdsSound
-mod IdsTheorems
+pub mod IdsSound
+pub mod IdsTheorems
 mod InnerLaws
-mod LineEnds
-mod LiteralNames
-mod LiteralsComplete
+pub mod LineEnds
+pub mod LiteralNames
+pub mod LiteralsComplete
 mod LiteralsPushes
-mod LiteralsSound
-mod LiteralsTheorems
+pub mod LiteralsSound
+pub mod LiteralsTheorems
 mod Living
-mod MarkMeanings
-mod OneLine
+pub mod MarkMeanings
+pub mod OneLine
 mod PolAlive
 mod PolComplete
 mod PolCovers
@@ -53,4 +53,4 @@ mod ProofSound
 mod ProofStates
 mod Results
 mod Spaced
-mod Walking
+pub mod Walking

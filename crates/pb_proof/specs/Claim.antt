@@ -95,6 +95,7 @@ abbrev pub after_id : Owner → ℤ → ℕ → Move
 after_id owner.TheVariants.Unsat id b = behind (claim.TheVariants.Unsat (Some id)) b
 after_id (owner.TheVariants.Lower x) id b = cond (is_blank b) (To (phase.BeforeBound (side.TheVariants.Upper x (Some id)))) Stop
 
+-- the plan for what was read last and a byte
 abbrev pub plan : ℕ → ℕ → Phase → ℕ → Move
 plan limit top phase.Start b = cond (is_blank b) (To phase.Before) Stop
 plan limit top phase.Before b = cond (is_blank b) (To phase.Before) (first_word b)

@@ -43,20 +43,24 @@ claim_value claim.TheVariants.NoClaim = NoClaim
 claim_value (claim.TheVariants.Unsat id) = Unsat id
 claim_value (claim.TheVariants.Shows shows) = showing_value shows None
 
+-- with what the machine of literals has read
 abbrev pub giving : ClaimState → LiteralsState → ClaimState
 giving s inner = record s { inner = inner }
 
+-- What a step of the machine of literals leads to: where it ends, its literals are shown.
 abbrev pub over : ClaimState → Showing → Next LiteralsState (List Literal) → Next ClaimState Conclusion
 over s shows (Go inner) = Go (giving s inner)
 over s shows (End literals inner) = End (showing_value shows (Some literals)) (claim_last s.limit s.top)
 over s shows Refuse = Refuse
 
+-- what it does
 abbrev pub act : ClaimState → ℕ → Move → Next ClaimState Conclusion
 act s b (To p) = Go (claim_at s.limit s.top p)
 act s b (Finish claim) = End (claim_value claim) (claim_last s.limit s.top)
 act s b (Give shows) = over s shows (literals_automaton.step s.inner b)
 act s b Stop = Refuse
 
+-- the byte before is a digit of a number
 abbrev pub is_in_number : ClaimState → Phase → Bool
 is_in_number s (phase.Shown shows) = literals_automaton.in_number s.inner
 is_in_number s p = is_in_digits p
@@ -75,6 +79,7 @@ abbrev pub spent : ClaimState → Phase → ℕ
 spent s (phase.Shown shows) = literals_automaton.spent s.inner
 spent s _ = 0
 
+-- the automaton
 abbrev pub claim_automaton : Automaton ClaimState Conclusion
 claim_automaton = record {
   step = λ s b. act s b (plan s.limit s.top s.phase b);

@@ -1,19 +1,12 @@
 //! What a machine of claims does with a byte, by what it has read last.
 
 ghost use Rattle.std.specs.Prelude.{◌≡◌, ℕ, ◌<◌, ◌≤◌, ◌^◌, length, Bool};
-ghost use Rattle.pb_text.specs.Classes.{is_blank};
 ghost use Rattle.pb_text.specs.Numbers.{signed};
 ghost use Rattle.pb_proof.specs.Claim.{word_of, behind_word, spell, first_word, digits, begin_bound, behind_bound, colon, behind, between, after_bound, id_digits, after_id, plan, is_within, is_done, is_in_digits, PhaseFits, MoveFits};
 
 use crate::claim_phase::{Claim, Move, Owner, Phase, Showing, Side, Word};
+use crate::classes::is_blank;
 use crate::conclusion::Bound;
-
-/// Space, tab or carriage return.
-fn is_blank(byte: u8) -> bool
-    ensures { result ≡ is_blank byte }
-{
-    byte == b' ' || byte == b'\t' || byte == b'\r'
-}
 
 /// The bytes of a first word.
 fn word_of(word: Word) -> &'static [u8]
@@ -205,6 +198,106 @@ fn after_id(owner: Owner, id: i64, byte: u8) -> Move
     }
 }
 
+/// A further byte of a first word.
+fn in_word(word: Word, read: usize, byte: u8) -> Move
+    requires { read < length (word_of word) }
+    ensures plan { result ≡ plan 0 0 (Phase.Word word read) byte }
+    ensures fits { (limit top : ℕ) → MoveFits limit top result }
+{
+    let more = Phase::Word(word, read + 1);
+    spell(word_of(word), read, byte, more, behind_word(word))
+}
+
+/// What may stand behind `;`.
+fn semicolon(claim: Claim, byte: u8) -> Move
+    ensures plan { result ≡ plan 0 0 (Phase.Semicolon claim) byte }
+    ensures fits { (limit top : ℕ) → MoveFits limit top result }
+{
+    if is_blank(byte) {
+        return Move::To(Phase::Semicolon(claim));
+    }
+    match byte {
+        b'\n' => Move::Finish(claim),
+        _ => Move::Stop,
+    }
+}
+
+/// What may stand behind digits of a bound.
+fn number(limit: u128, side: Side, negative: bool, magnitude: u128, byte: u8) -> Move
+    requires room { limit < 2 ^ 127 }
+    requires fits { magnitude ≤ limit }
+    ensures plan { result ≡ plan limit 0 (Phase.Digits side negative magnitude) byte }
+    ensures fits { (top : ℕ) → MoveFits limit top result }
+{
+    if byte.is_ascii_digit() {
+        return digits(limit, side, negative, magnitude, byte);
+    }
+    let bound = Bound::Finite(signed(negative, magnitude));
+    after_bound(side, bound, byte)
+}
+
+/// A further byte of `INF`.
+fn infinity(side: Side, read: usize, byte: u8) -> Move
+    requires { read < 3 }
+    ensures plan { result ≡ plan 0 0 (Phase.Infinity side read) byte }
+    ensures fits { (limit top : ℕ) → MoveFits limit top result }
+{
+    let more = Phase::Infinity(side, read + 1);
+    spell(
+        b"INF",
+        read,
+        byte,
+        more,
+        behind_bound(side, Bound::Infinite),
+    )
+}
+
+/// What may stand behind the lower bound and blanks.
+fn spaced(limit: u128, bound: Bound, byte: u8) -> Move
+    requires room { limit < 2 ^ 127 }
+    ensures plan { result ≡ plan limit 0 (Phase.Spaced bound) byte }
+    ensures fits { (top : ℕ) → MoveFits limit top result }
+{
+    if is_blank(byte) {
+        return Move::To(Phase::Spaced(bound));
+    }
+    match byte {
+        b':' => Move::To(Phase::BeforeId(Owner::Lower(bound))),
+        _ => begin_bound(limit, Side::Upper(bound, None), byte),
+    }
+}
+
+/// What may stand behind `:` before an id.
+fn before_id(top: u64, owner: Owner, byte: u8) -> Move
+    requires top { top < 2 ^ 63 }
+    ensures plan { result ≡ plan 0 top (Phase.BeforeId owner) byte }
+    ensures fits { (limit : ℕ) → MoveFits limit top result }
+{
+    if is_blank(byte) {
+        return Move::To(Phase::BeforeId(owner));
+    }
+    match byte {
+        b'-' => Move::To(Phase::IdSigned(owner)),
+        _ => id_digits(top, owner, false, 0, byte),
+    }
+}
+
+/// What may stand behind digits of an id.
+fn id_number(top: u64, owner: Owner, negative: bool, magnitude: u64, byte: u8) -> Move
+    requires top { top < 2 ^ 63 }
+    requires fits { magnitude ≤ top }
+    ensures plan { result ≡ plan 0 top (Phase.IdDigits owner negative magnitude) byte }
+    ensures fits { (limit : ℕ) → MoveFits limit top result }
+{
+    if byte.is_ascii_digit() {
+        return id_digits(top, owner, negative, magnitude, byte);
+    }
+    if magnitude == 0 {
+        return Move::Stop;
+    }
+    after_id(owner, signed_id(negative, magnitude), byte)
+}
+
 /// What a machine does with a byte.
 pub(crate) fn plan(limit: u128, top: u64, phase: Phase, byte: u8) -> Move
     requires room { limit < 2 ^ 127 }
@@ -214,52 +307,24 @@ pub(crate) fn plan(limit: u128, top: u64, phase: Phase, byte: u8) -> Move
     ensures fits { MoveFits limit top result }
 {
     match phase {
-        Phase::Start if is_blank(byte) => Move::To(Phase::Before),
+        Phase::Start | Phase::Before if is_blank(byte) => Move::To(Phase::Before),
         Phase::Start => Move::Stop,
-        Phase::Before if is_blank(byte) => Move::To(phase),
         Phase::Before => first_word(byte),
-        Phase::Word(word, read) => {
-            let more = Phase::Word(word, read + 1);
-            spell(word_of(word), read, byte, more, behind_word(word))
-        }
+        Phase::Word(word, read) => in_word(word, read, byte),
         Phase::Behind(claim) => behind(claim, byte),
-        Phase::Semicolon(_) if is_blank(byte) => Move::To(phase),
-        Phase::Semicolon(claim) if byte == b'\n' => Move::Finish(claim),
-        Phase::Semicolon(_) => Move::Stop,
+        Phase::Semicolon(claim) => semicolon(claim, byte),
         Phase::Bounded if is_blank(byte) => Move::To(Phase::BeforeBound(Side::Lower)),
         Phase::Bounded => Move::Stop,
         Phase::BeforeBound(_) if is_blank(byte) => Move::To(phase),
         Phase::BeforeBound(side) => begin_bound(limit, side, byte),
         Phase::Signed(side, negative) => digits(limit, side, negative, 0, byte),
-        Phase::Digits(side, negative, n) if byte.is_ascii_digit() => {
-            digits(limit, side, negative, n, byte)
-        }
-        Phase::Digits(side, negative, n) => {
-            after_bound(side, Bound::Finite(signed(negative, n)), byte)
-        }
-        Phase::Infinity(side, read) => {
-            let more = Phase::Infinity(side, read + 1);
-            spell(
-                b"INF",
-                read,
-                byte,
-                more,
-                behind_bound(side, Bound::Infinite),
-            )
-        }
+        Phase::Digits(side, negative, n) => number(limit, side, negative, n, byte),
+        Phase::Infinity(side, read) => infinity(side, read, byte),
         Phase::Between(bound) => between(bound, byte),
-        Phase::Spaced(_) if is_blank(byte) => Move::To(phase),
-        Phase::Spaced(bound) if byte == b':' => Move::To(Phase::BeforeId(Owner::Lower(bound))),
-        Phase::Spaced(bound) => begin_bound(limit, Side::Upper(bound, None), byte),
-        Phase::BeforeId(_) if is_blank(byte) => Move::To(phase),
-        Phase::BeforeId(owner) if byte == b'-' => Move::To(Phase::IdSigned(owner)),
-        Phase::BeforeId(owner) => id_digits(top, owner, false, 0, byte),
+        Phase::Spaced(bound) => spaced(limit, bound, byte),
+        Phase::BeforeId(owner) => before_id(top, owner, byte),
         Phase::IdSigned(owner) => id_digits(top, owner, true, 0, byte),
-        Phase::IdDigits(owner, negative, n) if byte.is_ascii_digit() => {
-            id_digits(top, owner, negative, n, byte)
-        }
-        Phase::IdDigits(_, _, 0) => Move::Stop,
-        Phase::IdDigits(owner, negative, n) => after_id(owner, signed_id(negative, n), byte),
+        Phase::IdDigits(owner, negative, n) => id_number(top, owner, negative, n, byte),
         Phase::Shown(showing) => Move::Give(showing),
         Phase::Done => Move::Stop,
     }

@@ -7,7 +7,7 @@ ghost use Rattle.pb_proof.specs.Marks.{symbol, number_mark, name_mark, NumberMar
 use crate::mark::{NameMark, NumberMark};
 
 /// Space, tab or carriage return.
-fn is_blank(byte: u8) -> bool
+pub fn is_blank(byte: u8) -> bool
     ensures { result ≡ is_blank byte }
 {
     byte == b' ' || byte == b'\t' || byte == b'\r'

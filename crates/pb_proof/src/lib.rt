@@ -4,6 +4,8 @@
 mod claim;
 mod claim_phase;
 mod claim_plan;
+#[cfg(test)]
+mod claim_tests;
 mod classes;
 mod conclusion;
 mod count;
@@ -15,6 +17,8 @@ mod ids_phase;
 mod inner;
 mod inners;
 mod laws;
+#[cfg(test)]
+mod line_tests;
 mod literals;
 mod literals_phase;
 mod machine;
