@@ -1,0 +1,4 @@
+pub mod LineEnds
+pub mod OneLine
+mod PolTable
+pub mod Walking

@@ -2,6 +2,7 @@
 #![tactic(auto)]
 
 mod conclusion;
+mod pol_phase;
 mod proof;
 mod statement;
 mod word;
