@@ -1,4 +1,7 @@
 pub mod LineEnds
 pub mod OneLine
+mod PolFronts
+mod PolKinds
 mod PolTable
+mod PolTrees
 pub mod Walking

@@ -93,9 +93,9 @@ changed change.Weaken ws name = with_last (turned change.Weaken) ws
 -- a number that may become a factor counts as an expression
 abbrev pub counted : Change → ℕ → ℕ
 counted change.Keep depth = depth
-counted (change.Id z) depth = depth + 1
-counted (change.Axiom negated) depth = depth + 1
-counted (change.Large k) depth = depth + 1
+counted (change.Id z) depth = suc depth
+counted (change.Axiom negated) depth = suc depth
+counted (change.Large k) depth = suc depth
 counted change.Saturate depth = depth
 counted _ depth = depth - 1
 
