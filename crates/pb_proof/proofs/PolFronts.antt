@@ -93,7 +93,7 @@ module _ (limit top : ℕ) where
   id-word : (n : ℕ) (p : List Letter) → 0 < n → n ≤ top → Digits n p → SpellsWord limit top (Id (pos n)) p
   id-word n p h i k = (false, n, h, i, refl, ([], p, refl, refl, k))
 
-  at : (ws vs : List PolWord) (d e : ℕ) (p : List Letter) → ws ≡ vs → d ≡ e → Settled vs e p → Settled ws d p
+  pub at : (ws vs : List PolWord) (d e : ℕ) (p : List Letter) → ws ≡ vs → d ≡ e → Settled vs e p → Settled ws d p
   at ws vs d e p f g h = subst (λ x. Settled x d p) (sym f) (subst (λ x. Settled vs x p) (sym g) h)
 
   -- what is held is a word of its own

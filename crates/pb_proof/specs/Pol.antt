@@ -116,7 +116,8 @@ Closing = Option (Change × Held)
 
 -- what a word does that ends, and how it may still change
 abbrev pub held_number : ℕ → ℕ → ℕ → Held
-held_number limit depth n = cond (nat_eq depth 0) held.Nothing (cond (nat_le n limit) held.Number held.Nothing)
+held_number limit zero n = held.Nothing
+held_number limit (suc depth) n = cond (nat_le n limit) held.Number held.Nothing
 
 abbrev pub close_number : ℕ → ℕ → ℕ → ℕ → Closing
 close_number limit top depth n = cond (nat_le n top) (Some (change.Id (pos n), held_number limit depth n)) (Some (change.Large (pos n), held.Large))
@@ -129,7 +130,8 @@ close_lone role.DivideLarge = Some (change.Divide, held.Nothing)
 close_lone role.Weaken = Some (change.Weaken, held.Nothing)
 
 abbrev pub held_name : Bool → ℕ → Held
-held_name negated depth = cond (negated || nat_eq depth 0) held.Nothing held.Name
+held_name false (suc depth) = held.Name
+held_name _ _ = held.Nothing
 
 abbrev pub close : ℕ → ℕ → ℕ → Phase → Closing
 close limit top depth phase.Start = Some (change.Keep, held.Nothing)
