@@ -261,3 +261,120 @@ module _ (limit top : ℕ) (ws : List PolWord) (d : ℕ) (name : List ℕ) (l : 
   lates kind.Blank e (i, t) = λ g f. (i, blank_closing (Settled limit top ws d) l p e f t)
   lates kind.Feed e (i, t) = λ f. line ws d i (line_closing (Settled limit top ws d) l p e f t)
   lates _ e h = tt
+
+  -- names
+  first_of : (k : Kind) → Says k l.byte → is_letter_kind k ≡ true → l.numeral ≡ false → FirstOf false (l.byte ∷ []) (l ∷ [])
+  first_of k e i f = (letter_kind k l.byte e i, one l l.byte refl f)
+
+  tildes : (k : Kind) → Says k l.byte → Was phase.Tilde p → OnMove (cond (is_letter_kind k) (move.Begin phase.First) move.Stop)
+  tildes k e t = test (is_letter_kind k) (move.Begin phase.First) (λ i g f.
+      grown (Settled limit top ws d ⋅ Blanks1) (Byte 126) (FirstOf true (l.byte ∷ [])) p l
+      (λ q r. (letter_kind k l.byte e i, ap (λ x. x ++ l ∷ []) r ∙ ap (λ y. unmarked 126 ∷ y ∷ []) (as_unmarked l l.byte refl f))) t)
+
+  seconds : (P : Language) (negated : Bool) → IsTrue (is_name_byte l.byte) → l.numeral ≡ false → (P ⋅ FirstOf negated name) p
+      → (P ⋅ LiteralOf negated (name ++ l.byte ∷ [])) (p ++ l ∷ [])
+  seconds P negated i f t =
+      grown P (FirstOf negated name) (LiteralOf negated (name ++ l.byte ∷ [])) p l
+      (λ q r. (first_append name l.byte r.0 i, name_bytes negated name l q f r.1)) t
+
+  names : (negated : Bool) (k : Kind) → Says k l.byte → Was (phase.Name negated) p → OnMove (cond (is_name_kind k) (move.Add (phase.Name negated)) move.Stop)
+  names negated k e t = test (is_name_kind k) (move.Add (phase.Name negated)) (λ i g f.
+      grown (Settled limit top ws d ⋅ Blanks1) (LiteralOf negated name) (LiteralOf negated (name ++ l.byte ∷ [])) p l
+      (λ q r. (name_append name l.byte r.0 (name_kind k l.byte e i), name_bytes negated name l q f r.1)) t)
+
+  as_before : (r : Role) → may_be_name r ≡ true → (q : List Letter) → Before limit top r ws d q → Settled limit top ws d q
+  as_before role.Name e q h = h
+  as_before role.Saturate e q h = h.1
+  as_before role.Divide e q h = released limit top held.Number ws d q tt h
+  as_before role.DivideLarge e q h = absurd (never e)
+    where
+      never : false ≡ true → ⊥
+      never e = cc
+  as_before role.Weaken e q h = released limit top held.Name ws d q tt h
+
+  lones : (r : Role) (k : Kind) → Says k l.byte → Was (phase.Lone r) p → OnMove (cond (may_be_name r && is_name_kind k) (move.Add (phase.Name false)) move.Stop)
+  lones r k e (j, t) = test (may_be_name r && is_name_kind k) (move.Add (phase.Name false)) (λ i g f.
+      let (m, n) = both (may_be_name r) (is_name_kind k) i in
+      seconds (Settled limit top ws d ⋅ Blanks1) false (name_kind k l.byte e n) f
+      (inside (Before limit top r ws d ⋅ Blanks1) (Settled limit top ws d ⋅ Blanks1) (FirstOf false name) p
+      (λ q. inside (Before limit top r ws d) (Settled limit top ws d) Blanks1 q (as_before r m)) t))
+
+  -- the first byte of a word
+  multiplies : (n : ℕ) (q : List Letter) → 0 < n → n ≤ limit → (Digits n ⋅ Blanks1 ⋅ Byte 42) q → SpellsWord limit top (word.Multiply (pos n)) q
+  multiplies n q i j (a, b, g, (u, v, k, o, r), m) = (a, b, g, (u, v, k, (n, i, j, refl, o), r), m)
+
+  nexts_large : (k : Kind) → Says k l.byte → (Holds limit top held.Large ws d ⋅ Blanks1) p → OnMove (next_large k)
+  nexts_large kind.Star e t = λ g f.
+      takes_number limit top (λ n. word.Multiply (pos n)) (λ n. word.Multiply (pos n)) (λ n. Unit {0}) (turned change.Multiply) 42 (λ n. refl)
+      multiplies (λ n e rest r. r) ws d (p ++ l ∷ []) (next_part (Holds limit top held.Large ws d ⋅ Blanks1) (Byte 42) p l t (one l 42 e f))
+  nexts_large kind.D e t = λ g f.
+      (ap (λ x. x ∷ []) e, next_part (Holds limit top held.Large ws d ⋅ Blanks1) (FirstOf false (l.byte ∷ [])) p l t (first_of kind.D e refl f))
+  nexts_large _ e t = tt
+
+  stars : (h : Held) → l.byte ≡ 42 → (Holds limit top h ws d ⋅ Blanks1) p → OnMove (star h)
+  stars held.Number e t = λ g f.
+      takes_number limit top (λ n. word.Id (pos n)) (λ n. word.Multiply (pos n)) (λ n. n ≤ top) (turned change.Multiply) 42 (λ n. refl)
+      multiplies (λ n e rest r. r) ws d (p ++ l ∷ []) (next_part (Holds limit top held.Number ws d ⋅ Blanks1) (Byte 42) p l t (one l 42 e f))
+  stars _ e t = tt
+
+  freed : (h : Held) → NotLarge limit top h → (Holds limit top h ws d ⋅ Blanks1) p → (Settled limit top ws d ⋅ Blanks1) p
+  freed h i t = inside (Holds limit top h ws d) (Settled limit top ws d) Blanks1 p (λ q. released limit top h ws d q i) t
+
+  roles : (h : Held) → NotLarge limit top h → (k : Kind) → Says k l.byte → (Holds limit top h ws d ⋅ Blanks1) p
+      → IsRole limit top (role_of d h k) (l.byte ∷ []) × (Before limit top (role_of d h k) ws d ⋅ Blanks1) p
+  roles held.Number i kind.D e t = (ap (λ x. x ∷ []) e, t)
+  roles held.Name i kind.W e t = (ap (λ x. x ∷ []) e, t)
+  roles h i kind.S e t = go (nat_le 1 d) refl
+    where
+      go : (x : Bool) → nat_le 1 d ≡ x → IsRole limit top (cond x role.Saturate role.Name) (l.byte ∷ []) × (Before limit top (cond x role.Saturate role.Name) ws d ⋅ Blanks1) p
+      go true f = (ap (λ x. x ∷ []) e, let (a, b, g, u, v) = freed h i t in (a, b, g, (leb-true 1 d f, u), v))
+      go false f = (tt, freed h i t)
+  roles h i k e t = (tt, freed h i t)
+
+  letters : (h : Held) → NotLarge limit top h → (k : Kind) → Says k l.byte → (Holds limit top h ws d ⋅ Blanks1) p
+      → OnMove (cond (is_letter_kind k) (move.Begin (phase.Lone (role_of d h k))) move.Stop)
+  letters h i k e t = test (is_letter_kind k) (move.Begin (phase.Lone (role_of d h k))) (λ j g f.
+      let (r, u) = roles h i k e t in
+      (r, next_part (Before limit top (role_of d h k) ws d ⋅ Blanks1) (FirstOf false (l.byte ∷ [])) p l u (first_of k e j f)))
+
+  nexts_word : (h : Held) → NotLarge limit top h → (k : Kind) → Says k l.byte → (Holds limit top h ws d ⋅ Blanks1) p → OnMove (next_word limit top d h k)
+  nexts_word h i (kind.Digit k) e t = number_one k e.0 e.1 (freed h i t)
+  nexts_word h i kind.Minus e t = λ g f. next_part (Settled limit top ws d ⋅ Blanks1) (Byte 45) p l (freed h i t) (one l 45 e f)
+  nexts_word h i kind.Tilde e t = λ g f. next_part (Settled limit top ws d ⋅ Blanks1) (Byte 126) p l (freed h i t) (one l 126 e f)
+  nexts_word h i kind.Plus e t = test (nat_le 2 d) (move.Turn change.Sum phase.After) (λ j g f.
+      settle limit top ws d (d - 1) word.Add (p ++ l ∷ []) (λ rest r. sum_counts d rest (leb-true 2 d j) r)
+      (next_part (Settled limit top ws d ⋅ Blanks1) (Byte 43) p l (freed h i t) (one l 43 e f)))
+  nexts_word h i kind.Star e t = stars h e t
+  nexts_word h i k e t = letters h i k e t
+
+  nexts : (h : Held) (k : Kind) → Says k l.byte → (Holds limit top h ws d ⋅ Blanks1) p → OnMove (next limit top d h k)
+  nexts held.Large k e t = nexts_large k e t
+  nexts held.Nothing k e t = nexts_word held.Nothing tt k e t
+  nexts held.Number k e t = nexts_word held.Number tt k e t
+  nexts held.Name k e t = nexts_word held.Name tt k e t
+
+  reads : (ph : Phase) (k : Kind) → Says k l.byte → Was ph p → OnMove (read limit top d ph k)
+  reads (phase.Gap h) k e t = nexts h k e t
+  reads phase.Minus (kind.Digit k) e t = signed_one k e.0 e.1 t
+  reads (phase.Signed n) (kind.Digit k) e t = signed_more n k e.0 e.1 t.1
+  reads (phase.Number n) (kind.Digit k) e t = number_more n k e.0 e.1 t.1
+  reads phase.Tilde k e t = tildes k e t
+  reads phase.First k e t = test (is_name_kind k) (move.Add (phase.Name true)) (λ i g f.
+      seconds (Settled limit top ws d ⋅ Blanks1) true (name_kind k l.byte e i) f t)
+  reads (phase.Lone r) k e t = lones r k e t
+  reads (phase.Name negated) k e t = names negated k e t
+  reads _ _ e t = tt
+
+  sound : (ph : Phase) (k : Kind) → Says k l.byte → Was ph p → OnMove (plan limit top d ph k)
+  sound phase.Ending k e t = lates k e t
+  sound ph kind.Blank e t = blanks (close limit top d ph) e (closes limit top ws d name ph p t)
+  sound ph kind.Semicolon e t = semicolons (close limit top d ph) e (closes limit top ws d name ph p t)
+  sound ph kind.Feed e t = feeds (close limit top d ph) e (closes limit top ws d name ph p t)
+  sound ph k e t = reads ph k e t
+
+keeps : Keeps pol_automaton Front Whole
+keeps s l p h = sound s.limit s.top s.work.words s.work.depth s.work.name l p s.work.phase (kind_of l.byte) (kind_says l.byte) h
+
+-- What is read is a line of words.
+pub reads_only : (limit top : ℕ) (text : List Letter) (e : List PolWord) (after : PolState) → Reads pol_automaton (pol_first limit top) text e after → Whole e after text
+reads_only limit top text e after r = told pol_automaton Front Whole keeps text (pol_first limit top) [] e after r (refl, refl, refl)
