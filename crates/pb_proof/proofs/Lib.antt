@@ -1,8 +1,10 @@
 pub mod LineEnds
 pub mod OneLine
+mod PolCovers
 mod PolFronts
 mod PolKinds
 mod PolSound
 mod PolTable
 mod PolTrees
+mod PolWalks
 pub mod Walking

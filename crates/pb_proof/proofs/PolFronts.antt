@@ -49,6 +49,11 @@ with_last_append f [] w = refl
 with_last_append f (x ∷ []) w = refl
 with_last_append f (x ∷ y ∷ ws) w = ap (λ t. x ∷ t) (with_last_append f (y ∷ ws) w)
 
+-- what is held may be a word of its own
+abbrev pub NotLarge : Held → Type 0
+NotLarge held.Large = ⊥
+NotLarge _ = Unit {0}
+
 -- behind these words so many expressions are there
 abbrev pub Leads : List PolWord → ℕ → Type 0
 Leads ws d = (rest : List PolWord) → Counts d rest → Counts 0 (ws ++ rest)
@@ -85,10 +90,6 @@ module _ (limit top : ℕ) where
   Holds held.Number = Numbered (λ n. Id (pos n)) (λ n. n ≤ top)
   Holds held.Large = Numbered (λ n. Multiply (pos n)) (λ n. Unit {0})
   Holds held.Name = Named
-
-  abbrev pub NotLarge : Held → Type 0
-  NotLarge held.Large = ⊥
-  NotLarge _ = Unit {0}
 
   id-word : (n : ℕ) (p : List Letter) → 0 < n → n ≤ top → Digits n p → SpellsWord limit top (Id (pos n)) p
   id-word n p h i k = (false, n, h, i, refl, ([], p, refl, refl, k))

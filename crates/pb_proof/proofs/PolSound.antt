@@ -317,10 +317,10 @@ module _ (limit top : ℕ) (ws : List PolWord) (d : ℕ) (name : List ℕ) (l : 
       multiplies (λ n e rest r. r) ws d (p ++ l ∷ []) (next_part (Holds limit top held.Number ws d ⋅ Blanks1) (Byte 42) p l t (one l 42 e f))
   stars _ e t = tt
 
-  freed : (h : Held) → NotLarge limit top h → (Holds limit top h ws d ⋅ Blanks1) p → (Settled limit top ws d ⋅ Blanks1) p
+  freed : (h : Held) → NotLarge h → (Holds limit top h ws d ⋅ Blanks1) p → (Settled limit top ws d ⋅ Blanks1) p
   freed h i t = inside (Holds limit top h ws d) (Settled limit top ws d) Blanks1 p (λ q. released limit top h ws d q i) t
 
-  roles : (h : Held) → NotLarge limit top h → (k : Kind) → Says k l.byte → (Holds limit top h ws d ⋅ Blanks1) p
+  roles : (h : Held) → NotLarge h → (k : Kind) → Says k l.byte → (Holds limit top h ws d ⋅ Blanks1) p
       → IsRole limit top (role_of d h k) (l.byte ∷ []) × (Before limit top (role_of d h k) ws d ⋅ Blanks1) p
   roles held.Number i kind.D e t = (ap (λ x. x ∷ []) e, t)
   roles held.Name i kind.W e t = (ap (λ x. x ∷ []) e, t)
@@ -331,13 +331,13 @@ module _ (limit top : ℕ) (ws : List PolWord) (d : ℕ) (name : List ℕ) (l : 
       go false f = (tt, freed h i t)
   roles h i k e t = (tt, freed h i t)
 
-  letters : (h : Held) → NotLarge limit top h → (k : Kind) → Says k l.byte → (Holds limit top h ws d ⋅ Blanks1) p
+  letters : (h : Held) → NotLarge h → (k : Kind) → Says k l.byte → (Holds limit top h ws d ⋅ Blanks1) p
       → OnMove (cond (is_letter_kind k) (move.Begin (phase.Lone (role_of d h k))) move.Stop)
   letters h i k e t = test (is_letter_kind k) (move.Begin (phase.Lone (role_of d h k))) (λ j g f.
       let (r, u) = roles h i k e t in
       (r, next_part (Before limit top (role_of d h k) ws d ⋅ Blanks1) (FirstOf false (l.byte ∷ [])) p l u (first_of k e j f)))
 
-  nexts_word : (h : Held) → NotLarge limit top h → (k : Kind) → Says k l.byte → (Holds limit top h ws d ⋅ Blanks1) p → OnMove (next_word limit top d h k)
+  nexts_word : (h : Held) → NotLarge h → (k : Kind) → Says k l.byte → (Holds limit top h ws d ⋅ Blanks1) p → OnMove (next_word limit top d h k)
   nexts_word h i (kind.Digit k) e t = number_one k e.0 e.1 (freed h i t)
   nexts_word h i kind.Minus e t = λ g f. next_part (Settled limit top ws d ⋅ Blanks1) (Byte 45) p l (freed h i t) (one l 45 e f)
   nexts_word h i kind.Tilde e t = λ g f. next_part (Settled limit top ws d ⋅ Blanks1) (Byte 126) p l (freed h i t) (one l 126 e f)
