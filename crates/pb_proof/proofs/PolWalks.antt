@@ -177,3 +177,11 @@ takes_blanks limit top ws d name ph c h q = record {
   begun = refl;
   plain = refl;
 }
+
+pub late_blanks : (limit top : ℕ) (ws : List PolWord) (d : ℕ) → TakesBlanks pol_automaton (state limit top ws d [] phase.Ending) (state limit top ws d [] phase.Ending)
+late_blanks limit top ws d = record {
+  enters = λ b i. steps (state limit top ws d [] phase.Ending) b kind.Blank (of_blank b i);
+  stays = λ b i. steps (state limit top ws d [] phase.Ending) b kind.Blank (of_blank b i);
+  begun = refl;
+  plain = refl;
+}
