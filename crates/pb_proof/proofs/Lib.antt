@@ -1,5 +1,6 @@
 pub mod LineEnds
 pub mod OneLine
+mod PolAlive
 mod PolComplete
 mod PolCovers
 mod PolFronts

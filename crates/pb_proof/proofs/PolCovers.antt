@@ -87,7 +87,7 @@ module _ (limit top : ℕ) (e : List PolWord) (after : PolState) where
       go k = further (is_name_kind k)
 
   -- a word that may still change is one that does not
-  as_gap : (h : Held) → NotLarge h → (ws : List PolWord) (d : ℕ) (t : List Letter) → R (st ws d [] (phase.Gap held.Nothing)) t → R (st ws d [] (phase.Gap h)) t
+  pub as_gap : (h : Held) → NotLarge h → (ws : List PolWord) (d : ℕ) (t : List Letter) → R (st ws d [] (phase.Gap held.Nothing)) t → R (st ws d [] (phase.Gap h)) t
   as_gap h i ws d [] x = absurd x
   as_gap h i ws d (l ∷ t) x = at_kind (st ws d [] (phase.Gap held.Nothing)) (st ws d [] (phase.Gap h)) l t (go h i (as_gap h i ws d t)) x
     where
