@@ -5,6 +5,7 @@ mod PolComplete
 mod PolCovers
 mod PolFronts
 mod PolKinds
+mod PolSane
 mod PolSound
 mod PolTable
 mod PolTrees
