@@ -7,7 +7,9 @@ mod PolFronts
 mod PolKinds
 mod PolSane
 mod PolSound
+mod PolStates
 mod PolTable
+pub mod PolTheorems
 mod PolTrees
 mod PolWalks
 pub mod Walking
