@@ -1,5 +1,5 @@
 -- The machine of postfix words: what it does with one byte.
-use Rattle.std.specs.Prelude.{ℕ, zero, suc, ◌+◌, ◌-◌, ◌*◌, ◌≤◌, ◌≡◌, max, Bool, true, false, cond, not, ◌&&◌, ◌||◌, List, [], ◌∷◌, ◌++◌, ℤ, pos, neg_ℤ, nat_eq, nat_le, Option, Some, None}
+use Rattle.std.specs.Prelude.{ℕ, zero, suc, ◌+◌, ◌-◌, ◌*◌, ◌<◌, ◌≤◌, ◌≡◌, max, Bool, true, false, cond, not, ◌&&◌, ◌||◌, List, [], ◌∷◌, ◌++◌, ℤ, pos, neg_ℤ, nat_eq, nat_le, Option, Some, None}
 use Rattle.pb_text.specs.Automaton.{Next, Go, End, Refuse}
 use Rattle.pb_text.specs.Classes.{is_blank, is_digit, is_letter, is_name_byte}
 use Rattle.pb_proof.specs.declared.word.PolWord.{PolWord}
@@ -260,3 +260,20 @@ wants (move.Add p) = true
 wants (move.Turn c p) = adds c
 wants (move.End c) = adds c
 wants _ = false
+
+-- What every machine keeps of its numbers, and of the bytes of its names.
+abbrev pub KindFits : Kind → Type 0
+KindFits (kind.Digit d) = d < 10
+KindFits _ = Unit {0}
+
+abbrev pub PhaseFits : ℕ → ℕ → ℕ → Phase → Type 0
+PhaseFits limit top depth (phase.Signed n) = n ≤ top
+PhaseFits limit top depth (phase.Number n) = n ≤ bound limit top depth
+PhaseFits limit top depth _ = Unit {0}
+
+abbrev pub MoveFits : ℕ → ℕ → ℕ → Kind → Move → Type 0
+MoveFits limit top depth k (move.To p) = PhaseFits limit top depth p
+MoveFits limit top depth k (move.Begin p) = PhaseFits limit top depth p × (is_name_kind k ≡ true)
+MoveFits limit top depth k (move.Add p) = PhaseFits limit top depth p × (is_name_kind k ≡ true)
+MoveFits limit top depth k (move.Turn c p) = PhaseFits limit top (counted c depth) p
+MoveFits limit top depth k _ = Unit {0}

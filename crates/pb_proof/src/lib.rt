@@ -2,7 +2,10 @@
 #![tactic(auto)]
 
 mod conclusion;
+mod pol_close;
+mod pol_kind;
 mod pol_phase;
+mod pol_plan;
 mod proof;
 mod statement;
 mod word;
