@@ -6,6 +6,7 @@ mod pol_close;
 mod pol_kind;
 mod pol_phase;
 mod pol_plan;
+mod pol_words;
 mod proof;
 mod statement;
 mod word;
