@@ -11,5 +11,6 @@ mod PolStates
 mod PolTable
 pub mod PolTheorems
 mod PolTrees
+mod PolUnits
 mod PolWalks
 pub mod Walking

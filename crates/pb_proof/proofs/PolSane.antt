@@ -121,7 +121,7 @@ plan-sane limit top d ph kind.Feed = feed-sane limit top d ph (close limit top d
 plan-sane limit top d ph k = read-sane limit top d ph k
 
 -- What is kept grows by one unit a byte at most.
-units_append : (ws : List PolWord) (w : PolWord) → units (ws ++ w ∷ []) ≡ units ws + word_units w
+pub units_append : (ws : List PolWord) (w : PolWord) → units (ws ++ w ∷ []) ≡ units ws + word_units w
 units_append [] w = omega arith
 units_append (x ∷ ws) w = omega (arith, units_append ws w)
 

@@ -2,6 +2,7 @@
 #![tactic(auto)]
 
 mod conclusion;
+mod pol;
 mod pol_close;
 mod pol_kind;
 mod pol_phase;
