@@ -5,6 +5,7 @@ mod PolComplete
 mod PolCovers
 mod PolFronts
 mod PolKinds
+mod PolPushes
 mod PolSane
 mod PolSound
 mod PolStates

@@ -272,8 +272,8 @@ PhaseFits limit top depth (phase.Number n) = n ≤ bound limit top depth
 PhaseFits limit top depth _ = Unit {0}
 
 abbrev pub MoveFits : ℕ → ℕ → ℕ → Kind → Move → Type 0
-MoveFits limit top depth k (move.To p) = PhaseFits limit top depth p
-MoveFits limit top depth k (move.Begin p) = PhaseFits limit top depth p × (is_name_kind k ≡ true)
-MoveFits limit top depth k (move.Add p) = PhaseFits limit top depth p × (is_name_kind k ≡ true)
-MoveFits limit top depth k (move.Turn c p) = PhaseFits limit top (counted c depth) p
+MoveFits limit top depth k (move.To p) = PhaseFits limit top depth p × (is_midway p ≡ true)
+MoveFits limit top depth k (move.Begin p) = PhaseFits limit top depth p × (is_midway p ≡ true) × (is_name_kind k ≡ true)
+MoveFits limit top depth k (move.Add p) = PhaseFits limit top depth p × (is_midway p ≡ true) × (is_name_kind k ≡ true)
+MoveFits limit top depth k (move.Turn c p) = PhaseFits limit top (counted c depth) p × (is_midway p ≡ true)
 MoveFits limit top depth k _ = Unit {0}
