@@ -1,5 +1,5 @@
 -- Machines of one text, which have begun with its first byte and ended with its last one: what holds of their states.
-use Rattle.std.proofs.Common.{◌≡◌, ℕ, ◌+◌, ◌≤◌, Bool, true, false, List, [], ◌∷◌, ◌++◌, refl, sym, ap, ◌∙◌}
+use Rattle.std.proofs.Common.{◌≡◌, ℕ, ◌+◌, ◌≤◌, Bool, true, false, List, [], ◌∷◌, ◌++◌, refl, ap, ◌∙◌}
 use Rattle.pb_text.specs.Automaton.{Automaton, Next, Go, End, Refuse, Reads, Accepts, Admits, IsState}
 use Rattle.pb_text.specs.Spelling.{Letter, Item, bytes}
 

@@ -3,10 +3,10 @@ use Rattle.std.proofs.Common.{◌≡◌, ℕ, zero, suc, ◌+◌, ◌-◌, ◌*�
 use Rattle.std.proofs.Math.Nat.{le-max_right}
 use Rattle.std.proofs.lemmas.Bool.{le-leb}
 use Rattle.std.proofs.lemmas.Bool.Decides.{nat_tests}
-use Rattle.std.specs.Prelude.{pos, neg_ℤ, nat_eq, nat_le, Option, Some, None}
-use Rattle.pb_text.specs.Automaton.{Next, Go, End, Refuse, Reads}
+use Rattle.std.specs.Prelude.{pos, neg_ℤ, nat_eq, nat_le, Some}
+use Rattle.pb_text.specs.Automaton.{Go, End, Reads}
 use Rattle.pb_text.specs.Spelling.{Letter}
-use Rattle.pb_proof.specs.Pol.{Work, act, close, close_number, held_number, held_name, changed, counted, bound, is_midway, is_done}
+use Rattle.pb_proof.specs.Pol.{act, close, held_number, held_name, changed, counted, bound, is_done}
 use Rattle.pb_proof.specs.PolState.{PolState, pol_automaton, over}
 use Rattle.pb_proof.specs.declared.word.PolWord.{PolWord}
 use Rattle.pb_proof.specs.declared.word.PolWord.TheVariants as word
@@ -18,7 +18,6 @@ use Rattle.pb_proof.specs.declared.pol_phase.Phase.{Phase}
 use Rattle.pb_proof.specs.declared.pol_phase.Phase.TheVariants as phase
 use Rattle.pb_proof.specs.declared.pol_phase.Change.{Change}
 use Rattle.pb_proof.specs.declared.pol_phase.Change.TheVariants as change
-use Rattle.pb_proof.specs.declared.pol_phase.Move.{Move}
 use Rattle.pb_proof.specs.declared.pol_phase.Move.TheVariants as move
 use Rattle.pb_proof.proofs.Walking.{longer}
 use Rattle.pb_proof.proofs.PolCovers.{state, as_gap}

@@ -1,17 +1,16 @@
 -- A machine of postfix words reads each line of them: one lemma for each word.
-use Rattle.std.proofs.Common.{◌≡◌, ℕ, zero, suc, ◌+◌, ◌-◌, ◌<◌, ◌≤◌, max, Bool, true, false, cond, List, [], ◌∷◌, ◌++◌, refl, sym, ap, subst, arith, append_assoc, append-nil, ◌∙◌}
+use Rattle.std.proofs.Common.{◌≡◌, ℕ, zero, suc, ◌-◌, ◌<◌, ◌≤◌, Bool, true, false, cond, List, [], ◌∷◌, ◌++◌, refl, sym, ap, subst, arith, append_assoc, append-nil, ◌∙◌}
 use Rattle.std.proofs.Math.Nat.{le-max_left, le-max_right}
 use Rattle.std.proofs.lemmas.Bool.{le-leb}
 use Rattle.std.proofs.lemmas.Bool.Decides.{nat_tests}
-use Rattle.std.specs.Prelude.{IsTrue, pos, neg_ℤ, nat_eq, nat_le, ℤ, Option, Some, None}
-use Rattle.pb_text.specs.Automaton.{Next, Go, End, Refuse, Reads}
-use Rattle.pb_text.specs.Languages.{unmarked, Language, ◌⋅◌, Empty, Byte, Bytes, Blanks1}
+use Rattle.std.specs.Prelude.{pos, neg_ℤ, nat_eq, nat_le, ℤ, Some}
+use Rattle.pb_text.specs.Automaton.{Go, Reads}
+use Rattle.pb_text.specs.Languages.{unmarked, ◌⋅◌, Byte, Bytes, Blanks1}
 use Rattle.pb_text.specs.Numbers.{Digits}
 use Rattle.pb_text.specs.Spelling.{Letter, plain}
 use Rattle.pb_sums.specs.Sums.{IsName, SpellsLiteral}
-use Rattle.pb_sums.specs.declared.Literal.{Literal}
 use Rattle.pb_proof.specs.Lines.{LineEnd, Listed, Factor, SpellsId, SpellsWord, SpellsWords}
-use Rattle.pb_proof.specs.Pol.{Work, act, plan, close, close_number, held_number, held_name, changed, counted, turned, with_last, bound}
+use Rattle.pb_proof.specs.Pol.{act, close, held_number, held_name, changed, counted, turned, with_last, bound}
 use Rattle.pb_proof.specs.PolState.{PolState, pol_automaton, pol_first, pol_last, over}
 use Rattle.pb_proof.specs.declared.word.PolWord.{PolWord}
 use Rattle.pb_proof.specs.declared.word.PolWord.TheVariants as word
@@ -23,10 +22,9 @@ use Rattle.pb_proof.specs.declared.pol_phase.Phase.{Phase}
 use Rattle.pb_proof.specs.declared.pol_phase.Phase.TheVariants as phase
 use Rattle.pb_proof.specs.declared.pol_phase.Change.{Change}
 use Rattle.pb_proof.specs.declared.pol_phase.Change.TheVariants as change
-use Rattle.pb_proof.specs.declared.pol_phase.Move.{Move}
 use Rattle.pb_proof.specs.declared.pol_phase.Move.TheVariants as move
 use Rattle.pb_proof.proofs.Walking.{Walks, walks_then, reads_behind, longer}
-use Rattle.pb_proof.proofs.LineEnds.{Feeds, MayEnd, blanks1_lead, line_reads}
+use Rattle.pb_proof.proofs.LineEnds.{MayEnd, blanks1_lead, line_reads}
 use Rattle.pb_proof.proofs.PolCovers.{state, as_after}
 use Rattle.pb_proof.proofs.PolFronts.{NotLarge, with_last_append}
 use Rattle.pb_proof.proofs.PolTrees.{Counts, postfix_counts}

@@ -1,9 +1,9 @@
 -- A state that reads all that another one reads.
-use Rattle.std.proofs.Common.{◌≡◌, ℕ, zero, suc, Bool, true, false, cond, ◌&&◌, List, [], ◌∷◌, refl, sym, ap, subst, ◌∙◌}
-use Rattle.std.specs.Prelude.{nat_eq, nat_le, Option, Some, None}
+use Rattle.std.proofs.Common.{◌≡◌, ℕ, Bool, true, false, cond, ◌&&◌, List, [], ◌∷◌, refl, sym, subst, ◌∙◌}
+use Rattle.std.specs.Prelude.{nat_eq, Some}
 use Rattle.pb_text.specs.Automaton.{Automaton, Next, Go, End, Refuse, Reads}
 use Rattle.pb_text.specs.Spelling.{Letter}
-use Rattle.pb_proof.specs.Pol.{Work, work, act, plan, close, blank, semicolon, feed, changed, counted, may_be_name, is_name_kind, role_of, kind_of}
+use Rattle.pb_proof.specs.Pol.{work, act, plan, close, blank, semicolon, feed, changed, counted, may_be_name, is_name_kind, kind_of}
 use Rattle.pb_proof.specs.PolState.{PolState, pol_automaton, over}
 use Rattle.pb_proof.specs.declared.word.PolWord.{PolWord}
 use Rattle.pb_proof.specs.declared.pol_phase.Kind.{Kind}

@@ -1,17 +1,16 @@
 -- What the plan for a phase and a kind says of the state that it leads to.
-use Rattle.std.proofs.Common.{◌≡◌, ℕ, suc, ◌+◌, ◌-◌, ◌*◌, ◌<◌, ◌≤◌, Bool, true, false, cond, ◌&&◌, ◌||◌, List, [], ◌∷◌, ◌++◌, length, refl, sym, ap, subst, arith, length-append, ◌∙◌}
-use Rattle.std.specs.Prelude.{pos, neg_ℤ, nat_eq, nat_le, Option, Some, None}
+use Rattle.std.proofs.Common.{◌≡◌, ℕ, ◌+◌, ◌*◌, ◌≤◌, Bool, true, false, cond, ◌&&◌, List, [], ◌∷◌, ◌++◌, length, refl, sym, subst, arith, length-append}
+use Rattle.std.specs.Prelude.{pos, neg_ℤ, nat_eq, nat_le, Some, None}
 use Rattle.pb_text.specs.Automaton.{Next, Go, End, Refuse}
 use Rattle.pb_proof.specs.Pol.{Work, work, act, plan, read, next, next_word, next_large, star, late, blank, semicolon, feed, close, close_number, held_number, close_lone, held_name, number, signed, role_of, bound, is_letter_kind, is_name_kind, may_be_name, is_midway, is_done, is_in_number, adds, changed, counted, turned, with_last, finished}
 use Rattle.pb_proof.specs.Pol as pol
-use Rattle.pb_proof.specs.PolState.{PolState, pol_with, pol_automaton, over, word_units, units, in_hand, ready, all_units}
+use Rattle.pb_proof.specs.PolState.{word_units, units, in_hand, ready, all_units}
 use Rattle.pb_proof.specs.declared.word.PolWord.{PolWord}
 use Rattle.pb_proof.specs.declared.word.PolWord.TheVariants as word
 use Rattle.pb_proof.specs.declared.pol_phase.Kind.{Kind}
 use Rattle.pb_proof.specs.declared.pol_phase.Kind.TheVariants as kind
 use Rattle.pb_proof.specs.declared.pol_phase.Held.{Held}
 use Rattle.pb_proof.specs.declared.pol_phase.Held.TheVariants as held
-use Rattle.pb_proof.specs.declared.pol_phase.Role.{Role}
 use Rattle.pb_proof.specs.declared.pol_phase.Role.TheVariants as role
 use Rattle.pb_proof.specs.declared.pol_phase.Phase.{Phase}
 use Rattle.pb_proof.specs.declared.pol_phase.Phase.TheVariants as phase

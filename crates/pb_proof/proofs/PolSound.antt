@@ -1,16 +1,16 @@
 -- A machine of postfix words has read a front of such a line: one lemma for each step that goes on.
-use Rattle.std.proofs.Common.{◌≡◌, ℕ, zero, suc, ◌+◌, ◌-◌, ◌*◌, ◌<◌, ◌≤◌, Bool, true, false, cond, ◌&&◌, ◌||◌, List, [], ◌∷◌, ◌++◌, refl, sym, ap, subst, arith, append_assoc, append-nil, ◌∙◌}
+use Rattle.std.proofs.Common.{◌≡◌, ℕ, zero, suc, ◌+◌, ◌-◌, ◌*◌, ◌<◌, ◌≤◌, Bool, true, false, cond, ◌&&◌, List, [], ◌∷◌, ◌++◌, refl, sym, ap, subst, arith, append-nil, ◌∙◌}
 use Rattle.std.proofs.lemmas.Bool.{eqb-true, leb-true}
 use Rattle.std.proofs.lemmas.Bool.Decides.{nat_tests}
-use Rattle.std.specs.Prelude.{IsTrue, pos, neg_ℤ, nat_eq, nat_le, Option, Some, None}
-use Rattle.pb_text.specs.Automaton.{Next, Go, End, Refuse, Reads}
-use Rattle.pb_text.specs.Classes.{is_blank, is_letter, is_name_byte}
-use Rattle.pb_text.specs.Languages.{unmarked, digit, Language, ◌⋅◌, Empty, Byte, Bytes, Blanks0, Blanks1}
+use Rattle.std.specs.Prelude.{IsTrue, pos, neg_ℤ, nat_eq, nat_le, Some, None}
+use Rattle.pb_text.specs.Automaton.{Next, Reads}
+use Rattle.pb_text.specs.Classes.{is_blank, is_name_byte}
+use Rattle.pb_text.specs.Languages.{unmarked, digit, Language, ◌⋅◌, Byte, Bytes, Blanks0, Blanks1}
 use Rattle.pb_text.specs.Numbers.{Digits}
 use Rattle.pb_text.specs.Spelling.{Letter, plain}
-use Rattle.pb_text.proofs.Languages.{grown, next as next_part, none_yet, regroup, regroup3, inside, behind_it, many-grown, some-grown, some-one, some-many, map-append}
+use Rattle.pb_text.proofs.Languages.{grown, next as next_part, none_yet, regroup, regroup3, inside, behind_it, some-grown, some-one, some-many, map-append}
 use Rattle.pb_text.proofs.Numbers.{digits-grown, digits-one}
-use Rattle.pb_sums.specs.Sums.{IsName, literal_bytes}
+use Rattle.pb_sums.specs.Sums.{literal_bytes}
 use Rattle.pb_proof.specs.Lines.{LineEnd, SpellsWord, SpellsWords}
 use Rattle.pb_proof.specs.Pol.{Work, work, act, plan, read, next, next_word, next_large, star, late, blank, semicolon, feed, close, close_number, held_number, close_lone, held_name, number, signed, role_of, bound, kind_of, is_letter_kind, is_name_kind, may_be_name, changed, counted, turned, with_last, finished}
 use Rattle.pb_proof.specs.Pol as pol
@@ -25,15 +25,14 @@ use Rattle.pb_proof.specs.declared.pol_phase.Role.{Role}
 use Rattle.pb_proof.specs.declared.pol_phase.Role.TheVariants as role
 use Rattle.pb_proof.specs.declared.pol_phase.Phase.{Phase}
 use Rattle.pb_proof.specs.declared.pol_phase.Phase.TheVariants as phase
-use Rattle.pb_proof.specs.declared.pol_phase.Change.{Change}
 use Rattle.pb_proof.specs.declared.pol_phase.Change.TheVariants as change
 use Rattle.pb_proof.specs.declared.pol_phase.Move.{Move}
 use Rattle.pb_proof.specs.declared.pol_phase.Move.TheVariants as move
 use Rattle.pb_proof.proofs.Walking.{On, Keeps, told}
-use Rattle.pb_proof.proofs.LineEnds.{as_unmarked, Closing, semicolon_behind_blanks, blank_closing, line_behind_blanks, line_closing}
+use Rattle.pb_proof.proofs.LineEnds.{as_unmarked, semicolon_behind_blanks, blank_closing, line_behind_blanks, line_closing}
 use Rattle.pb_proof.proofs.PolKinds.{Says, kind_says, letter_kind, name_kind}
 use Rattle.pb_proof.proofs.PolTrees.{Counts, counts_postfix}
-use Rattle.pb_proof.proofs.PolFronts.{first_append, name_append, FirstOf, LiteralOf, Words, Settled, settle, Holds, NotLarge, released, whole, takes_number, with_last_append, lead, at, Leads, Named, IsRole, Before, front, Front, Whole}
+use Rattle.pb_proof.proofs.PolFronts.{first_append, name_append, FirstOf, LiteralOf, Words, Settled, settle, Holds, NotLarge, released, whole, takes_number, with_last_append, lead, at, Named, IsRole, Before, front, Front, Whole}
 
 -- letters
 as_digit : (l : Letter) (d : ℕ) → l.byte ≡ 48 + d → l.numeral ≡ true → l ≡ digit d
@@ -212,24 +211,28 @@ module _ (limit top : ℕ) (ws : List PolWord) (d : ℕ) (name : List ℕ) (l : 
 
   -- digits
   number_one : (k : ℕ) → l.byte ≡ 48 + k → k < 10 → (Settled limit top ws d ⋅ Blanks1) p → OnMove (number limit top d 0 k)
-  number_one k e h t = test (nat_le (10 * 0 + k) (bound limit top d)) (move.To (phase.Number (10 * 0 + k))) (λ i g f.
-      (leb-true (10 * 0 + k) (bound limit top d) i,
-      next_part (Settled limit top ws d ⋅ Blanks1) (Digits (10 * 0 + k)) p l t (digits-one k l (as_digit l k e f) h)))
+  number_one k e h t = test (nat_le (10 * 0 + k) (bound limit top d)) (move.To (phase.Number (10 * 0 + k))) (λ i g f. (
+    leb-true (10 * 0 + k) (bound limit top d) i,
+    next_part (Settled limit top ws d ⋅ Blanks1) (Digits (10 * 0 + k)) p l t (digits-one k l (as_digit l k e f) h),
+  ))
 
   number_more : (n k : ℕ) → l.byte ≡ 48 + k → k < 10 → (Settled limit top ws d ⋅ Blanks1 ⋅ Digits n) p → OnMove (number limit top d n k)
-  number_more n k e h t = test (nat_le (10 * n + k) (bound limit top d)) (move.To (phase.Number (10 * n + k))) (λ i g f.
-      (leb-true (10 * n + k) (bound limit top d) i,
-      grown (Settled limit top ws d ⋅ Blanks1) (Digits n) (Digits (10 * n + k)) p l (digits-grown n k l (as_digit l k e f) h) t))
+  number_more n k e h t = test (nat_le (10 * n + k) (bound limit top d)) (move.To (phase.Number (10 * n + k))) (λ i g f. (
+    leb-true (10 * n + k) (bound limit top d) i,
+    grown (Settled limit top ws d ⋅ Blanks1) (Digits n) (Digits (10 * n + k)) p l (digits-grown n k l (as_digit l k e f) h) t,
+  ))
 
   signed_one : (k : ℕ) → l.byte ≡ 48 + k → k < 10 → (Settled limit top ws d ⋅ Blanks1 ⋅ Byte 45) p → OnMove (signed top 0 k)
-  signed_one k e h t = test (nat_le (10 * 0 + k) top) (move.To (phase.Signed (10 * 0 + k))) (λ i g f.
-      (leb-true (10 * 0 + k) top i,
-      next_part (Settled limit top ws d ⋅ Blanks1 ⋅ Byte 45) (Digits (10 * 0 + k)) p l t (digits-one k l (as_digit l k e f) h)))
+  signed_one k e h t = test (nat_le (10 * 0 + k) top) (move.To (phase.Signed (10 * 0 + k))) (λ i g f. (
+    leb-true (10 * 0 + k) top i,
+    next_part (Settled limit top ws d ⋅ Blanks1 ⋅ Byte 45) (Digits (10 * 0 + k)) p l t (digits-one k l (as_digit l k e f) h),
+  ))
 
   signed_more : (n k : ℕ) → l.byte ≡ 48 + k → k < 10 → (Settled limit top ws d ⋅ Blanks1 ⋅ Byte 45 ⋅ Digits n) p → OnMove (signed top n k)
-  signed_more n k e h t = test (nat_le (10 * n + k) top) (move.To (phase.Signed (10 * n + k))) (λ i g f.
-      (leb-true (10 * n + k) top i,
-      grown (Settled limit top ws d ⋅ Blanks1 ⋅ Byte 45) (Digits n) (Digits (10 * n + k)) p l (digits-grown n k l (as_digit l k e f) h) t))
+  signed_more n k e h t = test (nat_le (10 * n + k) top) (move.To (phase.Signed (10 * n + k))) (λ i g f. (
+    leb-true (10 * n + k) top i,
+    grown (Settled limit top ws d ⋅ Blanks1 ⋅ Byte 45) (Digits n) (Digits (10 * n + k)) p l (digits-grown n k l (as_digit l k e f) h) t,
+  ))
 
   -- delimiters
   blanks : (c : pol.Closing) → IsTrue (is_blank l.byte) → Closed limit top ws d name c p → OnMove (blank c)

@@ -1,5 +1,5 @@
 -- The automaton of postfix words reads one line and has ended then.
-use Rattle.std.proofs.Common.{◌≡◌, ℕ, ◌+◌, ◌-◌, ◌^◌, ◌<◌, ◌≤◌, min, Bool, true, false, List, [], ◌∷◌, length, refl, sym, ap, subst, arith, ◌∙◌}
+use Rattle.std.proofs.Common.{◌≡◌, ℕ, ◌+◌, ◌-◌, ◌^◌, ◌<◌, ◌≤◌, min, true, false, List, length, refl, sym, ap, subst, arith, ◌∙◌}
 use Rattle.std.proofs.Math.Nat.{min-le_left}
 use Rattle.pb_text.specs.Automaton.{Next, Go, End, Refuse}
 use Rattle.pb_proof.specs.Pol.{Work, Outcome, act, step, plan, kind_of, is_midway, is_done, is_in_number, finished}

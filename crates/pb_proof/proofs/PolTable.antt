@@ -29,7 +29,6 @@ run (b ∷ t) n s = on (pol_automaton.step s b) t n (is_large pol_automaton s b)
 abbrev pol : List ℕ → Taken
 pol t = run t 0 (pol_first (2 ^ 127 - 1) (2 ^ 63 - 1))
 
-
 plain_line : pol (codes " 1 2 d x3 w s" ++ (10 ∷ [])) ≡ Finished
 plain_line = refl
 

@@ -1,5 +1,5 @@
 -- The laws of the machine of postfix words.
-use Rattle.std.proofs.Common.{◌≡◌, ℕ, ◌<◌, true, false, List, [], refl, subst, sym, ◌↔◌}
+use Rattle.std.proofs.Common.{◌≡◌, ℕ, ◌<◌, false, List, refl, subst, sym, ◌↔◌}
 use Rattle.pb_text.specs.Automaton.{Next, Go, Refuse, Reads, IsState, Admits}
 use Rattle.pb_text.specs.Spelling.{Letter}
 use Rattle.pb_proof.specs.Lines.{SpellsWords}

@@ -1,15 +1,15 @@
 -- How a machine of postfix words reads digits, names and blanks.
-use Rattle.std.proofs.Common.{◌≡◌, ℕ, zero, suc, ◌+◌, ◌-◌, ◌*◌, ◌^◌, ◌<◌, ◌≤◌, Bool, true, false, cond, ◌&&◌, List, [], ◌∷◌, ◌++◌, length, map, refl, sym, ap, subst, arith, append_assoc, append-nil, ◌∙◌}
+use Rattle.std.proofs.Common.{◌≡◌, ℕ, zero, suc, ◌+◌, ◌*◌, ◌^◌, ◌<◌, ◌≤◌, Bool, true, false, cond, ◌&&◌, List, [], ◌∷◌, ◌++◌, length, map, refl, sym, ap, subst, arith, append_assoc, append-nil, ◌∙◌}
 use Rattle.std.proofs.Math.Nat.{pow-succ', le-mul_of_pos_right}
 use Rattle.std.proofs.lemmas.Bool.{le-leb}
-use Rattle.std.specs.Prelude.{IsTrue, nat_le, Option, Some, None}
-use Rattle.pb_text.specs.Automaton.{Next, Go, End, Refuse, Reads}
-use Rattle.pb_text.specs.Classes.{is_blank, is_letter, is_name_byte}
-use Rattle.pb_text.specs.Languages.{unmarked, digit, Each, Bytes}
+use Rattle.std.specs.Prelude.{IsTrue, nat_le, Some}
+use Rattle.pb_text.specs.Automaton.{Go}
+use Rattle.pb_text.specs.Classes.{is_name_byte}
+use Rattle.pb_text.specs.Languages.{digit, Each}
 use Rattle.pb_text.specs.Numbers.{value, Digits}
 use Rattle.pb_text.specs.Spelling.{Letter, plain}
 use Rattle.pb_sums.specs.Sums.{IsName}
-use Rattle.pb_proof.specs.Pol.{Work, act, plan, close, blank, changed, counted, bound, number, may_be_name, is_letter_kind, is_name_kind, role_of, kind_of}
+use Rattle.pb_proof.specs.Pol.{act, plan, close, blank, changed, counted, bound, may_be_name, is_letter_kind, is_name_kind, role_of, kind_of}
 use Rattle.pb_proof.specs.PolState.{PolState, pol_automaton, over}
 use Rattle.pb_proof.specs.declared.word.PolWord.{PolWord}
 use Rattle.pb_proof.specs.declared.pol_phase.Kind.{Kind}
@@ -21,13 +21,12 @@ use Rattle.pb_proof.specs.declared.pol_phase.Role.TheVariants as role
 use Rattle.pb_proof.specs.declared.pol_phase.Phase.{Phase}
 use Rattle.pb_proof.specs.declared.pol_phase.Phase.TheVariants as phase
 use Rattle.pb_proof.specs.declared.pol_phase.Change.{Change}
-use Rattle.pb_proof.specs.declared.pol_phase.Change.TheVariants as change
 use Rattle.pb_proof.specs.declared.pol_phase.Move.{Move}
 use Rattle.pb_proof.specs.declared.pol_phase.Move.TheVariants as move
-use Rattle.pb_proof.proofs.Walking.{Walks, walks_then}
+use Rattle.pb_proof.proofs.Walking.{Walks}
 use Rattle.pb_proof.proofs.LineEnds.{TakesBlanks}
 use Rattle.pb_proof.proofs.PolCovers.{state}
-use Rattle.pb_proof.proofs.PolKinds.{of_digit, of_blank, of_letter, of_name, letter_is_name}
+use Rattle.pb_proof.proofs.PolKinds.{of_digit, of_blank, of_letter, of_name}
 
 never : false ≡ true → ⊥
 never e = cc

@@ -7,6 +7,8 @@ mod pol_close;
 mod pol_kind;
 mod pol_phase;
 mod pol_plan;
+#[cfg(test)]
+mod pol_tests;
 mod pol_words;
 mod proof;
 mod statement;

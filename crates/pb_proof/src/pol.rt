@@ -109,7 +109,15 @@ impl Machine for PolMachine {
                 Push::Go
             }
             Move::Turn(change, phase) => {
-                if turn(self.alloc, &mut self.words, &mut self.depth, &mut self.name, change).is_err() {
+                if turn(
+                    self.alloc,
+                    &mut self.words,
+                    &mut self.depth,
+                    &mut self.name,
+                    change,
+                )
+                .is_err()
+                {
                     return Push::Memory;
                 }
                 self.phase = phase;
@@ -139,7 +147,13 @@ impl Machine for PolMachine {
         if !matches!(self.phase, Phase::Start) {
             return false;
         }
-        let planned = plan(self.limit, self.top, self.depth, Phase::Start, kind_of(byte));
+        let planned = plan(
+            self.limit,
+            self.top,
+            self.depth,
+            Phase::Start,
+            kind_of(byte),
+        );
         !matches!(planned, Move::Stop)
     }
 

@@ -33,10 +33,7 @@ fn close_number(limit: u128, top: u64, depth: usize, number: u128) -> (Change, H
     ensures { Some result ≡ close_number limit top depth number }
 {
     if number <= top as u128 {
-        return (
-            Change::Id(number as i64),
-            held_number(limit, depth, number),
-        );
+        return (Change::Id(number as i64), held_number(limit, depth, number));
     }
     (Change::Large(number as i128), Held::Large)
 }

@@ -17,11 +17,8 @@ fn adds(change: Change) -> bool
     ensures { result ≡ adds change }
 {
     match change {
-        Change::Id(_)
-        | Change::Axiom(_)
-        | Change::Large(_)
-        | Change::Saturate
-        | Change::Sum => true,
+        Change::Id(_) | Change::Axiom(_) | Change::Large(_) | Change::Saturate | Change::Sum =>
+            true,
         Change::Keep | Change::Multiply | Change::Divide | Change::Weaken => false,
     }
 }

@@ -1,4 +1,4 @@
-use Rattle.std.proofs.Common.{◌≡◌, [], ◌∷◌, ◌++◌, ◌∙◌, sym, ap}
+use Rattle.std.proofs.Common.{[], ◌∷◌, ◌++◌, ◌∙◌, sym, ap}
 use Rattle.pb_proof.specs.Pol.{turned, with_last}
 use Rattle.pb_proof.proofs.PolFronts.{with_last_append}
 use Rattle.pb_proof.proofs.pol_words.turn_last.Goals as goal
