@@ -39,7 +39,7 @@ mod PolSane
 mod PolSound
 mod PolStates
 mod PolTable
-mod PolTheorems
+pub mod PolTheorems
 mod PolTrees
 mod PolUnits
 mod PolWalks

@@ -45,7 +45,7 @@ past_top_ten = refl
 past_top_minus : pol (codes " x1 -9223372036854775808") ≡ Refused 23 true
 past_top_minus = refl
 
--- digits at depth 1 or more, no sign: the digit that passes L
+-- digits at depth 1 or more, no sign: the digit that passes 2^127 - 1
 most_factor : pol (codes " 1 170141183460469231731687303715884105727 *" ++ (10 ∷ [])) ≡ Finished
 most_factor = refl
 
@@ -140,3 +140,23 @@ semicolons = refl
 
 semicolon : pol (codes " 1 ; " ++ (13 ∷ 10 ∷ [])) ≡ Finished
 semicolon = refl
+
+-- ---- smaller limits
+
+abbrev small : ℕ → ℕ → List ℕ → Taken
+small limit top t = run t 0 (pol_first limit top)
+
+factor_within : small (2 ^ 31 - 1) (2 ^ 31 - 1) (codes " 1 2147483647 *" ++ (10 ∷ [])) ≡ Finished
+factor_within = refl
+
+factor_past : small (2 ^ 31 - 1) (2 ^ 31 - 1) (codes " 1 2147483648 *") ≡ Refused 12 true
+factor_past = refl
+
+first_digit : small (2 ^ 31 - 1) 2 (codes " 3") ≡ Refused 1 false
+first_digit = refl
+
+second_digit : small (2 ^ 31 - 1) 2 (codes " 03") ≡ Refused 2 true
+second_digit = refl
+
+factor_past_top : small (2 ^ 31 - 1) 2 (codes " 2 3 d" ++ (10 ∷ [])) ≡ Finished
+factor_past_top = refl

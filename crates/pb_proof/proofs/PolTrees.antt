@@ -24,7 +24,7 @@ stacked (a ∷ below) = stacked below ++ words a
 tree_counts : (a : Tree) (d : ℕ) (ws : List PolWord) → Counts (suc d) ws → Counts d (words a ++ ws)
 tree_counts (Constraint id) d ws h = h
 tree_counts (True literal) d ws h = h
-tree_counts (Sum a b) d ws h = rw (append_assoc, append_assoc) (tree_counts a d _ (tree_counts b (suc d) _ h))
+tree_counts (Sum a b) d ws h = simp append_assoc (tree_counts a d _ (tree_counts b (suc d) _ h))
 tree_counts (Times a k) d ws h = rw append_assoc (tree_counts a d _ h)
 tree_counts (Divided a k) d ws h = rw append_assoc (tree_counts a d _ h)
 tree_counts (Saturated a) d ws h = rw append_assoc (tree_counts a d _ h)

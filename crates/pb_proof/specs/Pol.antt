@@ -18,9 +18,11 @@ use Rattle.pb_proof.specs.declared.pol_phase.Move.{Move}
 use Rattle.pb_proof.specs.declared.pol_phase.Move.TheVariants as move
 
 -- What a byte is.
+-- a letter
 abbrev pub letter : ℕ → Kind
 letter b = cond (nat_eq b 100) kind.D (cond (nat_eq b 115) kind.S (cond (nat_eq b 119) kind.W kind.Letter))
 
+-- the line feed, the `;`, an operator or a sign
 abbrev pub symbol : ℕ → Kind
 symbol b =
     cond (nat_eq b 10) kind.Feed
@@ -30,6 +32,7 @@ symbol b =
     (cond (nat_eq b 45) kind.Minus
     (cond (nat_eq b 126) kind.Tilde kind.Other)))))
 
+-- each byte
 abbrev pub kind_of : ℕ → Kind
 kind_of b =
     cond (is_digit b) (kind.Digit (b - 48))
@@ -37,6 +40,7 @@ kind_of b =
     (cond (is_name_byte b) kind.Mark
     (cond (is_blank b) kind.Blank (symbol b))))
 
+-- the kinds of letters, and of the bytes that a name may hold
 abbrev pub is_letter_kind : Kind → Bool
 is_letter_kind kind.D = true
 is_letter_kind kind.S = true
@@ -44,6 +48,7 @@ is_letter_kind kind.W = true
 is_letter_kind kind.Letter = true
 is_letter_kind _ = false
 
+-- with digits and marks
 abbrev pub is_name_kind : Kind → Bool
 is_name_kind (kind.Digit d) = true
 is_name_kind kind.Mark = true
@@ -61,11 +66,13 @@ is_midway phase.Start = false
 is_midway phase.Done = false
 is_midway _ = true
 
+-- all has been read
 abbrev pub is_done : Phase → Bool
 is_done phase.Done = true
 is_done _ = false
 
 -- How the words change, and how many expressions they are.
+-- an operator takes the number, or the name, before it
 abbrev pub turned : Change → PolWord → PolWord
 turned change.Multiply (word.Id z) = word.Multiply z
 turned change.Divide (word.Id z) = word.Divide z
@@ -79,6 +86,7 @@ with_last f [] = []
 with_last f (w ∷ []) = f w ∷ []
 with_last f (w ∷ v ∷ ws) = w ∷ with_last f (v ∷ ws)
 
+-- what the end of a word does with the words, and the name in hand
 abbrev pub changed : Change → List PolWord → List ℕ → List PolWord
 changed change.Keep ws name = ws
 changed (change.Id z) ws name = ws ++ word.Id z ∷ []
@@ -105,23 +113,28 @@ abbrev pub bound : ℕ → ℕ → ℕ → ℕ
 bound limit top zero = top
 bound limit top (suc depth) = max limit top
 
+-- a digit more behind `-`
 abbrev pub signed : ℕ → ℕ → ℕ → Move
 signed top n d = cond (nat_le (10 * n + d) top) (move.To (phase.Signed (10 * n + d))) move.Stop
 
+-- and in a number with no sign
 abbrev pub number : ℕ → ℕ → ℕ → ℕ → ℕ → Move
 number limit top depth n d = cond (nat_le (10 * n + d) (bound limit top depth)) (move.To (phase.Number (10 * n + d))) move.Stop
 
+-- what a word does that ends and how it may still change, where it may end
 abbrev pub Closing : Type 0
 Closing = Option (Change × Held)
 
--- what a word does that ends, and how it may still change
+-- a number with an expression before it may be a factor, where it is within the limit
 abbrev pub held_number : ℕ → ℕ → ℕ → Held
 held_number limit zero n = held.Nothing
 held_number limit (suc depth) n = cond (nat_le n limit) held.Number held.Nothing
 
+-- an id, or a factor that is too large for one
 abbrev pub close_number : ℕ → ℕ → ℕ → ℕ → Closing
 close_number limit top depth n = cond (nat_le n top) (Some (change.Id (pos n), held_number limit depth n)) (Some (change.Large (pos n), held.Large))
 
+-- a letter
 abbrev pub close_lone : Role → Closing
 close_lone role.Name = None
 close_lone role.Saturate = Some (change.Saturate, held.Nothing)
@@ -129,10 +142,12 @@ close_lone role.Divide = Some (change.Divide, held.Nothing)
 close_lone role.DivideLarge = Some (change.Divide, held.Nothing)
 close_lone role.Weaken = Some (change.Weaken, held.Nothing)
 
+-- a name with an expression before it may be a variable to weaken by
 abbrev pub held_name : Bool → ℕ → Held
 held_name false (suc depth) = held.Name
 held_name _ _ = held.Nothing
 
+-- the word in hand
 abbrev pub close : ℕ → ℕ → ℕ → Phase → Closing
 close limit top depth phase.Start = Some (change.Keep, held.Nothing)
 close limit top depth phase.After = Some (change.Keep, held.Nothing)
@@ -143,6 +158,7 @@ close limit top depth (phase.Lone r) = close_lone r
 close limit top depth (phase.Name negated) = Some (change.Axiom negated, held_name negated depth)
 close limit top depth _ = None
 
+-- a blank ends a word
 abbrev pub blank : Closing → Move
 blank None = move.Stop
 blank (Some (c, h)) = move.Turn c (phase.Gap h)
@@ -152,6 +168,7 @@ abbrev pub semicolon : ℕ → Closing → Move
 semicolon depth None = move.Stop
 semicolon depth (Some (c, h)) = cond (nat_eq (counted c depth) 1) (move.Turn c phase.Ending) move.Stop
 
+-- and then the line feed ends the line
 abbrev pub feed : ℕ → Closing → Move
 feed depth None = move.Stop
 feed depth (Some (c, h)) = cond (nat_eq (counted c depth) 1) (move.End c) move.Stop
@@ -163,15 +180,18 @@ role_of depth held.Name kind.W = role.Weaken
 role_of depth h kind.S = cond (nat_le 1 depth) role.Saturate role.Name
 role_of depth h k = role.Name
 
+-- behind a factor that is too large for an id
 abbrev pub next_large : Kind → Move
 next_large kind.Star = move.Turn change.Multiply phase.After
 next_large kind.D = move.Begin (phase.Lone role.DivideLarge)
 next_large _ = move.Stop
 
+-- `*` takes the number before it
 abbrev pub star : Held → Move
 star held.Number = move.Turn change.Multiply phase.After
 star _ = move.Stop
 
+-- behind another word
 abbrev pub next_word : ℕ → ℕ → ℕ → Held → Kind → Move
 next_word limit top depth h (kind.Digit d) = number limit top depth 0 d
 next_word limit top depth h kind.Minus = move.To phase.Minus
@@ -185,6 +205,7 @@ abbrev pub next : ℕ → ℕ → ℕ → Held → Kind → Move
 next limit top depth held.Large k = next_large k
 next limit top depth h k = next_word limit top depth h k
 
+-- whether a byte of a name may follow a letter
 abbrev pub may_be_name : Role → Bool
 may_be_name role.DivideLarge = false
 may_be_name _ = true
@@ -207,6 +228,7 @@ late kind.Blank = move.To phase.Ending
 late kind.Feed = move.End change.Keep
 late _ = move.Stop
 
+-- all of it
 abbrev pub plan : ℕ → ℕ → ℕ → Phase → Kind → Move
 plan limit top depth phase.Ending k = late k
 plan limit top depth p kind.Blank = blank (close limit top depth p)
@@ -221,15 +243,19 @@ pub record Work : Type 0 where
   pub name : List ℕ
   pub phase : Phase
 
+-- before the words
 abbrev pub fresh : Work
 fresh = record { words = []; depth = 0; name = []; phase = phase.Start }
 
+-- and behind them
 abbrev pub finished : Work
 finished = record { words = []; depth = 0; name = []; phase = phase.Done }
 
+-- in these parts
 abbrev pub work : List PolWord → ℕ → List ℕ → Phase → Work
 work ws depth name p = record { words = ws; depth = depth; name = name; phase = p }
 
+-- what comes of a byte
 abbrev pub Outcome : Type 0
 Outcome = Next Work (List PolWord)
 
@@ -242,6 +268,7 @@ act w b (move.Turn c p) = Go (work (changed c w.words w.name) (counted c w.depth
 act w b (move.End c) = End (changed c w.words w.name) finished
 act w b move.Stop = Refuse
 
+-- one byte
 abbrev pub step : ℕ → ℕ → Work → ℕ → Outcome
 step limit top w b = act w b (plan limit top w.depth w.phase (kind_of b))
 
@@ -254,6 +281,7 @@ adds change.Saturate = true
 adds change.Sum = true
 adds _ = false
 
+-- of a move
 abbrev pub wants : Move → Bool
 wants (move.Begin p) = true
 wants (move.Add p) = true
@@ -262,15 +290,18 @@ wants (move.End c) = adds c
 wants _ = false
 
 -- What every machine keeps of its numbers, and of the bytes of its names.
+-- a digit
 abbrev pub KindFits : Kind → Type 0
 KindFits (kind.Digit d) = d < 10
 KindFits _ = Unit {0}
 
+-- a number in hand
 abbrev pub PhaseFits : ℕ → ℕ → ℕ → Phase → Type 0
 PhaseFits limit top depth (phase.Signed n) = n ≤ top
 PhaseFits limit top depth (phase.Number n) = n ≤ bound limit top depth
 PhaseFits limit top depth _ = Unit {0}
 
+-- what a move leads to
 abbrev pub MoveFits : ℕ → ℕ → ℕ → Kind → Move → Type 0
 MoveFits limit top depth k (move.To p) = PhaseFits limit top depth p × (is_midway p ≡ true)
 MoveFits limit top depth k (move.Begin p) = PhaseFits limit top depth p × (is_midway p ≡ true) × (is_name_kind k ≡ true)

@@ -13,16 +13,19 @@ pub record PolState : Type 0 where
   pub top : ℕ
   pub work : Work
 
+-- with other work
 abbrev pub pol_with : PolState → Work → PolState
 pol_with s w = record { limit = s.limit; top = s.top; work = w }
 
--- before the words, and after them
+-- before the words
 abbrev pub pol_first : ℕ → ℕ → PolState
 pol_first limit top = record { limit = limit; top = top; work = fresh }
 
+-- and behind them
 abbrev pub pol_last : ℕ → ℕ → PolState
 pol_last limit top = record { limit = limit; top = top; work = finished }
 
+-- the step of a state
 abbrev pub over : PolState → Outcome → Next PolState (List PolWord)
 over s (Go w) = Go (pol_with s w)
 over s (End e w) = End e (pol_with s w)
@@ -34,6 +37,7 @@ word_units (Axiom literal) = 1 + length literal.name
 word_units (Weaken name) = 1 + length name
 word_units _ = 1
 
+-- of all words
 abbrev pub units : List PolWord → ℕ
 units [] = 0
 units (w ∷ ws) = word_units w + units ws
@@ -54,6 +58,7 @@ ready (phase.Number n) = 1
 ready phase.Tilde = 1
 ready _ = 0
 
+-- what is kept
 abbrev pub all_units : Work → ℕ
 all_units w = units w.words + in_hand w.phase + length w.name
 

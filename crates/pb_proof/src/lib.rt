@@ -32,6 +32,8 @@ mod pol_close;
 mod pol_kind;
 mod pol_phase;
 mod pol_plan;
+#[cfg(test)]
+mod pol_tests;
 mod pol_words;
 mod proof;
 mod statement;
