@@ -1,4 +1,5 @@
 pub mod Canonical
+pub mod Ended
 pub mod Lines
 pub mod Postfix
 pub mod Proofs

@@ -3,10 +3,14 @@
 
 mod conclusion;
 mod proof;
+mod rules;
 mod statement;
 mod word;
+mod write;
 
 pub use conclusion::{Bound, Conclusion};
 pub use proof::Proof;
+pub use rules::{proof_is_value, statement_is_value};
 pub use statement::Statement;
 pub use word::PolWord;
+pub use write::{write_proof, write_statement};
