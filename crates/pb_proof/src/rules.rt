@@ -1,7 +1,8 @@
 //! The rules that statements and proofs meet.
 
-ghost use Rattle.std.specs.Prelude.{◌≡◌, ◌<◌, ◌≤◌, ◌^◌, ◌↔◌, IsTrue, All};
+ghost use Rattle.std.specs.Prelude.{◌≡◌, ◌+◌, ◌<◌, ◌≤◌, ◌^◌, ◌↔◌, IsTrue, All};
 ghost use Rattle.pb_text.specs.Limits.{largest, top_of};
+ghost use Rattle.pb_proof.specs.Finished.{finished_with};
 ghost use Rattle.pb_proof.specs.Postfix.{IsPostfix};
 ghost use Rattle.pb_proof.specs.Proofs.{IsStep};
 ghost use Rattle.pb_proof.specs.Values.{IfGiven, IsId, IsFactor, AreLiterals, IsBound, IsWord, IsConclusion, IsStatementValue, IsProofValue};
@@ -81,7 +82,10 @@ fn are_words(words: &[PolWord], limits: Limits) -> bool
 }
 
 /// How many expressions are finished behind the word, where so many are before it.
-fn finished_with(finished: usize, word: &PolWord) -> Option<usize> {
+fn finished_with(finished: usize, word: &PolWord) -> Option<usize>
+    requires { finished + 1 < 2 ^ 64 }
+    ensures { result ≡ finished_with finished word.now }
+{
     match word {
         PolWord::Id(_) | PolWord::Axiom(_) => Some(finished + 1),
         PolWord::Add if finished >= 2 => Some(finished - 1),
@@ -171,7 +175,9 @@ fn conclusion_is_value(conclusion: &Conclusion, limits: Limits) -> bool
 }
 
 /// Whether the constraint may stand behind `rup`: its relation is `>=`, and it is within the limits.
-fn goal_is_value(goal: &Linear, limits: Limits) -> bool {
+fn goal_is_value(goal: &Linear, limits: Limits) -> bool
+    ensures { IsTrue result ↔ IsStatementValue (largest limits) (top_of limits) (Statement.Rup goal.now) }
+{
     goal.relation == Relation::AtLeast && linear_is_value(goal, limits)
 }
 
@@ -207,12 +213,19 @@ fn is_step(statement: &Statement) -> bool
     }
 }
 
+/// Whether the statement is a step that meets the rules.
+fn step_is_value(step: &Statement, limits: Limits) -> bool
+    ensures { IsTrue result ↔ IsStep step.now × IsStatementValue (largest limits) (top_of limits) step.now }
+{
+    is_step(step) && statement_is_value(step, limits)
+}
+
 /// Whether each statement is a step that meets the rules.
 fn are_steps(steps: &[Statement], limits: Limits) -> bool
     ensures { IsTrue result ↔ All (λ s. IsStep s × IsStatementValue (largest limits) (top_of limits) s) steps.now }
 {
     for step in steps {
-        if !(is_step(step) && statement_is_value(step, limits)) {
+        if !step_is_value(step, limits) {
             return false;
         }
     }
