@@ -2,4 +2,8 @@ pub mod Each
 pub mod Finished
 pub mod LineSpelled
 pub mod LineTexts
+pub mod ProofSpelled
+pub mod ProofValues
+pub mod ReadsBack
+pub mod Within
 pub mod Written
