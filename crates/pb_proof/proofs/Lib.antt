@@ -1,5 +1,6 @@
 pub mod Each
 pub mod Finished
+pub mod Gathered
 pub mod LineSpelled
 pub mod LineTexts
 pub mod ProofSpelled

@@ -1,3 +1,4 @@
+pub mod Building
 pub mod Canonical
 pub mod Ended
 pub mod Finished

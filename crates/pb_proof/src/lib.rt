@@ -1,8 +1,10 @@
 //! Proofs in VeriPB 2.0, read one byte at a time and written.
 #![tactic(auto)]
 
+mod building;
 mod conclusion;
 mod proof;
+mod read;
 mod rules;
 mod statement;
 mod word;
