@@ -3,14 +3,18 @@
 
 mod building;
 mod conclusion;
+mod laws_of_values;
 mod proof;
 mod read;
 mod rules;
 mod statement;
+#[cfg(test)]
+mod tests;
 mod word;
 mod write;
 
 pub use conclusion::{Bound, Conclusion};
+pub use laws_of_values::{canonical_proof_spells, one_value, proofs_are_values};
 pub use proof::Proof;
 pub use rules::{proof_is_value, statement_is_value};
 pub use statement::Statement;

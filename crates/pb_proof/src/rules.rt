@@ -90,10 +90,7 @@ fn finished_with(finished: usize, word: &PolWord) -> Option<usize>
         PolWord::Id(_) | PolWord::Axiom(_) => Some(finished + 1),
         PolWord::Add if finished >= 2 => Some(finished - 1),
         PolWord::Multiply(_) | PolWord::Divide(_) | PolWord::Saturate | PolWord::Weaken(_)
-            if finished >= 1 =>
-        {
-            Some(finished)
-        }
+            if finished >= 1 => { Some(finished) }
         _ => None,
     }
 }
@@ -190,8 +187,8 @@ pub fn statement_is_value(statement: &Statement, limits: Limits) -> bool
     match statement {
         Statement::Header | Statement::Output | Statement::End => true,
         Statement::F(count) => count_is_value(*count, limits.top()),
-        Statement::Pol(words) =>
-            is_postfix(words.as_slice()) && are_words(words.as_slice(), limits),
+        Statement::Pol(words) => is_postfix(words.as_slice())
+            && are_words(words.as_slice(), limits),
         Statement::Rup(goal) => goal_is_value(goal, limits),
         Statement::Soli(literals) | Statement::Solx(literals) => are_literals(literals.as_slice()),
         Statement::Delete(ids) => !ids.is_empty() && are_ids(ids.as_slice(), limits.top()),

@@ -1,0 +1,5 @@
+//! Worked proofs: their values, rules and canonical text.
+
+mod rules;
+mod samples;
+mod writing;
