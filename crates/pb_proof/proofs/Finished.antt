@@ -1,5 +1,5 @@
 -- Words are those of one expression exactly where the count of finished ones goes from 0 to 1 and no operand lacks.
-use Rattle.std.proofs.Common.{◌≡◌, ℕ, zero, suc, ◌+◌, ◌-◌, ◌<◌, ◌≤◌, List, [], ◌∷◌, ◌++◌, length, drop, get_or, refl, sym, ap, subst, ◌∙◌, append_assoc, append-nil, arith, ◌↔◌, Bool, true, false, Option, Some, None}
+use Rattle.std.proofs.Common.{◌≡◌, ℕ, zero, suc, ◌+◌, ◌<◌, ◌≤◌, List, [], ◌∷◌, ◌++◌, length, drop, get_or, refl, sym, subst, append_assoc, append-nil, arith, ◌↔◌, Bool, false, Option, Some, None}
 use Rattle.std.specs.Prelude.{IsTrue}
 use Rattle.std.proofs.lemmas.List.{drop_all}
 use Rattle.std.proofs.Math.Seq.{drop-cons}
@@ -56,47 +56,3 @@ postfix_leads ws = (
   λ (tree, e). subst (Leads 0) (sym e) (let h : Leads 0 (words tree ++ []) = tree_leads tree 0 [] refl in simp append-nil at h),
   λ h. leads_tree ws [] h,
 )
-
--- One more word of a list.
-module _ (ws : List PolWord) (i d : ℕ) (w : PolWord) (h : i < length ws) (e : w ≡ get_or ws i w) (all : IsPostfix ws ↔ Leads d (drop i ws)) where
-  rest_is : drop i ws ≡ w ∷ drop (i + 1) ws
-  rest_is =
-      let one : suc i ≡ i + 1 = omega arith in
-      rw (drop-cons ws i w h, one, ← e) refl
-
-  pub word_passes : (n : ℕ) → finished_with d w ≡ Some n → IsPostfix ws ↔ Leads n (drop (i + 1) ws)
-  word_passes n f = (
-    λ p. subst (λ (o : Option ℕ). Given o (λ m. Leads m (drop (i + 1) ws))) f (subst (Leads d) rest_is (all.0 p)),
-    λ k. all.1 (subst (Leads d) (sym rest_is) (subst (λ (o : Option ℕ). Given o (λ m. Leads m (drop (i + 1) ws))) (sym f) k)),
-  )
-
-  pub word_lacks : finished_with d w ≡ None → IsTrue false ↔ IsPostfix ws
-  word_lacks f = (
-    λ t. cc,
-    λ p. absurd (subst (λ (o : Option ℕ). Given o (λ m. Leads m (drop (i + 1) ws))) f (subst (Leads d) rest_is (all.0 p))),
-  )
-
-pub words_end : (ws : List PolWord) (i d : ℕ) (r : Bool) → length ws ≤ i → IsTrue r ↔ (d ≡ 1) → IsPostfix ws ↔ Leads d (drop i ws) → IsTrue r ↔ IsPostfix ws
-words_end ws i d r h t all = (
-  λ k. all.1 (subst (Leads d) (sym (drop_all i ws h)) (t.0 k)),
-  λ p. t.1 (subst (Leads d) (drop_all i ws h) (all.0 p)),
-)
-
-some_is : (m n : ℕ) → Some m ≡ Some n → m ≡ n
-some_is m n h = cc
-
--- a word finishes one expression at most
-pub finished_most : (d n : ℕ) (w : PolWord) → finished_with d w ≡ Some n → n ≤ d + 1
-finished_most d n (Id id) h = omega (arith, some_is (suc d) n h)
-finished_most d n (Axiom l) h = omega (arith, some_is (suc d) n h)
-finished_most zero n Add h = cc
-finished_most (suc zero) n Add h = cc
-finished_most (suc (suc d)) n Add h = omega (arith, some_is (suc d) n h)
-finished_most zero n (Multiply k) h = cc
-finished_most (suc d) n (Multiply k) h = omega (arith, some_is (suc d) n h)
-finished_most zero n (Divide k) h = cc
-finished_most (suc d) n (Divide k) h = omega (arith, some_is (suc d) n h)
-finished_most zero n Saturate h = cc
-finished_most (suc d) n Saturate h = omega (arith, some_is (suc d) n h)
-finished_most zero n (Weaken name) h = cc
-finished_most (suc d) n (Weaken name) h = omega (arith, some_is (suc d) n h)

@@ -1,9 +1,9 @@
 -- The canonical text of a statement that meets the rules spells it.
-use Rattle.std.proofs.Common.{◌≡◌, ℕ, suc, ◌<◌, ◌≤◌, ◌^◌, List, [], ◌∷◌, ◌++◌, refl, arith, inl, inr, true, false, Option, Some, None, All, ◌≤ℤ◌}
+use Rattle.std.proofs.Common.{ℕ, suc, ◌<◌, ◌≤◌, ◌^◌, List, [], ◌∷◌, ◌++◌, refl, arith, inl, true, false, Option, Some, None, All}
 use Rattle.std.specs.Prelude.{ℤ, pos, negsuc, nat_abs, decimal}
 use Rattle.std.proofs.lemmas.Int.{ints}
 use Rattle.std.proofs.lemmas.List.Elements.{All-head, All-tail}
-use Rattle.pb_text.specs.Languages.{unmarked, Language, ◌⋅◌, Byte, Bytes, Blanks0, Blanks1}
+use Rattle.pb_text.specs.Languages.{Language, ◌⋅◌, Byte, Bytes, Blanks0, Blanks1}
 use Rattle.pb_text.specs.Numbers.{Number, Count}
 use Rattle.pb_text.specs.Spelling.{Letter, plain, digits_of}
 use Rattle.pb_text.proofs.Numbers.{decimal-digits}
@@ -12,7 +12,7 @@ use Rattle.pb_sums.specs.Sums.{IsName, SpellsLiteral, SpellsLinear}
 use Rattle.pb_sums.specs.declared.values.Literal.{Literal}
 use Rattle.pb_sums.specs.declared.grammar.Spaces.TheVariants.{Blank}
 use Rattle.pb_sums.proofs.CanonicalLaws.{linear-spelled}
-use Rattle.pb_proof.specs.Lines.{pseudo_word, proof_word, version_word, two_word, f_word, pol_word, rup_word, soli_word, solx_word, del_word, id_word, output_word, conclusion_word, end_word, none_word, unsat_word, sat_word, bounds_word, inf_word, Feed, LineEnd, Listed, SpellsId, Factor, SpellsBound, SpellsShown, Shown, IdShown, SpellsWord, SpellsConclusion, SpellsCount, SpellsWords, SpellsGoal, SpellsLiterals, SpellsIds, SpellsClaim, SpellsStatement}
+use Rattle.pb_proof.specs.Lines.{pseudo_word, proof_word, version_word, two_word, f_word, pol_word, rup_word, soli_word, solx_word, del_word, id_word, output_word, conclusion_word, end_word, none_word, unsat_word, sat_word, bounds_word, Feed, LineEnd, Listed, SpellsId, Factor, SpellsBound, SpellsShown, Shown, IdShown, SpellsWord, SpellsConclusion, SpellsCount, SpellsWords, SpellsGoal, SpellsLiterals, SpellsIds, SpellsClaim, SpellsStatement}
 use Rattle.pb_proof.specs.Values.{IfGiven, IsId, IsFactor, AreLiterals, IsBound, IsWord, IsConclusion, IsStatementValue}
 use Rattle.pb_proof.specs.declared.word.PolWord.{PolWord}
 use Rattle.pb_proof.specs.declared.word.PolWord.TheVariants.{Id, Axiom, Add, Multiply, Divide, Saturate, Weaken}

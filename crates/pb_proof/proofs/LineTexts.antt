@@ -10,7 +10,7 @@ use Rattle.pb_sums.specs.Sums.{literal_bytes}
 use Rattle.pb_sums.specs.declared.values.Literal.{Literal}
 use Rattle.pb_sums.proofs.CanonicalLaws.{bytes-linear}
 use Rattle.pb_proof.specs.Lines.{pseudo_word, proof_word, version_word, two_word, f_word, pol_word, rup_word, soli_word, solx_word, del_word, id_word, output_word, conclusion_word, end_word, none_word, unsat_word, sat_word, bounds_word, inf_word}
-use Rattle.pb_proof.specs.Canonical.{literal_line, word_bytes, listed_bytes, bound_bytes, id_shown_bytes, shown_bytes, claim_bytes, count_bytes, statement_bytes}
+use Rattle.pb_proof.specs.Canonical.{literal_line, word_bytes, listed_bytes, bound_bytes, id_shown_bytes, shown_bytes, claim_bytes, statement_bytes}
 use Rattle.pb_proof.specs.declared.word.PolWord.{PolWord}
 use Rattle.pb_proof.specs.declared.word.PolWord.TheVariants.{Id, Axiom, Add, Multiply, Divide, Saturate, Weaken}
 use Rattle.pb_proof.specs.declared.conclusion.Bound.{Bound}

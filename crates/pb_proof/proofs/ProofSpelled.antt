@@ -1,13 +1,12 @@
 -- The canonical text of a proof that meets the rules spells it.
-use Rattle.std.proofs.Common.{◌≡◌, ℕ, ◌<◌, ◌^◌, List, [], ◌∷◌, ◌++◌, map, refl, ap, sym, ◌∙◌, subst, append_assoc, arith, All}
+use Rattle.std.proofs.Common.{◌≡◌, ℕ, ◌<◌, ◌^◌, List, [], ◌∷◌, ◌++◌, map, refl, ap, sym, ◌∙◌, append_assoc, arith, All}
 use Rattle.std.proofs.lemmas.List.{map-append}
 use Rattle.std.proofs.lemmas.List.Elements.{All-nil, All-cons, All-head, All-tail, All-append, All-map, All-weaker}
-use Rattle.pb_text.specs.Blank.{IsBlank}
-use Rattle.pb_text.specs.Spelling.{Item, bytes, letters_of, bytes_of}
+use Rattle.pb_text.specs.Spelling.{Item, letters_of, bytes_of}
 use Rattle.pb_text.specs.Whole.{events_of}
 use Rattle.pb_text.proofs.Languages.{bytes-append}
 use Rattle.pb_proof.specs.Lines.{SpellsStatement}
-use Rattle.pb_proof.specs.Proofs.{IsGap, IsStep, statements_of, AreSpelled, IsProofOf}
+use Rattle.pb_proof.specs.Proofs.{IsGap, IsStep, statements_of, AreSpelled}
 use Rattle.pb_proof.specs.Values.{IsStatementValue, IsProofValue}
 use Rattle.pb_proof.specs.Canonical.{statement_bytes, lines, proof_bytes}
 use Rattle.pb_proof.specs.Ended.{ended_lines}

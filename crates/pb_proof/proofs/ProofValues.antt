@@ -1,18 +1,17 @@
 -- What is spelled meets the rules.
-use Rattle.std.proofs.Common.{◌≡◌, ℕ, zero, suc, ◌+◌, ◌<◌, ◌≤◌, List, [], ◌∷◌, ◌++◌, length, refl, ap, sym, ◌∙◌, subst, arith, Bool, true, false, Option, Some, None, All, length-append}
-use Rattle.std.specs.Prelude.{ℤ, pos, nat_abs}
+use Rattle.std.proofs.Common.{◌≡◌, ℕ, zero, suc, ◌<◌, ◌≤◌, List, [], ◌∷◌, ◌++◌, length, refl, ap, sym, ◌∙◌, subst, arith, Bool, true, false, Option, Some, None, All, length-append}
+use Rattle.std.specs.Prelude.{ℤ}
 use Rattle.std.proofs.lemmas.Int.{ints}
-use Rattle.std.proofs.lemmas.List.Elements.{All-nil, All-cons, All-head, All-tail, All-append, All-weaker}
-use Rattle.pb_text.specs.Languages.{Language, ◌⋅◌}
+use Rattle.std.proofs.lemmas.List.Elements.{All-nil, All-cons, All-head, All-tail}
+use Rattle.pb_text.specs.Languages.{Language}
 use Rattle.pb_text.specs.Numbers.{signed}
 use Rattle.pb_text.specs.Spelling.{Letter, Item}
 use Rattle.pb_text.specs.Whole.{events_of}
-use Rattle.pb_text.specs.declared.Spanned.{Spanned}
 use Rattle.pb_sums.specs.Sums.{IsName, SpellsLiteral}
 use Rattle.pb_sums.specs.declared.values.Literal.{Literal}
 use Rattle.pb_sums.specs.declared.grammar.Spaces.TheVariants.{Blank}
-use Rattle.pb_proof.specs.Lines.{Listed, SpellsId, Factor, SpellsBound, SpellsShown, Shown, IdShown, SpellsWord, SpellsConclusion, SpellsStatement}
-use Rattle.pb_proof.specs.Proofs.{IsGap, IsStep, statements_of, IsProof, IsProofOf}
+use Rattle.pb_proof.specs.Lines.{Listed, SpellsId, Factor, SpellsBound, Shown, IdShown, SpellsWord, SpellsConclusion, SpellsStatement}
+use Rattle.pb_proof.specs.Proofs.{IsGap, IsStep, statements_of}
 use Rattle.pb_proof.specs.Values.{IfGiven, IsId, IsFactor, AreLiterals, IsBound, IsWord, IsConclusion, IsStatementValue, IsProofValue}
 use Rattle.pb_proof.specs.ValueLaws.{StatementValues, ProofValues, OneValue}
 use Rattle.pb_proof.specs.declared.word.PolWord.{PolWord}

@@ -1,5 +1,5 @@
 -- What is written, in parts.
-use Rattle.std.proofs.Common.{◌≡◌, ℕ, suc, ◌+◌, ◌<◌, List, [], ◌∷◌, ◌++◌, take, drop, length, refl, ap, sym, append_assoc, ◌∙◌, arith, get_or, take-append-drop}
+use Rattle.std.proofs.Common.{◌≡◌, ℕ, suc, ◌+◌, ◌<◌, List, [], ◌∷◌, ◌++◌, take, drop, length, refl, ap, sym, append_assoc, ◌∙◌, get_or, take-append-drop}
 use Rattle.std.proofs.lemmas.List.{append-nil, take_more}
 use Rattle.std.proofs.Math.Seq.{drop-cons}
 use Rattle.pb_proof.specs.Canonical.{listed_bytes, statement_bytes, lines, proof_bytes}

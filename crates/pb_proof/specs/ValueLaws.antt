@@ -1,6 +1,6 @@
 -- The laws of proofs and their values.
-use Rattle.std.specs.Prelude.{◌≡◌, ℕ, ◌^◌, ◌<◌, List, All}
-use Rattle.pb_text.specs.Spelling.{Letter, Item, bytes, bytes_of}
+use Rattle.std.specs.Prelude.{◌≡◌, ℕ, ◌^◌, ◌<◌, List}
+use Rattle.pb_text.specs.Spelling.{Letter, Item, bytes_of}
 use Rattle.pb_text.specs.Whole.{events_of}
 use Rattle.pb_text.specs.declared.Spanned.{Spanned}
 use Rattle.pb_proof.specs.Lines.{SpellsStatement}

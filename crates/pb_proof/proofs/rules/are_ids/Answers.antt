@@ -1,7 +1,7 @@
 use Rattle.std.proofs.Common.{arith, rules, ℤ, pos, get_or}
 use mir.Val.{SFits}
 use Rattle.std.specs.Int.{w64}
-use Rattle.std.proofs.lemmas.Int.{ints, to_z-of_z}
+use Rattle.std.proofs.lemmas.Int.{to_z-of_z}
 use Rattle.std.proofs.lemmas.List.Elements.{All-more}
 use Rattle.pb_proof.specs.Values.{IsId}
 use Rattle.pb_proof.proofs.Each.{each_end}

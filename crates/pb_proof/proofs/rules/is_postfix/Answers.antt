@@ -1,5 +1,5 @@
 use Rattle.std.proofs.Common.{arith}
-use Rattle.pb_proof.proofs.Finished.{postfix_leads, word_passes, word_lacks, words_end, finished_most}
+use Rattle.pb_proof.proofs.Finished.{postfix_leads}
 use Rattle.pb_proof.proofs.rules.is_postfix.Goals as goal
 
 pub loop-word-init : goal.loop-word-init

@@ -1,4 +1,3 @@
-use Rattle.std.proofs.Common.{refl}
 use Rattle.pb_text.proofs.Parts.{part_then, part_broke}
 use Rattle.std.proofs.Common.{ap, ℕ, Option}
 use Rattle.pb_proof.specs.Canonical.{statement_bytes}
