@@ -4,6 +4,7 @@
 mod building;
 mod conclusion;
 mod laws_of_values;
+mod machine;
 mod proof;
 mod read;
 mod rules;
@@ -14,8 +15,12 @@ mod word;
 mod write;
 
 pub use conclusion::{Bound, Conclusion};
-pub use laws_of_values::{canonical_proof_spells, one_value, proofs_are_values};
+pub use laws_of_values::{
+    canonical_proof_spells, one_value, proofs_are_values, written_proof_reads_back,
+};
+pub use machine::ProofMachine;
 pub use proof::Proof;
+pub use read::{read_proof, read_proof_within};
 pub use rules::{proof_is_value, statement_is_value};
 pub use statement::Statement;
 pub use word::PolWord;

@@ -1,5 +1,6 @@
 //! Canonical text.
 
+use super::rows::REFUTATION;
 use super::samples::{bounds, empty_sum, goal, ids, literals, refutation, words};
 use crate::{Bound, Conclusion, Proof, Statement, write_proof, write_statement};
 use pb_sums::Relation;
@@ -82,9 +83,6 @@ fn writes_conclusions(rt: HostRuntime) -> Result<(), Fail> {
     assert!(rt; is_concluded(alloc, shown, b"conclusion BOUNDS INF 7 : x1 ~x2"));
     Ok(())
 }
-
-const REFUTATION: &[u8] =
-    b"pseudo-Boolean proof version 2.0\nf 2\npol 1 2 +\nrup >= 1 ;\ndel id 3\noutput NONE\nconclusion UNSAT : 3\nend pseudo-Boolean proof";
 
 const NO_CLAIM: &[u8] =
     b"pseudo-Boolean proof version 2.0\nf\noutput NONE\nconclusion NONE\nend pseudo-Boolean proof";
