@@ -17,10 +17,11 @@ use Rattle.pb_proof.specs.declared.statement.Statement.TheVariants.{Header, F, P
 abbrev pub one_more : Building → Statement → Building
 one_more b e = record { proof = with b.proof e }
 
-abbrev behind : Proof → List Statement → Proof
-behind v steps = record v { steps = v.steps ++ steps }
+-- the proof with more steps
+abbrev with_steps : Proof → List Statement → Proof
+with_steps v steps = record v { steps = v.steps ++ steps }
 
-step_behind : (v : Proof) (s : Statement) → IsStep s → with v s ≡ behind v (s ∷ [])
+step_behind : (v : Proof) (s : Statement) → IsStep s → with v s ≡ with_steps v (s ∷ [])
 step_behind v Header h = absurd h
 step_behind v (F count) h = absurd h
 step_behind v (Pol ws) h = refl
@@ -32,11 +33,11 @@ step_behind v Output h = absurd h
 step_behind v (Conclude c) h = absurd h
 step_behind v End h = absurd h
 
-steps_behind : (steps rest : List Statement) (v : Proof) → All IsStep steps → gathered with v (steps ++ rest) ≡ gathered with (behind v steps) rest
+steps_behind : (steps rest : List Statement) (v : Proof) → All IsStep steps → gathered with v (steps ++ rest) ≡ gathered with (with_steps v steps) rest
 steps_behind [] rest v h = ap (λ (xs : List Statement). gathered with (record v { steps = xs }) rest) (sym (append-nil v.steps))
 steps_behind (s ∷ steps) rest v h =
     ap (λ (x : Proof). gathered with x (steps ++ rest)) (step_behind v s (All-head IsStep s steps h))
-    ∙ (steps_behind steps rest (behind v (s ∷ [])) (All-tail IsStep s steps h)
+    ∙ (steps_behind steps rest (with_steps v (s ∷ [])) (All-tail IsStep s steps h)
     ∙ ap (λ (xs : List Statement). gathered with (record v { steps = xs }) rest) (append_assoc v.steps (s ∷ []) steps))
 
 proof_gathered : (v : Proof) → All IsStep v.steps → gathered with nothing (statements_of v) ≡ v

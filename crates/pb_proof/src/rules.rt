@@ -109,6 +109,7 @@ fn is_postfix(words: &[PolWord]) -> bool
     finished == 1
 }
 
+/// Whether there is no count, or one of at most `top`.
 fn count_is_value(count: Option<u64>, top: u64) -> bool
     ensures { IsTrue result ↔ IfGiven (λ n. n ≤ top) count }
 {
@@ -118,6 +119,7 @@ fn count_is_value(count: Option<u64>, top: u64) -> bool
     }
 }
 
+/// Whether there is no id, or one that meets the rules.
 fn id_is_value(id: Option<i64>, top: u64) -> bool
     requires { top < 2 ^ 63 }
     ensures { IsTrue result ↔ IfGiven (IsId top) id }
@@ -128,6 +130,7 @@ fn id_is_value(id: Option<i64>, top: u64) -> bool
     }
 }
 
+/// Whether no literals are given, or each has a name of the grammar.
 fn shown_is_value(shown: &Option<Sequence<Literal>>) -> bool
     ensures { IsTrue result ↔ IfGiven AreLiterals shown.now }
 {
@@ -137,6 +140,7 @@ fn shown_is_value(shown: &Option<Sequence<Literal>>) -> bool
     }
 }
 
+/// Whether the bound's magnitude is at most the limit, where it is finite.
 fn bound_is_value(bound: Bound, limit: u128) -> bool
     requires { limit < 2 ^ 127 }
     ensures { IsTrue result ↔ IsBound limit bound }
@@ -150,6 +154,7 @@ fn bound_is_value(bound: Bound, limit: u128) -> bool
     }
 }
 
+/// Whether the conclusion's bounds, id and literals meet the rules.
 fn conclusion_is_value(conclusion: &Conclusion, limits: Limits) -> bool
     ensures { IsTrue result ↔ IsConclusion (largest limits) (top_of limits) conclusion.now }
 {
