@@ -225,7 +225,7 @@ fn holds_a_statement_in_part(rt: HostRuntime) -> Result<(), Fail> {
         (b"pseudo-Boolean proof version 2.0\nf 2\n".as_slice(), 0),
         (b"soli x1 ~x", 5),
         (b"2\n", 0),
-        (b"pol 1 2 + 7 ", 3),
+        (b"pol 1 2 + 7 ", 4),
         (b"*\n", 0),
     ] {
         assert!(rt; show_piece(&mut feeder, piece, full, &mut out)? == Ok(()));
