@@ -13,6 +13,9 @@ pub mod CountComplete
 pub mod CountSound
 pub mod CountTheorems
 pub mod DigitWalks
+pub mod Each
+pub mod Finished
+pub mod Gathered
 mod GoalReads
 mod GoalStates
 pub mod IdsComplete
@@ -21,6 +24,8 @@ pub mod IdsSound
 pub mod IdsTheorems
 mod InnerLaws
 pub mod LineEnds
+pub mod LineSpelled
+pub mod LineTexts
 pub mod LiteralNames
 pub mod LiteralsComplete
 mod LiteralsPushes
@@ -50,7 +55,12 @@ mod ProofGaps
 mod ProofLarger
 mod ProofOrders
 mod ProofSound
+pub mod ProofSpelled
 mod ProofStates
+pub mod ProofValues
+pub mod ReadsBack
 mod Results
 mod Spaced
 pub mod Walking
+pub mod Within
+pub mod Written

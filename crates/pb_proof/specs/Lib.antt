@@ -1,7 +1,10 @@
+pub mod Building
 pub mod Canonical
 pub mod Claim
 pub mod ClaimState
 pub mod Count
+pub mod Ended
+pub mod Finished
 pub mod Formats
 pub mod Goal
 pub mod Ids
@@ -16,4 +19,6 @@ pub mod PolState
 pub mod Postfix
 pub mod Proofs
 pub mod State
+pub mod ValueLaws
 pub mod Values
+pub mod Whole

@@ -1,6 +1,9 @@
 //! Proofs in VeriPB 2.0, read one byte at a time and written.
 #![tactic(auto)]
 
+<<<<<<< HEAD
+
+mod building;
 mod claim;
 mod claim_phase;
 mod claim_plan;
@@ -17,6 +20,7 @@ mod ids_phase;
 mod inner;
 mod inners;
 mod laws;
+mod laws_of_values;
 #[cfg(test)]
 mod line_tests;
 mod literals;
@@ -36,12 +40,23 @@ mod pol_plan;
 mod pol_tests;
 mod pol_words;
 mod proof;
+mod read;
+mod rules;
 mod statement;
+#[cfg(test)]
+mod tests;
 mod word;
+mod write;
 
 pub use conclusion::{Bound, Conclusion};
 pub use laws::{larger_limits, no_front, one_proof, proofs_are_exact};
+pub use laws_of_values::{
+    canonical_proof_spells, one_value, proofs_are_values, written_proof_reads_back,
+};
 pub use machine::ProofMachine;
 pub use proof::Proof;
+pub use read::{read_proof, read_proof_within};
+pub use rules::{proof_is_value, statement_is_value};
 pub use statement::Statement;
 pub use word::PolWord;
+pub use write::{write_proof, write_statement};

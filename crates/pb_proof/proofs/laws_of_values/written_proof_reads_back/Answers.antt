@@ -1,0 +1,5 @@
+use Rattle.pb_proof.proofs.ReadsBack.{reads_back_of}
+use Rattle.pb_proof.proofs.laws_of_values.written_proof_reads_back.Goals as goal
+
+pub returns : goal.returns
+returns c = reads_back_of ?

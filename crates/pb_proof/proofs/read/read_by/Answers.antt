@@ -1,0 +1,14 @@
+use Rattle.pb_text.specs.Automaton.{Accepts}
+use Rattle.pb_text.specs.Limits.{largest, top_of}
+use Rattle.pb_proof.proofs.Gathered.{is_read, stops_in}
+use Rattle.pb_proof.proofs.read.read_by.Goals as goal
+
+pub returns-in-Ok-clause-reads : goal.returns-in-Ok-clause-reads
+returns-in-Ok-clause-reads g c =
+    let r = c.in-Ok.ensures.reads in
+    (r.0, r.1, r.2, is_read (largest c.args.limits) (top_of c.args.limits) c.args.longest (Accepts g.M.Machine.automaton c.args.machine) c.requires.accepts r.0 c.new.result c.new.ensures c.in-Ok.read r.3)
+
+pub returns-in-Err-clause-reads : goal.returns-in-Err-clause-reads
+returns-in-Err-clause-reads g c =
+    let r = c.in-Err.ensures.reads in
+    (r.0, r.1, r.2, stops_in (largest c.args.limits) (top_of c.args.limits) c.args.longest (Accepts g.M.Machine.automaton c.args.machine) c.requires.accepts r.0 c.new.result r.1 c.in-Err.stop r.3)

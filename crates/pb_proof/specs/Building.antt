@@ -1,0 +1,19 @@
+-- A proof as its statements come.
+use Rattle.std.specs.Prelude.{[], ◌∷◌, ◌++◌, None}
+use Rattle.pb_proof.specs.declared.conclusion.Conclusion.TheVariants.{NoClaim}
+use Rattle.pb_proof.specs.declared.proof.Proof.{Proof}
+use Rattle.pb_proof.specs.declared.statement.Statement.{Statement}
+use Rattle.pb_proof.specs.declared.statement.Statement.TheVariants.{Header, F, Output, Conclude, End}
+
+-- the proof with one statement more
+abbrev pub with : Proof → Statement → Proof
+with v Header = v
+with v (F count) = record v { count = count }
+with v Output = v
+with v (Conclude conclusion) = record v { conclusion = conclusion }
+with v End = v
+with v step = record v { steps = v.steps ++ step ∷ [] }
+
+-- before any statement
+abbrev pub nothing : Proof
+nothing = record { count = None; steps = []; conclusion = NoClaim }

@@ -1,0 +1,15 @@
+-- How many expressions are finished behind a postfix word.
+use Rattle.std.specs.Prelude.{ℕ, suc, Option, Some, None}
+use Rattle.pb_proof.specs.declared.word.PolWord.{PolWord}
+use Rattle.pb_proof.specs.declared.word.PolWord.TheVariants.{Id, Axiom, Add, Multiply, Divide, Saturate, Weaken}
+
+-- the number behind the word where so many are finished before it, or none where it lacks an operand
+abbrev pub finished_with : ℕ → PolWord → Option ℕ
+finished_with d (Id id) = Some (suc d)
+finished_with d (Axiom literal) = Some (suc d)
+finished_with (suc (suc d)) Add = Some (suc d)
+finished_with (suc d) (Multiply k) = Some (suc d)
+finished_with (suc d) (Divide k) = Some (suc d)
+finished_with (suc d) Saturate = Some (suc d)
+finished_with (suc d) (Weaken name) = Some (suc d)
+finished_with _ _ = None

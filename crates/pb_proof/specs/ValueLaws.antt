@@ -1,0 +1,34 @@
+-- The laws of proofs and their values.
+use Rattle.std.specs.Prelude.{◌≡◌, ℕ, ◌^◌, ◌<◌, List}
+use Rattle.pb_text.specs.Spelling.{Letter, Item, bytes_of}
+use Rattle.pb_text.specs.Whole.{events_of}
+use Rattle.pb_text.specs.declared.Spanned.{Spanned}
+use Rattle.pb_proof.specs.Lines.{SpellsStatement}
+use Rattle.pb_proof.specs.Proofs.{IsProof, IsProofOf}
+use Rattle.pb_proof.specs.Values.{IsStatementValue, IsProofValue}
+use Rattle.pb_proof.specs.Canonical.{proof_bytes}
+use Rattle.pb_proof.specs.Whole.{IsRead}
+use Rattle.pb_proof.specs.declared.proof.Proof.{Proof}
+use Rattle.pb_proof.specs.declared.statement.Statement.{Statement}
+
+-- The canonical text of a proof that meets the rules is a spelling of that proof.
+abbrev pub CanonicalProof : Type 0
+CanonicalProof = (limit top : ℕ) (v : Proof) → limit < 2 ^ 127 → top < 2 ^ 63 → IsProofValue limit top v →
+    (items : List (Item Statement)) × IsProof limit top items × (bytes_of items ≡ proof_bytes v) × IsProofOf (events_of items) v
+
+-- A statement that is spelled meets the rules, and so does a proof.
+abbrev pub StatementValues : Type 0
+StatementValues = (limit top : ℕ) (s : Statement) (text : List Letter) → SpellsStatement limit top s text → IsStatementValue limit top s
+
+abbrev pub ProofValues : Type 0
+ProofValues = (limit top : ℕ) (items : List (Item Statement)) (v : Proof) → IsProof limit top items → IsProofOf (events_of items) v →
+    IsProofValue limit top v
+
+-- Statements are those of one proof at most.
+abbrev pub OneValue : Type 0
+OneValue = (statements : List Statement) (v w : Proof) → IsProofOf statements v → IsProofOf statements w → v ≡ w
+
+-- What is written of a proof that meets the rules is read as that proof alone.
+abbrev pub ReadsBack : Type 0
+ReadsBack = (limit top longest : ℕ) (v : Proof) (m : Spanned Proof) → limit < 2 ^ 127 → top < 2 ^ 63 → IsProofValue limit top v →
+    IsRead (IsProof limit top) longest IsProofOf (proof_bytes v) m → m.event ≡ v

@@ -1,0 +1,30 @@
+-- A whole read, where a relation says which value events have.
+use Rattle.std.specs.Prelude.{◌≡◌, ℕ, List, [], ◌++◌, false, Option, Some, Result, Ok, Err}
+use Rattle.pb_text.specs.Spelling.{Item, place_after}
+use Rattle.pb_text.specs.Reading.{Reads, IsSpelled, Viable}
+use Rattle.pb_text.specs.Pulling.{Took}
+use Rattle.pb_text.specs.Whole.{events_of}
+use Rattle.pb_text.specs.declared.place.Spanned.{Spanned}
+use Rattle.pb_text.specs.declared.place.Stop.{Stop}
+use Rattle.pb_text.specs.declared.place.Why.TheVariants.{Memory}
+
+module _ {E : Type 0} (format : List (Item E) → Type 0) (longest : ℕ) where
+  -- The used bytes are a front of a spelling, and the stop says why no more were taken. Where there was no memory
+  -- to keep an event, it stands behind that event.
+  pub data StopsIn (used seen : List ℕ) (s : Stop) : Type 0 where
+    Reading : (marks : List (Spanned E)) → Reads format longest (used ++ seen) used marks s.place false (Some s) → StopsIn used seen s
+    Keeping : Viable format used → s ≡ record { place = place_after used; why = Memory } → StopsIn used seen s
+
+  module _ {V : Type 0} (IsValue : List E → V → Type 0) where
+    -- The used bytes are a spelling, and the value is one of its events.
+    pub record IsRead (used : List ℕ) (m : Spanned V) : Type 0 where
+      pub marks : List (Spanned E)
+      pub spelled : IsSpelled format longest used marks
+      pub value : IsValue (events_of spelled.items) m.event
+      pub first : m.first ≡ place_after []
+      pub past : m.past ≡ place_after used
+
+    -- what was read of a source that had these bytes before and has those after, where it tells them
+    abbrev pub ReadsValue : Option (List ℕ) → Result (Spanned V) Stop → Option (List ℕ) → Type 0
+    ReadsValue before (Ok m) after = (used : List ℕ) × (seen : List ℕ) × Took before used seen after × IsRead used m
+    ReadsValue before (Err s) after = (used : List ℕ) × (seen : List ℕ) × Took before used seen after × StopsIn used seen s

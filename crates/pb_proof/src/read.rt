@@ -1,0 +1,79 @@
+//! Reads a whole proof.
+
+ghost use Rattle.std.specs.Prelude.{false, ◌≡◌, ◌<◌, ◌↔◌, List, None, IfOk};
+ghost use Rattle.pb_text.specs.Automaton.{Accepts};
+ghost use Rattle.pb_text.specs.Blank.{IsInReach};
+ghost use Rattle.pb_text.specs.Limits.{largest, top_of};
+ghost use Rattle.pb_text.specs.Pulling.{faults_after};
+ghost use Rattle.pb_text.specs.Spelling.{Item};
+ghost use Rattle.pb_proof.specs.Proofs.{IsProof, IsProofOf};
+ghost use Rattle.pb_proof.specs.Whole.{ReadsValue};
+
+use crate::building::Building;
+use crate::machine::ProofMachine;
+use crate::proof::Proof;
+use crate::statement::Statement;
+use pb_text::{BYTE_LIMIT, Limits, Machine, Source, Spanned, Stop, read_whole};
+use std::alloc::Global;
+
+/// Reads the proof that begins the input, and takes the bytes of its spelling alone: through the last byte of
+/// `end pseudo-Boolean proof`.
+///
+/// A stop names the first byte that no spelling under the limits has there (`Byte`, or `TooLarge` for a further digit
+/// of a number), the end of the input (`Ended`), the byte at offset `2^40` (`TooLong`), a fault of the source
+/// (`Read`), or where memory ran out (`Memory`).
+pub fn read_proof<S: Source>(
+    alloc: Global,
+    input: &mut S,
+    limits: Limits,
+) -> Result<Spanned<Proof>, Stop>
+    ensures reads { ReadsValue (IsProof (largest limits) (top_of limits)) BYTE_LIMIT IsProofOf (S.left input.old) result (S.left input.new) }
+    ensures past { IfOk result (λ m. IsInReach m.past) }
+    // `Read` comes only where the source failed.
+    ensures faults { S.faults input.new ≡ faults_after None result (S.faults input.old) }
+{
+    read_proof_within(alloc, input, BYTE_LIMIT, limits)
+}
+
+/// The same, but it also stops as `TooLong` at a statement that has not ended within its first `longest` bytes. Each
+/// statement counts from its first word through its line feed, and the closing words through their last byte.
+pub fn read_proof_within<S: Source>(
+    alloc: Global,
+    input: &mut S,
+    longest: u64,
+    limits: Limits,
+) -> Result<Spanned<Proof>, Stop>
+    requires { 0 < longest }
+    ensures reads { ReadsValue (IsProof (largest limits) (top_of limits)) longest IsProofOf (S.left input.old) result (S.left input.new) }
+    ensures past { IfOk result (λ m. IsInReach m.past) }
+    // `Read` comes only where the source failed.
+    ensures faults { S.faults input.new ≡ faults_after None result (S.faults input.old) }
+{
+    let machine = ProofMachine::new(alloc, limits);
+    read_by(alloc, input, machine, longest, limits)
+}
+
+/// Reads by a machine that accepts the proofs under the limits.
+fn read_by<S: Source, M: Machine<Event = Statement> + Drop>(
+    alloc: Global,
+    input: &mut S,
+    machine: M,
+    longest: u64,
+    limits: Limits,
+) -> Result<Spanned<Proof>, Stop>
+    requires accepts { (items : List (Item Statement)) → Accepts M.automaton machine items ↔ IsProof (largest limits) (top_of limits) items }
+    requires between { M.automaton.begun machine ≡ false }
+    requires some { 0 < longest }
+    ensures reads { ReadsValue (IsProof (largest limits) (top_of limits)) longest IsProofOf (S.left input.old) result (S.left input.new) }
+    ensures past { IfOk result (λ m. IsInReach m.past) }
+    ensures faults { S.faults input.new ≡ faults_after None result (S.faults input.old) }
+{
+    match read_whole(input, machine, longest, Building::new(alloc)) {
+        Ok(read) => Ok(Spanned {
+            event: read.event.proof,
+            first: read.first,
+            past: read.past,
+        }),
+        Err(stop) => Err(stop),
+    }
+}
