@@ -35,8 +35,7 @@ one_more names a Equal c sides (r ∷ s ∷ forms) P e d h rest f =
     let same = SameAsForms-from names c r s e (SameSolutions-side names least c r d h f.0) (SameSolutions-side names most c s d h f.1.0) a in
     let first = SameAsForm-linear_of names r a in
     let second = SameAsForm-linear_of names s a in
-    let others = rest forms f.1.1 in
-    (
+    let others = rest forms f.1.1 in (
       λ w. let both = same.0 w.0 in (first.1 both.0, (second.1 both.1, others.0 w.1)),
       λ w. (same.1 (first.0 w.0, second.0 w.1.0), others.1 w.1.1),
     )
