@@ -44,8 +44,9 @@ AreFormsOf names = AllZip (λ side r. IsSideOf names side.0 side.1 r)
 abbrev pub AreLoaded : List (List ℕ) → List (Side × Linear) → List Linear → Type 0
 AreLoaded names sides cs = (forms : List Form) × AreFormsOf names sides forms × (cs ≡ map (linear_of names) forms)
 
--- W has the variables and the objective of v, no tail and no comments, and as its constraints v's forms in order,
--- written out with the names of v: the terms of each stand in the order in which these first appear.
+-- The instance w is the normal form of v: it has the variables and the objective of v, no tail and no comments, and
+-- as its constraints the forms of v's, in order, written out with the names of v. So the terms of each stand in the
+-- order in which these first appear.
 pub record IsNormalised (v w : Instance) : Type 0 where
   pub variables : w.variables ≡ v.variables
   pub objective : w.objective ≡ v.objective

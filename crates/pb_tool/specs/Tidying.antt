@@ -45,7 +45,7 @@ is_bare (Some terms) constraints = false
 abbrev pub IsOpb : Limits → List (Item OpbEvent) → Type 0
 IsOpb limits = IsInstance (largest limits) (top_of limits)
 
--- W is to be written for v: v itself, or with `normal` its normal form, where no constraint passes the limit.
+-- What is to be written for v: v itself, or with `normal` its normal form, where no constraint passes the limit.
 abbrev pub IsAsked : Bool → ℕ → Instance → Instance → Type 0
 IsAsked false limit v w = w ≡ v
 IsAsked true limit v w = IsNormalised v w × ¬ Overflows limit v

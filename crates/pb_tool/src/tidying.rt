@@ -36,11 +36,11 @@ pub fn tidy<S: Source, W: Sink>(
         Ok(instance) => instance,
         Err(stop) => return Err(refused(stop)),
     };
-    let asked = match asked(alloc, instance, normal, limits) {
-        Ok(asked) => asked,
+    let written = match asked(alloc, instance, normal, limits) {
+        Ok(written) => written,
         Err(fault) => return Err(fault),
     };
-    match write_tidied(&asked, out) {
+    match write_tidied(&written, out) {
         Ok(()) => Ok(()),
         Err(Failed) => Err(ToolFault::Write),
     }
