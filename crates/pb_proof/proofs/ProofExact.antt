@@ -8,6 +8,8 @@ use Rattle.pb_text.specs.Whole.{events_of}
 use Rattle.pb_proof.specs.Lines.{SpellsStatement}
 use Rattle.pb_proof.specs.Machine.{plan}
 use Rattle.pb_proof.specs.Order.{stage_of, stage_after, GapAt, IsOrdered}
+use Rattle.pb_text.proofs.Deterministic.{one_spelling}
+use Rattle.pb_proof.specs.Formats.{OneProof}
 use Rattle.pb_proof.specs.Proofs.{IsGap, IsStep, statements_of, AreSpelled, BeginsAtOnce, IsProof}
 use Rattle.pb_proof.specs.State.{ProofState, proofs, begin, act, is_done}
 use Rattle.pb_proof.specs.declared.conclusion.Conclusion.{Conclusion}
@@ -222,3 +224,7 @@ done_stops s (phase.Inside r) b h = never false h refl
 
 pub closes : (s : ProofState) → IsTrue (proofs.done s) → (b : ℕ) → proofs.step s b ≡ Refuse
 closes s h b = done_stops s s.phase b h
+
+-- a text spells one proof
+pub one_proof : OneProof
+one_proof limit top items items' h k = one_spelling proofs closes (begin limit top) items items' ((reads_proofs limit top items).1 h) ((reads_proofs limit top items').1 k)

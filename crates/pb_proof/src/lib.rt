@@ -1,8 +1,6 @@
 //! Proofs in VeriPB 2.0, read one byte at a time and written.
 #![tactic(auto)]
 
-<<<<<<< HEAD
-
 mod building;
 mod claim;
 mod claim_phase;
