@@ -1,5 +1,6 @@
--- The line and the exit status of a fault.
-use Rattle.std.specs.Prelude.{ℕ, ◌/◌, ◌%◌, List, [], ◌∷◌, ◌++◌, codes, decimal, slice_index}
+-- The line and the exit status of a fault, and what it says of the source.
+use Rattle.std.specs.Prelude.{ℕ, ◌/◌, ◌%◌, List, [], ◌∷◌, ◌++◌, codes, decimal, slice_index, Result, Ok, Err}
+use Rattle.pb_text.specs.Pulling.{faults_with}
 use Rattle.pb_text.specs.declared.place.Place.{Place}
 use Rattle.pb_text.specs.declared.place.Why.{Why}
 use Rattle.pb_text.specs.declared.place.Why.TheVariants as why
@@ -56,3 +57,13 @@ exit_status (fault.Open input) = 3
 exit_status (fault.Overflow input) = 1
 exit_status (fault.Memory input) = 3
 exit_status fault.Write = 3
+
+-- how often a source has failed after a command that answers this: once more where the answer is a read fault, and
+-- else as often as before
+abbrev pub faults_told : Result Unit ToolFault → ℕ → ℕ
+faults_told (Ok u) n = n
+faults_told (Err (fault.Text input stop)) n = faults_with stop.why n
+faults_told (Err (fault.Open input)) n = n
+faults_told (Err (fault.Overflow input)) n = n
+faults_told (Err (fault.Memory input)) n = n
+faults_told (Err fault.Write) n = n

@@ -4,6 +4,7 @@ ghost use Rattle.std.specs.Prelude.{◌≡◌, ◌<◌, ◌^◌, false, unwrap_o
 ghost use Rattle.pb_text.specs.Automaton.{Accepts};
 ghost use Rattle.pb_text.specs.Writing.{Writes};
 ghost use Rattle.pb_opb.specs.Canonical.{event_bytes};
+ghost use Rattle.pb_tool.specs.Faults.{faults_told};
 ghost use Rattle.pb_tool.specs.Showing.{shown_line, Shows};
 ghost use Rattle.pb_tool.specs.Tidying.{IsOpb};
 
@@ -30,7 +31,9 @@ pub fn show<S: Source, W: Sink>(
     limits: Limits,
 ) -> Result<(), ToolFault>
     requires { IfSome longest (λ n. 0 < n) }
-    ensures { Shows (IsOpb limits) (unwrap_or longest (2 ^ 40)) event_bytes W.contents W.faults (S.left input.old) out.old result (S.left input.new) out.new }
+    ensures shows { Shows (IsOpb limits) (unwrap_or longest (2 ^ 40)) event_bytes W.contents W.faults (S.left input.old) out.old result (S.left input.new) out.new }
+    // `Read` comes only where the source failed.
+    ensures faults { S.faults input.new ≡ faults_told result (S.faults input.old) }
 {
     let longest = longest.unwrap_or(BYTE_LIMIT);
     show_each(OpbMachine::new(alloc, limits), longest, input, out)
@@ -45,7 +48,8 @@ fn show_each<S: Source, W: Sink, E: Statement + Drop, M: Machine<Event = E> + Dr
 ) -> Result<(), ToolFault>
     requires between { M.automaton.begun machine ≡ false }
     requires some { 0 < longest }
-    ensures { Shows (Accepts M.automaton machine) longest E.text W.contents W.faults (S.left input.old) out.old result (S.left input.new) out.new }
+    ensures shows { Shows (Accepts M.automaton machine) longest E.text W.contents W.faults (S.left input.old) out.old result (S.left input.new) out.new }
+    ensures faults { S.faults input.new ≡ faults_told result (S.faults input.old) }
 {
     let mut feeder = Feeder::within(machine, longest);
     loop {

@@ -1,8 +1,10 @@
 //! `pb tidy`: the canonical spelling of an instance.
 
-ghost use Rattle.std.specs.Prelude.{◌≡◌, ◌<◌, ◌^◌, unwrap_or, IfSome, IfOk, IfErr};
+ghost use Rattle.std.specs.Prelude.{◌≡◌, ◌<◌, ◌^◌, None, unwrap_or, IfSome, IfOk, IfErr};
 ghost use Rattle.pb_text.specs.Limits.{largest};
+ghost use Rattle.pb_text.specs.Pulling.{faults_after};
 ghost use Rattle.pb_text.specs.Writing.{Writes};
+ghost use Rattle.pb_tool.specs.Faults.{faults_told};
 ghost use Rattle.pb_tool.specs.Tidying.{is_bare, tidied, IsAsked, IsDenied, IsFile, IsRefused, Tidies};
 
 use crate::fault::{Input, ToolFault, refused};
@@ -29,7 +31,9 @@ pub fn tidy<S: Source, W: Sink>(
     limits: Limits,
 ) -> Result<(), ToolFault>
     requires { IfSome longest (λ n. 0 < n) }
-    ensures { Tidies limits (unwrap_or longest (2 ^ 40)) normal W.contents W.faults (S.left input.old) out.old result (S.left input.new) out.new }
+    ensures tidies { Tidies limits (unwrap_or longest (2 ^ 40)) normal W.contents W.faults (S.left input.old) out.old result (S.left input.new) out.new }
+    // `Read` comes only where the source failed.
+    ensures faults { S.faults input.new ≡ faults_told result (S.faults input.old) }
 {
     let longest = longest.unwrap_or(BYTE_LIMIT);
     let instance = match read_file(alloc, input, longest, limits) {
@@ -56,6 +60,7 @@ fn read_file<S: Source>(
     requires { 0 < longest }
     ensures file { IfOk result (IsFile limits longest (S.left input.old) (S.left input.new)) }
     ensures refused { IfErr result (IsRefused limits longest (S.left input.old) (S.left input.new)) }
+    ensures faults { S.faults input.new ≡ faults_after None result (S.faults input.old) }
 {
     let read = match read_instance_within(alloc, input, longest, limits) {
         Ok(read) => read,

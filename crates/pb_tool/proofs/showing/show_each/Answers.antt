@@ -1,4 +1,4 @@
-use Rattle.std.proofs.Common.{ℕ, ◌+◌, ◌-◌, ◌^◌, ◌<◌, ◌≤◌, [], ◌∷◌, ◌++◌, Ok, Err, ap, arith, refl, subst}
+use Rattle.std.proofs.Common.{ℕ, ◌+◌, ◌-◌, ◌^◌, ◌<◌, ◌≤◌, [], ◌∷◌, ◌++◌, Ok, Err, ap, ◌∙◌, arith, refl, subst}
 use Rattle.pb_text.specs.Automaton.{Accepts}
 use Rattle.pb_text.specs.Blank.{ReadsBlank}
 use Rattle.pb_text.specs.declared.Place.{Place}
@@ -9,18 +9,21 @@ use Rattle.pb_tool.proofs.Shown.{first_pull, shown_more, so_far_within, spelling
 use Rattle.pb_tool.proofs.showing.show_each.Goals as goal
 
 pub loop-read-init : goal.loop-read-init
-loop-read-init g c = (
+loop-read-init g c = record {
+  faults = refl;
+  shown = (
   [],
   first_pull {g = g.M.Machine} c.args.longest c.args.machine (g.S.Source.left c.args.input.now) c.within-feeder.result c.within-feeder.ensures.stands c.within-feeder.ensures.running (ap (λ (p : Place). p.offset) c.within-feeder.ensures.place),
   writes_nothing g.W.Sink.contents g.W.Sink.faults c.args.out.now,
-)
+);
+}
 
 fewer : (a b : ℕ) → b ≤ 2 ^ 40 → a < b → 2 ^ 40 + 1 - b < 2 ^ 40 + 1 - a
 fewer a b reach onward = omega arith
 
 pub loop-read-smaller : goal.loop-read-smaller
 loop-read-smaller g c =
-    let (marks, pulled, wrote) = c.loop-read.invariant in
+    let (marks, pulled, wrote) = c.loop-read.invariant.shown in
     let t = rw (c.in-Ok-Some.is, c.in-Ok-Some.field-0-is) at c.pull.ensures in
     let (more, sofar) = t.row c.args.longest c.args.machine (g.S.Source.left c.args.input.now) marks pulled in
     let within = so_far_within (Accepts g.M.Machine.automaton c.args.machine) c.args.longest (g.S.Source.left c.args.input.now) (g.S.Source.left c.pull.new.source) (marks ++ c.in-Ok-Some.read ∷ []) c.in-Ok-Some.read.past sofar in
@@ -28,35 +31,38 @@ loop-read-smaller g c =
 
 pub loop-read-preserved : goal.loop-read-preserved
 loop-read-preserved g c =
-    let (marks, pulled, wrote) = c.loop-read.invariant in
+    let (marks, pulled, wrote) = c.loop-read.invariant.shown in
     let t = rw (c.in-Ok-Some.is, c.in-Ok-Some.field-0-is) at c.pull.ensures in
     let (more, sofar) = t.row c.args.longest c.args.machine (g.S.Source.left c.args.input.now) marks pulled in
-    (marks ++ c.in-Ok-Some.read ∷ [], more, part_wrote g.W.Sink.contents g.W.Sink.faults _ _ _ _ _ _ (shown_more g.E.Statement.text marks c.in-Ok-Some.read) wrote c.in-Ok.ensures)
+    record {
+      faults = rw pulled.running at t.faults ∙ c.loop-read.invariant.faults;
+      shown = (marks ++ c.in-Ok-Some.read ∷ [], more, part_wrote g.W.Sink.contents g.W.Sink.faults _ _ _ _ _ _ (shown_more g.E.Statement.text marks c.in-Ok-Some.read) wrote c.in-Ok.ensures);
+    }
 
-pub returns-in-Err-show_one : goal.returns-in-Err-show_one
-returns-in-Err-show_one g c =
-    let (marks, pulled, wrote) = c.loop-read.invariant in
+pub returns-in-Err-show_one-clause-shows : goal.returns-in-Err-show_one-clause-shows
+returns-in-Err-show_one-clause-shows g c =
+    let (marks, pulled, wrote) = c.loop-read.invariant.shown in
     let t = rw (c.in-Ok-Some.is, c.in-Ok-Some.field-0-is) at c.pull.ensures in
     let (more, sofar) = t.row c.args.longest c.args.machine (g.S.Source.left c.args.input.now) marks pulled in
     (marks, c.in-Ok-Some.read, c.loop-read.out, sofar, wrote, c.in-Err-show_one.ensures)
 
-pub returns-in-Err : goal.returns-in-Err
-returns-in-Err g c =
-    let (marks, pulled, wrote) = c.loop-read.invariant in
+pub returns-in-Err-clause-shows : goal.returns-in-Err-clause-shows
+returns-in-Err-clause-shows g c =
+    let (marks, pulled, wrote) = c.loop-read.invariant.shown in
     let t = rw c.in-Err.is at c.pull.ensures in
     rw c.refused.ensures (marks, InText (t.row c.args.longest c.args.machine (g.S.Source.left c.args.input.now) marks pulled), wrote)
 
-pub returns-in-Ok-rest_is_blank : goal.returns-in-Ok-rest_is_blank
-returns-in-Ok-rest_is_blank g c =
-    let (marks, pulled, wrote) = c.loop-read.invariant in
+pub returns-in-Ok-rest_is_blank-clause-shows : goal.returns-in-Ok-rest_is_blank-clause-shows
+returns-in-Ok-rest_is_blank-clause-shows g c =
+    let (marks, pulled, wrote) = c.loop-read.invariant.shown in
     let t = rw (c.in-Ok-None.is, c.in-Ok-None.field-0-is) at c.pull.ensures in
     let all = t.row c.args.longest c.args.machine (g.S.Source.left c.args.input.now) marks pulled in
     let blank = subst (λ (p : Place). ReadsBlank p (g.S.Source.left c.pull.new.source) (Ok tt) (g.S.Source.left c.rest_is_blank.new.source)) c.place.ensures.place c.in-Ok-rest_is_blank.ensures.blank in
     (marks, spelling (Accepts g.M.Machine.automaton c.args.machine) c.args.longest (g.S.Source.left c.args.input.now) (g.S.Source.left c.pull.new.source) (g.S.Source.left c.rest_is_blank.new.source) marks _ all blank, wrote)
 
-pub returns : goal.returns
-returns g c =
-    let (marks, pulled, wrote) = c.loop-read.invariant in
+pub returns-clause-shows : goal.returns-clause-shows
+returns-clause-shows g c =
+    let (marks, pulled, wrote) = c.loop-read.invariant.shown in
     let t = rw (c.in-Ok-None.is, c.in-Ok-None.field-0-is) at c.pull.ensures in
     let all = t.row c.args.longest c.args.machine (g.S.Source.left c.args.input.now) marks pulled in
     let s = c.in-Err-rest_is_blank.stop in

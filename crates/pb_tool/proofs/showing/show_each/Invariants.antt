@@ -1,4 +1,4 @@
-use Rattle.std.proofs.Common.{◌+◌, ◌-◌, ◌^◌, List}
+use Rattle.std.proofs.Common.{◌≡◌, ◌+◌, ◌-◌, ◌^◌, List}
 use Rattle.pb_text.specs.Feeding.{place_of}
 use Rattle.pb_text.specs.Rows.{HasPulled}
 use Rattle.pb_text.specs.Writing.{Wrote}
@@ -6,11 +6,13 @@ use Rattle.pb_text.specs.declared.Spanned.{Spanned}
 use Rattle.pb_tool.specs.Showing.{shown}
 use Rattle.pb_tool.proofs.showing.show_each.Given as goal
 
--- the lines of the statements so far went out
+-- the lines of the statements so far went out, and the source has not failed
 abbrev pub invariant-loop-read : goal.invariant-loop-read
-invariant-loop-read g l =
-    (marks : List (Spanned _)) × HasPulled {g = g.M.Machine} l.fn.longest l.fn.machine (g.S.Source.left l.fn.input) marks l.feeder (g.S.Source.left l.input)
-    × Wrote g.W.Sink.contents g.W.Sink.faults l.fn.out (shown g.E.Statement.text marks) l.out
+invariant-loop-read g l = record {
+  faults : g.S.Source.faults l.input ≡ g.S.Source.faults l.fn.input;
+  shown : (marks : List (Spanned _)) × HasPulled {g = g.M.Machine} l.fn.longest l.fn.machine (g.S.Source.left l.fn.input) marks l.feeder (g.S.Source.left l.input)
+      × Wrote g.W.Sink.contents g.W.Sink.faults l.fn.out (shown g.E.Statement.text marks) l.out;
+}
 
 -- the bytes that may still be read
 abbrev pub decreases-loop-read : goal.decreases-loop-read
