@@ -23,7 +23,7 @@ use Rattle.pb_proof.specs.declared.goal_phase.GoalPhase.TheVariants.{Start, Gap,
 use Rattle.pb_proof.specs.declared.goal_phase.GoalMove.{GoalMove}
 use Rattle.pb_proof.specs.declared.goal_phase.GoalMove.TheVariants.{To, Give, Finish, Stop}
 use Rattle.pb_proof.proofs.Choices.{never, chosen}
-use Rattle.pb_proof.proofs.Living.{IsAlive, before, final, accepted, admits_before}
+use Rattle.pb_proof.proofs.Living.{IsAlive, ReadsOn, before, final, accepted, reads_on, admits_before}
 use Rattle.pb_proof.proofs.Walking.{Walks, reads_behind}
 
 -- The constraint that the machine of sums gives has no more units than that machine had.
@@ -338,3 +338,7 @@ count_more xs i d c m r h e f g =
   where
     counted : (u n c m r : ℕ) → c ≡ min u (2 ^ 64 - 1) → m ≡ min (n + 1) (2 ^ 64 - 1) → r ≡ min (c + m) (2 ^ 64 - 1) → r ≡ min (u + (1 + n)) (2 ^ 64 - 1)
     counted u n c m r e f g = omega arith
+
+-- Each state in order that has not ended reads some text.
+pub goal_goes_on : (s : GoalState) → IsGoalInOrder s → goal_automaton.done s ≡ false → ReadsOn goal_automaton s
+goal_goes_on s h d = reads_on goal_automaton goal_begins s (goal_is_state s h) d

@@ -127,8 +127,8 @@ module _ (limit top : ℕ) (here : Stage) where
     abbrev After : Move → Type 0
     After m = Leaves (act s l.byte m)
 
-    plain_letter : (o : Bool) → s.inner ≡ None → l.numeral ≡ asked false inners.in_number s.inner → l.numeral ≡ false
-    plain_letter o e n = n ∙ ap (asked false inners.in_number) e
+    plain_letter : s.inner ≡ None → l.numeral ≡ asked false inners.in_number s.inner → l.numeral ≡ false
+    plain_letter e n = n ∙ ap (asked false inners.in_number) e
 
     -- a machine of what stands behind the words begins
     begins : (r : Rest) → stage_rest r ≡ here → (l.numeral ≡ false → Before r (p ++ l ∷ [])) → After (move.Begin r)
@@ -148,13 +148,13 @@ module _ (limit top : ℕ) (here : Stage) where
 
     -- all words have been read
     whole : s.inner ≡ None → (f : Front) → stage_front f ≡ here → (l.numeral ≡ false → FrontWords f (p ++ l ∷ [])) → After (behind f)
-    whole o front.Header at h = λ w n. (k, (at, none_yet (FrontWords front.Header) Blanks0 (p ++ l ∷ []) ([], tt, refl) (h (plain_letter true o n)), o))
+    whole o front.Header at h = λ w n. (k, (at, none_yet (FrontWords front.Header) Blanks0 (p ++ l ∷ []) ([], tt, refl) (h (plain_letter o n)), o))
     whole o front.Formula at h = begins rest.Count at h
     whole o front.Pol at h = begins rest.Words at h
     whole o front.Rup at h = begins rest.Goal at h
-    whole o front.Solution at h = λ w n. (k, (at, h (plain_letter true o n), o))
+    whole o front.Solution at h = λ w n. (k, (at, h (plain_letter o n), o))
     whole o front.Delete at h = begins rest.Deleted at h
-    whole o front.Output at h = λ w n. (k, (at, none_yet (FrontWords front.Output) Blanks0 (p ++ l ∷ []) ([], tt, refl) (h (plain_letter true o n)), o))
+    whole o front.Output at h = λ w n. (k, (at, none_yet (FrontWords front.Output) Blanks0 (p ++ l ∷ []) ([], tt, refl) (h (plain_letter o n)), o))
     whole o front.Conclusion at h = begins rest.Claimed at h
     whole o front.End at h = λ n. (at, h n, same_idle s.limit s.top Complete Complete k.0 k.1 refl)
 
@@ -165,7 +165,7 @@ module _ (limit top : ℕ) (here : Stage) where
         (λ e. chosen After (nat_eq (j + 1) (length (words_of f))) _ _
         (λ g. whole o f at (λ n. front_only f (p ++ l ∷ [])
         (subst (λ x. Spaced x (p ++ l ∷ [])) (take_all (j + 1) (words_of f) (omega (arith, eqb-true (j + 1) (length (words_of f)) g))) (word_further (words_of f) j l p h e n q))))
-        (λ g w n. (k, (at, omega arith, further j (length (words_of f)) h g, word_further (words_of f) j l p h e (plain_letter true o n) q, o))))
+        (λ g w n. (k, (at, omega arith, further j (length (words_of f)) h g, word_further (words_of f) j l p h e (plain_letter o n) q, o))))
         (λ _. else)
 
     spelling : (f : Front) (j : ℕ) → stage_front f ≡ here → 0 < j → j < length (words_of f) → Spaced (take j (words_of f)) p → s.inner ≡ None
@@ -174,7 +174,7 @@ module _ (limit top : ℕ) (here : Stage) where
         (chosen After (is_blank l.byte && nat_eq (slice_index (words_of f) (j - 1)) 32) _ _
         (λ e w n.
         let g = both (is_blank l.byte) (nat_eq (slice_index (words_of f) (j - 1)) 32) e in
-        (k, (at, some, h, word_blank (words_of f) j l p some h g.1 g.0 (plain_letter true o n) q, o)))
+        (k, (at, some, h, word_blank (words_of f) j l p some h g.1 g.0 (plain_letter o n) q, o)))
         (λ _. tt))
 
     first : s.inner ≡ None → p ≡ [] → (f : Front) → stage_front f ≡ here → After (spell f 0 l.byte move.Stop)
@@ -228,21 +228,21 @@ module _ (limit top : ℕ) (here : Stage) where
 
     header_ends : Opening ≡ here → Gapped (FrontWords front.Header) p → s.inner ≡ None → After (plan phase.HeaderEnd l.byte)
     header_ends at h o = chosen After (is_blank l.byte) _ _
-        (λ e w n. (k, (at, blank_more (FrontWords front.Header) l p e (plain_letter true o n) h, o)))
+        (λ e w n. (k, (at, blank_more (FrontWords front.Header) l p e (plain_letter o n) h, o)))
         (λ _. chosen After (nat_eq l.byte 10) _ _
         (λ e n. (at, feed_behind_blanks (FrontWords front.Header) l p (eqb-true l.byte 10 e) n h, same_idle s.limit s.top Formula Formula k.0 k.1 refl))
         (λ _. tt))
 
     output_ends : (may : Bool) → front_of s (phase.OutputEnd may) p → After (plan (phase.OutputEnd may) l.byte)
     output_ends true (at, h, o) = chosen After (is_blank l.byte) _ _
-        (λ e w n. (k, (at, blank_more (FrontWords front.Output) l p e (plain_letter true o n) h, o)))
+        (λ e w n. (k, (at, blank_more (FrontWords front.Output) l p e (plain_letter o n) h, o)))
         (λ _. chosen After (nat_eq l.byte 10) _ _
         (λ e n. (at, line_behind_blanks (FrontWords front.Output) l p (eqb-true l.byte 10 e) n h, same_idle s.limit s.top Claim Claim k.0 k.1 refl))
         (λ _. chosen After (nat_eq l.byte 59 && true) _ _
-        (λ e w n. (k, (at, semicolon_behind_blanks (FrontWords front.Output) l p (eqb-true l.byte 59 (both (nat_eq l.byte 59) true e).0) (plain_letter true o n) h, o)))
+        (λ e w n. (k, (at, semicolon_behind_blanks (FrontWords front.Output) l p (eqb-true l.byte 59 (both (nat_eq l.byte 59) true e).0) (plain_letter o n) h, o)))
         (λ _. tt)))
     output_ends false (at, h, o) = chosen After (is_blank l.byte) _ _
-        (λ e w n. (k, (at, blank_closing (FrontWords front.Output) l p e (plain_letter true o n) h, o)))
+        (λ e w n. (k, (at, blank_closing (FrontWords front.Output) l p e (plain_letter o n) h, o)))
         (λ _. chosen After (nat_eq l.byte 10) _ _
         (λ e n. (at, line_closing (FrontWords front.Output) l p (eqb-true l.byte 10 e) n h, same_idle s.limit s.top Claim Claim k.0 k.1 refl))
         (λ _. chosen After (nat_eq l.byte 59 && false) _ _
