@@ -5,7 +5,6 @@ pub mod Finished
 pub mod Lines
 pub mod Postfix
 pub mod Proofs
-pub mod StandIn
 pub mod ValueLaws
 pub mod Values
 pub mod Whole
