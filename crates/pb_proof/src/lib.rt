@@ -2,9 +2,35 @@
 #![tactic(auto)]
 
 mod building;
+mod claim;
+mod claim_phase;
+mod claim_plan;
+mod classes;
 mod conclusion;
+mod count;
+mod count_phase;
+mod goal;
+mod goal_phase;
+mod ids;
+mod ids_phase;
+mod inner;
+mod inners;
+mod laws;
 mod laws_of_values;
+mod literals;
+mod literals_phase;
 mod machine;
+#[cfg(test)]
+mod machine_tests;
+mod mark;
+mod phase;
+mod plan;
+mod pol;
+mod pol_close;
+mod pol_kind;
+mod pol_phase;
+mod pol_plan;
+mod pol_words;
 mod proof;
 mod read;
 mod rules;
@@ -15,6 +41,7 @@ mod word;
 mod write;
 
 pub use conclusion::{Bound, Conclusion};
+pub use laws::{larger_limits, no_front, one_proof, proofs_are_exact};
 pub use laws_of_values::{
     canonical_proof_spells, one_value, proofs_are_values, written_proof_reads_back,
 };

@@ -1,0 +1,15 @@
+-- What is known of a result of which it is known whether it is an error.
+use Rattle.std.proofs.Common.{◌≡◌, true, false}
+use Rattle.std.specs.Prelude.{Result, OnOk, OnErr, is_ok, is_err, Ok, Err, if◌then◌else◌}
+
+pub when_ok : {T E : Type 0} (r : Result T E) (P : Type 0) → OnOk r P → is_err r ≡ false → P
+when_ok (Ok x) P h e = h
+when_ok (Err x) P h e = cc
+
+pub when_err : {T E : Type 0} (r : Result T E) (P : Type 0) → OnErr r P → is_err r ≡ true → P
+when_err (Ok x) P h e = cc
+when_err (Err x) P h e = h
+
+pub unchanged : {T E A : Type 0} (r : Result T E) (new more old : A) → new ≡ (if is_ok r then more else old) → is_err r ≡ true → new ≡ old
+unchanged (Ok x) new more old h e = cc
+unchanged (Err x) new more old h e = h

@@ -1,0 +1,5 @@
+use Rattle.pb_proof.proofs.ProofExact.{reads_proofs}
+use Rattle.pb_proof.proofs.laws.proofs_are_exact.Goals as goal
+
+pub returns : goal.returns
+returns c = reads_proofs

@@ -1,0 +1,26 @@
+-- The laws of the format of proofs.
+use Rattle.std.specs.Prelude.{◌≡◌, ℕ, ◌≤◌, List, [], ◌++◌, ◌↔◌}
+use Rattle.pb_text.specs.Automaton.{Accepts}
+use Rattle.pb_text.specs.Spelling.{Item, bytes_of}
+use Rattle.pb_proof.specs.Proofs.{IsProof}
+use Rattle.pb_proof.specs.State.{proofs, begin}
+use Rattle.pb_proof.specs.declared.statement.Statement.{Statement}
+
+-- What a new machine accepts are the proofs.
+abbrev pub ReadsProofs : Type 0
+ReadsProofs = (limit top : ℕ) (items : List (Item Statement)) → Accepts proofs (begin limit top) items ↔ IsProof limit top items
+
+-- A text spells one proof.
+abbrev pub OneProof : Type 0
+OneProof = (limit top : ℕ) (items items' : List (Item Statement)) →
+    IsProof limit top items → IsProof limit top items' → bytes_of items ≡ bytes_of items' → items ≡ items'
+
+-- No proof is a front of another.
+abbrev pub NoFront : Type 0
+NoFront = (limit top : ℕ) (items items' : List (Item Statement)) (more : List ℕ) →
+    IsProof limit top items → IsProof limit top items' → bytes_of items' ≡ bytes_of items ++ more → more ≡ []
+
+-- A proof stays one under larger limits.
+abbrev pub LargerLimits : Type 0
+LargerLimits = (limit limit' top top' : ℕ) (items : List (Item Statement)) → limit ≤ limit' → top ≤ top' →
+    IsProof limit top items → IsProof limit' top' items

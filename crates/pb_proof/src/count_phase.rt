@@ -1,0 +1,28 @@
+//! What a machine of counts has read last, and what it does with a byte.
+
+/// What has been read last.
+#[derive(Clone, Copy, Drop)]
+pub enum CountPhase {
+    /// Nothing.
+    Start,
+    /// Blanks.
+    Gap,
+    /// Digits with this value.
+    Digits(u64),
+    /// The count and blanks.
+    Tail(u64),
+    /// The count, if there is one, and `;`.
+    Closing(Option<u64>),
+    /// All.
+    Done,
+}
+
+/// What a machine does with a byte.
+#[derive(Clone, Copy, Drop)]
+pub enum CountMove {
+    /// Goes on.
+    To(CountPhase),
+    /// Ends the line.
+    End(Option<u64>),
+    Stop,
+}

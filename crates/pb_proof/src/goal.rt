@@ -1,0 +1,188 @@
+//! The machine of goals.
+
+ghost use Rattle.std.specs.Prelude.{◌≡◌, ◌-◌, ◌^◌, min};
+ghost use Rattle.pb_text.specs.Classes.{is_blank};
+ghost use Rattle.pb_text.specs.Limits.{largest};
+ghost use Rattle.pb_sums.specs.State.{units};
+ghost use Rattle.pb_proof.specs.Goal.{goal_plan, goal_done, linear_of, units_in};
+
+use crate::goal_phase::{GoalMove, GoalPhase};
+use pb_sums::{Linear, Part, Relation, Spaces, SumEvent, SumMachine, Term};
+use pb_text::{Limits, Machine, Push};
+use std::alloc::Global;
+use std::marker::Model;
+use std::mem;
+
+/// A machine that reads what stands behind `rup`, through the line feed.
+#[derive(Drop)]
+pub(crate) struct GoalMachine {
+    phase: GoalPhase,
+    inner: SumMachine,
+    linear: Option<Linear>,
+}
+
+impl Model for GoalMachine {
+    ghost use Rattle.pb_proof.specs.Goal.{GoalState, IsGoalInOrder};
+
+    ghost Value = { GoalState };
+
+    ghost view = { λ m. record { phase = m.phase; inner = m.inner; linear = m.linear } };
+
+    ghost invariant = { λ m. IsGoalInOrder (record { phase = m.phase; inner = m.inner; linear = m.linear }) };
+}
+
+/// Space, tab or carriage return.
+fn is_blank(byte: u8) -> bool
+    ensures { result ≡ is_blank byte }
+{
+    byte == b' ' || byte == b'\t' || byte == b'\r'
+}
+
+/// What a machine does with a byte.
+fn goal_plan(phase: GoalPhase, byte: u8) -> GoalMove
+    ensures { result ≡ goal_plan phase byte }
+{
+    match phase {
+        GoalPhase::Start | GoalPhase::Gap if is_blank(byte) => GoalMove::To(GoalPhase::Gap),
+        GoalPhase::Start => GoalMove::Stop,
+        GoalPhase::Gap | GoalPhase::Inside => GoalMove::Give,
+        GoalPhase::Tail if is_blank(byte) => GoalMove::To(GoalPhase::Tail),
+        GoalPhase::Tail if byte == b'\n' => GoalMove::Finish,
+        GoalPhase::Tail | GoalPhase::Done => GoalMove::Stop,
+    }
+}
+
+/// Whether all has been read.
+fn is_done(phase: GoalPhase) -> bool
+    ensures { result ≡ goal_done phase }
+{
+    matches!(phase, GoalPhase::Done)
+}
+
+/// The constraint that a machine of sums has read.
+fn linear_of(event: SumEvent) -> Linear
+    ensures { result ≡ linear_of event }
+{
+    match event {
+        SumEvent::Linear(linear) => linear,
+        SumEvent::Sum(terms) => Linear {
+            terms,
+            relation: Relation::AtLeast,
+            degree: 0,
+        },
+    }
+}
+
+/// How many literals there are, and bytes of their names. The count stays at its largest.
+fn count_units(terms: &[Term]) -> usize
+    ensures { result ≡ min (units terms.now) (2 ^ 64 - 1) }
+{
+    let mut count: usize = 0;
+    for term in terms {
+        let more = term.literal.name.as_str().len().saturating_add(1);
+        count = count.saturating_add(more);
+    }
+    count
+}
+
+/// How much is kept of a constraint.
+fn units_in(linear: &Option<Linear>) -> usize
+    ensures { result ≡ min (units_in linear.now) (2 ^ 64 - 1) }
+{
+    match linear {
+        Some(linear) => count_units(linear.terms.as_slice()),
+        None => 0,
+    }
+}
+
+impl GoalMachine {
+    ghost use Rattle.pb_text.specs.Automaton.{IsState, Pushes};
+    ghost use Rattle.pb_proof.specs.Goal.{goal_automaton, goal_first, goal_plan};
+
+    /// A machine before its text. It takes no memory.
+    pub(crate) fn new(alloc: Global, limits: Limits) -> Self
+        ensures begins { result ≡ goal_first (largest limits) }
+    {
+        GoalMachine {
+            phase: GoalPhase::Start,
+            inner: SumMachine::new(alloc, Spaces::Blank, Part::AtLeast, limits),
+            linear: None,
+        }
+    }
+
+    /// Takes a byte.
+    fn take(&mut self, byte: u8) -> Push<Linear>
+        ensures { Pushes goal_automaton self.old byte result self.new }
+    {
+        match goal_plan(self.phase, byte) {
+            GoalMove::To(phase) => {
+                self.phase = phase;
+                Push::Go
+            }
+            GoalMove::Give => self.give(byte),
+            GoalMove::Finish => self.finish(),
+            GoalMove::Stop => Push::No,
+        }
+    }
+
+    /// Gives a byte to the machine of sums.
+    fn give(&mut self, byte: u8) -> Push<Linear>
+        requires { goal_plan self.old.phase byte ≡ GoalMove.Give }
+        ensures { Pushes goal_automaton self.old byte result self.new }
+    {
+        match self.inner.push(byte) {
+            Push::Go => {
+                self.phase = GoalPhase::Inside;
+                Push::Go
+            }
+            Push::Event(event) => {
+                self.linear = Some(linear_of(event));
+                self.phase = GoalPhase::Tail;
+                Push::Go
+            }
+            Push::No => Push::No,
+            Push::Large => Push::Large,
+            Push::Memory => Push::Memory,
+        }
+    }
+
+    /// Ends the line.
+    fn finish(&mut self) -> Push<Linear>
+        requires { goal_plan self.old.phase 10 ≡ GoalMove.Finish }
+        ensures { Pushes goal_automaton self.old 10 result self.new }
+    {
+        match mem::replace(&mut self.linear, None) {
+            Some(linear) => {
+                self.phase = GoalPhase::Done;
+                Push::Event(linear)
+            }
+            None => Push::No,
+        }
+    }
+}
+
+impl Machine for GoalMachine {
+    ghost use Rattle.pb_proof.specs.Goal.{goal_automaton};
+
+    type Event = Linear;
+
+    ghost automaton = { goal_automaton };
+
+    fn push(&mut self, byte: u8) -> Push<Linear> {
+        let answer = self.take(byte);
+        let _ = self.is_done();
+        answer
+    }
+
+    fn is_done(&self) -> bool {
+        is_done(self.phase)
+    }
+
+    fn starts(&self, byte: u8) -> bool {
+        matches!(self.phase, GoalPhase::Start) && is_blank(byte)
+    }
+
+    fn held(&self) -> usize {
+        units_in(&self.linear).saturating_add(self.inner.held())
+    }
+}

@@ -1,0 +1,28 @@
+//! What a machine of goals has read last, and what it does with a byte.
+
+/// What has been read last.
+#[derive(Clone, Copy, Drop)]
+pub enum GoalPhase {
+    /// Nothing.
+    Start,
+    /// Blanks.
+    Gap,
+    /// A part of the constraint.
+    Inside,
+    /// The constraint, and perhaps blanks.
+    Tail,
+    /// All.
+    Done,
+}
+
+/// What a machine of goals does with a byte.
+#[derive(Clone, Copy, Drop)]
+pub enum GoalMove {
+    /// Goes on.
+    To(GoalPhase),
+    /// Gives the byte to the machine of sums.
+    Give,
+    /// Ends the line.
+    Finish,
+    Stop,
+}

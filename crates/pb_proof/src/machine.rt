@@ -1,0 +1,171 @@
+//! The machine of proofs.
+
+ghost use Rattle.std.specs.Prelude.{◌≡◌, false, Option};
+ghost use Rattle.pb_text.specs.Limits.{largest, top_of};
+
+use crate::inner::Inner;
+use crate::inners::inner_first;
+use crate::phase::{Move, Phase, Rest, Stage};
+use crate::plan::{is_done, is_within, plan, stage_behind};
+use crate::statement::Statement;
+use pb_text::{Limits, Machine, Push};
+use std::alloc::Global;
+use std::marker::Model;
+
+/// A machine that reads one proof, through the last byte of its closing words.
+#[derive(Drop)]
+pub struct ProofMachine {
+    alloc: Global,
+    limits: Limits,
+    phase: Phase,
+    inner: Option<Inner>,
+}
+
+impl Model for ProofMachine {
+    ghost use Rattle.pb_text.specs.Limits.{largest, top_of};
+    ghost use Rattle.pb_proof.specs.State.{ProofState, IsInOrder};
+
+    ghost Value = { ProofState };
+
+    ghost view = { λ m. record {
+      limit = largest m.limits;
+      top = top_of m.limits;
+      phase = m.phase;
+      inner = m.inner;
+    } };
+
+    ghost invariant = { λ m. IsInOrder (record {
+      limit = largest m.limits;
+      top = top_of m.limits;
+      phase = m.phase;
+      inner = m.inner;
+    }) };
+}
+
+/// Puts a machine, or none, in the place of another.
+fn replace(inner: &mut Option<Inner>, next: Option<Inner>)
+    ensures { inner.new ≡ next }
+{
+    *inner = next;
+}
+
+impl ProofMachine {
+    ghost use Rattle.std.specs.Prelude.{List, ◌↔◌};
+    ghost use Rattle.pb_text.specs.Automaton.{Accepts};
+    ghost use Rattle.pb_text.specs.Spelling.{Item};
+    ghost use Rattle.pb_proof.specs.Proofs.{IsProof};
+    ghost use Rattle.pb_proof.specs.State.{proofs, begin};
+
+    /// A machine before a proof, which accepts exactly the proofs under the limits. It takes no memory.
+    pub fn new(alloc: Global, limits: Limits) -> Self
+        ensures accepts { (items : List (Item Statement)) → Accepts proofs result items ↔ IsProof (largest limits) (top_of limits) items }
+        ensures begins { result ≡ begin (largest limits) (top_of limits) }
+        ensures between { proofs.begun result ≡ false }
+    {
+        let _ = limits.largest();
+        let _ = limits.top();
+        ProofMachine {
+            alloc,
+            limits,
+            phase: Phase::Between(Stage::Opening),
+            inner: None,
+        }
+    }
+}
+
+impl ProofMachine {
+    ghost use Rattle.pb_text.specs.Automaton.{Pushes};
+    ghost use Rattle.pb_proof.specs.State.{proofs};
+    ghost use Rattle.pb_proof.specs.Machine.{plan};
+
+    /// Takes a byte.
+    fn take(&mut self, byte: u8) -> Push<Statement>
+        ensures { Pushes proofs self.old byte result self.new }
+    {
+        match plan(self.phase, byte) {
+            Move::To(phase) => {
+                self.phase = phase;
+                Push::Go
+            }
+            Move::Begin(rest) => {
+                replace(
+                    &mut self.inner,
+                    Some(inner_first(self.alloc, self.limits, rest)),
+                );
+                self.phase = Phase::Inside(rest);
+                Push::Go
+            }
+            Move::Give(rest) => self.give(rest, byte),
+            Move::EndHeader => {
+                self.phase = Phase::Between(Stage::Formula);
+                Push::Event(Statement::Header)
+            }
+            Move::EndOutput => {
+                self.phase = Phase::Between(Stage::Claim);
+                Push::Event(Statement::Output)
+            }
+            Move::EndProof => {
+                self.phase = Phase::Between(Stage::Complete);
+                Push::Event(Statement::End)
+            }
+            Move::Stop => Push::No,
+        }
+    }
+
+    /// Gives a byte to the machine behind the first word.
+    fn give(&mut self, rest: Rest, byte: u8) -> Push<Statement>
+        requires { plan self.old.phase byte ≡ Move.Give rest }
+        ensures { Pushes proofs self.old byte result self.new }
+    {
+        let Some(inner) = &mut self.inner else {
+            return Push::No;
+        };
+        match inner.push(byte) {
+            Push::Go => Push::Go,
+            Push::Event(statement) => {
+                replace(&mut self.inner, None);
+                self.phase = Phase::Between(stage_behind(rest));
+                Push::Event(statement)
+            }
+            Push::No => Push::No,
+            Push::Large => Push::Large,
+            Push::Memory => Push::Memory,
+        }
+    }
+}
+
+impl Machine for ProofMachine {
+    ghost use Rattle.pb_proof.specs.State.{proofs};
+
+    type Event = Statement;
+
+    ghost automaton = { proofs };
+
+    fn push(&mut self, byte: u8) -> Push<Statement> {
+        let answer = self.take(byte);
+        let _ = self.is_done();
+        answer
+    }
+
+    fn is_done(&self) -> bool {
+        is_done(self.phase)
+    }
+
+    fn starts(&self, byte: u8) -> bool {
+        if is_within(self.phase) {
+            return false;
+        }
+        match plan(self.phase, byte) {
+            Move::Stop | Move::Give(_) => false,
+            Move::To(next) => is_within(next),
+            _ => true,
+        }
+    }
+
+    fn held(&self) -> usize {
+        match &self.inner {
+            Some(inner) => inner.held(),
+            None => 0,
+        }
+    }
+}
