@@ -6,3 +6,4 @@ mod Feeds
 mod Shown
 mod Loads
 mod Solutions
+mod Stays

@@ -17,7 +17,7 @@ use Rattle.pb_tool.specs.declared.fault.ToolFault.TheVariants.{Text, Open, Overf
 use Rattle.pb_tool.specs.declared.fault.Input.TheVariants.{File, Instance, Proof}
 use Rattle.pb_tool.proofs.Feeds.{took_join}
 
-after_offset : (text : List ℕ) → (place_after text).offset ≡ length text
+pub after_offset : (text : List ℕ) → (place_after text).offset ≡ length text
 unfolding place_after
 after_offset text = refl
 

@@ -3,3 +3,4 @@ pub mod Words
 pub mod Normalised
 pub mod Tidying
 pub mod Showing
+pub mod Staying

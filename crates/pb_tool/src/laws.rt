@@ -1,8 +1,9 @@
-//! The laws of normal forms.
+//! The laws of normal forms, and of what is written.
 
 ghost use Rattle.std.specs.Prelude.{◌≡◌, ◌↔◌, ℕ, Bool, List};
 ghost use Rattle.pb_opb.specs.declared.Instance.{Instance};
 ghost use Rattle.pb_tool.specs.Normalised.{IsNormalised, Solves};
+ghost use Rattle.pb_tool.specs.Staying.{HasNoFault, StaysAsIs};
 
 /// The normal form of an instance has exactly its solutions.
 pub fn normal_forms_keep_solutions()
@@ -12,4 +13,11 @@ pub fn normal_forms_keep_solutions()
 /// An instance has one normal form.
 pub fn one_normal_form()
     ensures { (v w u : Instance) → IsNormalised v w → IsNormalised v u → w ≡ u }
+{}
+
+/// What `tidy` writes of an instance stays as it is: `tidy` reads it as that instance alone, so it writes the same; and
+/// with no limit on statements it refuses it only where the source fails, memory runs out, or it has over `2^40` bytes.
+pub fn tidied_text_stays()
+    ensures same { StaysAsIs }
+    ensures faultless { HasNoFault }
 {}
