@@ -1,6 +1,6 @@
 //! What is read of texts, in one piece and byte by byte.
 
-use super::rows::{ACCEPTED, REFUSED, REFUTATION};
+use super::rows::{ACCEPTED, BOUNDED, REFUSED, REFUTATION, SPACED, SPACED_COMMENT};
 use super::samples::refutation;
 use crate::{
     Proof, ProofMachine, Statement, proof_is_value, read_proof, read_proof_within,
@@ -193,25 +193,69 @@ fn a_statement_may_have_just_its_bytes(rt: HostRuntime) -> Result<(), Fail> {
     Ok(())
 }
 
+/// Whether each front of a text but the whole ends too soon, at its end.
+fn fronts_end_too_soon(alloc: Global, text: &[u8]) -> bool {
+    for count in 0..text.len() {
+        let read = read_proof(alloc, &mut Over::new(&text[..count]), Limits::full());
+        let ended = match read {
+            Ok(_) => false,
+            Err(stop) => stop.why == Why::Ended && stop.place.offset == count as u64,
+        };
+        if !ended {
+            return false;
+        }
+    }
+    true
+}
+
 #[test]
-fn every_front_ends_too_soon(rt: HostRuntime) -> Result<(), Fail> {
-    for count in 0..REFUTATION.len() {
-        let mut source = Over::new(&REFUTATION[..count]);
-        let read = read_proof(rt.alloc(), &mut source, Limits::full());
-        let is_end = |stop: &Stop| stop.why == Why::Ended && stop.place.offset == count as u64;
-        assert!(rt; matches!(&read, Err(stop) if is_end(stop)), "{count}");
+fn every_front_ends_too_soon(rt: HostRuntime) {
+    for text in [REFUTATION, SPACED, BOUNDED] {
+        assert!(rt; fronts_end_too_soon(rt.alloc(), text));
+    }
+}
+
+/// Whether a zero in the place of this byte of a text is refused there.
+fn zero_is_bad(alloc: Global, text: &[u8], at: usize) -> Result<bool, Fail> {
+    let mut zeroed = text.to_vec(alloc)?;
+    if at < zeroed.len() {
+        zeroed[at] = 0;
+    }
+    match read_full(alloc, zeroed.as_slice())? {
+        Ok(_) => Ok(false),
+        Err(stop) => Ok(stop.why == Why::Byte(0) && stop.place.offset == at as u64),
+    }
+}
+
+/// Whether a text with a zero in the place of this byte has the value of the text.
+fn zero_changes_nothing(alloc: Global, text: &[u8], at: usize) -> Result<bool, Fail> {
+    let mut zeroed = text.to_vec(alloc)?;
+    if at < zeroed.len() {
+        zeroed[at] = 0;
+    }
+    let value = read_full(alloc, text)?;
+    Ok(value.is_ok() && read_full(alloc, zeroed.as_slice())? == value)
+}
+
+#[test]
+fn every_byte_that_is_zero_is_bad(rt: HostRuntime) -> Result<(), Fail> {
+    for text in [REFUTATION, BOUNDED] {
+        for at in 0..text.len() {
+            assert!(rt; zero_is_bad(rt.alloc(), text, at)?, "{at}");
+        }
     }
     Ok(())
 }
 
 #[test]
-fn every_byte_that_is_zero_is_bad(rt: HostRuntime) -> Result<(), Fail> {
-    for at in 0..REFUTATION.len() {
-        let mut text = REFUTATION.to_vec(rt.alloc())?;
-        text[at] = 0;
-        let read = read_full(rt.alloc(), text.as_slice())?;
-        let bad = |stop: &Stop| stop.why == Why::Byte(0) && stop.place.offset == at as u64;
-        assert!(rt; matches!(&read, Err(stop) if bad(stop)), "{at}");
+fn a_zero_is_bad_but_in_a_comment(rt: HostRuntime) -> Result<(), Fail> {
+    let (first, last) = SPACED_COMMENT;
+    for at in 0..SPACED.len() {
+        if first <= at && at < last {
+            assert!(rt; zero_changes_nothing(rt.alloc(), SPACED, at)?, "{at}");
+        } else {
+            assert!(rt; zero_is_bad(rt.alloc(), SPACED, at)?, "{at}");
+        }
     }
     Ok(())
 }

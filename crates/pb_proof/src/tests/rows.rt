@@ -10,6 +10,17 @@ const TOP: u64 = 9223372036854775807;
 pub const REFUTATION: &[u8] =
     b"pseudo-Boolean proof version 2.0\nf 2\npol 1 2 +\nrup >= 1 ;\ndel id 3\noutput NONE\nconclusion UNSAT : 3\nend pseudo-Boolean proof";
 
+/// A text with a comment, an idle line and other spaces; its last byte is that of the closing words.
+pub const SPACED: &[u8] =
+    b"pseudo-Boolean  proof version 2.0\n* note\n\n f 02 ;\npol  1 2 + ;\nrup >=+1;\ndel id 03\noutput NONE\nconclusion UNSAT:3\nend  pseudo-Boolean proof";
+
+/// The bytes of its comment behind the star, and the line feed that ends it: any may be another.
+pub const SPACED_COMMENT: (usize, usize) = (35, 41);
+
+/// A proof of bounds.
+pub const BOUNDED: &[u8] =
+    b"pseudo-Boolean proof version 2.0\nf 1\nsoli x1 ~x2\npol 1 2 +\noutput NONE\nconclusion BOUNDS 1 1\nend pseudo-Boolean proof";
+
 /// Accepted texts: how many bytes are taken, the canonical text, and the events with their places.
 pub const ACCEPTED: [(&[u8], u64, &[u8], &[u8]); 7] = [
     (
