@@ -4,5 +4,6 @@ mod Parsed
 mod Sequence
 mod Feeds
 mod Shown
+mod Chosen
 mod Loads
 mod Solutions
