@@ -20,6 +20,7 @@ pub mod Runs
 pub mod Short
 pub mod Steps
 pub mod Told
+pub mod NothingRead
 pub mod Toys
 pub mod Wholes
 pub mod Writing

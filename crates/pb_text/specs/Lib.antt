@@ -15,5 +15,6 @@ pub mod Source
 pub mod Spelling
 pub mod Standing
 pub mod Toy
+pub mod NothingRead
 pub mod Whole
 pub mod Writing

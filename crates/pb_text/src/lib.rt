@@ -3,6 +3,7 @@
 
 mod blank;
 pub mod doubles;
+mod failing;
 mod feeder;
 pub mod laws;
 mod limits;
@@ -20,6 +21,7 @@ mod toy;
 mod whole;
 
 pub use blank::rest_is_blank;
+pub use failing::unread;
 pub use feeder::{BYTE_LIMIT, Fed, Feeder};
 pub use limits::Limits;
 pub use machine::{Machine, Push};

@@ -1,6 +1,8 @@
 pub mod Faults
-pub mod Words
+pub mod Files
 pub mod Normalised
-pub mod Tidying
+mod Opening
 pub mod Showing
 pub mod Staying
+pub mod Tidying
+pub mod Words

@@ -57,35 +57,43 @@ IsDenied true limit v (Overflow File) = Overflows limit v
 IsDenied true limit v (Memory File) = Unit {0}
 IsDenied true limit v _ = ⊥
 
-module _ (limits : Limits) (longest : ℕ) where
-  -- The input was an instance and a blank rest, and ended there.
-  pub record IsFile (before after : Option (List ℕ)) (v : Instance) : Type 0 where
+module _ {V : Type 0} where
+  -- The input was a spelling of v and a blank rest, and ended there.
+  pub record IsFile (IsReadOf : List ℕ → Spanned V → Type 0) (before after : Option (List ℕ)) (v : V) : Type 0 where
     pub used : List ℕ
     pub rest : List ℕ
     pub took : Took before (used ++ rest) [] after
-    pub read : Spanned Instance
-    pub spelled : IsRead (IsOpb limits) longest IsValueOf used read
+    pub read : Spanned V
+    pub spelled : IsReadOf used read
     pub blank : IsBlank rest
     pub value : read.event ≡ v
 
-  -- The input was refused: it is no instance, or the rest behind it is not blank.
-  pub data IsRefused (before after : Option (List ℕ)) (s : Stop) : Type 0 where
-    InText : ReadsValue (IsOpb limits) longest IsValueOf before (Err s) after → IsRefused before after s
-    InRest : (m : Spanned Instance) (mid : Option (List ℕ)) → ReadsValue (IsOpb limits) longest IsValueOf before (Ok m) mid → ReadsBlank m.past mid (Err s) after → IsRefused before after s
+  -- The input was refused: it begins with no spelling, or the rest behind that is not blank.
+  pub data IsRefused (Reads : Option (List ℕ) → Result (Spanned V) Stop → Option (List ℕ) → Type 0) (before after : Option (List ℕ)) (s : Stop) : Type 0 where
+    InText : Reads before (Err s) after → IsRefused Reads before after s
+    InRest : (m : Spanned V) (mid : Option (List ℕ)) → Reads before (Ok m) mid → ReadsBlank m.past mid (Err s) after → IsRefused Reads before after s
+
+module _ (limits : Limits) (longest : ℕ) where
+  -- the input was an instance and a blank rest
+  abbrev pub IsOpbFile : Option (List ℕ) → Option (List ℕ) → Instance → Type 0
+  IsOpbFile = IsFile (IsRead (IsOpb limits) longest IsValueOf)
+
+  abbrev pub IsNoOpbFile : Option (List ℕ) → Option (List ℕ) → Stop → Type 0
+  IsNoOpbFile = IsRefused (ReadsValue (IsOpb limits) longest IsValueOf)
 
   module _ (normal : Bool) {W : Type 0} (contents : W → Option (List ℕ)) (faults : W → ℕ) where
     -- What was read of the source, and what was written: nothing before the whole input was accepted and, with
     -- `normal`, every constraint normalised.
     abbrev pub Tidies : Option (List ℕ) → W → Result Unit ToolFault → Option (List ℕ) → W → Type 0
     Tidies before old (Ok u) after new =
-        (v : Instance) × IsFile before after v × (w : Instance) × IsAsked normal (largest limits) v w × Wrote contents faults old (tidied w) new
+        (v : Instance) × IsOpbFile before after v × (w : Instance) × IsAsked normal (largest limits) v w × Wrote contents faults old (tidied w) new
     Tidies before old (Err Write) after new =
-        (v : Instance) × IsFile before after v × (w : Instance) × IsAsked normal (largest limits) v w × Broke contents faults old (tidied w) new
-    Tidies before old (Err (Text File s)) after new = IsRefused before after s × (new ≡ old)
+        (v : Instance) × IsOpbFile before after v × (w : Instance) × IsAsked normal (largest limits) v w × Broke contents faults old (tidied w) new
+    Tidies before old (Err (Text File s)) after new = IsNoOpbFile before after s × (new ≡ old)
     Tidies before old (Err (Overflow File)) after new =
-        (v : Instance) × IsFile before after v × IsDenied normal (largest limits) v (Overflow File) × (new ≡ old)
+        (v : Instance) × IsOpbFile before after v × IsDenied normal (largest limits) v (Overflow File) × (new ≡ old)
     Tidies before old (Err (Memory File)) after new =
-        (v : Instance) × IsFile before after v × IsDenied normal (largest limits) v (Memory File) × (new ≡ old)
+        (v : Instance) × IsOpbFile before after v × IsDenied normal (largest limits) v (Memory File) × (new ≡ old)
     Tidies before old (Err (Text i s)) after new = ⊥
     Tidies before old (Err (Overflow i)) after new = ⊥
     Tidies before old (Err (Memory i)) after new = ⊥

@@ -5,6 +5,8 @@ mod fault;
 mod laws;
 mod limiting;
 mod normalising;
+mod opening;
+mod proof_tidying;
 mod showing;
 mod statement;
 #[cfg(test)]

@@ -4,13 +4,17 @@ ghost use Rattle.std.specs.Prelude.{◌≡◌, ◌<◌, ◌^◌, false, unwrap_o
 ghost use Rattle.pb_text.specs.Automaton.{Accepts};
 ghost use Rattle.pb_text.specs.Writing.{Writes};
 ghost use Rattle.pb_opb.specs.Canonical.{event_bytes};
+ghost use Rattle.pb_proof.specs.Canonical.{statement_bytes};
 ghost use Rattle.pb_tool.specs.Faults.{faults_told};
+ghost use Rattle.pb_tool.specs.Files.{IsVeri, ShowsFile};
 ghost use Rattle.pb_tool.specs.Showing.{shown_line, Shows};
 ghost use Rattle.pb_tool.specs.Tidying.{IsOpb};
 
 use crate::fault::{ToolFault, refused};
+use crate::opening::{Format, format_of, unread_file};
 use crate::statement::Statement;
 use pb_opb::OpbMachine;
+use pb_proof::ProofMachine;
 use pb_sums::write_count;
 use pb_text::{
     BYTE_LIMIT, Failed, Feeder, Limits, Machine, Sink, Source, Spanned, pull, rest_is_blank,
@@ -18,9 +22,10 @@ use pb_text::{
 };
 use std::alloc::Global;
 
-/// Writes a line for each statement of an instance as soon as it is complete: the line and the column of its first
-/// byte, and its canonical spelling, as in `2:1 +1 x1 >= 1 ;`. Behind the instance only white space and comments may
-/// stand. Where the text is refused, the lines of all statements before that place went out.
+/// Writes a line for each statement as soon as it is complete: the line and the column of its first byte, and its
+/// canonical spelling, as in `2:1 +1 x1 >= 1 ;`. A file whose first byte is `p` is read as a proof, and any other as
+/// an instance. Behind these only white space and comments may stand. Where the text is refused, the lines of all
+/// statements before that place went out.
 ///
 /// `longest` is the most bytes of a statement, where there is such a limit.
 pub fn show<S: Source, W: Sink>(
@@ -31,11 +36,45 @@ pub fn show<S: Source, W: Sink>(
     limits: Limits,
 ) -> Result<(), ToolFault>
     requires { IfSome longest (λ n. 0 < n) }
-    ensures shows { Shows (IsOpb limits) (unwrap_or longest (2 ^ 40)) event_bytes W.contents W.faults (S.left input.old) out.old result (S.left input.new) out.new }
+    ensures shows { ShowsFile limits (unwrap_or longest (2 ^ 40)) W.contents W.faults (S.left input.old) out.old result (S.left input.new) out.new }
     // `Read` comes only where the source failed.
     ensures faults { S.faults input.new ≡ faults_told result (S.faults input.old) }
 {
     let longest = longest.unwrap_or(BYTE_LIMIT);
+    match format_of(input) {
+        Ok(Format::Proof) => show_proof(alloc, input, out, longest, limits),
+        Ok(Format::Instance) => show_instance(alloc, input, out, longest, limits),
+        Err(Failed) => Err(unread_file(alloc, limits)),
+    }
+}
+
+/// The same for a proof.
+fn show_proof<S: Source, W: Sink>(
+    alloc: Global,
+    input: &mut S,
+    out: &mut W,
+    longest: u64,
+    limits: Limits,
+) -> Result<(), ToolFault>
+    requires { 0 < longest }
+    ensures shows { Shows (IsVeri limits) longest statement_bytes W.contents W.faults (S.left input.old) out.old result (S.left input.new) out.new }
+    ensures faults { S.faults input.new ≡ faults_told result (S.faults input.old) }
+{
+    show_each(ProofMachine::new(alloc, limits), longest, input, out)
+}
+
+/// The same for an instance.
+fn show_instance<S: Source, W: Sink>(
+    alloc: Global,
+    input: &mut S,
+    out: &mut W,
+    longest: u64,
+    limits: Limits,
+) -> Result<(), ToolFault>
+    requires { 0 < longest }
+    ensures shows { Shows (IsOpb limits) longest event_bytes W.contents W.faults (S.left input.old) out.old result (S.left input.new) out.new }
+    ensures faults { S.faults input.new ≡ faults_told result (S.faults input.old) }
+{
     show_each(OpbMachine::new(alloc, limits), longest, input, out)
 }
 

@@ -3,8 +3,10 @@
 ghost use Rattle.std.specs.Prelude.{ℕ, List};
 ghost use Rattle.pb_text.specs.Writing.{Writes};
 ghost use Rattle.pb_opb.specs.Canonical.{event_bytes};
+ghost use Rattle.pb_proof.specs.Canonical.{statement_bytes};
 
 use pb_opb::{OpbEvent, write_event};
+use pb_proof::write_statement;
 use pb_text::{Failed, Sink};
 
 /// A statement of a text.
@@ -22,5 +24,13 @@ impl Statement for OpbEvent {
 
     fn write_text<W: Sink>(&self, out: &mut W) -> Result<(), Failed> {
         write_event(self, out)
+    }
+}
+
+impl Statement for pb_proof::Statement {
+    ghost text = { statement_bytes };
+
+    fn write_text<W: Sink>(&self, out: &mut W) -> Result<(), Failed> {
+        write_statement(self, out)
     }
 }

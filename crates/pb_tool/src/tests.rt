@@ -4,4 +4,5 @@ mod engines;
 mod faults;
 mod hostile;
 mod normal;
+mod proofs;
 mod words;

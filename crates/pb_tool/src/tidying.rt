@@ -1,25 +1,29 @@
-//! `pb tidy`: the canonical spelling of an instance.
+//! `pb tidy`: the canonical spelling of a file.
 
 ghost use Rattle.std.specs.Prelude.{◌≡◌, ◌<◌, ◌^◌, None, unwrap_or, IfSome, IfOk, IfErr};
 ghost use Rattle.pb_text.specs.Limits.{largest};
 ghost use Rattle.pb_text.specs.Pulling.{faults_after};
 ghost use Rattle.pb_text.specs.Writing.{Writes};
 ghost use Rattle.pb_tool.specs.Faults.{faults_told};
-ghost use Rattle.pb_tool.specs.Tidying.{is_bare, tidied, IsAsked, IsDenied, IsFile, IsRefused, Tidies};
+ghost use Rattle.pb_tool.specs.Files.{TidiesFile};
+ghost use Rattle.pb_tool.specs.Tidying.{is_bare, tidied, IsAsked, IsDenied, IsNoOpbFile, IsOpbFile, Tidies};
 
 use crate::fault::{Input, ToolFault, refused};
 use crate::normalising::normalised;
+use crate::opening::{Format, format_of, unread_file};
+use crate::proof_tidying::tidy_proof;
 use pb_normal::NormalFault;
 use pb_opb::{Instance, read_instance_within, write_instance};
 use pb_text::{BYTE_LIMIT, Failed, Limits, Sink, Source, Stop, rest_is_blank, write_bytes};
 use std::alloc::Global;
 
-/// Reads an instance, behind which only white space and comments may stand, and writes its canonical spelling
-/// and a line feed if that does not end in one. It writes nothing before the whole input was accepted.
+/// Reads a file, behind whose text only white space and comments may stand, and writes its canonical spelling and a
+/// line feed if that does not end in one. A file whose first byte is `p` is read as a proof, and any other as an
+/// instance. It writes nothing before the whole input was accepted.
 ///
-/// With `normal` it writes the instance in normal form: each constraint `>=` as its form, each `=` as its two, with
-/// the variables and the objective of the instance and without its tail and comments. Then it writes nothing before
-/// each constraint was normalised, and answers `Overflow` where a constraint passes the limit.
+/// With `normal` every file is read as an instance, and written in normal form: each constraint `>=` as its form, each
+/// `=` as its two, with the variables and the objective of the instance and without its tail and comments. Then it
+/// writes nothing before each constraint was normalised, and answers `Overflow` where a constraint passes the limit.
 ///
 /// `longest` is the most bytes of a statement, where there is such a limit.
 pub fn tidy<S: Source, W: Sink>(
@@ -31,11 +35,34 @@ pub fn tidy<S: Source, W: Sink>(
     limits: Limits,
 ) -> Result<(), ToolFault>
     requires { IfSome longest (λ n. 0 < n) }
-    ensures tidies { Tidies limits (unwrap_or longest (2 ^ 40)) normal W.contents W.faults (S.left input.old) out.old result (S.left input.new) out.new }
+    ensures tidies { TidiesFile limits (unwrap_or longest (2 ^ 40)) W.contents W.faults normal (S.left input.old) out.old result (S.left input.new) out.new }
     // `Read` comes only where the source failed.
     ensures faults { S.faults input.new ≡ faults_told result (S.faults input.old) }
 {
     let longest = longest.unwrap_or(BYTE_LIMIT);
+    if normal {
+        return tidy_instance(alloc, input, true, out, longest, limits);
+    }
+    match format_of(input) {
+        Ok(Format::Proof) => tidy_proof(alloc, input, out, longest, limits),
+        Ok(Format::Instance) => tidy_instance(alloc, input, false, out, longest, limits),
+        Err(Failed) => Err(unread_file(alloc, limits)),
+    }
+}
+
+/// The same for an instance.
+fn tidy_instance<S: Source, W: Sink>(
+    alloc: Global,
+    input: &mut S,
+    normal: bool,
+    out: &mut W,
+    longest: u64,
+    limits: Limits,
+) -> Result<(), ToolFault>
+    requires { 0 < longest }
+    ensures tidies { Tidies limits longest normal W.contents W.faults (S.left input.old) out.old result (S.left input.new) out.new }
+    ensures faults { S.faults input.new ≡ faults_told result (S.faults input.old) }
+{
     let instance = match read_file(alloc, input, longest, limits) {
         Ok(instance) => instance,
         Err(stop) => return Err(refused(stop)),
@@ -58,8 +85,8 @@ fn read_file<S: Source>(
     limits: Limits,
 ) -> Result<Instance, Stop>
     requires { 0 < longest }
-    ensures file { IfOk result (IsFile limits longest (S.left input.old) (S.left input.new)) }
-    ensures refused { IfErr result (IsRefused limits longest (S.left input.old) (S.left input.new)) }
+    ensures file { IfOk result (IsOpbFile limits longest (S.left input.old) (S.left input.new)) }
+    ensures refused { IfErr result (IsNoOpbFile limits longest (S.left input.old) (S.left input.new)) }
     ensures faults { S.faults input.new ≡ faults_after None result (S.faults input.old) }
 {
     let read = match read_instance_within(alloc, input, longest, limits) {

@@ -1,13 +1,18 @@
-use Rattle.std.proofs.Common.{ℕ, subst}
-use Rattle.pb_text.specs.Automaton.{Accepts}
-use Rattle.pb_opb.specs.State.{opb}
-use Rattle.pb_opb.specs.Canonical.{event_bytes}
-use Rattle.pb_tool.specs.Showing.{Shows}
-use Rattle.pb_tool.specs.Tidying.{IsOpb}
-use Rattle.pb_tool.proofs.Shown.{shows_to}
+use Rattle.pb_tool.proofs.Chosen.{shows_instance, shows_proof, shows_unread, some_of}
 use Rattle.pb_tool.proofs.showing.show.Goals as goal
 
-pub returns-clause-shows : goal.returns-clause-shows
-returns-clause-shows g c =
-    let shows = subst (λ (n : ℕ). Shows (Accepts opb c.new.result) n event_bytes g.W.Sink.contents g.W.Sink.faults (g.S.Source.left c.args.input.now) c.args.out.now c.show_each.result (g.S.Source.left c.show_each.new.input) c.show_each.new.out) c.unwrap_or-longest.ensures c.show_each.ensures.shows in
-    shows_to (Accepts opb c.new.result) (IsOpb c.args.limits) _ (c.new.ensures.reads _) event_bytes g.W.Sink.contents g.W.Sink.faults _ _ c.show_each.result _ _ shows
+pub returns-in-Ok-Proof-clause-shows : goal.returns-in-Ok-Proof-clause-shows
+returns-in-Ok-Proof-clause-shows g c =
+    let t = rw (c.in-Ok-Proof.is, c.in-Ok-Proof.field-0-is) at c.format_of.ensures in
+    shows_proof c.args.limits _ _ c.unwrap_or-longest.ensures g.W.Sink.contents g.W.Sink.faults _ _ t.left _ _ _ _ t.format c.show_proof.ensures.shows
+
+pub returns-in-Ok-Instance-clause-shows : goal.returns-in-Ok-Instance-clause-shows
+returns-in-Ok-Instance-clause-shows g c =
+    let t = rw (c.in-Ok-Instance.is, c.in-Ok-Instance.field-0-is) at c.format_of.ensures in
+    shows_instance c.args.limits _ _ c.unwrap_or-longest.ensures g.W.Sink.contents g.W.Sink.faults _ _ t.left _ _ _ _ t.format c.show_instance.ensures.shows
+
+pub returns-in-Err-clause-shows : goal.returns-in-Err-clause-shows
+returns-in-Err-clause-shows g c =
+    let t = rw c.in-Err.is at c.format_of.ensures in
+    let u = c.unread_file.ensures in
+    shows_unread c.args.limits _ _ c.unwrap_or-longest.ensures g.W.Sink.contents g.W.Sink.faults _ _ t.left c.args.out.now (some_of c.args.longest _ c.unwrap_or-longest.ensures c.requires) u.instance u.proof _ u.fault

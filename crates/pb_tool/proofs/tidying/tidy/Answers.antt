@@ -1,8 +1,18 @@
-use Rattle.std.proofs.Common.{ℕ, refl, subst}
-use Rattle.pb_tool.specs.Tidying.{IsRefused}
+use Rattle.pb_tool.proofs.Chosen.{some_of, tidies_instance, tidies_proof, tidies_unread}
 use Rattle.pb_tool.proofs.tidying.tidy.Goals as goal
+
+pub returns-in-Ok-Proof-clause-tidies : goal.returns-in-Ok-Proof-clause-tidies
+returns-in-Ok-Proof-clause-tidies g c =
+    let t = rw (c.in-Ok-Proof.is, c.in-Ok-Proof.field-0-is) at c.format_of.ensures in
+    rw c.if-normal.false (tidies_proof c.args.limits _ _ c.unwrap_or-longest.ensures g.W.Sink.contents g.W.Sink.faults _ _ t.left _ _ _ _ t.format c.tidy_proof.ensures.tidies)
+
+pub returns-in-Ok-Instance-clause-tidies : goal.returns-in-Ok-Instance-clause-tidies
+returns-in-Ok-Instance-clause-tidies g c =
+    let t = rw (c.in-Ok-Instance.is, c.in-Ok-Instance.field-0-is) at c.format_of.ensures in
+    rw c.if-normal.false (tidies_instance c.args.limits _ _ c.unwrap_or-longest.ensures g.W.Sink.contents g.W.Sink.faults _ _ t.left _ _ _ _ t.format c.tidy_instance-in-Ok-Instance.ensures.tidies)
 
 pub returns-in-Err-clause-tidies : goal.returns-in-Err-clause-tidies
 returns-in-Err-clause-tidies g c =
-    let refused = subst (λ (n : ℕ). IsRefused c.args.limits n (g.S.Source.left c.args.input.now) (g.S.Source.left c.read_file.new.input) c.in-Err.stop) c.unwrap_or-longest.ensures c.in-Err.ensures.refused in
-    rw c.refused.ensures (refused, refl)
+    let t = rw c.in-Err.is at c.format_of.ensures in
+    let u = c.unread_file.ensures in
+    rw c.if-normal.false (tidies_unread c.args.limits _ _ c.unwrap_or-longest.ensures g.W.Sink.contents g.W.Sink.faults _ _ t.left c.args.out.now (some_of c.args.longest _ c.unwrap_or-longest.ensures c.requires) u.instance u.proof _ u.fault)

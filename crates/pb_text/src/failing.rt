@@ -1,0 +1,23 @@
+//! A source that fails at once.
+
+ghost use Rattle.std.specs.Prelude.{false, ◌≡◌, ◌<◌, ℕ};
+ghost use Rattle.pb_text.specs.Automaton.{Accepts};
+ghost use Rattle.pb_text.specs.NothingRead.{ReadsNothing, first_fault};
+
+use crate::machine::Machine;
+use crate::place::{Place, Stop, Why};
+
+/// Why a read by the machine stopped, of a source that failed before its first byte.
+pub fn unread<M: Machine>(machine: &M) -> Stop
+    requires between { M.automaton.begun machine.now ≡ false }
+    ensures stop { result ≡ first_fault }
+    // It is the answer of a read of no byte, where the machine is owed one.
+    ensures reads { M.automaton.done machine.now ≡ false → (longest : ℕ) → 0 < longest
+        → ReadsNothing (Accepts M.automaton machine.now) longest }
+{
+    let _ = machine.is_done();
+    Stop {
+        place: Place::START,
+        why: Why::Read,
+    }
+}

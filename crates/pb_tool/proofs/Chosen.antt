@@ -1,0 +1,198 @@
+-- What is owed of a file, from what is owed of a proof or of an instance behind a look at its first byte.
+use Rattle.std.proofs.Common.{◌≡◌, ◌⊎◌, ℕ, ◌<◌, List, [], ◌∷◌, ◌++◌, Bool, true, false, Option, Some, None, Result, Ok, Err, refl, sym, ap, ◌∙◌, inl, inr, subst, IsTrue, ◌≢◌, arith}
+use Rattle.std.specs.Prelude.{IfSome, unwrap_or, ◌^◌}
+use Rattle.std.proofs.Math.Dec.{eqb}
+use Rattle.std.proofs.lemmas.Bool.Decides.{eqb_tells}
+use Rattle.std.specs.Io.KnownBytes.{Keeps}
+use Rattle.pb_text.specs.NothingRead.{ReadsNothing, first_place, first_fault}
+use Rattle.pb_text.specs.Pulling.{Took}
+use Rattle.pb_text.specs.Rows.{TookAll, TookSoFar}
+use Rattle.pb_text.specs.Spelling.{Item}
+use Rattle.pb_text.specs.declared.Limits.{Limits}
+use Rattle.pb_text.specs.declared.Place.{Place}
+use Rattle.pb_text.specs.declared.Spanned.{Spanned}
+use Rattle.pb_text.specs.declared.Stop.{Stop}
+use Rattle.pb_text.proofs.Writing.{writes_nothing}
+use Rattle.pb_opb.specs.Canonical.{event_bytes}
+use Rattle.pb_opb.specs.Values.{IsValueOf}
+use Rattle.pb_opb.specs.Whole as opb
+use Rattle.pb_opb.specs.declared.Instance.{Instance}
+use Rattle.pb_proof.specs.Canonical.{statement_bytes}
+use Rattle.pb_proof.specs.Proofs.{IsProof, IsProofOf}
+use Rattle.pb_proof.specs.Whole as veri
+use Rattle.pb_proof.specs.declared.Proof.{Proof}
+use Rattle.pb_tool.specs.Files.{BeginsWithP, MayBeProof, MayBeInstance, IsVeri, IsNoProofFile, ShowsFile, TidiesFile, TidiesProof}
+use Rattle.pb_tool.specs.Showing.{IsSpelling, IsRefusedAfter, InText, InRest, Shows}
+use Rattle.pb_tool.specs.Tidying.{IsFile, IsOpb, IsRefused, IsNoOpbFile, Tidies}
+use Rattle.pb_tool.specs.Tidying.IsRefused.{InText as in_text, InRest as in_rest}
+use Rattle.pb_tool.specs.declared.fault.ToolFault.{ToolFault}
+use Rattle.pb_tool.specs.declared.fault.ToolFault.TheVariants.{Text, Open, Overflow, Memory, Write}
+use Rattle.pb_tool.specs.declared.fault.Input.TheVariants.{File}
+use Rattle.pb_tool.specs.declared.fault.Input.TheVariants as input
+
+-- the limit on a statement, given or not, is no 0
+pub some_of : (longest : Option ℕ) (n : ℕ) → n ≡ unwrap_or longest (2 ^ 40) → IfSome longest (λ m. 0 < m) → 0 < n
+some_of None n e h = omega (arith, e)
+some_of (Some m) n e h = omega (arith, e, h)
+
+pub not_done : (b : Bool) → (IsTrue b → ⊥) → b ≡ false
+not_done true h = absurd (h refl)
+not_done false h = refl
+
+-- no proof has no statement
+pub no_proof : (limit top : ℕ) → IsProof limit top [] → ⊥
+no_proof limit top (v, (steps, are, first, spelled)) = first
+
+-- ---- what a look leaves
+
+took_before : (before mid after : Option (List ℕ)) (used seen : List ℕ) → Keeps before mid → Took mid used seen after → Took before used seen after
+took_before None mid after used seen k t = tt
+took_before (Some bytes) None after used seen k t = absurd k
+took_before (Some bytes) (Some more) after used seen k t = (sym k ∙ t.0, t.1)
+
+took_nothing : (before after : Option (List ℕ)) → Keeps before after → (seen : List ℕ) × Took before [] seen after
+took_nothing None after k = ([], tt)
+took_nothing (Some bytes) None k = absurd k
+took_nothing (Some bytes) (Some more) k = (bytes, (refl, ap (λ (x : List ℕ). Some x) k))
+
+-- ---- what is shown
+
+module _ {E : Type 0} (format : List (Item E) → Type 0) (longest : ℕ) (before mid : Option (List ℕ)) (k : Keeps before mid) where
+  all_before : (after : Option (List ℕ)) (marks : List (Spanned E)) (place : Place) (done : Bool) (stop : Option Stop) → TookAll format longest mid after marks place done stop → TookAll format longest before after marks place done stop
+  all_before after marks place done stop t = record { used = t.used; seen = t.seen; took = took_before before mid after t.used t.seen k t.took; reads = t.reads }
+
+  so_far_before : (after : Option (List ℕ)) (marks : List (Spanned E)) (place : Place) → TookSoFar format longest mid after marks place → TookSoFar format longest before after marks place
+  so_far_before after marks place t = record { used = t.used; seen = t.seen; took = took_before before mid after t.used t.seen k t.took; done = t.done; reads = t.reads }
+
+  spelling_before : (after : Option (List ℕ)) (marks : List (Spanned E)) → IsSpelling format longest mid after marks → IsSpelling format longest before after marks
+  spelling_before after marks i =
+      record { used = i.used; rest = i.rest; took = took_before before mid after (i.used ++ i.rest) [] k i.took; spelled = i.spelled; blank = i.blank; within = i.within }
+
+  refused_before : (after : Option (List ℕ)) (marks : List (Spanned E)) (s : Stop) → IsRefusedAfter format longest mid after marks s → IsRefusedAfter format longest before after marks s
+  refused_before after marks s (InText t) = InText (all_before after marks s.place false (Some s) t)
+  refused_before after marks s (InRest used seen next took spelled r) = InRest used seen next (took_before before mid next used seen k took) spelled r
+
+  module _ (text : E → List ℕ) {W : Type 0} (contents : W → Option (List ℕ)) (faults : W → ℕ) where
+    pub shows_before : (old : W) (result : Result Unit ToolFault) (after : Option (List ℕ)) (new : W) → Shows format longest text contents faults mid old result after new → Shows format longest text contents faults before old result after new
+    shows_before old (Ok u) after new (marks, i, w) = (marks, spelling_before after marks i, w)
+    shows_before old (Err (Text File s)) after new (marks, i, w) = (marks, refused_before after marks s i, w)
+    shows_before old (Err Write) after new (marks, last, between, t, w, b) = (marks, last, between, so_far_before after (marks ++ last ∷ []) last.past t, w, b)
+    shows_before old (Err (Text input.Instance s)) after new h = h
+    shows_before old (Err (Text input.Proof s)) after new h = h
+    shows_before old (Err (Open i)) after new h = h
+    shows_before old (Err (Overflow i)) after new h = h
+    shows_before old (Err (Memory i)) after new h = h
+
+    -- nothing, where the source failed at its first byte
+    pub shows_nothing : ReadsNothing format longest → (old : W) → Shows format longest text contents faults before old (Err (Text File first_fault)) mid old
+    shows_nothing reads old =
+        let t = took_nothing before mid k in
+        ([], InText (record { used = []; seen = t.0; took = t.1; reads = reads t.0 }), writes_nothing contents faults old)
+
+-- ---- what is tidied
+
+module _ (before mid : Option (List ℕ)) (k : Keeps before mid) where
+  module _ {V : Type 0} where
+    file_before : (IsReadOf : List ℕ → Spanned V → Type 0) (after : Option (List ℕ)) (v : V) → IsFile IsReadOf mid after v → IsFile IsReadOf before after v
+    file_before IsReadOf after v f =
+        record { used = f.used; rest = f.rest; took = took_before before mid after (f.used ++ f.rest) [] k f.took; read = f.read; spelled = f.spelled; blank = f.blank; value = f.value }
+
+    no_file_before : (Reads : Option (List ℕ) → Result (Spanned V) Stop → Option (List ℕ) → Type 0) → ((result : Result (Spanned V) Stop) (after : Option (List ℕ)) → Reads mid result after → Reads before result after)
+        → (after : Option (List ℕ)) (s : Stop) → IsRefused Reads mid after s → IsRefused Reads before after s
+    no_file_before Reads to after s (in_text r) = in_text (to (Err s) after r)
+    no_file_before Reads to after s (in_rest m next r b) = in_rest m next (to (Ok m) next r) b
+
+  module _ (limits : Limits) (longest : ℕ) where
+    opb_before : (result : Result (Spanned Instance) Stop) (after : Option (List ℕ)) → opb.ReadsValue (IsOpb limits) longest IsValueOf mid result after → opb.ReadsValue (IsOpb limits) longest IsValueOf before result after
+    opb_before (Ok m) after (used, seen, took, r) = (used, seen, took_before before mid after used seen k took, r)
+    opb_before (Err s) after (used, seen, took, r) = (used, seen, took_before before mid after used seen k took, r)
+
+    veri_before : (result : Result (Spanned Proof) Stop) (after : Option (List ℕ)) → veri.ReadsValue (IsVeri limits) longest IsProofOf mid result after → veri.ReadsValue (IsVeri limits) longest IsProofOf before result after
+    veri_before (Ok m) after (used, seen, took, r) = (used, seen, took_before before mid after used seen k took, r)
+    veri_before (Err s) after (used, seen, took, r) = (used, seen, took_before before mid after used seen k took, r)
+
+    no_instance : ReadsNothing (IsOpb limits) longest → IsNoOpbFile limits longest before mid first_fault
+    no_instance reads = let t = took_nothing before mid k in in_text ([], t.0, t.1, opb.Reading [] (reads t.0))
+
+    no_proof_file : ReadsNothing (IsVeri limits) longest → IsNoProofFile limits longest before mid first_fault
+    no_proof_file reads = let t = took_nothing before mid k in in_text ([], t.0, t.1, veri.Reading [] (reads t.0))
+
+    module _ {W : Type 0} (contents : W → Option (List ℕ)) (faults : W → ℕ) where
+      pub tidies_proof_before : (old : W) (result : Result Unit ToolFault) (after : Option (List ℕ)) (new : W) → TidiesProof limits longest contents faults mid old result after new → TidiesProof limits longest contents faults before old result after new
+      tidies_proof_before old (Ok u) after new (v, f, w) = (v, file_before _ after v f, w)
+      tidies_proof_before old (Err Write) after new (v, f, w) = (v, file_before _ after v f, w)
+      tidies_proof_before old (Err (Text File s)) after new (r, e) = (no_file_before _ veri_before after s r, e)
+      tidies_proof_before old (Err (Text input.Instance s)) after new h = h
+      tidies_proof_before old (Err (Text input.Proof s)) after new h = h
+      tidies_proof_before old (Err (Open i)) after new h = h
+      tidies_proof_before old (Err (Overflow i)) after new h = h
+      tidies_proof_before old (Err (Memory i)) after new h = h
+
+      pub tidies_before : (old : W) (result : Result Unit ToolFault) (after : Option (List ℕ)) (new : W) → Tidies limits longest false contents faults mid old result after new → Tidies limits longest false contents faults before old result after new
+      tidies_before old (Ok u) after new (v, f, w, a, o) = (v, file_before _ after v f, w, a, o)
+      tidies_before old (Err Write) after new (v, f, w, a, o) = (v, file_before _ after v f, w, a, o)
+      tidies_before old (Err (Text File s)) after new (r, e) = (no_file_before _ opb_before after s r, e)
+      tidies_before old (Err (Overflow File)) after new (v, f, d, e) = (v, file_before _ after v f, d, e)
+      tidies_before old (Err (Memory File)) after new (v, f, d, e) = (v, file_before _ after v f, d, e)
+      tidies_before old (Err (Text input.Instance s)) after new h = h
+      tidies_before old (Err (Text input.Proof s)) after new h = h
+      tidies_before old (Err (Overflow input.Instance)) after new h = h
+      tidies_before old (Err (Overflow input.Proof)) after new h = h
+      tidies_before old (Err (Memory input.Instance)) after new h = h
+      tidies_before old (Err (Memory input.Proof)) after new h = h
+      tidies_before old (Err (Open i)) after new h = h
+
+      -- nothing, where the source failed at its first byte
+      pub tidies_no_proof : ReadsNothing (IsVeri limits) longest → (old : W) → TidiesProof limits longest contents faults before old (Err (Text File first_fault)) mid old
+      tidies_no_proof reads old = (no_proof_file reads, refl)
+
+      pub tidies_no_instance : ReadsNothing (IsOpb limits) longest → (old : W) → Tidies limits longest false contents faults before old (Err (Text File first_fault)) mid old
+      tidies_no_instance reads old = (no_instance reads, refl)
+
+-- ---- which it is
+
+by_byte : (b : ℕ) (text : List ℕ) → ((eqb b 112 ≡ true) × (b ≡ 112)) ⊎ ((eqb b 112 ≡ false) × (b ≢ 112)) → MayBeProof (Some (b ∷ text)) ⊎ MayBeInstance (Some (b ∷ text))
+by_byte b text (inl h) = inl (text, ap (λ (x : ℕ). x ∷ text) h.1)
+by_byte b text (inr h) = inr (λ k. h.1 (let e = k.1 in cc))
+
+may_be : (before : Option (List ℕ)) → MayBeProof before ⊎ MayBeInstance before
+may_be None = inr tt
+may_be (Some []) = inr (λ h. let e = h.1 in cc)
+may_be (Some (b ∷ text)) = by_byte b text (eqb_tells b 112)
+
+module _ (limits : Limits) (longest n : ℕ) (is : longest ≡ n) {W : Type 0} (contents : W → Option (List ℕ)) (faults : W → ℕ) (before mid : Option (List ℕ)) (k : Keeps before mid) (old : W) where
+  module _ (result : Result Unit ToolFault) (after : Option (List ℕ)) (new : W) where
+    pub shows_proof : MayBeProof before → Shows (IsVeri limits) longest statement_bytes contents faults mid old result after new → ShowsFile limits n contents faults before old result after new
+    shows_proof may s =
+        subst (λ (m : ℕ). ShowsFile limits m contents faults before old result after new) is (inl (may, shows_before (IsVeri limits) longest before mid k statement_bytes contents faults old result after new s))
+
+    pub shows_instance : MayBeInstance before → Shows (IsOpb limits) longest event_bytes contents faults mid old result after new → ShowsFile limits n contents faults before old result after new
+    shows_instance may s =
+        subst (λ (m : ℕ). ShowsFile limits m contents faults before old result after new) is (inr (may, shows_before (IsOpb limits) longest before mid k event_bytes contents faults old result after new s))
+
+    pub tidies_proof : MayBeProof before → TidiesProof limits longest contents faults mid old result after new → TidiesFile limits n contents faults false before old result after new
+    tidies_proof may t =
+        subst (λ (m : ℕ). TidiesFile limits m contents faults false before old result after new) is (inl (may, tidies_proof_before before mid k limits longest contents faults old result after new t))
+
+    pub tidies_instance : MayBeInstance before → Tidies limits longest false contents faults mid old result after new → TidiesFile limits n contents faults false before old result after new
+    tidies_instance may t =
+        subst (λ (m : ℕ). TidiesFile limits m contents faults false before old result after new) is (inr (may, tidies_before before mid k limits longest contents faults old result after new t))
+
+  module _ (some : 0 < longest) (instance : (m : ℕ) → 0 < m → ReadsNothing (IsOpb limits) m) (proof : (m : ℕ) → 0 < m → ReadsNothing (IsVeri limits) m) (f : ToolFault) (fault : f ≡ Text File first_fault) where
+    shows_either : MayBeProof before ⊎ MayBeInstance before → ShowsFile limits longest contents faults before old (Err (Text File first_fault)) mid old
+    shows_either (inl may) = inl (may, shows_nothing (IsVeri limits) longest before mid k statement_bytes contents faults (proof longest some) old)
+    shows_either (inr may) = inr (may, shows_nothing (IsOpb limits) longest before mid k event_bytes contents faults (instance longest some) old)
+
+    tidies_either : MayBeProof before ⊎ MayBeInstance before → TidiesFile limits longest contents faults false before old (Err (Text File first_fault)) mid old
+    tidies_either (inl may) = inl (may, tidies_no_proof before mid k limits longest contents faults (proof longest some) old)
+    tidies_either (inr may) = inr (may, tidies_no_instance before mid k limits longest contents faults (instance longest some) old)
+
+    pub shows_unread : ShowsFile limits n contents faults before old (Err f) mid old
+    shows_unread =
+        subst (λ (m : ℕ). ShowsFile limits m contents faults before old (Err f) mid old) is
+        (subst (λ (x : ToolFault). ShowsFile limits longest contents faults before old (Err x) mid old) (sym fault) (shows_either (may_be before)))
+
+    pub tidies_unread : TidiesFile limits n contents faults false before old (Err f) mid old
+    tidies_unread =
+        subst (λ (m : ℕ). TidiesFile limits m contents faults false before old (Err f) mid old) is
+        (subst (λ (x : ToolFault). TidiesFile limits longest contents faults false before old (Err x) mid old) (sym fault) (tidies_either (may_be before)))

@@ -1,0 +1,14 @@
+use Rattle.std.proofs.Common.{[], refl}
+use Rattle.pb_tool.specs.Tidying.IsRefused.{InRest}
+use Rattle.pb_tool.proofs.Feeds.{took_join}
+use Rattle.pb_tool.proofs.proof_tidying.read_proof_file.Goals as goal
+
+pub returns-in-Ok-rest_is_blank-clause-file : goal.returns-in-Ok-rest_is_blank-clause-file
+returns-in-Ok-rest_is_blank-clause-file g c =
+    let (used, seen, took, read) = c.in-Ok.ensures.reads in
+    let (rest, more, blank, bound) = c.in-Ok-rest_is_blank.ensures.blank in
+    record { used = used; rest = rest; took = took_join _ _ _ used rest seen [] took more; read = c.in-Ok.read; spelled = read; blank = blank; value = refl }
+
+pub returns-in-Err-rest_is_blank-clause-refused : goal.returns-in-Err-rest_is_blank-clause-refused
+returns-in-Err-rest_is_blank-clause-refused g c =
+    InRest c.in-Ok.read (g.S.Source.left c.read_proof_within.new.input) c.in-Ok.ensures.reads c.in-Err-rest_is_blank.ensures.blank

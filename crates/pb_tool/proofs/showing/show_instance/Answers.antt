@@ -1,0 +1,10 @@
+use Rattle.pb_text.specs.Automaton.{Accepts}
+use Rattle.pb_opb.specs.State.{opb}
+use Rattle.pb_opb.specs.Canonical.{event_bytes}
+use Rattle.pb_tool.specs.Tidying.{IsOpb}
+use Rattle.pb_tool.proofs.Shown.{shows_to}
+use Rattle.pb_tool.proofs.showing.show_instance.Goals as goal
+
+pub returns-clause-shows : goal.returns-clause-shows
+returns-clause-shows g c =
+    shows_to (Accepts opb c.new.result) (IsOpb c.args.limits) _ (c.new.ensures.reads _) event_bytes g.W.Sink.contents g.W.Sink.faults _ _ c.show_each.result _ _ c.show_each.ensures.shows

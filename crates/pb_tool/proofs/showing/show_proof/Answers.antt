@@ -1,0 +1,13 @@
+use Rattle.pb_text.specs.Automaton.{Accepts}
+use Rattle.pb_text.proofs.Formats as formats
+use Rattle.pb_proof.specs.State.{proofs}
+use Rattle.pb_proof.specs.Canonical.{statement_bytes}
+use Rattle.pb_tool.specs.Files.{IsVeri}
+use Rattle.pb_tool.proofs.Shown.{shows_to}
+use Rattle.pb_tool.proofs.showing.show_proof.Goals as goal
+
+pub returns-clause-shows : goal.returns-clause-shows
+returns-clause-shows g c =
+    shows_to (Accepts proofs c.new.result) (IsVeri c.args.limits) _
+    (formats.reads (Accepts proofs c.new.result) (IsVeri c.args.limits) (λ items h. (c.new.ensures.accepts items).0 h) (λ items h. (c.new.ensures.accepts items).1 h) c.args.longest)
+    statement_bytes g.W.Sink.contents g.W.Sink.faults _ _ c.show_each.result _ _ c.show_each.ensures.shows

@@ -1,0 +1,69 @@
+-- What `pb show` and `pb tidy` owe of a file: it is a proof or an instance.
+use Rattle.std.specs.Prelude.{◌≡◌, ◌⊎◌, ℕ, Bool, true, false, List, [], ◌∷◌, ◌++◌, Option, Result, Ok, Err, IfSome}
+use Rattle.pb_text.specs.Limits.{largest, top_of}
+use Rattle.pb_text.specs.Spelling.{Item}
+use Rattle.pb_text.specs.Writing.{Wrote, Broke}
+use Rattle.pb_text.specs.declared.Limits.{Limits}
+use Rattle.pb_text.specs.declared.Stop.{Stop}
+use Rattle.pb_opb.specs.Canonical.{event_bytes}
+use Rattle.pb_proof.specs.Canonical.{proof_bytes, statement_bytes}
+use Rattle.pb_proof.specs.Proofs.{IsProof, IsProofOf}
+use Rattle.pb_proof.specs.Whole.{IsRead, ReadsValue}
+use Rattle.pb_proof.specs.declared.Proof.{Proof}
+use Rattle.pb_proof.specs.declared.Statement.{Statement}
+use Rattle.pb_tool.specs.Showing.{Shows}
+use Rattle.pb_tool.specs.Tidying.{IsFile, IsOpb, IsRefused, Tidies}
+use Rattle.pb_tool.specs.declared.fault.ToolFault.{ToolFault}
+use Rattle.pb_tool.specs.declared.fault.ToolFault.TheVariants.{Text, Open, Overflow, Memory, Write}
+use Rattle.pb_tool.specs.declared.fault.Input.TheVariants.{File}
+
+-- the first byte of the text is `p`
+abbrev pub BeginsWithP : List ℕ → Type 0
+BeginsWithP text = (rest : List ℕ) × (text ≡ 112 ∷ rest)
+
+-- A source is read as a proof where its text begins with `p`, and else as an instance. One that does not tell its
+-- text may be either.
+abbrev pub MayBeProof : Option (List ℕ) → Type 0
+MayBeProof source = IfSome source BeginsWithP
+
+abbrev pub MayBeInstance : Option (List ℕ) → Type 0
+MayBeInstance source = IfSome source (λ text. ¬ BeginsWithP text)
+
+-- the proofs under the limits
+abbrev pub IsVeri : Limits → List (Item Statement) → Type 0
+IsVeri limits = IsProof (largest limits) (top_of limits)
+
+-- what is written for a proof
+abbrev pub tidied_proof : Proof → List ℕ
+tidied_proof v = proof_bytes v ++ 10 ∷ []
+
+module _ (limits : Limits) (longest : ℕ) where
+  -- the input was a proof and a blank rest
+  abbrev pub IsProofFile : Option (List ℕ) → Option (List ℕ) → Proof → Type 0
+  IsProofFile = IsFile (IsRead (IsVeri limits) longest IsProofOf)
+
+  abbrev pub IsNoProofFile : Option (List ℕ) → Option (List ℕ) → Stop → Type 0
+  IsNoProofFile = IsRefused (ReadsValue (IsVeri limits) longest IsProofOf)
+
+  module _ {W : Type 0} (contents : W → Option (List ℕ)) (faults : W → ℕ) where
+    -- What was read of the source as a proof, and what was written: nothing before the whole input was accepted.
+    abbrev pub TidiesProof : Option (List ℕ) → W → Result Unit ToolFault → Option (List ℕ) → W → Type 0
+    TidiesProof before old (Ok u) after new = (v : Proof) × IsProofFile before after v × Wrote contents faults old (tidied_proof v) new
+    TidiesProof before old (Err Write) after new = (v : Proof) × IsProofFile before after v × Broke contents faults old (tidied_proof v) new
+    TidiesProof before old (Err (Text File s)) after new = IsNoProofFile before after s × (new ≡ old)
+    TidiesProof before old (Err (Text i s)) after new = ⊥
+    TidiesProof before old (Err (Overflow i)) after new = ⊥
+    TidiesProof before old (Err (Memory i)) after new = ⊥
+    TidiesProof before old (Err (Open i)) after new = ⊥
+
+    -- With `normal` the source is read as an instance, whatever its text begins with.
+    abbrev pub TidiesFile : Bool → Option (List ℕ) → W → Result Unit ToolFault → Option (List ℕ) → W → Type 0
+    TidiesFile true before old result after new = Tidies limits longest true contents faults before old result after new
+    TidiesFile false before old result after new =
+        (MayBeProof before × TidiesProof before old result after new)
+        ⊎ (MayBeInstance before × Tidies limits longest false contents faults before old result after new)
+
+    abbrev pub ShowsFile : Option (List ℕ) → W → Result Unit ToolFault → Option (List ℕ) → W → Type 0
+    ShowsFile before old result after new =
+        (MayBeProof before × Shows (IsVeri limits) longest statement_bytes contents faults before old result after new)
+        ⊎ (MayBeInstance before × Shows (IsOpb limits) longest event_bytes contents faults before old result after new)
