@@ -7,7 +7,7 @@ use Rattle.pb_text.specs.declared.Why.{Why}
 use Rattle.pb_text.specs.declared.Why.TheVariants.{Byte, TooLarge, Ended, TooLong, Read, Memory}
 use Rattle.pb_opb.specs.Values.{IsInstanceValue}
 use Rattle.pb_opb.specs.declared.Instance.{Instance}
-use Rattle.pb_tool.specs.Tidying.{tidied, IsFile, IsRefused}
+use Rattle.pb_tool.specs.Tidying.{tidied, IsOpbFile, IsNoOpbFile}
 
 -- v meets the rules of a value under the limits
 abbrev pub IsWithin : Limits → Instance → Type 0
@@ -15,7 +15,7 @@ IsWithin limits v = IsInstanceValue (largest limits) (top_of limits) v
 
 -- What was written of v is read as v alone, however long a statement may be.
 abbrev pub StaysAsIs : Type 0
-StaysAsIs = (limits : Limits) (longest : ℕ) (v w : Instance) (after : Option (List ℕ)) → IsWithin limits v → IsFile limits longest (Some (tidied v)) after w → w ≡ v
+StaysAsIs = (limits : Limits) (longest : ℕ) (v w : Instance) (after : Option (List ℕ)) → IsWithin limits v → IsOpbFile limits longest (Some (tidied v)) after w → w ≡ v
 
 -- no fault of a text of so many bytes: the source failed, memory ran out, or the text is longer than is read
 abbrev pub IsOutside : ℕ → Why → Type 0
@@ -28,5 +28,5 @@ IsOutside size Ended = ⊥
 
 -- With no limit on statements, what was written of v is refused for no fault of it.
 abbrev pub HasNoFault : Type 0
-HasNoFault = (limits : Limits) (v : Instance) (s : Stop) (after : Option (List ℕ)) → IsWithin limits v → IsRefused limits (2 ^ 40) (Some (tidied v)) after s
+HasNoFault = (limits : Limits) (v : Instance) (s : Stop) (after : Option (List ℕ)) → IsWithin limits v → IsNoOpbFile limits (2 ^ 40) (Some (tidied v)) after s
     → IsOutside (length (tidied v)) s.why

@@ -11,7 +11,7 @@ use Rattle.pb_opb.proofs.Again.{canonical_instance}
 use Rattle.pb_opb.proofs.Back.{reads_back}
 use Rattle.pb_opb.proofs.Bodies.{instance_each, closes}
 use Rattle.pb_tool.specs.Staying.{IsOutside, IsWithin}
-use Rattle.pb_tool.specs.Tidying.{tidied, IsRefused}
+use Rattle.pb_tool.specs.Tidying.{tidied, IsNoOpbFile}
 use Rattle.pb_tool.specs.Tidying.IsRefused.{InText, InRest}
 use Rattle.pb_tool.proofs.Stays.{written, stays, in_text, in_rest}
 use Rattle.pb_tool.proofs.laws.tidied_text_stays.Goals as goal
@@ -27,7 +27,7 @@ returns-clause-same c limits longest v w after rules file =
     let (rest, bytes, feed) = written v in
     sym file.value ∙ stays canonical_instance none_longer reads_back (largest limits) (top_of limits) (low limits) limits.most_top v rules longest file.used file.rest rest file.read file.spelled (sym (append-nil _) ∙ (sym file.took.0 ∙ bytes))
 
-faultless : (limits : Limits) (v : Instance) (s : Stop) (after : Option (List ℕ)) → IsWithin limits v → IsRefused limits (2 ^ 40) (Some (tidied v)) after s → IsOutside (length (tidied v)) s.why
+faultless : (limits : Limits) (v : Instance) (s : Stop) (after : Option (List ℕ)) → IsWithin limits v → IsNoOpbFile limits (2 ^ 40) (Some (tidied v)) after s → IsOutside (length (tidied v)) s.why
 faultless limits v s after rules (InText (used, seen, took, stops)) =
     let (rest, bytes, feed) = written v in
     subst (λ (t : List ℕ). IsOutside (length t) s.why) (sym took.0) (in_text canonical_instance none_longer reads_back (largest limits) (top_of limits) (low limits) limits.most_top v rules used seen rest s stops (sym took.0 ∙ bytes))
