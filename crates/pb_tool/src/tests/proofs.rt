@@ -30,13 +30,7 @@ enum Command {
     TidyNormal,
 }
 
-fn run(
-    alloc: Global,
-    command: Command,
-    text: &[u8],
-    longest: Option<u64>,
-    limits: Limits,
-) -> Done {
+fn run(alloc: Global, command: Command, text: &[u8], longest: Option<u64>, limits: Limits) -> Done {
     let mut input = Over::new(text);
     let mut out = Over::new(FaultyWriter::new(Vec::new(alloc)));
     let answer = match command {
@@ -129,7 +123,8 @@ fn refuses_words_that_are_no_expression(rt: HostRuntime) {
 fn refuses_numbers_past_their_limits(rt: HostRuntime) {
     let full = Limits::full();
     let lines = b"1:1 pseudo-Boolean proof version 2.0\n2:1 f 2\n";
-    let id = b"pseudo-Boolean proof version 2.0\nf 2\npol 170141183460469231731687303715884105727\n";
+    let id =
+        b"pseudo-Boolean proof version 2.0\nf 2\npol 170141183460469231731687303715884105727\n";
     assert!(rt; refuses(rt.alloc(), id, full, (3, 24, 60), Why::TooLarge, lines));
     let header = b"1:1 pseudo-Boolean proof version 2.0\n";
     let count = b"pseudo-Boolean proof version 2.0\nf 9223372036854775808\n";
@@ -166,7 +161,14 @@ fn tells_a_first_byte_that_cannot_be_read(rt: HostRuntime) {
     reader.fails_at = Some(1);
     let mut input = Over::new(reader);
     let mut out = Over::new(FaultyWriter::new(Vec::new(rt.alloc())));
-    let answer = tidy(rt.alloc(), &mut input, false, &mut out, None, Limits::full());
+    let answer = tidy(
+        rt.alloc(),
+        &mut input,
+        false,
+        &mut out,
+        None,
+        Limits::full(),
+    );
     let done = Done {
         written: out.into_inner().taken,
         answer,

@@ -12,10 +12,10 @@ pub loop-read-init : goal.loop-read-init
 loop-read-init g c = record {
   faults = refl;
   shown = (
-  [],
-  first_pull {g = g.M.Machine} c.args.longest c.args.machine (g.S.Source.left c.args.input.now) c.within-feeder.result c.within-feeder.ensures.stands c.within-feeder.ensures.running (ap (λ (p : Place). p.offset) c.within-feeder.ensures.place),
-  writes_nothing g.W.Sink.contents g.W.Sink.faults c.args.out.now,
-);
+    [],
+    first_pull {g = g.M.Machine} c.args.longest c.args.machine (g.S.Source.left c.args.input.now) c.within-feeder.result c.within-feeder.ensures.stands c.within-feeder.ensures.running (ap (λ (p : Place). p.offset) c.within-feeder.ensures.place),
+    writes_nothing g.W.Sink.contents g.W.Sink.faults c.args.out.now,
+  );
 }
 
 fewer : (a b : ℕ) → b ≤ 2 ^ 40 → a < b → 2 ^ 40 + 1 - b < 2 ^ 40 + 1 - a
