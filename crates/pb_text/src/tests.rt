@@ -6,7 +6,7 @@ use crate::doubles::{FaultyReader, FaultyWriter};
 use crate::toy::Toy;
 use crate::{
     Failed, Feeder, Gather, Limits, Over, Place, Source, Stop, Why, pull, read_whole,
-    rest_is_blank, write_bytes,
+    rest_is_blank, unread, write_bytes,
 };
 use std::alloc::AllocError;
 use std::test::Fail;
@@ -223,4 +223,10 @@ fn limits_are_within_their_range(rt: HostRuntime) {
     );
     assert_eq!(rt; Limits::full().top(), 9223372036854775807);
     assert!(rt; Limits::new(127, (1 << 63) - 1) == Some(Limits::full()));
+}
+
+#[test]
+fn tells_a_source_that_fails_at_once(rt: HostRuntime) {
+    let fault = stop(place(1, 1, 0), Why::Read);
+    assert!(rt; unread(&Toy::new(1)) == fault);
 }

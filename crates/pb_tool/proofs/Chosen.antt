@@ -4,7 +4,7 @@ use Rattle.std.specs.Prelude.{IfSome, unwrap_or, ◌^◌}
 use Rattle.std.proofs.Math.Dec.{eqb}
 use Rattle.std.proofs.lemmas.Bool.Decides.{eqb_tells}
 use Rattle.std.specs.Io.KnownBytes.{Keeps}
-use Rattle.pb_text.specs.NothingRead.{ReadsNothing, first_place, first_fault}
+use Rattle.pb_text.specs.NothingRead.{ReadsNothing, first_fault}
 use Rattle.pb_text.specs.Pulling.{Took}
 use Rattle.pb_text.specs.Rows.{TookAll, TookSoFar}
 use Rattle.pb_text.specs.Spelling.{Item}
@@ -21,7 +21,7 @@ use Rattle.pb_proof.specs.Canonical.{statement_bytes}
 use Rattle.pb_proof.specs.Proofs.{IsProof, IsProofOf}
 use Rattle.pb_proof.specs.Whole as veri
 use Rattle.pb_proof.specs.declared.Proof.{Proof}
-use Rattle.pb_tool.specs.Files.{BeginsWithP, MayBeProof, MayBeInstance, IsVeri, IsNoProofFile, ShowsFile, TidiesFile, TidiesProof}
+use Rattle.pb_tool.specs.Files.{MayBeProof, MayBeInstance, IsVeri, IsNoProofFile, ShowsFile, TidiesFile, TidiesProof}
 use Rattle.pb_tool.specs.Showing.{IsSpelling, IsRefusedAfter, InText, InRest, Shows}
 use Rattle.pb_tool.specs.Tidying.{IsFile, IsOpb, IsRefused, IsNoOpbFile, Tidies}
 use Rattle.pb_tool.specs.Tidying.IsRefused.{InText as in_text, InRest as in_rest}

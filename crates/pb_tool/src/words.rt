@@ -23,7 +23,7 @@ const MOST_BYTES: u64 = 1 << 40;
 const PB_EXAMPLE: &str = "\
 Example: pb tidy instance.opb
 prints the instance in its canonical spelling, or says on standard error where and why the text
-is no instance.";
+is no instance. A file that begins with p is taken for a proof.";
 
 const SHOW_EXAMPLE: &str = "\
 Example: where instance.opb has the lines
@@ -55,8 +55,8 @@ pub enum Job {
         longest: Option<u64>,
         bits: u32,
     },
-    /// The canonical spelling of the file, or of standard input; where `normal` is true, with each constraint in
-    /// normal form.
+    /// The canonical spelling of the file, or of standard input; where `normal` is true, of an instance with each
+    /// constraint in normal form.
     Tidy {
         normal: bool,
         file: Option<String>,
@@ -208,12 +208,14 @@ fn command<'a>(alloc: Global) -> Result<Command<'a>, clap::Error>
     let show = reader(
         alloc,
         "show",
-        "Print each statement of an instance as it comes, after its line and column",
+        "Print each statement of an instance or a proof as it comes, after its line and column",
         SHOW_EXAMPLE,
     )?;
     let tidy = tidy(alloc)?;
     let command = Command::new(alloc, "pb")
-        .about("Reads and writes pseudo-Boolean instances in the OPB format")
+        .about(
+            "Reads and writes pseudo-Boolean instances in the OPB format, and proofs in VeriPB 2.0",
+        )
         .after_help(PB_EXAMPLE)
         .subcommand_required(true)
         .arg_required_else_help(true)
@@ -230,7 +232,7 @@ fn tidy<'a>(alloc: Global) -> Result<Command<'a>, AllocError>
     reader(
         alloc,
         "tidy",
-        "Print the canonical spelling of an instance, once all of it was read",
+        "Print the canonical spelling of an instance or a proof, once all of it was read",
         TIDY_EXAMPLE,
     )?
     .arg(normal(alloc))
@@ -282,7 +284,9 @@ fn normal<'a>(alloc: Global) -> Arg<'a>
     Arg::new(alloc, "normal")
         .long("normal")
         .action(ArgAction::SetTrue)
-        .help("Print each constraint in normal form, an equality as two, without comments")
+        .help(
+            "Read an instance; print each constraint in normal form, an equality as two, without comments",
+        )
 }
 
 /// A flag with a number.

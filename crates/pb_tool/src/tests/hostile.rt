@@ -18,6 +18,15 @@ const NORMAL: &[u8] =
 const SHOWN: &[u8] =
     b"1:1 * #variable= 2 #constraint= 2\n2:1 *a\n3:1 min: -1 x1 ;\n5:3 +1 x1 -2 ~x2 = -1 ;\n5:23 +1 x2 >= 0 ;\n";
 
+const PROOF: &[u8] =
+    b"pseudo-Boolean  proof version 2.0\n f 02 ;\npol  1 2 +\noutput NONE\nconclusion UNSAT:3\nend pseudo-Boolean proof\n*";
+
+const PROOF_TIDIED: &[u8] =
+    b"pseudo-Boolean proof version 2.0\nf 2\npol 1 2 +\noutput NONE\nconclusion UNSAT : 3\nend pseudo-Boolean proof\n";
+
+const PROOF_SHOWN: &[u8] =
+    b"1:1 pseudo-Boolean proof version 2.0\n2:2 f 2\n3:1 pol 1 2 +\n4:1 output NONE\n5:1 conclusion UNSAT : 3\n6:1 end pseudo-Boolean proof\n";
+
 /// More calls than any of the runs makes.
 const CALLS: u64 = 400;
 
@@ -26,21 +35,41 @@ enum Command {
     Show,
     Tidy,
     TidyNormal,
+    ShowProof,
+    TidyProof,
 }
 
+const COMMANDS: [Command; 5] = [
+    Command::Show,
+    Command::Tidy,
+    Command::TidyNormal,
+    Command::ShowProof,
+    Command::TidyProof,
+];
+
 impl Command {
+    /// What it reads.
+    fn text(self) -> &'static [u8] {
+        match self {
+            Command::ShowProof | Command::TidyProof => PROOF,
+            _ => TEXT,
+        }
+    }
+
     /// What it writes of the text.
     fn whole(self) -> &'static [u8] {
         match self {
             Command::Show => SHOWN,
             Command::Tidy => TIDIED,
             Command::TidyNormal => NORMAL,
+            Command::ShowProof => PROOF_SHOWN,
+            Command::TidyProof => PROOF_TIDIED,
         }
     }
 
     /// Whether it writes nothing before the whole input was read.
     fn waits(self) -> bool {
-        !matches!(self, Command::Show)
+        !matches!(self, Command::Show | Command::ShowProof)
     }
 }
 
@@ -56,8 +85,10 @@ fn run(alloc: Global, command: Command, reader: FaultyReader<'_>, writer: Faulty
     let mut out = Over::new(writer);
     let full = Limits::full();
     let answer = match command {
-        Command::Show => show(alloc, &mut input, &mut out, None, full),
-        Command::Tidy => tidy(alloc, &mut input, false, &mut out, None, full),
+        Command::Show | Command::ShowProof => show(alloc, &mut input, &mut out, None, full),
+        Command::Tidy | Command::TidyProof => {
+            tidy(alloc, &mut input, false, &mut out, None, full)
+        }
         Command::TidyNormal => tidy(alloc, &mut input, true, &mut out, None, full),
     };
     Done {
@@ -92,7 +123,7 @@ fn is_unwritten(done: &Done, command: Command) -> bool {
 /// Whether each call of the reader may fail: the first run tells it, each tells it or is whole, and the last is.
 fn reads_fail_well(alloc: Global, command: Command) -> bool {
     for call in 1..=CALLS {
-        let mut reader = FaultyReader::new(TEXT);
+        let mut reader = FaultyReader::new(command.text());
         reader.fails_at = Some(call);
         let done = run(alloc, command, reader, FaultyWriter::new(Vec::new(alloc)));
         let right = is_unread(&done, command) && call < CALLS
@@ -110,7 +141,7 @@ fn writes_fail_well(alloc: Global, command: Command) -> bool {
         let mut writer = FaultyWriter::new(Vec::new(alloc));
         writer.most = 1;
         writer.fails_at = Some(call);
-        let done = run(alloc, command, FaultyReader::new(TEXT), writer);
+        let done = run(alloc, command, FaultyReader::new(command.text()), writer);
         let right = is_unwritten(&done, command) && call < CALLS
             || is_whole(&done, command) && 1 < call;
         if !right {
@@ -122,8 +153,8 @@ fn writes_fail_well(alloc: Global, command: Command) -> bool {
 
 #[test]
 fn gives_and_takes_one_byte_a_call(rt: HostRuntime) {
-    for command in [Command::Show, Command::Tidy, Command::TidyNormal] {
-        let mut reader = FaultyReader::new(TEXT);
+    for command in COMMANDS {
+        let mut reader = FaultyReader::new(command.text());
         reader.most = 1;
         let mut writer = FaultyWriter::new(Vec::new(rt.alloc()));
         writer.most = 1;
@@ -133,24 +164,29 @@ fn gives_and_takes_one_byte_a_call(rt: HostRuntime) {
 
 #[test]
 fn tells_a_writer_that_takes_nothing(rt: HostRuntime) {
-    for command in [Command::Show, Command::Tidy, Command::TidyNormal] {
+    for command in COMMANDS {
         let mut writer = FaultyWriter::new(Vec::new(rt.alloc()));
         writer.most = 0;
-        let done = run(rt.alloc(), command, FaultyReader::new(TEXT), writer);
+        let done = run(
+            rt.alloc(),
+            command,
+            FaultyReader::new(command.text()),
+            writer,
+        );
         assert!(rt; is_unwritten(&done, command) && done.written.is_empty());
     }
 }
 
 #[test]
 fn tells_each_read_that_fails(rt: HostRuntime) {
-    assert!(rt; reads_fail_well(rt.alloc(), Command::Show));
-    assert!(rt; reads_fail_well(rt.alloc(), Command::Tidy));
-    assert!(rt; reads_fail_well(rt.alloc(), Command::TidyNormal));
+    for command in COMMANDS {
+        assert!(rt; reads_fail_well(rt.alloc(), command));
+    }
 }
 
 #[test]
 fn tells_each_write_that_fails(rt: HostRuntime) {
-    assert!(rt; writes_fail_well(rt.alloc(), Command::Show));
-    assert!(rt; writes_fail_well(rt.alloc(), Command::Tidy));
-    assert!(rt; writes_fail_well(rt.alloc(), Command::TidyNormal));
+    for command in COMMANDS {
+        assert!(rt; writes_fail_well(rt.alloc(), command));
+    }
 }
