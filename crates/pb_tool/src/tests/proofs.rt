@@ -1,5 +1,7 @@
 //! What `tidy` and `show` make of proofs, and where they refuse one.
 
+ghost use Rattle.std.specs.Prelude.{◌<◌, IfSome};
+
 use crate::{Input, ToolFault, limits_of, show, tidy};
 use pb_text::doubles::{FaultyReader, FaultyWriter};
 use pb_text::{Limits, Over, Place, Stop, Why};
@@ -30,7 +32,9 @@ enum Command {
     TidyNormal,
 }
 
-fn run(alloc: Global, command: Command, text: &[u8], longest: Option<u64>, limits: Limits) -> Done {
+fn run(alloc: Global, command: Command, text: &[u8], longest: Option<u64>, limits: Limits) -> Done
+    requires { IfSome longest (λ n. 0 < n) }
+{
     let mut input = Over::new(text);
     let mut out = Over::new(FaultyWriter::new(Vec::new(alloc)));
     let answer = match command {
