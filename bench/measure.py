@@ -7,22 +7,31 @@ import time
 SIZES = [50, 100]
 
 
-def run(words, path):
-    """The seconds and the peak of memory, in kilobytes, of one run."""
+def start(words, path):
+    """Starts a run that reads the file, and whose output goes nowhere."""
     with open(path, "rb") as file, open(os.devnull, "wb") as out:
-        begin = time.perf_counter()
-        process = subprocess.Popen(words, stdin=file, stdout=out)
-        _, status, usage = os.wait4(process.pid, 0)
-        seconds = time.perf_counter() - begin
-    if status != 0:
+        return subprocess.Popen(words, stdin=file, stdout=out)
+
+
+def seconds_of(words, path):
+    """The seconds that a run takes."""
+    begin = time.perf_counter()
+    if start(words, path).wait() != 0:
         sys.exit(f"{' '.join(words)} failed on {path}")
-    return seconds, usage.ru_maxrss
+    return time.perf_counter() - begin
 
 
-def least(words, path, times):
-    """The least seconds and the greatest peak of so many runs."""
-    runs = [run(words, path) for _ in range(times)]
-    return min(seconds for seconds, _ in runs), max(peak for _, peak in runs)
+def peak_of(words, path):
+    """The most memory that a run holds, in kilobytes, as the system tells it while it runs."""
+    process = start(words, path)
+    peak = 0
+    while process.poll() is None:
+        with open(f"/proc/{process.pid}/status") as status:
+            for line in status:
+                if line.startswith("VmHWM:"):
+                    peak = int(line.split()[1])
+        time.sleep(0.01)
+    return peak
 
 
 def main():
@@ -31,7 +40,9 @@ def main():
         seconds = {}
         for size in SIZES:
             path = os.path.join(folder, f"{size}.opb")
-            seconds[size], peak = least([program, command], path, times)
+            words = [program, command]
+            seconds[size] = min(seconds_of(words, path) for _ in range(times))
+            peak = peak_of(words, path)
             speed = os.path.getsize(path) / 1e6 / seconds[size]
             print(f"pb {command}, {size} MB: {seconds[size]:.2f} s, {speed:.0f} MB/s, {peak / 1000:.1f} MB of memory")
         print(f"pb {command}: {seconds[100] / seconds[50]:.2f} times as long at double size")
