@@ -1,5 +1,5 @@
 -- A machine that has taken nothing, of a source that failed.
-use Rattle.std.proofs.Common.{◌≡◌, ℕ, ◌<◌, List, [], false, None, Some, refl, sym, ap, ◌∙◌, subst}
+use Rattle.std.proofs.Common.{◌≡◌, ℕ, ◌<◌, List, [], false, None, Some, sym, ap, ◌∙◌, subst}
 use Rattle.std.proofs.lemmas.List.{nil_from_length}
 use Rattle.pb_text.specs.Automaton.{Automaton, Accepts, IsState}
 use Rattle.pb_text.specs.NothingRead.{ReadsNothing, first_place, first_fault}

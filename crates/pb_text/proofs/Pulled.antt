@@ -1,19 +1,38 @@
 -- What a pull leaves of its source.
-use Rattle.std.proofs.Common.{◌≡◌, ◌≢◌, ℕ, List, [], ◌∷◌, ◌++◌, Option, Some, None, refl, sym, ap, ◌∙◌, append_assoc}
-use Rattle.std.specs.Io.KnownBytes.{Keeps}
-use Rattle.pb_text.specs.Source.{StartWith, HaveEnded, LosesFirst}
+use Rattle.std.proofs.Common.{◌≡◌, ◌≢◌, ℕ, List, [], ◌∷◌, ◌++◌, Option, Some, None, refl, sym, ap, ◌∙◌, append_assoc, subst, ◌+◌, length, length-append, arith}
+use Rattle.std.specs.Io.KnownBytes.{Keeps, Consumes}
+use Rattle.pb_text.specs.Source.{StartWith, HaveEnded, LosesFirst, Lost}
+use Rattle.pb_text.specs.Feeding.{StandsAt, place_of}
+use Rattle.pb_text.specs.Pouring.{Pours}
 use Rattle.pb_text.specs.Pulling.{Took, faults_with}
+use Rattle.pb_text.specs.declared.feeder.Feeder.{Feeder}
+use Rattle.pb_text.specs.declared.machine.Machine.{Ghosts}
+use Rattle.pb_text.specs.declared.place.Spanned.{Spanned}
 use Rattle.pb_text.specs.declared.place.Why.{Why}
 use Rattle.pb_text.specs.declared.place.Why.TheVariants.{Byte, TooLarge, Ended, TooLong, Read, Memory}
-
--- a source has lost the bytes that were taken, where it tells them
-abbrev pub Lost : Option (List ℕ) → List ℕ → Option (List ℕ) → Type 0
-Lost None taken now = Unit {0}
-Lost (Some bytes) taken now = (rest : List ℕ) × (bytes ≡ taken ++ rest) × (now ≡ Some rest)
 
 pub lost_nothing : (before : Option (List ℕ)) → Lost before [] before
 lost_nothing None = tt
 lost_nothing (Some bytes) = (bytes, refl, refl)
+
+-- a source that keeps its bytes has lost none
+pub lost_kept : (before now : Option (List ℕ)) → Keeps before now → Lost before [] now
+lost_kept None now k = tt
+lost_kept (Some bytes) None k = absurd k
+lost_kept (Some bytes) (Some more) k = (bytes, refl, ap (λ (x : List ℕ). Some x) k)
+
+-- a reader that has consumed bytes has lost them
+pub lost_consumed : (before after : Option (List ℕ)) (taken : List ℕ) → Consumes before after taken → Lost before taken after
+lost_consumed None after taken c = tt
+lost_consumed (Some bytes) None taken c = absurd c
+lost_consumed (Some bytes) (Some rest) taken c = (rest, c, refl)
+
+-- bytes taken after those that were taken
+pub lost_both : (before now last : Option (List ℕ)) (taken more : List ℕ) → Lost before taken now → Lost now more last → Lost before (taken ++ more) last
+lost_both None now last taken more l k = tt
+lost_both (Some bytes) now last taken more l k =
+    let n : Lost (Some l.0) more last = subst (λ (x : Option (List ℕ)). Lost x more last) l.2 k in
+    (n.0, l.1 ∙ (ap (λ (x : List ℕ). taken ++ x) n.1 ∙ sym (append_assoc taken more n.0)), n.2)
 
 kept : (rest : List ℕ) (now next : Option (List ℕ)) → now ≡ Some rest → Keeps now next → next ≡ Some rest
 kept rest None next e k = cc
@@ -75,3 +94,18 @@ faults_with_other Ended n h = refl
 faults_with_other TooLong n h = refl
 faults_with_other Read n h = absurd (h refl)
 faults_with_other Memory n h = refl
+
+-- What a feeder was given of a source since a call of pull began.
+abbrev pub Given : {M E : Type 0} {g : Ghosts M E} → ℕ → M → List ℕ → List (Spanned E) → Feeder M E g → Option (List ℕ) → Feeder M E g → Option (List ℕ) → Type 0
+Given longest start input marks first before f now =
+    (taken : List ℕ) × Lost before taken now × ((place_of f).offset ≡ (place_of first).offset + length taken) × StandsAt longest start (input ++ taken) marks f
+
+-- and what was poured behind it
+pub given_more : {M E : Type 0} {g : Ghosts M E} (longest : ℕ) (start : M) (input : List ℕ) (marks : List (Spanned E)) (first old new : Feeder M E g) (before now last : Option (List ℕ))
+    → Given longest start input marks first before old now → Pours old now new last → Given longest start input marks first before new last
+given_more longest start input marks first old new before now last (taken, lost, offset, stands) p = (
+  taken ++ p.taken,
+  lost_both before now last taken p.taken lost p.lost,
+  omega (arith, offset, p.offset_is, length-append taken p.taken),
+  subst (λ (x : List ℕ). StandsAt longest start x marks new) (append_assoc input taken p.taken) (p.stands longest start (input ++ taken) marks stands),
+)

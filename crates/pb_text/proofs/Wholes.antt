@@ -15,7 +15,7 @@ use Rattle.pb_text.specs.declared.place.Stop.{Stop}
 use Rattle.pb_text.specs.declared.place.Why.TheVariants.{Memory}
 use Rattle.pb_text.specs.declared.feeder.Feeder.{Feeder}
 use Rattle.pb_text.specs.declared.machine.Machine.{Ghosts}
-use Rattle.pb_text.proofs.Pulled.{Lost}
+use Rattle.pb_text.specs.Source.{Lost}
 use Rattle.pb_text.proofs.Residual.{residual}
 use Rattle.pb_text.proofs.Answer.{is_viable}
 use Rattle.pb_text.proofs.Short.{place_after-offset}

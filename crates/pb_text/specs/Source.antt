@@ -1,5 +1,5 @@
 -- What a source shows, and what is taken of it.
-use Rattle.std.specs.Prelude.{◌≡◌, ℕ, List, [], ◌∷◌, Option, Some, None, Result, Ok, Err}
+use Rattle.std.specs.Prelude.{◌≡◌, ℕ, List, [], ◌∷◌, ◌++◌, Option, Some, None, Result, Ok, Err}
 use Rattle.std.specs.Io.KnownBytes.{Keeps}
 use Rattle.pb_text.specs.Writing.{one_more}
 use Rattle.pb_text.specs.declared.source.Failed.{Failed}
@@ -30,3 +30,8 @@ LosesFirst (Some (b ∷ rest)) new = new ≡ Some rest
 module _ {S : Type 0} (left : S → Option (List ℕ)) (faults : S → ℕ) where
   abbrev pub Skips : S → S → Type 0
   Skips old new = LosesFirst (left old) (left new) × (faults new ≡ faults old)
+
+-- a source has lost the bytes that were taken, where it tells them
+abbrev pub Lost : Option (List ℕ) → List ℕ → Option (List ℕ) → Type 0
+Lost None taken now = Unit {0}
+Lost (Some bytes) taken now = (rest : List ℕ) × (bytes ≡ taken ++ rest) × (now ≡ Some rest)

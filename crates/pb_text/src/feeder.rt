@@ -1,6 +1,6 @@
 //! Takes a text in pieces.
 
-ghost use Rattle.std.specs.Prelude.{true, false, ◌≡◌, ◌≢◌, ℕ, Some, None, Ok, Err, ◌+◌, ◌-◌, ◌^◌, ◌<◌, ◌≤◌, List, [], ◌∷◌, ◌++◌, OnOk, OnErr, IfOk, IfErr, length, slice_get};
+ghost use Rattle.std.specs.Prelude.{true, false, ◌≡◌, ◌≢◌, ℕ, Some, None, Ok, Err, ◌+◌, ◌-◌, ◌^◌, ◌<◌, ◌≤◌, List, [], ◌∷◌, ◌++◌, take, OnOk, OnErr, IfOk, IfErr, length, slice_get};
 ghost use Rattle.pb_text.specs.Limit.{end_of};
 ghost use Rattle.pb_text.specs.Standing.{opened};
 
@@ -217,6 +217,31 @@ impl<M: Machine> Feeder<M> {
         }
         self.place = self.place.after(byte);
         true
+    }
+
+    /// Takes bytes at the front of a piece as long as the statement goes on that has begun, and answers how many.
+    #[inline(always)]
+    pub(crate) fn run(&mut self, piece: &[u8]) -> usize
+        requires unfinished { is_complete self.old ≡ false }
+        requires running { halt_of self.old ≡ None }
+        requires state { IsState M.automaton (state_of self.old) }
+        ensures bound { result ≤ length piece.now }
+        ensures stands { (longest : ℕ) (start : M) (input : List ℕ) (marks : List (Spanned M.Event))
+            → StandsAt longest start input marks self.old
+            → StandsAt longest start (input ++ take result piece.now) marks self.new }
+        ensures offset { (place_of self.new).offset ≡ (place_of self.old).offset + result }
+        ensures running { halt_of self.new ≡ None }
+        ensures unfinished { is_complete self.new ≡ false }
+        ensures state { IsState M.automaton (state_of self.new) }
+    {
+        if self.first.is_none() {
+            return 0;
+        }
+        let room = (self.end - self.place.offset) as usize;
+        let front = &piece[..piece.len().min(room)];
+        let used = self.machine.run(front);
+        self.place = self.place.past(&front[..used]);
+        used
     }
 
     /// Takes one byte.

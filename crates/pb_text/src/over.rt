@@ -1,8 +1,13 @@
 //! A source over any buffered reader, and a sink over any writer.
 
-ghost use Rattle.std.specs.Prelude.{◌≡◌};
+ghost use Rattle.std.specs.Prelude.{◌≡◌, None, false};
+ghost use Rattle.pb_text.specs.Automaton.{IsState};
+ghost use Rattle.pb_text.specs.Feeding.{state_of, halt_of, is_complete};
 ghost use Rattle.pb_text.specs.Over.{Shows, told};
+ghost use Rattle.pb_text.specs.Pouring.{Pours};
 
+use crate::feeder::Feeder;
+use crate::machine::Machine;
 use crate::sink::Sink;
 use crate::source::{Failed, Source};
 use std::io::{BufRead, Write};
@@ -64,6 +69,17 @@ impl<T: BufRead> Source for Over<T> {
         self.inner.consume(1);
     }
 
+    fn pour<M: Machine>(&mut self, feeder: &mut Feeder<M>) -> Result<(), Failed> {
+        self.shown = None;
+        match pour_from(&mut self.inner, feeder) {
+            Ok(()) => Ok(()),
+            Err(Failed) => {
+                self.failures = self.failures.saturating_add(1);
+                Err(Failed)
+            }
+        }
+    }
+
     fn failures(&self) -> u64 {
         self.failures
     }
@@ -95,6 +111,26 @@ fn next_of<T: BufRead>(reader: &mut T) -> Result<Option<u8>, Failed>
 {
     match reader.fill_buf() {
         Ok(bytes) => Ok(bytes.first().copied()),
+        Err(_) => Err(Failed),
+    }
+}
+
+/// Feeds what a reader has at hand to a feeder as long as the statement goes on that has begun, and takes that.
+fn pour_from<T: BufRead, M: Machine>(reader: &mut T, feeder: &mut Feeder<M>) -> Result<(), Failed>
+    requires unfinished { is_complete feeder.old ≡ false }
+    requires running { halt_of feeder.old ≡ None }
+    requires state { IsState M.automaton (state_of feeder.old) }
+    ensures pours { Pours feeder.old (T.remaining reader.old) feeder.new (T.remaining reader.new) }
+    ensures unfinished { is_complete feeder.new ≡ false }
+    ensures running { halt_of feeder.new ≡ None }
+    ensures state { IsState M.automaton (state_of feeder.new) }
+{
+    match reader.fill_buf() {
+        Ok(bytes) => {
+            let used = feeder.run(bytes);
+            reader.consume(used);
+            Ok(())
+        }
         Err(_) => Err(Failed),
     }
 }

@@ -49,15 +49,14 @@ pub fn pull<S: Source, M: Machine>(
         return Ok(None);
     }
     loop {
+        if source.pour(feeder).is_err() {
+            return Err(feeder.halt(Why::Read));
+        }
         let byte = match source.peek() {
             Ok(Some(byte)) => byte,
             Ok(None) => return Err(feeder.halt(Why::Ended)),
             Err(Failed) => return Err(feeder.halt(Why::Read)),
         };
-        if feeder.goes(byte) {
-            source.skip();
-            continue;
-        }
         match feeder.take(byte) {
             Ok(None) => source.skip(),
             Ok(Some(event)) => {

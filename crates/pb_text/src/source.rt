@@ -1,7 +1,14 @@
 //! Where bytes come from.
 
-ghost use Rattle.std.specs.Prelude.{◌≡◌, ◌∷◌, ℕ, List, Option, Some};
+ghost use Rattle.std.specs.Prelude.{◌≡◌, ◌∷◌, ℕ, List, Option, Some, None, false, OnOk, OnErr};
+ghost use Rattle.pb_text.specs.Automaton.{IsState};
+ghost use Rattle.pb_text.specs.Feeding.{state_of, halt_of, is_complete};
+ghost use Rattle.pb_text.specs.Pouring.{Pours};
 ghost use Rattle.pb_text.specs.Source.{Peeks, Skips};
+ghost use Rattle.pb_text.specs.Writing.{one_more};
+
+use crate::feeder::Feeder;
+use crate::machine::Machine;
 
 /// A reader or a writer failed.
 #[derive(Clone, Copy, Debug, PartialEq, Eq)]
@@ -26,6 +33,23 @@ pub trait Source {
     fn skip(&mut self)
         requires { (b : ℕ) × (shown self.old ≡ Some b) }
         ensures { Skips left faults self.old self.new };
+
+    /// Feeds bytes at hand to a feeder as long as the statement goes on that has begun, and takes those. It may take
+    /// none, as it does where it is not written otherwise.
+    fn pour<M: Machine>(&mut self, feeder: &mut Feeder<M>) -> Result<(), Failed>
+        requires unfinished { is_complete feeder.old ≡ false }
+        requires running { halt_of feeder.old ≡ None }
+        requires state { IsState M.automaton (state_of feeder.old) }
+        ensures pours { Pours feeder.old (left self.old) feeder.new (left self.new) }
+        ensures unfinished { is_complete feeder.new ≡ false }
+        ensures running { halt_of feeder.new ≡ None }
+        ensures state { IsState M.automaton (state_of feeder.new) }
+        ensures ok { OnOk result (faults self.new ≡ faults self.old) }
+        ensures err { OnErr result (faults self.new ≡ one_more (faults self.old)) }
+    {
+        let _ = feeder.is_done();
+        Ok(())
+    }
 
     /// How often it has failed. The count stays at its largest, `2^64 - 1`.
     fn failures(&self) -> u64

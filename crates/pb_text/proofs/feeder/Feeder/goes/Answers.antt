@@ -1,6 +1,5 @@
-use Rattle.std.proofs.Common.{◌≡◌, ◌≢◌, ◌<◌, ◌≤◌, ℕ, arith, refl, sym, subst, ap, ◌∙◌, Bool, true, None, Some, Option, List, ◌++◌, [], ◌∷◌, append-nil}
+use Rattle.std.proofs.Common.{◌≡◌, refl, subst, Bool, true, None, Some, Option, append-nil}
 use Rattle.std.specs.Option.{is_some}
-use Rattle.pb_text.specs.Spelling.{place_next}
 use Rattle.pb_text.specs.Standing.{Stands, opened}
 use Rattle.pb_text.specs.Automaton.{begins}
 use Rattle.pb_text.specs.declared.place.Place.{Place}

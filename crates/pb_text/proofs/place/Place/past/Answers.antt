@@ -1,0 +1,40 @@
+use Rattle.std.proofs.Common.{◌≡◌, ℕ, List, length, take, get_or, refl, sym, ap, ◌∙◌, arith, length-take-le}
+use Rattle.std.proofs.Math.Seq.{take-length}
+use Rattle.std.proofs.lemmas.List.{take_more}
+use Rattle.pb_text.specs.Spelling.{place_next, place_past}
+use Rattle.pb_text.specs.declared.place.Place.{Place}
+use Rattle.pb_text.proofs.Running.{past_offset, past_line, past_column, past_more}
+use Rattle.pb_text.proofs.place.Place.past.Goals as goal
+
+pub loop-byte-init : goal.loop-byte-init
+loop-byte-init c = refl
+
+pub after-place-requires-clause-line : goal.after-place-requires-clause-line
+after-place-requires-clause-line c =
+    let k = c.loop-byte.byte-index in
+    let text = c.args.text.now in
+    omega (arith, c.requires.line, ap (λ (p : Place). p.line) c.loop-byte.invariant, past_line c.args.self (take k text), length-take-le k text (omega arith))
+
+pub after-place-requires-clause-column : goal.after-place-requires-clause-column
+after-place-requires-clause-column c =
+    let k = c.loop-byte.byte-index in
+    let text = c.args.text.now in
+    omega (arith, c.requires.column, ap (λ (p : Place). p.column) c.loop-byte.invariant, past_column c.args.self (take k text), length-take-le k text (omega arith))
+
+pub after-place-requires-clause-offset : goal.after-place-requires-clause-offset
+after-place-requires-clause-offset c =
+    let k = c.loop-byte.byte-index in
+    let text = c.args.text.now in
+    omega (arith, c.requires.offset, ap (λ (p : Place). p.offset) c.loop-byte.invariant, past_offset c.args.self (take k text), length-take-le k text (omega arith))
+
+pub loop-byte-preserved : goal.loop-byte-preserved
+loop-byte-preserved c =
+    let k = c.loop-byte.byte-index in
+    let text = c.args.text.now in
+    c.after-place.ensures ∙ (ap (λ (p : Place). place_next p (get_or text k 0)) c.loop-byte.invariant
+    ∙ (sym (past_more c.args.self (take k text) (get_or text k 0)) ∙ ap (λ (x : List ℕ). place_past c.args.self x) (sym (take_more text k 0 c.loop-byte-test.true))))
+
+pub returns : goal.returns
+returns c =
+    let all : c.loop-byte.byte-index ≡ length c.args.text.now = omega arith in
+    c.loop-byte.invariant ∙ ap (λ (x : List ℕ). place_past c.args.self x) (ap (λ (k : ℕ). take k c.args.text.now) all ∙ take-length c.args.text.now)
