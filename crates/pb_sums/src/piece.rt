@@ -8,7 +8,7 @@ use itoa::{Buffer, write_digits};
 use std::marker::Model;
 
 /// The most bytes of a piece.
-pub const ROOM: usize = 96;
+pub const ROOM: usize = 192;
 
 /// A text of at most `ROOM` bytes, which grows at its front. Contracts see it as the list of its bytes.
 #[derive(Drop)]
@@ -24,7 +24,7 @@ impl Model for Piece {
 
     ghost view = { λ p. drop p.start p.bytes };
 
-    ghost invariant = { λ p. p.start ≤ 96 };
+    ghost invariant = { λ p. p.start ≤ 192 };
 }
 
 impl Piece {
@@ -45,6 +45,14 @@ impl Piece {
         ensures { result.now ≡ self.now }
     {
         &self.bytes[self.start..]
+    }
+
+    /// How many bytes more the piece has room for.
+    #[inline]
+    pub fn room(&self) -> usize
+        ensures { result + length self.now ≡ ROOM }
+    {
+        self.start
     }
 
     /// Puts a byte before the others.

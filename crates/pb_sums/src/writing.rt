@@ -1,6 +1,6 @@
 //! Canonical text.
 
-ghost use Rattle.std.specs.Prelude.{◌≡◌, ◌+◌, ◌≤◌, ◌++◌, ◌<◌, [], ◌∷◌, List, ℕ, decimal, length};
+ghost use Rattle.std.specs.Prelude.{◌≡◌, ◌+◌, ◌≤◌, ◌++◌, ◌<◌, [], ◌∷◌, List, ℕ, decimal, length, drop, if◌then◌else◌};
 ghost use Rattle.std.specs.Fmt.{signed_decimal};
 ghost use Rattle.pb_text.specs.Writing.{Writes};
 ghost use Rattle.pb_sums.specs.Sums.{literal_bytes};
@@ -13,6 +13,12 @@ use pb_text::{Failed, Place, Sink, write_bytes};
 
 /// The most bytes of a name that are written in one piece with what stands before it.
 const FRONT: usize = 48;
+
+/// The most bytes of a term without its name, with a space before it.
+const LONGEST: usize = 43;
+
+/// The most terms of a piece.
+const BATCH: usize = 8;
 
 /// Writes a number: digits, and `-` before them where it is negative.
 pub fn write_number<S: Sink>(value: i128, out: &mut S) -> Result<(), Failed>
@@ -53,12 +59,10 @@ fn split_name(name: &Name) -> (&[u8], &[u8])
     bytes.split_at(bytes.len().min(FRONT))
 }
 
-/// Puts the front of a literal into an empty piece: `~` where it is negated, and the front of its name.
+/// Puts the front of a literal before the others: `~` where it is negated, and the front of its name.
 fn put_literal(negated: bool, front: &[u8], piece: &mut Piece)
-    requires empty { piece.old ≡ [] }
-    requires short { length front.now ≤ FRONT }
-    ensures text { piece.new ≡ literal_bytes negated front.now }
-    ensures short { length piece.new ≤ 1 + FRONT }
+    requires { 1 + length front.now + length piece.old ≤ ROOM }
+    ensures { piece.new ≡ literal_bytes negated front.now ++ piece.old }
 {
     piece.put_text(front);
     if negated {
@@ -66,12 +70,11 @@ fn put_literal(negated: bool, front: &[u8], piece: &mut Piece)
     }
 }
 
-/// Puts the front of a term into an empty piece: all of it but the rest of its name.
+/// Puts the front of a term before the others: all of it but the rest of its name.
 fn put_term(term: &Term, front: &[u8], piece: &mut Piece)
-    requires empty { piece.old ≡ [] }
-    requires short { length front.now ≤ FRONT }
-    ensures text { piece.new ≡ weight_bytes term.now.coefficient ++ (32 ∷ literal_bytes term.now.literal.negated front.now) }
-    ensures short { length piece.new < ROOM }
+    requires { 42 + length front.now + length piece.old ≤ ROOM }
+    ensures text { piece.new ≡ (weight_bytes term.now.coefficient ++ (32 ∷ literal_bytes term.now.literal.negated front.now)) ++ piece.old }
+    ensures short { length piece.new ≤ 42 + length front.now + length piece.old }
 {
     put_literal(term.literal.negated, front, piece);
     piece.put(b' ');
@@ -115,11 +118,60 @@ fn write_further_term<S: Sink>(term: &Term, out: &mut S) -> Result<(), Failed>
     write_both(&piece, rest, out)
 }
 
-fn write_further<S: Sink>(terms: &[Term], out: &mut S) -> Result<(), Failed>
+/// Writes terms, each in a piece of its own.
+fn write_each<S: Sink>(terms: &[Term], out: &mut S) -> Result<(), Failed>
     ensures { Writes S.contents S.faults out.old (further_bytes terms.now) result out.new }
 {
     for term in terms {
         write_further_term(term, out)?;
+    }
+    Ok(())
+}
+
+/// Puts a term and a space in front of it before the others, where it surely fits, and answers whether it did.
+fn put_further_term(term: &Term, piece: &mut Piece) -> bool
+    ensures { piece.new ≡ (if result then (32 ∷ term_bytes term.now) ++ piece.old else piece.old) }
+{
+    let name = term.literal.name.as_str().as_bytes();
+    if name.len() + LONGEST > piece.room() {
+        return false;
+    }
+    put_term(term, name, piece);
+    piece.put(b' ');
+    true
+}
+
+/// Puts terms before the others, the last one first, as far as they fit, and answers how many are left.
+fn put_further(terms: &[Term], piece: &mut Piece) -> usize
+    ensures within { result ≤ length terms.now }
+    ensures text { piece.new ≡ further_bytes (drop result terms.now) ++ piece.old }
+{
+    let mut left = terms.len();
+    while left > 0 && put_further_term(&terms[left - 1], piece) {
+        left -= 1;
+    }
+    left
+}
+
+/// Writes terms, the last of them in one piece.
+fn write_batch<S: Sink>(terms: &[Term], out: &mut S) -> Result<(), Failed>
+    ensures { Writes S.contents S.faults out.old (further_bytes terms.now) result out.new }
+{
+    let mut piece = Piece::new();
+    let left = put_further(terms, &mut piece);
+    write_each(&terms[..left], out)?;
+    write_bytes(piece.as_bytes(), out)
+}
+
+/// Writes terms with a space before each.
+fn write_further<S: Sink>(terms: &[Term], out: &mut S) -> Result<(), Failed>
+    ensures { Writes S.contents S.faults out.old (further_bytes terms.now) result out.new }
+{
+    let mut rest = terms;
+    while !rest.is_empty() {
+        let (batch, behind) = rest.split_at(rest.len().min(BATCH));
+        write_batch(batch, out)?;
+        rest = behind;
     }
     Ok(())
 }
