@@ -3,6 +3,7 @@ use Rattle.std.specs.Fmt.{signed_decimal}
 use Rattle.std.specs.Prelude.{ℕ, suc, ◌≤◌, List, [], ◌∷◌, ◌++◌, ℤ, pos, negsuc, nat_abs, decimal}
 use Rattle.pb_text.specs.Spelling.{Letter, plain, digits_of}
 use Rattle.pb_text.specs.Languages.{unmarked}
+use Rattle.pb_text.specs.declared.Place.{Place}
 use Rattle.pb_sums.specs.Sums.{IsName, literal_bytes}
 use Rattle.pb_sums.specs.declared.values.Literal.{Literal}
 use Rattle.pb_sums.specs.declared.values.Term.{Term}
@@ -51,6 +52,10 @@ operator_bytes Equal = 61 ∷ []
 -- the degree has digits, and `-` before them where it is negative
 abbrev pub linear_bytes : Linear → List ℕ
 linear_bytes c = head_bytes c.terms ++ (operator_bytes c.relation ++ (32 ∷ (signed_decimal c.degree ++ (32 ∷ 59 ∷ []))))
+
+-- a line, `:`, a column and a space
+abbrev pub place_bytes : Place → List ℕ
+place_bytes p = decimal p.line ++ (58 ∷ (decimal p.column ++ (32 ∷ [])))
 
 -- The same text as letters.
 abbrev pub degree_text : ℤ → List Letter

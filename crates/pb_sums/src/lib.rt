@@ -7,6 +7,7 @@ mod laws;
 mod machine;
 mod name;
 mod phase;
+mod piece;
 mod plans;
 mod rules;
 #[cfg(test)]
@@ -20,4 +21,4 @@ pub use machine::SumMachine;
 pub use name::Name;
 pub use rules::{is_name, linear_is_value, sum_is_value};
 pub use values::{Linear, Literal, Relation, SumEvent, Term};
-pub use writing::{write_count, write_linear, write_literal, write_number, write_sum};
+pub use writing::{write_count, write_linear, write_literal, write_number, write_place, write_sum};

@@ -1,5 +1,5 @@
 use super::*;
-use pb_text::{Failed, Limits, Machine, Push, Sequence, Sink};
+use pb_text::{Failed, Limits, Machine, Place, Push, Sequence, Sink};
 use std::alloc::Global;
 use std::test::Fail;
 
@@ -158,6 +158,23 @@ fn keeps_repeated_names_and_zeros_and_writes_them(rt: HostRuntime) -> Result<(),
 }
 
 #[test]
+fn writes_more_than_a_piece_holds(rt: HostRuntime) -> Result<(), Fail> {
+    for text in [
+        b"+1 a1 -2 ~a2 +3 a3 -4 a4 +5 a5 -6 a6 +7 a7 -8 a8 +9 a9 -10 b0 +11 b1 -12 b2 = 7 ;".as_slice(),
+        b"+1 a_name_of_a_few_more_than_forty_eight_bytes_in_all_ +2 ~a_name_of_a_few_more_than_forty_eight_bytes_in_all_ -3 ~a_name_of_a_few_more_than_forty_eight_bytes_in_all_ +4 x1 -5 a_name_of_a_few_more_than_forty_eight_bytes_in_all_ >= 1 ;".as_slice(),
+        b"+170141183460469231731687303715884105727 x1 -170141183460469231731687303715884105727 ~x2 +18446744073709551616 x3 +18446744073709551615 x4 -18446744073709551616 x5 -1 x6 >= -170141183460469231731687303715884105727 ;".as_slice(),
+    ] {
+        match read(rt.alloc(), Part::Linear, text) {
+            Answer::Read(SumEvent::Linear(linear)) => {
+                assert_eq!(rt; written(rt.alloc(), &linear)?.bytes.as_slice(), text);
+            }
+            _ => return Err(Fail::from("not read")),
+        }
+    }
+    Ok(())
+}
+
+#[test]
 fn reads_sums(rt: HostRuntime) -> Result<(), Fail> {
     let mut terms = Sequence::new(rt.alloc());
     terms.push(term(rt.alloc(), -2, true, "y_2")?)?;
@@ -210,5 +227,11 @@ fn writes_numbers(rt: HostRuntime) {
     };
     assert!(rt; write_number(-120, &mut page).is_ok());
     assert!(rt; write_count(7, &mut page).is_ok());
-    assert_eq!(rt; page.bytes.as_slice(), b"-1207".as_slice());
+    let place = Place {
+        line: 12,
+        column: 1,
+        offset: 90,
+    };
+    assert!(rt; write_place(place, &mut page).is_ok());
+    assert_eq!(rt; page.bytes.as_slice(), b"-120712:1 ".as_slice());
 }

@@ -1,73 +1,177 @@
 //! Canonical text.
 
-ghost use Rattle.std.specs.Prelude.{◌≡◌, ◌++◌, [], ◌∷◌, List, ℕ, decimal};
+ghost use Rattle.std.specs.Prelude.{◌≡◌, ◌+◌, ◌≤◌, ◌++◌, ◌<◌, [], ◌∷◌, List, ℕ, decimal, length, drop, if◌then◌else◌};
 ghost use Rattle.std.specs.Fmt.{signed_decimal};
 ghost use Rattle.pb_text.specs.Writing.{Writes};
 ghost use Rattle.pb_sums.specs.Sums.{literal_bytes};
-ghost use Rattle.pb_sums.specs.Canonical.{weight_bytes, term_bytes, further_bytes, sum_bytes, head_bytes, operator_bytes, linear_bytes};
+ghost use Rattle.pb_sums.specs.Canonical.{weight_bytes, term_bytes, further_bytes, sum_bytes, operator_bytes, linear_bytes, place_bytes};
 
+use crate::Name;
+use crate::piece::{Piece, ROOM};
 use crate::values::{Linear, Literal, Relation, Term};
-use itoa::Buffer;
-use pb_text::{Failed, Sink, write_bytes};
+use pb_text::{Failed, Place, Sink, write_bytes};
+
+/// The most bytes of a name that are written in one piece with what stands before it.
+const FRONT: usize = 48;
+
+/// The most bytes of a term without its name, with a space before it.
+const LONGEST: usize = 43;
+
+/// The most terms of a piece.
+const BATCH: usize = 8;
 
 /// Writes a number: digits, and `-` before them where it is negative.
 pub fn write_number<S: Sink>(value: i128, out: &mut S) -> Result<(), Failed>
     ensures { Writes S.contents S.faults out.old (signed_decimal value) result out.new }
 {
-    let mut buffer = Buffer::new();
-    write_bytes(buffer.format(value).as_bytes(), out)
+    let mut piece = Piece::new();
+    piece.put_number(value);
+    write_bytes(piece.as_bytes(), out)
 }
 
 /// Writes a count: digits.
 pub fn write_count<S: Sink>(value: u64, out: &mut S) -> Result<(), Failed>
     ensures { Writes S.contents S.faults out.old (decimal value) result out.new }
 {
-    write_number(value as i128, out)
+    let mut piece = Piece::new();
+    piece.put_count(value);
+    write_bytes(piece.as_bytes(), out)
 }
 
-fn write_weight<S: Sink>(value: i128, out: &mut S) -> Result<(), Failed>
-    ensures { Writes S.contents S.faults out.old (weight_bytes value) result out.new }
+/// Writes a place: its line, `:`, its column and a space.
+pub fn write_place<S: Sink>(place: Place, out: &mut S) -> Result<(), Failed>
+    ensures { Writes S.contents S.faults out.old (place_bytes place) result out.new }
 {
-    if value < 0 {
-        return write_number(value, out);
+    let mut piece = Piece::new();
+    piece.put(b' ');
+    piece.put_count(place.column);
+    piece.put(b':');
+    piece.put_count(place.line);
+    write_bytes(piece.as_bytes(), out)
+}
+
+/// The front of a name that fits a piece, and the rest, which most names do not have.
+fn split_name(name: &Name) -> (&[u8], &[u8])
+    ensures short { length result.0.now ≤ FRONT }
+    ensures whole { name.now ≡ result.0.now ++ result.1.now }
+{
+    let bytes = name.as_str().as_bytes();
+    bytes.split_at(bytes.len().min(FRONT))
+}
+
+/// Puts the front of a literal before the others: `~` where it is negated, and the front of its name.
+fn put_literal(negated: bool, front: &[u8], piece: &mut Piece)
+    requires { 1 + length front.now + length piece.old ≤ ROOM }
+    ensures { piece.new ≡ literal_bytes negated front.now ++ piece.old }
+{
+    piece.put_text(front);
+    if negated {
+        piece.put(b'~');
     }
-    write_bytes(b"+", out)?;
-    write_number(value, out)
+}
+
+/// Puts the front of a term before the others: all of it but the rest of its name.
+fn put_term(term: &Term, front: &[u8], piece: &mut Piece)
+    requires { 42 + length front.now + length piece.old ≤ ROOM }
+    ensures text { piece.new ≡ (weight_bytes term.now.coefficient ++ (32 ∷ literal_bytes term.now.literal.negated front.now)) ++ piece.old }
+    ensures short { length piece.new ≤ 42 + length front.now + length piece.old }
+{
+    put_literal(term.literal.negated, front, piece);
+    piece.put(b' ');
+    piece.put_weight(term.coefficient);
+}
+
+/// Writes a piece and then the rest of a name.
+fn write_both<S: Sink>(piece: &Piece, rest: &[u8], out: &mut S) -> Result<(), Failed>
+    ensures { Writes S.contents S.faults out.old (piece.now ++ rest.now) result out.new }
+{
+    write_bytes(piece.as_bytes(), out)?;
+    write_bytes(rest, out)
 }
 
 /// Writes a literal: its name, and `~` before it where it is negated.
 pub fn write_literal<S: Sink>(literal: &Literal, out: &mut S) -> Result<(), Failed>
     ensures { Writes S.contents S.faults out.old (literal_bytes literal.now.negated literal.now.name) result out.new }
 {
-    let name = literal.name.as_str().as_bytes();
-    if !literal.negated {
-        return write_bytes(name, out);
-    }
-    write_bytes(b"~", out)?;
-    write_bytes(name, out)
+    let (front, rest) = split_name(&literal.name);
+    let mut piece = Piece::new();
+    put_literal(literal.negated, front, &mut piece);
+    write_both(&piece, rest, out)
 }
 
 fn write_term<S: Sink>(term: &Term, out: &mut S) -> Result<(), Failed>
     ensures { Writes S.contents S.faults out.old (term_bytes term.now) result out.new }
 {
-    let coefficient = term.coefficient;
-    write_weight(coefficient, out)?;
-    write_bytes(b" ", out)?;
-    write_literal(&term.literal, out)
+    let (front, rest) = split_name(&term.literal.name);
+    let mut piece = Piece::new();
+    put_term(term, front, &mut piece);
+    write_both(&piece, rest, out)
 }
 
 fn write_further_term<S: Sink>(term: &Term, out: &mut S) -> Result<(), Failed>
     ensures { Writes S.contents S.faults out.old (32 ∷ term_bytes term.now) result out.new }
 {
-    write_bytes(b" ", out)?;
-    write_term(term, out)
+    let (front, rest) = split_name(&term.literal.name);
+    let mut piece = Piece::new();
+    put_term(term, front, &mut piece);
+    piece.put(b' ');
+    write_both(&piece, rest, out)
 }
 
-fn write_further<S: Sink>(terms: &[Term], out: &mut S) -> Result<(), Failed>
+/// Writes terms, each in a piece of its own.
+fn write_each<S: Sink>(terms: &[Term], out: &mut S) -> Result<(), Failed>
     ensures { Writes S.contents S.faults out.old (further_bytes terms.now) result out.new }
 {
     for term in terms {
         write_further_term(term, out)?;
+    }
+    Ok(())
+}
+
+/// Puts a term and a space in front of it before the others, where it surely fits, and answers whether it did.
+fn put_further_term(term: &Term, piece: &mut Piece) -> bool
+    ensures { piece.new ≡ (if result then (32 ∷ term_bytes term.now) ++ piece.old else piece.old) }
+{
+    let name = term.literal.name.as_str().as_bytes();
+    if name.len() + LONGEST > piece.room() {
+        return false;
+    }
+    put_term(term, name, piece);
+    piece.put(b' ');
+    true
+}
+
+/// Puts terms before the others, the last one first, as far as they fit, and answers how many are left.
+fn put_further(terms: &[Term], piece: &mut Piece) -> usize
+    ensures within { result ≤ length terms.now }
+    ensures text { piece.new ≡ further_bytes (drop result terms.now) ++ piece.old }
+{
+    let mut left = terms.len();
+    while left > 0 && put_further_term(&terms[left - 1], piece) {
+        left -= 1;
+    }
+    left
+}
+
+/// Writes terms, the last of them in one piece.
+fn write_batch<S: Sink>(terms: &[Term], out: &mut S) -> Result<(), Failed>
+    ensures { Writes S.contents S.faults out.old (further_bytes terms.now) result out.new }
+{
+    let mut piece = Piece::new();
+    let left = put_further(terms, &mut piece);
+    write_each(&terms[..left], out)?;
+    write_bytes(piece.as_bytes(), out)
+}
+
+/// Writes terms with a space before each.
+fn write_further<S: Sink>(terms: &[Term], out: &mut S) -> Result<(), Failed>
+    ensures { Writes S.contents S.faults out.old (further_bytes terms.now) result out.new }
+{
+    let mut rest = terms;
+    while !rest.is_empty() {
+        let (batch, behind) = rest.split_at(rest.len().min(BATCH));
+        write_batch(batch, out)?;
+        rest = behind;
     }
     Ok(())
 }
@@ -85,22 +189,18 @@ pub fn write_sum<S: Sink>(terms: &[Term], out: &mut S) -> Result<(), Failed>
     }
 }
 
-fn write_head<S: Sink>(terms: &[Term], out: &mut S) -> Result<(), Failed>
-    ensures { Writes S.contents S.faults out.old (head_bytes terms.now) result out.new }
+/// Puts the end of a linear text into an empty piece: the operator, the degree and ` ;`.
+fn put_end(relation: Relation, degree: i128, piece: &mut Piece)
+    requires { piece.old ≡ [] }
+    ensures text { piece.new ≡ operator_bytes relation ++ (32 ∷ (signed_decimal degree ++ (32 ∷ 59 ∷ []))) }
+    ensures short { length piece.new < ROOM }
 {
-    if terms.is_empty() {
-        return Ok(());
-    }
-    write_sum(terms, out)?;
-    write_bytes(b" ", out)
-}
-
-fn write_operator<S: Sink>(relation: Relation, out: &mut S) -> Result<(), Failed>
-    ensures { Writes S.contents S.faults out.old (operator_bytes relation) result out.new }
-{
-    match relation {
-        Relation::AtLeast => write_bytes(b">=", out),
-        Relation::Equal => write_bytes(b"=", out),
+    piece.put_text(b" ;");
+    piece.put_number(degree);
+    piece.put(b' ');
+    piece.put(b'=');
+    if relation == Relation::AtLeast {
+        piece.put(b'>');
     }
 }
 
@@ -108,10 +208,12 @@ fn write_operator<S: Sink>(relation: Relation, out: &mut S) -> Result<(), Failed
 pub fn write_linear<S: Sink>(linear: &Linear, out: &mut S) -> Result<(), Failed>
     ensures { Writes S.contents S.faults out.old (linear_bytes linear.now) result out.new }
 {
-    let degree = linear.degree;
-    write_head(linear.terms.as_slice(), out)?;
-    write_operator(linear.relation, out)?;
-    write_bytes(b" ", out)?;
-    write_number(degree, out)?;
-    write_bytes(b" ;", out)
+    let terms = linear.terms.as_slice();
+    write_sum(terms, out)?;
+    let mut piece = Piece::new();
+    put_end(linear.relation, linear.degree, &mut piece);
+    if !terms.is_empty() {
+        piece.put(b' ');
+    }
+    write_bytes(piece.as_bytes(), out)
 }

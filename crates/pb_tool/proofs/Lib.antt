@@ -4,6 +4,7 @@ mod Parsed
 mod Sequence
 mod Feeds
 mod Shown
+mod ShownLine
 mod Chosen
 mod Loads
 mod Solutions

@@ -15,7 +15,7 @@ use crate::opening::{Format, format_of, unread_file};
 use crate::statement::Statement;
 use pb_opb::OpbMachine;
 use pb_proof::ProofMachine;
-use pb_sums::write_count;
+use pb_sums::write_place;
 use pb_text::{
     BYTE_LIMIT, Failed, Feeder, Limits, Machine, Sink, Source, Spanned, pull, rest_is_blank,
     write_bytes,
@@ -118,10 +118,7 @@ fn show_one<W: Sink, E: Statement + Drop>(read: Spanned<E>, out: &mut W) -> Resu
 fn write_shown<W: Sink, E: Statement>(read: &Spanned<E>, out: &mut W) -> Result<(), Failed>
     ensures { Writes W.contents W.faults out.old (shown_line E.text read.now) result out.new }
 {
-    write_count(read.first.line, out)?;
-    write_bytes(b":", out)?;
-    write_count(read.first.column, out)?;
-    write_bytes(b" ", out)?;
+    write_place(read.first, out)?;
     read.event.write_text(out)?;
     write_bytes(b"\n", out)
 }

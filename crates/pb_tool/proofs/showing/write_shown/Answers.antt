@@ -1,41 +1,18 @@
 use Rattle.std.proofs.Common.{refl}
 use Rattle.pb_text.proofs.Parts.{part_then, part_broke}
+use Rattle.pb_tool.proofs.ShownLine.{line_parts}
 use Rattle.pb_tool.proofs.showing.write_shown.Goals as goal
 
-pub returns-in_err-write_count : goal.returns-in_err-write_count
-returns-in_err-write_count g c =
-    part_broke g.W.Sink.contents g.W.Sink.faults _ _ _ _ _ _ refl c.from_residual.ensures.0 c.in_err-write_count.ensures
-
-pub returns-in_err-write_bytes : goal.returns-in_err-write_bytes
-returns-in_err-write_bytes g c =
-    part_then g.W.Sink.contents g.W.Sink.faults _ _ _ _ _ _ _ refl c.in_ok-write_count.ensures
-    (part_broke g.W.Sink.contents g.W.Sink.faults _ _ _ _ _ _ refl c.from_residual-in_err-write_bytes.ensures.0 c.in_err-write_bytes.ensures)
-
-pub returns-in_err-write_count-2 : goal.returns-in_err-write_count-2
-returns-in_err-write_count-2 g c =
-    part_then g.W.Sink.contents g.W.Sink.faults _ _ _ _ _ _ _ refl c.in_ok-write_count.ensures
-    (part_then g.W.Sink.contents g.W.Sink.faults _ _ _ _ _ _ _ refl c.in_ok-write_bytes.ensures
-    (part_broke g.W.Sink.contents g.W.Sink.faults _ _ _ _ _ _ refl c.from_residual-in_err-write_count-2.ensures.0 c.in_err-write_count-2.ensures))
-
-pub returns-in_err-write_bytes-2 : goal.returns-in_err-write_bytes-2
-returns-in_err-write_bytes-2 g c =
-    part_then g.W.Sink.contents g.W.Sink.faults _ _ _ _ _ _ _ refl c.in_ok-write_count.ensures
-    (part_then g.W.Sink.contents g.W.Sink.faults _ _ _ _ _ _ _ refl c.in_ok-write_bytes.ensures
-    (part_then g.W.Sink.contents g.W.Sink.faults _ _ _ _ _ _ _ refl c.in_ok-write_count-2.ensures
-    (part_broke g.W.Sink.contents g.W.Sink.faults _ _ _ _ _ _ refl c.from_residual-in_err-write_bytes-2.ensures.0 c.in_err-write_bytes-2.ensures)))
+pub returns-in_err-write_place : goal.returns-in_err-write_place
+returns-in_err-write_place g c =
+    part_broke g.W.Sink.contents g.W.Sink.faults _ _ _ _ _ _ (line_parts g.E.Statement.text c.args.read.now) c.from_residual.ensures.0 c.in_err-write_place.ensures
 
 pub returns-in_err-write_text : goal.returns-in_err-write_text
 returns-in_err-write_text g c =
-    part_then g.W.Sink.contents g.W.Sink.faults _ _ _ _ _ _ _ refl c.in_ok-write_count.ensures
-    (part_then g.W.Sink.contents g.W.Sink.faults _ _ _ _ _ _ _ refl c.in_ok-write_bytes.ensures
-    (part_then g.W.Sink.contents g.W.Sink.faults _ _ _ _ _ _ _ refl c.in_ok-write_count-2.ensures
-    (part_then g.W.Sink.contents g.W.Sink.faults _ _ _ _ _ _ _ refl c.in_ok-write_bytes-2.ensures
-    (part_broke g.W.Sink.contents g.W.Sink.faults _ _ _ _ _ _ refl c.from_residual-in_err-write_text.ensures.0 c.in_err-write_text.ensures))))
+    part_then g.W.Sink.contents g.W.Sink.faults _ _ _ _ _ _ _ (line_parts g.E.Statement.text c.args.read.now) c.in_ok-write_place.ensures
+    (part_broke g.W.Sink.contents g.W.Sink.faults _ _ _ _ _ _ refl c.from_residual-in_err-write_text.ensures.0 c.in_err-write_text.ensures)
 
 pub returns : goal.returns
 returns g c =
-    part_then g.W.Sink.contents g.W.Sink.faults _ _ _ _ _ _ _ refl c.in_ok-write_count.ensures
-    (part_then g.W.Sink.contents g.W.Sink.faults _ _ _ _ _ _ _ refl c.in_ok-write_bytes.ensures
-    (part_then g.W.Sink.contents g.W.Sink.faults _ _ _ _ _ _ _ refl c.in_ok-write_count-2.ensures
-    (part_then g.W.Sink.contents g.W.Sink.faults _ _ _ _ _ _ _ refl c.in_ok-write_bytes-2.ensures
-    (part_then g.W.Sink.contents g.W.Sink.faults _ _ _ _ _ _ _ refl c.in_ok-write_text.ensures c.write_bytes-3.ensures))))
+    part_then g.W.Sink.contents g.W.Sink.faults _ _ _ _ _ _ _ (line_parts g.E.Statement.text c.args.read.now) c.in_ok-write_place.ensures
+    (part_then g.W.Sink.contents g.W.Sink.faults _ _ _ _ _ _ _ refl c.in_ok-write_text.ensures c.write_bytes.ensures)
