@@ -16,6 +16,7 @@ pub mod Places
 pub mod Pulled
 pub mod Residual
 pub mod Rows
+pub mod Running
 pub mod Runs
 pub mod Short
 pub mod Steps

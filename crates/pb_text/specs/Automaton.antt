@@ -83,6 +83,11 @@ module _ {S E : Type 0} (m : Automaton S E) where
   Goes old b true new = m.step old b ≡ Go new
   Goes old b false new = new ≡ old
 
+  -- Bytes lead from old to new, and the machine goes on after each.
+  abbrev pub Runs : S → List ℕ → S → Type 0
+  Runs old [] new = new ≡ old
+  Runs old (b ∷ text) new = (mid : S) × (m.step old b ≡ Go mid) × IsState mid × Runs mid text new
+
   abbrev pub begins_with : Bool → Next S E → Bool
   begins_with true next = false
   begins_with false (Go s) = m.begun s

@@ -1,7 +1,7 @@
 //! A machine that takes a text byte by byte.
 
-ghost use Rattle.std.specs.Prelude.{◌≡◌};
-ghost use Rattle.pb_text.specs.Automaton.{Automaton, IsState, Pushes, Goes, begins};
+ghost use Rattle.std.specs.Prelude.{◌≡◌, ◌≤◌, take, length};
+ghost use Rattle.pb_text.specs.Automaton.{Automaton, IsState, Pushes, Goes, Runs, begins};
 
 /// What a machine answers to a byte.
 #[derive(Drop)]
@@ -41,6 +41,22 @@ pub trait Machine {
         let _ = self.is_done();
         let _ = byte;
         false
+    }
+
+    /// Takes bytes at the front of a piece as `goes` does, and answers how many. It may leave some that `goes` would
+    /// take.
+    fn run(&mut self, piece: &[u8]) -> usize
+        ensures bound { result ≤ length piece.now }
+        ensures runs { Runs automaton self.old (take result piece.now) self.new }
+        ensures state { IsState automaton self.new }
+    {
+        let _ = self.is_done();
+        for (i, byte) in piece.iter().enumerate() {
+            if !self.goes(*byte) {
+                return i;
+            }
+        }
+        piece.len()
     }
 
     /// Whether the text is complete.

@@ -1,0 +1,57 @@
+-- Bytes of a statement, one after another.
+use Rattle.std.proofs.Common.{◌≡◌, ℕ, ◌+◌, ◌<◌, ◌≤◌, List, [], ◌∷◌, ◌++◌, length, take, get_or, Bool, true, false, cond, ◌==◌, Option, Some, None, refl, sym, subst, ap, ◌∙◌, arith, append-nil, append_assoc}
+use Rattle.std.proofs.lemmas.List.{take_more}
+use Rattle.std.proofs.lemmas.Bool.{false≢true}
+use Rattle.std.specs.Option.{is_some}
+use Rattle.pb_text.specs.Automaton.{Automaton, Go, IsState, Runs, begins}
+use Rattle.pb_text.specs.Limit.{end_of}
+use Rattle.pb_text.specs.Spelling.{place_next, place_past}
+use Rattle.pb_text.specs.Standing.{Stands, opened}
+use Rattle.pb_text.specs.declared.place.Place.{Place}
+use Rattle.pb_text.specs.declared.place.Spanned.{Spanned}
+use Rattle.pb_text.proofs.Steps.{stands_go}
+
+module _ {S E : Type 0} (m : Automaton S E) where
+  -- one byte more
+  pub runs_more : (old : S) (text : List ℕ) (mid : S) (b : ℕ) (new : S) → Runs m old text mid → m.step mid b ≡ Go new → IsState m new → Runs m old (text ++ b ∷ []) new
+  runs_more old [] mid b new same goes state = (new, subst (λ (x : S). m.step x b ≡ Go new) same goes, state, refl)
+  runs_more old (c ∷ text) mid b new (next, first, is, rest) goes state = (next, first, is, runs_more next text mid b new rest goes state)
+
+  -- the same for the bytes of a piece
+  pub runs_on : (old : S) (piece : List ℕ) (i : ℕ) (mid new : S) → i < length piece → Runs m old (take i piece) mid → m.step mid (get_or piece i 0) ≡ Go new → IsState m new → Runs m old (take (i + 1) piece) new
+  runs_on old piece i mid new h runs goes state =
+      subst (λ (x : List ℕ). Runs m old x new) (sym (take_more piece i 0 h)) (runs_more old (take i piece) mid (get_or piece i 0) new runs goes state)
+
+by_feed : (feed : Bool) (p : Place) → (cond feed (let q : Place = record { line = p.line + 1; column = 1; offset = p.offset + 1 } in q) (record { line = p.line; column = p.column + 1; offset = p.offset + 1 })).offset ≡ p.offset + 1
+by_feed true p = refl
+by_feed false p = refl
+
+next_offset : (p : Place) (b : ℕ) → (place_next p b).offset ≡ p.offset + 1
+next_offset p b = by_feed (b == 10) p
+
+-- so many bytes are behind
+pub past_offset : (p : Place) (text : List ℕ) → (place_past p text).offset ≡ p.offset + length text
+past_offset p [] = omega arith
+past_offset p (b ∷ text) = past_offset (place_next p b) text ∙ omega (arith, next_offset p b)
+
+module _ {S E : Type 0} (m : Automaton S E) (longest : ℕ) (start : S) (marks : List (Spanned E)) where
+  -- a statement that was open stays open where it began
+  pub stays_open : (first : Option Place) (starts : Bool) (place : Place) → is_some first ≡ true → opened first starts place ≡ first
+  stays_open (Some p) starts place e = refl
+  stays_open None starts place e = cc e
+
+  -- bytes of the statement that has begun move what stands to the text
+  pub stands_run : (old : S) (text : List ℕ) (new : S) (input : List ℕ) (place : Place) (first : Option Place) → Stands m longest start input marks old place first None
+      → m.done old ≡ false → is_some first ≡ true → place.offset + length text ≤ end_of longest first → Runs m old text new
+      → Stands m longest start (input ++ text) marks new (place_past place text) first None × (m.done new ≡ false)
+  stands_run old [] new input place first s unfinished begun fits same = (
+    rw append-nil (subst (λ (x : S). Stands m longest start input marks x place first None) (sym same) s),
+    subst (λ (x : S). m.done x ≡ false) (sym same) unfinished,
+  )
+  stands_run old (b ∷ text) new input place first s unfinished begun fits (mid, goes, state, rest) =
+      let lt : place.offset < end_of longest first = omega (arith, fits) in
+      let k = stands_go m longest start old mid input marks place first s unfinished b goes state lt in
+      let k' : Stands m longest start (input ++ b ∷ []) marks mid (place_next place b) first None = rw (append-nil, stays_open first (begins m old b) place begun) at k in
+      let fits' : (place_next place b).offset + length text ≤ end_of longest first = omega (arith, next_offset place b, fits) in
+      let r = stands_run mid text new (input ++ b ∷ []) (place_next place b) first k' (s.is_state.owes b mid goes) begun fits' rest in
+      (subst (λ (x : List ℕ). Stands m longest start x marks new (place_past place (b ∷ text)) first None) (append_assoc input (b ∷ []) text) r.0, r.1)
