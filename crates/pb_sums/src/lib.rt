@@ -8,6 +8,7 @@ mod machine;
 mod name;
 mod phase;
 mod plans;
+mod prefix;
 mod rules;
 #[cfg(test)]
 mod tests;

@@ -13,6 +13,7 @@ use crate::grammar::{Part, Spaces};
 use crate::name::Name;
 use crate::phase::{Move, Phase};
 use crate::plans::{in_hand, is_done, is_in_number, is_more, is_numeric, plan};
+use crate::prefix::{name_prefix, number_prefix};
 use crate::values::{Linear, Literal, SumEvent, Term};
 use pb_text::{Limits, Machine, Push, Sequence};
 use std::alloc::{AllocError, Global};
@@ -150,6 +151,45 @@ impl SumMachine {
     }
 }
 
+impl SumMachine {
+    ghost use Rattle.std.specs.Prelude.{take, length};
+    ghost use Rattle.pb_text.specs.Automaton.{Runs};
+    ghost use Rattle.pb_sums.specs.State.{sums};
+
+    /// Takes bytes of a name behind its first two.
+    #[inline(always)]
+    fn take_more(&mut self, text: &[u8]) -> usize
+        requires { is_more self.old.work.phase ≡ true }
+        ensures bound { result ≤ length text.now }
+        ensures runs { Runs sums self.old (take result text.now) self.new }
+        ensures state { IsState sums self.new }
+    {
+        let _ = self.is_done();
+        let length = name_prefix(text);
+        let Ok(more) = str::from_utf8(&text[..length]) else {
+            return 0;
+        };
+        if self.name.push_str(more).is_err() {
+            return 0;
+        }
+        length
+    }
+
+    /// Takes words and bytes at the front, if any are soon taken.
+    #[inline(always)]
+    fn take_front(&mut self, text: &[u8]) -> usize
+        requires { 0 < length text.now }
+        ensures bound { result ≤ length text.now }
+        ensures runs { Runs sums self.old (take result text.now) self.new }
+        ensures state { IsState sums self.new }
+    {
+        if is_more(self.phase) && is_name_byte(text[0]) {
+            return self.take_more(text);
+        }
+        if self.goes(text[0]) { 1 } else { 0 }
+    }
+}
+
 impl Machine for SumMachine {
     ghost use Rattle.pb_sums.specs.State.{sums};
 
@@ -192,6 +232,19 @@ impl Machine for SumMachine {
             }
             _ => false,
         }
+    }
+
+    fn run(&mut self, piece: &[u8]) -> usize {
+        let _ = self.is_done();
+        let mut taken: usize = 0;
+        while taken < piece.len() {
+            let more = self.take_front(&piece[taken..]);
+            if more == 0 {
+                return taken;
+            }
+            taken += more;
+        }
+        taken
     }
 
     fn push(&mut self, byte: u8) -> Push<SumEvent> {
