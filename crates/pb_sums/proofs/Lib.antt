@@ -14,3 +14,4 @@ mod Elements
 mod Written
 mod Spans
 mod Digits
+mod Names

@@ -3,7 +3,7 @@
 ghost use Rattle.std.specs.Prelude.{◌≤◌, ◌≡◌, IsTrue, take, length};
 ghost use Rattle.pb_text.specs.Classes.{is_digit, is_name_byte};
 ghost use Rattle.pb_text.specs.Languages.{Each};
-ghost use Rattle.pb_sums.specs.Prefix.{value_from};
+ghost use Rattle.pb_sums.specs.Prefix.{IsSign, value_from};
 
 use crate::classes::{is_digit, is_name_byte};
 
@@ -22,6 +22,22 @@ pub fn name_prefix(text: &[u8]) -> usize
         }
     }
     text.len()
+}
+
+/// The length of the sign at the front, and whether it is a minus.
+#[inline(always)]
+pub fn sign_prefix(text: &[u8]) -> (usize, bool)
+    ensures bound { result.0 ≤ length text.now }
+    ensures sign { IsSign result.1 (take result.0 text.now) }
+{
+    if text.is_empty() {
+        return (0, false);
+    }
+    match text[0] {
+        b'+' => (1, false),
+        b'-' => (1, true),
+        _ => (0, false),
+    }
 }
 
 /// How many digits stand at the front, and their value. It stops where the value is no longer small.

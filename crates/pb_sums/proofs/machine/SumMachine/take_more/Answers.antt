@@ -1,6 +1,6 @@
 use Rattle.std.proofs.Common.{◌≡◌, List, ℕ, ◌++◌, take, ap, sym, ◌∙◌}
 use Rattle.pb_sums.proofs.Pushes.{changed}
-use Rattle.pb_sums.proofs.Spans.{more_runs}
+use Rattle.pb_sums.proofs.Names.{more_runs}
 use Rattle.pb_sums.proofs.States.{more_state}
 use Rattle.pb_sums.proofs.machine.SumMachine.take_more.Goals as goal
 
