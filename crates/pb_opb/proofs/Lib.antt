@@ -24,3 +24,4 @@ pub mod Spelled
 pub mod States
 pub mod Texts
 pub mod Told
+mod Taken

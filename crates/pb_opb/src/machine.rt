@@ -229,6 +229,15 @@ impl Machine for OpbMachine {
         went
     }
 
+    fn run(&mut self, piece: &[u8]) -> usize {
+        let taken = match self.phase {
+            Phase::Constraint | Phase::Objective => self.inner.run(piece),
+            _ => 0,
+        };
+        let _ = self.is_done();
+        taken
+    }
+
     fn push(&mut self, byte: u8) -> Push<OpbEvent> {
         let answer = self.take(byte);
         let _ = self.is_done();

@@ -12,3 +12,6 @@ pub mod CanonicalLaws
 pub mod Larger
 mod Elements
 mod Written
+mod Spans
+mod Digits
+mod Names

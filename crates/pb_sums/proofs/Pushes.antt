@@ -68,6 +68,10 @@ pub unchanged : {T E : Type 0} (r : Result T E) (new more old : List ℕ) → ne
 unchanged (Ok x) new more old h e = cc
 unchanged (Err x) new more old h e = h
 
+pub changed : {T E : Type 0} (r : Result T E) (new more old : List ℕ) → new ≡ (if is_ok r then more else old) → is_err r ≡ false → new ≡ more
+changed (Ok x) new more old h e = h
+changed (Err x) new more old h e = cc
+
 pub same_state : (s : Spaces) (w : Part) (limit : ℕ) (xs ys : List Term) (m n : List ℕ) (p q : Phase) → xs ≡ ys → m ≡ n → p ≡ q →
     ◌≡◌ {A = SumState} (record { spaces = s; part = w; limit = limit; work = record { terms = xs; name = m; phase = p } })
     (record { spaces = s; part = w; limit = limit; work = record { terms = ys; name = n; phase = q } })

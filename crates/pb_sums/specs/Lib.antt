@@ -1,5 +1,6 @@
 pub mod Sums
 pub mod Machine
+pub mod Prefix
 pub mod State
 pub mod Canonical
 pub mod Statements

@@ -42,8 +42,8 @@ pub fn is_name_byte(byte: u8) -> bool
     ensures byte { result ≡ is_name_byte byte }
     ensures ascii { IsTrue result → byte < 128 }
 {
-    is_letter(byte)
-        || is_digit(byte)
+    is_digit(byte)
+        || is_letter(byte)
         || byte == b'_'
         || byte == b'['
         || byte == b']'

@@ -9,6 +9,7 @@ mod name;
 mod phase;
 mod piece;
 mod plans;
+mod prefix;
 mod rules;
 #[cfg(test)]
 mod tests;

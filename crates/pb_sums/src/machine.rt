@@ -8,11 +8,14 @@ ghost use Rattle.pb_text.specs.Classes.{is_digit};
 ghost use Rattle.pb_sums.specs.Machine.{flushed, is_more, is_in_number};
 ghost use Rattle.pb_sums.specs.State.{units};
 
-use crate::classes::{is_digit, is_name_byte, kind};
+use crate::classes::{is_digit, is_letter, is_name_byte, kind};
 use crate::grammar::{Part, Spaces};
 use crate::name::Name;
 use crate::phase::{Move, Phase};
-use crate::plans::{in_hand, is_done, is_in_number, is_more, is_numeric, plan};
+use crate::plans::{
+    begins_number, behind_name, in_hand, is_done, is_in_number, is_more, is_numeric, plan, role,
+};
+use crate::prefix::{name_prefix, number_prefix, sign_prefix};
 use crate::values::{Linear, Literal, SumEvent, Term};
 use pb_text::{Limits, Machine, Push, Sequence};
 use std::alloc::{AllocError, Global};
@@ -150,6 +153,112 @@ impl SumMachine {
     }
 }
 
+impl SumMachine {
+    ghost use Rattle.std.specs.Prelude.{take, length};
+    ghost use Rattle.pb_text.specs.Automaton.{Runs};
+    ghost use Rattle.pb_sums.specs.State.{sums};
+
+    /// Takes a number that is small, where one may begin.
+    #[inline(always)]
+    fn take_number(&mut self, text: &[u8]) -> usize
+        ensures bound { result ≤ length text.now }
+        ensures runs { Runs sums self.old (take result text.now) self.new }
+        ensures state { IsState sums self.new }
+    {
+        let _ = self.is_done();
+        if !begins_number(self.phase) || !self.name.as_str().is_empty() {
+            return 0;
+        }
+        let (sign, negative) = sign_prefix(text);
+        let (count, value) = number_prefix(&text[sign..]);
+        let magnitude = value as u128;
+        if count == 0 || magnitude > self.limit {
+            return 0;
+        }
+        self.phase = Phase::Digits(role(self.phase), negative, magnitude);
+        sign + count
+    }
+
+    /// Takes a name of two bytes or more, where one may begin.
+    #[inline(always)]
+    fn take_name(&mut self, text: &[u8]) -> usize
+        ensures bound { result ≤ length text.now }
+        ensures runs { Runs sums self.old (take result text.now) self.new }
+        ensures state { IsState sums self.new }
+    {
+        let _ = self.is_done();
+        let length = name_prefix(text);
+        if length < 2 || !is_letter(text[0]) {
+            return 0;
+        }
+        let Some(phase) = behind_name(self.phase) else {
+            return 0;
+        };
+        let Ok(spelled) = str::from_utf8(&text[..length]) else {
+            return 0;
+        };
+        let Ok(name) = Name::from_text(self.alloc, spelled) else {
+            return 0;
+        };
+        self.name = name;
+        self.phase = phase;
+        length
+    }
+
+    /// Takes bytes of a name behind its first two.
+    #[inline(always)]
+    fn take_more(&mut self, text: &[u8]) -> usize
+        requires { is_more self.old.work.phase ≡ true }
+        ensures bound { result ≤ length text.now }
+        ensures runs { Runs sums self.old (take result text.now) self.new }
+        ensures state { IsState sums self.new }
+    {
+        let _ = self.is_done();
+        let length = name_prefix(text);
+        if length == 0 {
+            return 0;
+        }
+        let Ok(more) = str::from_utf8(&text[..length]) else {
+            return 0;
+        };
+        if self.name.push_str(more).is_err() {
+            return 0;
+        }
+        length
+    }
+
+    /// Takes the word at the front, if it is soon taken.
+    #[inline(always)]
+    fn take_word(&mut self, text: &[u8]) -> usize
+        ensures bound { result ≤ length text.now }
+        ensures runs { Runs sums self.old (take result text.now) self.new }
+        ensures state { IsState sums self.new }
+    {
+        let _ = self.is_done();
+        match self.phase {
+            Phase::Start | Phase::Between | Phase::Operator(_) => self.take_number(text),
+            Phase::Gap(_) | Phase::Tilde(_) => self.take_name(text),
+            Phase::More(_, _) => self.take_more(text),
+            _ => 0,
+        }
+    }
+
+    /// Takes the word at the front, or else its first byte, if that is soon taken.
+    #[inline(always)]
+    fn take_front(&mut self, text: &[u8]) -> usize
+        requires { 0 < length text.now }
+        ensures bound { result ≤ length text.now }
+        ensures runs { Runs sums self.old (take result text.now) self.new }
+        ensures state { IsState sums self.new }
+    {
+        let length = self.take_word(text);
+        if length > 0 {
+            return length;
+        }
+        if self.goes(text[0]) { 1 } else { 0 }
+    }
+}
+
 impl Machine for SumMachine {
     ghost use Rattle.pb_sums.specs.State.{sums};
 
@@ -192,6 +301,19 @@ impl Machine for SumMachine {
             }
             _ => false,
         }
+    }
+
+    fn run(&mut self, piece: &[u8]) -> usize {
+        let _ = self.is_done();
+        let mut taken: usize = 0;
+        while taken < piece.len() {
+            let more = self.take_front(&piece[taken..]);
+            if more == 0 {
+                return taken;
+            }
+            taken += more;
+        }
+        taken
     }
 
     fn push(&mut self, byte: u8) -> Push<SumEvent> {

@@ -1,6 +1,6 @@
 //! Names.
 
-ghost use Rattle.std.specs.Prelude.{◌≡◌, ◌<◌, ◌∷◌, ◌++◌, [], List, ℕ, eqb, if◌then◌else◌, is_ok, string_bytes, length};
+ghost use Rattle.std.specs.Prelude.{◌≡◌, ◌<◌, ◌∷◌, ◌++◌, [], List, ℕ, eqb, if◌then◌else◌, is_ok, IfOk, string_bytes, length};
 ghost use Rattle.std.specs.Cmp.Lexicographic.{pointwise, nat_list_eq_equiv};
 ghost use Rattle.std.specs.Cmp.{partial_equiv_from_equiv};
 
@@ -38,6 +38,14 @@ impl Name {
         Name { text }
     }
 
+    /// The name that a text spells.
+    pub fn from_text(alloc: Global, text: &str) -> Result<Name, AllocError>
+        ensures { IfOk result (λ name. name ≡ text.now) }
+    {
+        let text = String::from_str(alloc, text)?;
+        Ok(Name { text })
+    }
+
     /// The string of the name.
     pub fn into_string(self) -> String
         ensures { string_bytes result ≡ self }
@@ -58,6 +66,13 @@ impl Name {
         ensures { self.new ≡ (if is_ok result then self.old ++ byte ∷ [] else self.old) }
     {
         self.text.push(byte as char)
+    }
+
+    /// Adds a text at the end. Where memory ran out the name is unchanged.
+    pub fn push_str(&mut self, text: &str) -> Result<(), AllocError>
+        ensures { self.new ≡ (if is_ok result then self.old ++ text.now else self.old) }
+    {
+        self.text.push_str(text)
     }
 }
 

@@ -4,6 +4,7 @@ ghost use Rattle.std.specs.Prelude.{◌≡◌, ℕ, ◌<◌, ◌≤◌, ◌^◌,
 ghost use Rattle.pb_text.specs.Numbers.{signed};
 ghost use Rattle.pb_sums.specs.Sums.{reads_sums, allows};
 ghost use Rattle.pb_sums.specs.Machine.{digits, number, behind, plan, KindFits, PhaseFits, MoveFits, is_numeric, is_in_number, is_more, is_done};
+ghost use Rattle.pb_sums.specs.Prefix.{begins_number, role, behind_name};
 ghost use Rattle.pb_sums.specs.State.{in_hand};
 
 use crate::grammar::Part;
@@ -51,6 +52,37 @@ pub fn is_more(phase: Phase) -> bool
     match phase {
         Phase::More(_, _) => true,
         _ => false,
+    }
+}
+
+/// Whether a number may begin.
+pub fn begins_number(phase: Phase) -> bool
+    ensures { result ≡ begins_number phase }
+{
+    match phase {
+        Phase::Start | Phase::Between | Phase::Operator(_) => true,
+        _ => false,
+    }
+}
+
+/// The relation that a number stands behind, if any.
+pub fn role(phase: Phase) -> Option<Relation>
+    ensures { result ≡ role phase }
+{
+    match phase {
+        Phase::Operator(r) => Some(r),
+        _ => None,
+    }
+}
+
+/// Where the machine is behind a name, where one may begin.
+pub fn behind_name(phase: Phase) -> Option<Phase>
+    ensures { result ≡ behind_name phase }
+{
+    match phase {
+        Phase::Gap(z) => Some(Phase::More(z, false)),
+        Phase::Tilde(z) => Some(Phase::More(z, true)),
+        _ => None,
     }
 }
 

@@ -1,0 +1,16 @@
+use Rattle.std.proofs.Common.{take, refl}
+use Rattle.pb_opb.specs.contracts.machine.OpbMachine.{the_view}
+use Rattle.pb_opb.proofs.Taken.{runs_given}
+use Rattle.pb_opb.proofs.machine.OpbMachineMachine.run.Goals as goal
+use Rattle.pb_opb.proofs.machine.OpbMachineMachine.run.Goals.{in-Constraint, in_default}
+
+pub invariant_of-self : goal.invariant_of-self
+invariant_of-self c =
+    (runs_given (the_view c.self.inside) c.self.invariant c.in-Constraint.is (take c.run-taken.result c.args.piece.now) c.run-taken.new.self c.run-taken.ensures.runs).1
+
+pub returns-clause-runs : goal.returns-clause-runs
+returns-clause-runs c = elim c.match-self.branch [
+  | in-Constraint w ↦ rw (w.self-is, w.taken-is, ← c.self.view_is)
+      (runs_given (the_view c.self.inside) c.self.invariant w.in-Constraint.is (take w.run-taken.result c.args.piece.now) w.run-taken.new.self w.run-taken.ensures.runs).0
+  | in_default w ↦ rw (w.self-is, w.taken-is, ← c.self.view_is) refl
+]

@@ -1,0 +1,22 @@
+-- Runs, one after another.
+use Rattle.std.proofs.Common.{◌≡◌, ℕ, ◌+◌, ◌-◌, List, [], ◌∷◌, ◌++◌, take, drop, length, sym, ap, subst, ◌∙◌, length-drop}
+use Rattle.std.proofs.Math.Seq.{take-add, take-length}
+use Rattle.pb_text.specs.Automaton.{Automaton, Runs}
+
+-- the front of a piece, and then of the rest
+pub front_parts : (piece : List ℕ) (i j : ℕ) → take (i + j) piece ≡ take i piece ++ take j (take (length piece - i) (drop i piece))
+front_parts piece i j =
+    let all : take (length piece - i) (drop i piece) ≡ drop i piece = ap (λ n. take n (drop i piece)) (sym (length-drop i piece)) ∙ take-length (drop i piece) in
+    take-add i j piece ∙ ap (λ (xs : List ℕ). take i piece ++ take j xs) (sym all)
+
+module _ {S E : Type 0} (m : Automaton S E) where
+  -- a run and then another
+  pub runs_join : (old : S) (xs : List ℕ) (mid : S) (ys : List ℕ) (new : S) → Runs m old xs mid → Runs m mid ys new → Runs m old (xs ++ ys) new
+  runs_join old [] mid ys new same rest = subst (λ (s : S). Runs m s ys new) same rest
+  runs_join old (b ∷ xs) mid ys new (next, first, is, more) rest = (next, first, is, runs_join next xs mid ys new more rest)
+
+  -- a run over the front of a piece, and then one over the front of the rest
+  pub runs_further : (old : S) (piece : List ℕ) (i j : ℕ) (mid new : S) → Runs m old (take i piece) mid → Runs m mid (take j (take (length piece - i) (drop i piece))) new
+      → Runs m old (take (i + j) piece) new
+  runs_further old piece i j mid new first rest =
+      subst (λ (xs : List ℕ). Runs m old xs new) (sym (front_parts piece i j)) (runs_join old (take i piece) mid (take j (take (length piece - i) (drop i piece))) new first rest)
