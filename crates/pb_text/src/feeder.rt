@@ -147,25 +147,21 @@ impl<M: Machine> Feeder<M> {
                 event: None,
             });
         }
-        for (i, byte) in piece.iter().enumerate() {
-            if self.goes(*byte) {
-                continue;
-            }
-            match self.take(*byte) {
-                Ok(None) => {}
+        let mut used = self.run(piece);
+        while used < piece.len() {
+            match self.take(piece[used]) {
+                Ok(None) => used += 1,
                 Ok(Some(event)) => {
                     return Ok(Fed {
-                        used: i + 1,
+                        used: used + 1,
                         event: Some(event),
                     });
                 }
                 Err(stop) => return Err(stop),
             }
+            used += self.run(&piece[used..]);
         }
-        Ok(Fed {
-            used: piece.len(),
-            event: None,
-        })
+        Ok(Fed { used, event: None })
     }
 
     /// Why it stopped, if it did.
@@ -189,34 +185,6 @@ impl<M: Machine> Feeder<M> {
         };
         self.stop = Some(stop);
         stop
-    }
-
-    /// Takes one byte of a statement that goes on with it, or leaves all as it is.
-    #[inline(always)]
-    pub(crate) fn goes(&mut self, byte: u8) -> bool
-        requires unfinished { is_complete self.old ≡ false }
-        requires running { halt_of self.old ≡ None }
-        requires state { IsState M.automaton (state_of self.old) }
-        ensures goes { result ≡ true → (longest : ℕ) (start : M) (input : List ℕ) (marks : List (Spanned M.Event))
-            → StandsAt longest start input marks self.old
-            → StandsAt longest start (input ++ byte ∷ []) marks self.new }
-        ensures offset { result ≡ true → (place_of self.new).offset ≡ (place_of self.old).offset + 1 }
-        ensures running { halt_of self.new ≡ None }
-        ensures unfinished { is_complete self.new ≡ false }
-        ensures state { IsState M.automaton (state_of self.new) }
-        ensures stays { result ≡ false → (longest : ℕ) (start : M) (input : List ℕ) (marks : List (Spanned M.Event))
-            → StandsAt longest start input marks self.old
-            → StandsAt longest start input marks self.new }
-        ensures still { result ≡ false → place_of self.new ≡ place_of self.old }
-    {
-        if self.first.is_none() || self.place.offset == self.end {
-            return false;
-        }
-        if !self.machine.goes(byte) {
-            return false;
-        }
-        self.place = self.place.after(byte);
-        true
     }
 
     /// Takes bytes at the front of a piece as long as the statement goes on that has begun, and answers how many.

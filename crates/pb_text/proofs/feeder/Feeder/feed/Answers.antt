@@ -1,7 +1,7 @@
-use Rattle.std.proofs.Common.{◌≡◌, ◌+◌, ◌<◌, ℕ, List, [], ◌∷◌, ◌++◌, length, subst, sym, ap, ◌∙◌, refl, append-nil, append_assoc, take, drop, get_or, take-append-drop, arith}
-use Rattle.std.proofs.lemmas.List.{take_more}
-use Rattle.std.proofs.Math.Seq.{take-length}
-use Rattle.pb_text.specs.declared.place.Place.{Place}
+use Rattle.std.proofs.Common.{◌≡◌, ◌+◌, ◌-◌, ◌<◌, ◌≤◌, ℕ, List, [], ◌∷◌, ◌++◌, length, subst, sym, ap, ◌∙◌, append-nil, append_assoc, take, drop, get_or, slice_get, Some, take-append-drop, arith}
+use Rattle.std.proofs.lemmas.List.{take_more, take-take, length-take, length-drop}
+use Rattle.std.proofs.lemmas.Option.{slice_get-get_or}
+use Rattle.std.proofs.Math.Seq.{take-length, take-add}
 use Rattle.pb_text.specs.Standing.{Stands}
 use Rattle.pb_text.specs.Feeding.{StandsAt}
 use Rattle.pb_text.proofs.Begin.{stands_more}
@@ -13,6 +13,14 @@ one_more input piece i h = append_assoc input (take i piece) (get_or piece i 0 �
 whole : (input piece : List ℕ) (i : ℕ) → i < length piece → ((input ++ take i piece) ++ get_or piece i 0 ∷ []) ++ drop (i + 1) piece ≡ input ++ piece
 whole input piece i h =
     ap (λ (x : List ℕ). x ++ drop (i + 1) piece) (one_more input piece i h) ∙ (append_assoc input (take (i + 1) piece) (drop (i + 1) piece) ∙ ap (λ (x : List ℕ). input ++ x) (take-append-drop (i + 1) piece))
+
+-- the bytes so far, and more of the rest
+further : (input piece : List ℕ) (i n : ℕ) → (input ++ take i piece) ++ take n (drop i piece) ≡ input ++ take (i + n) piece
+further input piece i n = append_assoc input (take i piece) (take n (drop i piece)) ∙ ap (λ (x : List ℕ). input ++ x) (sym (take-add i n piece))
+
+-- the byte at a place
+at_place : (piece : List ℕ) (old new i : ℕ) → new ≡ old + i → i < length piece → slice_get piece (new - old) ≡ Some (get_or piece i 0)
+at_place piece old new i is h = let same : new - old ≡ i = omega (arith, is) in ap (λ (k : ℕ). slice_get piece k) same ∙ slice_get-get_or piece i 0 h
 
 pub returns-in-Some-clause-feeds : goal.returns-in-Some-clause-feeds
 returns-in-Some-clause-feeds g c = (
@@ -28,49 +36,55 @@ returns-in-Err-clause-feeds g c = (
   λ longest start input marks counts s.
       let t = rw c.in-Err.is at c.take.ensures in
       let n = c.take.new.self in
-      let k = t.stands longest start (input ++ take c.loop-i.i c.args.piece.now) marks (c.goes.ensures.stays c.if-goes.false longest start (input ++ take c.loop-i.i c.args.piece.now) marks (c.loop-i.invariant.stands longest start input marks s)) in
-      let m = stands_more g.M.Machine.automaton longest start n.machine _ (marks ++ []) n.place n.first (drop (c.loop-i.i + 1) c.args.piece.now) n.stop t.counted (λ e. cc t.stop) k.1 in (
+      let k = t.stands longest start (input ++ take c.loop-used.used c.args.piece.now) marks (c.loop-used.invariant.stands longest start input marks s) in
+      let m = stands_more g.M.Machine.automaton longest start n.machine _ (marks ++ []) n.place n.first (drop (c.loop-used.used + 1) c.args.piece.now) n.stop t.counted (λ e. cc t.stop) k.1 in (
         k.0,
         subst (λ (x : List ℕ). Stands g.M.Machine.automaton longest start x (marks ++ []) n.machine n.place n.first n.stop)
-            (whole input c.args.piece.now c.loop-i.i c.loop-i-test.true) m,
+            (whole input c.args.piece.now c.loop-used.used c.loop-used-test.true) m,
       ),
   λ k. c.take.ensures.counted,
 )
+
+pub returns-in-Err-clause-memory : goal.returns-in-Err-clause-memory
+returns-in-Err-clause-memory g c running =
+    let t = rw c.in-Err.is at c.take.ensures in
+    let piece = c.args.piece.now in
+    let i = c.loop-used.used in (
+      get_or piece i 0,
+      at_place piece c.args.self.now.place.offset c.take.new.self.place.offset i (t.still ∙ c.loop-used.invariant.offset) c.loop-used-test.true,
+      t.memory,
+    )
 
 pub returns-in-Ok-Some-clause-feeds : goal.returns-in-Ok-Some-clause-feeds
 returns-in-Ok-Some-clause-feeds g c = (
   λ longest start input marks counts s.
       let t = rw (c.in-Ok-Some.is, c.in-Ok-Some.field-0-is) at c.take.ensures in
       let n = c.take.new.self in
-      let k = t.stands longest start (input ++ take c.loop-i.i c.args.piece.now) marks (c.goes.ensures.stays c.if-goes.false longest start (input ++ take c.loop-i.i c.args.piece.now) marks (c.loop-i.invariant.stands longest start input marks s)) in
+      let k = t.stands longest start (input ++ take c.loop-used.used c.args.piece.now) marks (c.loop-used.invariant.stands longest start input marks s) in
       subst (λ (x : List ℕ). StandsAt longest start x (marks ++ c.in-Ok-Some.event ∷ []) n)
-      (one_more input c.args.piece.now c.loop-i.i c.loop-i-test.true) k,
+      (one_more input c.args.piece.now c.loop-used.used c.loop-used-test.true) k,
   λ k. c.take.ensures.counted,
 )
 
-pub loop-i-preserved-then-goes : goal.loop-i-preserved-then-goes
-loop-i-preserved-then-goes g c = record {
-  running = c.goes.ensures.running;
-  unfinished = c.goes.ensures.unfinished;
-  state = c.goes.ensures.state;
-  offset = omega (arith, c.goes.ensures.offset c.if-goes.true, c.loop-i.invariant.offset);
-  stands = λ longest start input marks s.
-      let k = c.goes.ensures.goes c.if-goes.true longest start (input ++ take c.loop-i.i c.args.piece.now) marks (c.loop-i.invariant.stands longest start input marks s) in
-      subst (λ (x : List ℕ). StandsAt longest start x marks c.goes.new.self) (one_more input c.args.piece.now c.loop-i.i c.loop-i-test.true) k;
-}
-
-pub loop-i-preserved : goal.loop-i-preserved
-loop-i-preserved g c =
+pub loop-used-preserved : goal.loop-used-preserved
+loop-used-preserved g c =
     let t = rw (c.in-Ok-None.is, c.in-Ok-None.field-0-is) at c.take.ensures in
+    let r = c.run-used-in-loop-used in
+    let piece = c.args.piece.now in
+    let i = c.loop-used.used in
     record {
-      running = t.stop;
-      unfinished = t.unfinished refl;
-      state = t.state;
-      offset = omega (arith, t.offset, ap (λ (p : Place). p.offset) (c.goes.ensures.still c.if-goes.false), c.loop-i.invariant.offset);
+      running = r.ensures.running;
+      unfinished = r.ensures.unfinished;
+      state = r.ensures.state;
+      bound = omega (arith, r.ensures.bound, length-drop (i + 1) piece, c.loop-used-test.true);
+      offset = omega (arith, r.ensures.offset, t.offset, c.loop-used.invariant.offset);
       stands = λ longest start input marks s.
-          let k = t.stands longest start (input ++ take c.loop-i.i c.args.piece.now) marks (c.goes.ensures.stays c.if-goes.false longest start (input ++ take c.loop-i.i c.args.piece.now) marks (c.loop-i.invariant.stands longest start input marks s)) in
-          let m = rw append-nil at k in
-          subst (λ (x : List ℕ). StandsAt longest start x marks c.take.new.self) (one_more input c.args.piece.now c.loop-i.i c.loop-i-test.true) m;
+          let k = t.stands longest start (input ++ take i piece) marks (c.loop-used.invariant.stands longest start input marks s) in
+          let m : StandsAt longest start (input ++ take (i + 1) piece) marks c.take.new.self = subst (λ (x : List ℕ). StandsAt longest start x marks c.take.new.self) (one_more input piece i c.loop-used-test.true) (rw append-nil at k) in
+          let n = r.ensures.stands longest start (input ++ take (i + 1) piece) marks m in
+          let fits : r.result ≤ length piece - (i + 1) = omega (arith, r.ensures.bound, length-take (length piece - (i + 1)) (drop (i + 1) piece)) in
+          let all = ap (λ (x : List ℕ). (input ++ take (i + 1) piece) ++ x) (take-take r.result (length piece - (i + 1)) (drop (i + 1) piece) fits) in
+          subst (λ (x : List ℕ). StandsAt longest start x marks r.new.self) (all ∙ further input piece (i + 1) r.result) n;
     }
 
 all_of : (piece : List ℕ) (i : ℕ) → i ≡ length piece → take i piece ≡ piece
@@ -79,8 +93,8 @@ all_of piece i e = ap (λ (k : ℕ). take k piece) e ∙ take-length piece
 pub returns-clause-feeds : goal.returns-clause-feeds
 returns-clause-feeds g c = (
   λ longest start input marks counts s.
-      let k = c.loop-i.invariant.stands longest start input marks s in
-      let whole : take c.loop-i.i c.args.piece.now ≡ c.args.piece.now = all_of c.args.piece.now c.loop-i.i (omega arith) in
-      rw append-nil (subst (λ (x : List ℕ). StandsAt longest start (input ++ x) marks c.loop-i.self) whole k),
-  λ k. rw c.loop-i.invariant.running tt,
+      let k = c.loop-used.invariant.stands longest start input marks s in
+      let whole : take c.loop-used.used c.args.piece.now ≡ c.args.piece.now = all_of c.args.piece.now c.loop-used.used (omega (arith, c.loop-used.invariant.bound, c.loop-used-test.false)) in
+      rw append-nil (subst (λ (x : List ℕ). StandsAt longest start (input ++ x) marks c.loop-used.self) whole k),
+  λ k. rw c.loop-used.invariant.running tt,
 )

@@ -34,7 +34,7 @@ invariant_of-self g c =
     let used = c.run-used.result in
     let t = taken_are used (f.end - f.place.offset) c.args.piece.now (rw c.min.ensures at c.run-used.ensures.bound) in
     let q = place_fits f.place c.past-self.result (take used c.args.piece.now) used f.end (rw (c.min.ensures, t.0) at c.past-self.ensures) t.1 t.3 f.offset_in_range f.line_in_range f.column_in_range in
-    record { some = f.some; end_is = f.end_is; offset_in_range = q.0; line_in_range = q.1; column_in_range = q.2; }
+    record { some = f.some; end_is = f.end_is; offset_in_range = q.0; line_in_range = q.1; column_in_range = q.2 }
 
 pub returns-clause-stands : goal.returns-clause-stands
 returns-clause-stands g c longest start input marks s =

@@ -4,7 +4,7 @@ use Rattle.pb_text.proofs.Running.{runs_on}
 use Rattle.pb_text.proofs.machine.Machine.run.Goals as goal
 
 pub loop-i-init : goal.loop-i-init
-loop-i-init g c = record { runs = refl; state = c.is_done.ensures.state; }
+loop-i-init g c = record { runs = refl; state = c.is_done.ensures.state }
 
 pub returns-then-not-goes-clause-runs : goal.returns-then-not-goes-clause-runs
 returns-then-not-goes-clause-runs g c =
