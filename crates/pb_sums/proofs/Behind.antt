@@ -1,5 +1,5 @@
 -- The state behind a space.
-use Rattle.std.proofs.Common.{◌≡◌, ℕ, Bool, true, List, refl, subst, Option, Some, None}
+use Rattle.std.proofs.Common.{◌≡◌, ℕ, true, List, refl, subst, Some, None}
 use Rattle.pb_text.specs.Automaton.{IsState}
 use Rattle.pb_text.specs.Numbers.{signed}
 use Rattle.pb_sums.specs.Machine.{PhaseFits, is_midway}
