@@ -15,3 +15,5 @@ mod Written
 mod Spans
 mod Digits
 mod Names
+mod Behind
+mod NameBytes

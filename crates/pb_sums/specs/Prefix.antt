@@ -1,5 +1,6 @@
 -- Names and numbers at the front of a text.
 use Rattle.std.specs.Prelude.{◌≡◌, ℕ, ◌+◌, ◌-◌, ◌*◌, Bool, true, false, List, [], ◌∷◌, Option, Some, None}
+use Rattle.pb_text.specs.Numbers.{signed}
 use Rattle.pb_sums.specs.declared.values.Relation.{Relation}
 use Rattle.pb_sums.specs.declared.phase.Phase.{Phase}
 use Rattle.pb_sums.specs.declared.phase.Phase as phase
@@ -32,3 +33,11 @@ abbrev pub behind_name : Phase → Option Phase
 behind_name (phase.TheVariants.Gap z) = Some (phase.TheVariants.More z false)
 behind_name (phase.TheVariants.Tilde z) = Some (phase.TheVariants.More z true)
 behind_name _ = None
+
+-- the state behind a space, where one often stands
+abbrev pub behind_space : Phase → Option Phase
+behind_space (phase.TheVariants.Digits None negative n) = Some (phase.TheVariants.Gap (signed negative n))
+behind_space (phase.TheVariants.Digits (Some r) negative n) = Some (phase.TheVariants.Tail r (signed negative n))
+behind_space (phase.TheVariants.More z negated) = Some phase.TheVariants.Between
+behind_space (phase.TheVariants.Operator r) = Some (phase.TheVariants.Operator r)
+behind_space _ = None

@@ -8,6 +8,17 @@ ghost use Rattle.pb_sums.specs.Machine.{symbol, kind_of_plain, kind, letter_at, 
 use crate::grammar::Spaces;
 use crate::phase::Kind;
 
+/// Each byte of a name at its own place, and a comma at every other place.
+static NAME_BYTES: [u8; 256] = *b"\
+    ,,,,,,,,,,,,,,,,,,,,,,,,,,,,,,,,\
+    ,,,,,,,,,,,,,,,,0123456789,,,,,,\
+    ,ABCDEFGHIJKLMNOPQRSTUVWXYZ[,]^_\
+    ,abcdefghijklmnopqrstuvwxyz{,},,\
+    ,,,,,,,,,,,,,,,,,,,,,,,,,,,,,,,,\
+    ,,,,,,,,,,,,,,,,,,,,,,,,,,,,,,,,\
+    ,,,,,,,,,,,,,,,,,,,,,,,,,,,,,,,,\
+    ,,,,,,,,,,,,,,,,,,,,,,,,,,,,,,,,";
+
 fn takes_line_feeds(spaces: Spaces) -> bool
     ensures { result ≡ takes_line_feeds spaces }
 {
@@ -38,18 +49,12 @@ pub fn is_letter(byte: u8) -> bool
 }
 
 /// Whether a name may hold the byte.
+#[inline(always)]
 pub fn is_name_byte(byte: u8) -> bool
     ensures byte { result ≡ is_name_byte byte }
     ensures ascii { IsTrue result → byte < 128 }
 {
-    is_digit(byte)
-        || is_letter(byte)
-        || byte == b'_'
-        || byte == b'['
-        || byte == b']'
-        || byte == b'{'
-        || byte == b'}'
-        || byte == b'^'
+    NAME_BYTES[byte as usize] != b','
 }
 
 #[inline(always)]

@@ -13,7 +13,8 @@ use crate::grammar::{Part, Spaces};
 use crate::name::Name;
 use crate::phase::{Move, Phase};
 use crate::plans::{
-    begins_number, behind_name, in_hand, is_done, is_in_number, is_more, is_numeric, plan, role,
+    begins_number, behind_name, behind_space, in_hand, is_done, is_in_number, is_more, is_numeric,
+    plan, role,
 };
 use crate::prefix::{name_prefix, number_prefix, sign_prefix};
 use crate::values::{Linear, Literal, SumEvent, Term};
@@ -155,7 +156,7 @@ impl SumMachine {
 
 impl SumMachine {
     ghost use Rattle.std.specs.Prelude.{take, length};
-    ghost use Rattle.pb_text.specs.Automaton.{Runs};
+    ghost use Rattle.pb_text.specs.Automaton.{Goes, Runs};
     ghost use Rattle.pb_sums.specs.State.{sums};
 
     /// Takes a number that is small, where one may begin.
@@ -227,6 +228,23 @@ impl SumMachine {
         length
     }
 
+    /// Takes a space, where one often stands.
+    #[inline(always)]
+    fn take_space(&mut self) -> bool
+        ensures goes { Goes sums self.old 32 result self.new }
+        ensures state { IsState sums self.new }
+    {
+        let _ = self.is_done();
+        let Some(phase) = behind_space(self.phase) else {
+            return false;
+        };
+        if flush(self.alloc, &mut self.terms, &mut self.name, self.phase).is_err() {
+            return false;
+        }
+        self.phase = phase;
+        true
+    }
+
     /// Takes the word at the front, if it is soon taken.
     #[inline(always)]
     fn take_word(&mut self, text: &[u8]) -> usize
@@ -251,6 +269,9 @@ impl SumMachine {
         ensures runs { Runs sums self.old (take result text.now) self.new }
         ensures state { IsState sums self.new }
     {
+        if text[0] == b' ' {
+            return if self.take_space() { 1 } else { 0 };
+        }
         let length = self.take_word(text);
         if length > 0 {
             return length;

@@ -1,10 +1,10 @@
 //! What a machine does with a kind of byte.
 
-ghost use Rattle.std.specs.Prelude.{◌≡◌, ℕ, ◌<◌, ◌≤◌, ◌^◌, Bool, None};
+ghost use Rattle.std.specs.Prelude.{◌≡◌, ℕ, ◌-◌, ◌<◌, ◌≤◌, ◌^◌, Bool, None};
 ghost use Rattle.pb_text.specs.Numbers.{signed};
 ghost use Rattle.pb_sums.specs.Sums.{reads_sums, allows};
 ghost use Rattle.pb_sums.specs.Machine.{digits, number, behind, plan, KindFits, PhaseFits, MoveFits, is_numeric, is_in_number, is_more, is_done};
-ghost use Rattle.pb_sums.specs.Prefix.{begins_number, role, behind_name};
+ghost use Rattle.pb_sums.specs.Prefix.{begins_number, role, behind_name, behind_space};
 ghost use Rattle.pb_sums.specs.State.{in_hand};
 
 use crate::grammar::Part;
@@ -82,6 +82,21 @@ pub fn behind_name(phase: Phase) -> Option<Phase>
     match phase {
         Phase::Gap(z) => Some(Phase::More(z, false)),
         Phase::Tilde(z) => Some(Phase::More(z, true)),
+        _ => None,
+    }
+}
+
+/// Where the machine is behind a space, where one often stands.
+#[inline(always)]
+pub fn behind_space(phase: Phase) -> Option<Phase>
+    requires { PhaseFits (2 ^ 127 - 1) phase }
+    ensures { result ≡ behind_space phase }
+{
+    match phase {
+        Phase::Digits(None, negative, n) => Some(Phase::Gap(signed(negative, n))),
+        Phase::Digits(Some(r), negative, n) => Some(Phase::Tail(r, signed(negative, n))),
+        Phase::More(_, _) => Some(Phase::Between),
+        Phase::Operator(r) => Some(Phase::Operator(r)),
         _ => None,
     }
 }

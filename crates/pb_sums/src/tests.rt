@@ -194,6 +194,16 @@ fn reads_sums(rt: HostRuntime) -> Result<(), Fail> {
 }
 
 #[test]
+fn takes_a_run_as_byte_by_byte(rt: HostRuntime) {
+    let text = b"+12 x34 -5 ~x6 >= 7 ;".as_slice();
+    let mut machine = machine(rt.alloc(), Part::Linear);
+    let taken = machine.run(text);
+    assert_eq!(rt; taken, text.len() - 1);
+    let want = read(rt.alloc(), Part::Linear, text);
+    assert!(rt; feed(&mut machine, &text[taken..]) == want);
+}
+
+#[test]
 fn counts_what_it_keeps(rt: HostRuntime) {
     let mut machine = machine(rt.alloc(), Part::Linear);
     assert!(rt; machine.starts(b'+') && machine.starts(b'>'));

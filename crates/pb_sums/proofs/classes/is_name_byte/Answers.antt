@@ -1,0 +1,9 @@
+use Rattle.std.proofs.Common.{sym, ◌∙◌}
+use Rattle.pb_sums.proofs.NameBytes.{in_table, name_ascii}
+use Rattle.pb_sums.proofs.classes.is_name_byte.Goals as goal
+
+pub returns-clause-byte : goal.returns-clause-byte
+returns-clause-byte c = in_table c.args.byte c.ranges.byte.fits
+
+pub returns-clause-ascii : goal.returns-clause-ascii
+returns-clause-ascii c = λ yes. name_ascii c.args.byte (sym (in_table c.args.byte c.ranges.byte.fits) ∙ yes)
