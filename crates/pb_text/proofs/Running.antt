@@ -1,8 +1,9 @@
 -- Bytes of a statement, one after another.
-use Rattle.std.proofs.Common.{◌≡◌, ℕ, ◌+◌, ◌<◌, ◌≤◌, List, [], ◌∷◌, ◌++◌, length, take, get_or, Bool, true, false, cond, ◌==◌, Option, Some, None, refl, sym, subst, ◌∙◌, arith, append-nil, append_assoc}
+use Rattle.std.proofs.Common.{◌≡◌, ◌≢◌, ℕ, suc, ap, ap₂, eqb-true, ◌+◌, ◌<◌, ◌≤◌, List, [], ◌∷◌, ◌++◌, length, take, get_or, Bool, true, false, cond, ◌==◌, Option, Some, None, refl, sym, subst, ◌∙◌, arith, append-nil, append_assoc}
 use Rattle.std.proofs.lemmas.List.{take_more}
 use Rattle.std.specs.Option.{is_some}
 use Rattle.pb_text.specs.Automaton.{Automaton, Go, IsState, Runs, begins}
+use Rattle.pb_text.specs.Languages.{Each}
 use Rattle.pb_text.specs.Limit.{end_of}
 use Rattle.pb_text.specs.Spelling.{place_next, place_past}
 use Rattle.pb_text.specs.Standing.{Stands, opened}
@@ -49,6 +50,27 @@ past_line p (b ∷ text) = omega (arith, past_line (place_next p b) text, by_fee
 pub past_column : (p : Place) (text : List ℕ) → (place_past p text).column ≤ p.column + length text
 past_column p [] = omega arith
 past_column p (b ∷ text) = omega (arith, past_column (place_next p b) text, by_feed_column (b == 10) p)
+
+by_no_feed : (feed : Bool) (p : Place) → feed ≡ false
+    → cond feed (let q : Place = record { line = p.line + 1; column = 1; offset = p.offset + 1 } in q) (record { line = p.line; column = p.column + 1; offset = p.offset + 1 }) ≡ record { line = p.line; column = p.column + 1; offset = p.offset + 1 }
+by_no_feed true p h = cc
+by_no_feed false p h = refl
+
+further : (p : Place) (n : ℕ) → (let q : Place = record { line = p.line; column = (p.column + 1) + n; offset = (p.offset + 1) + n } in q) ≡ record { line = p.line; column = p.column + suc n; offset = p.offset + suc n }
+further p n = ap₂ (λ (x y : ℕ). let q : Place = record { line = p.line; column = x; offset = y } in q) (omega arith) (omega arith)
+
+by_feed_or_not : (b : ℕ) → b ≢ 10 → (feed : Bool) → (b == 10) ≡ feed → (b == 10) ≡ false
+by_feed_or_not b h true e = absurd (h (eqb-true b 10 e))
+by_feed_or_not b h false e = e
+
+not_feed : (b : ℕ) → b ≢ 10 → (b == 10) ≡ false
+not_feed b h = by_feed_or_not b h (b == 10) refl
+
+-- the place after bytes of one line
+pub past_on_line : (p : Place) (text : List ℕ) → Each (λ b. b ≢ 10) text → place_past p text ≡ record { line = p.line; column = p.column + length text; offset = p.offset + length text }
+past_on_line p [] h = ap₂ (λ (x y : ℕ). let q : Place = record { line = p.line; column = x; offset = y } in q) (omega arith) (omega arith)
+past_on_line p (b ∷ text) h =
+    ap (λ (q : Place). place_past q text) (by_no_feed (b == 10) p (not_feed b h.0)) ∙ (past_on_line (record { line = p.line; column = p.column + 1; offset = p.offset + 1 }) text h.1 ∙ further p (length text))
 
 -- the place after the bytes of a piece up to one more
 pub past_more : (p : Place) (text : List ℕ) (b : ℕ) → place_past p (text ++ b ∷ []) ≡ place_next (place_past p text) b

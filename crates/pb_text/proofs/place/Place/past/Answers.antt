@@ -3,8 +3,11 @@ use Rattle.std.proofs.Math.Seq.{take-length}
 use Rattle.std.proofs.lemmas.List.{take_more}
 use Rattle.pb_text.specs.Spelling.{place_next, place_past}
 use Rattle.pb_text.specs.declared.place.Place.{Place}
-use Rattle.pb_text.proofs.Running.{past_offset, past_line, past_column, past_more}
+use Rattle.pb_text.proofs.Running.{past_offset, past_line, past_column, past_more, past_on_line}
 use Rattle.pb_text.proofs.place.Place.past.Goals as goal
+
+pub returns-then-not-has_line_feed : goal.returns-then-not-has_line_feed
+returns-then-not-has_line_feed c = sym (past_on_line c.args.self c.args.text.now (c.has_line_feed.ensures c.if-not-has_line_feed.true))
 
 pub loop-byte-init : goal.loop-byte-init
 loop-byte-init c = refl
