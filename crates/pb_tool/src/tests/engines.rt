@@ -172,12 +172,12 @@ fn shows_where_each_statement_begins(rt: HostRuntime) {
 #[test]
 fn tells_a_write_fault_within_a_line(rt: HostRuntime) {
     let mut writer = FaultyWriter::new(Vec::new(rt.alloc()));
-    writer.fails_at = Some(3);
+    writer.fails_at = Some(2);
     let mut out = Over::new(writer);
     let full = Limits::full();
     let answer = show(rt.alloc(), &mut Over::new(ONE), &mut out, None, full);
     assert!(rt; matches!(answer, Err(ToolFault::Write)));
-    assert!(rt; out.into_inner().taken.as_slice() == b"1:".as_slice());
+    assert!(rt; out.into_inner().taken.as_slice() == b"1:1 ".as_slice());
 }
 
 #[test]
