@@ -32,7 +32,7 @@ same_head true false m n p q e = absurd (omega arith)
 same_head false true m n p q e = absurd (omega arith)
 same_head false false m n p q e = (refl, omega arith)
 
-same_entry : (v v' : ℕ) (b b' : Bool) (c c' : ℕ) → v ≡ v' → b ≡ b' → c ≡ c' → (let r : Entry = record { variable = v; negated = b; coefficient = c } in r) ≡ record { variable = v'; negated = b'; coefficient = c' }
+pub same_entry : (v v' : ℕ) (b b' : Bool) (c c' : ℕ) → v ≡ v' → b ≡ b' → c ≡ c' → (let r : Entry = record { variable = v; negated = b; coefficient = c } in r) ≡ record { variable = v'; negated = b'; coefficient = c' }
 same_entry v v' b b' c c' e f g = rw (e, f, g) refl
 
 -- both lists have the same coefficients
