@@ -11,8 +11,6 @@ mod merge;
 mod names;
 mod rules;
 mod side;
-#[cfg(test)]
-mod tests;
 mod written;
 
 pub use entry::Entry;

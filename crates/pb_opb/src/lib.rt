@@ -9,11 +9,7 @@ mod machine;
 mod phase;
 mod plan;
 mod read;
-#[cfg(test)]
-mod rows;
 mod rules;
-#[cfg(test)]
-mod tests;
 mod write;
 
 pub use event::OpbEvent;

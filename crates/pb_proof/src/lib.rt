@@ -5,8 +5,6 @@ mod building;
 mod claim;
 mod claim_phase;
 mod claim_plan;
-#[cfg(test)]
-mod claim_tests;
 mod classes;
 mod conclusion;
 mod count;
@@ -19,13 +17,9 @@ mod inner;
 mod inners;
 mod laws;
 mod laws_of_values;
-#[cfg(test)]
-mod line_tests;
 mod literals;
 mod literals_phase;
 mod machine;
-#[cfg(test)]
-mod machine_tests;
 mod mark;
 mod phase;
 mod plan;
@@ -34,15 +28,11 @@ mod pol_close;
 mod pol_kind;
 mod pol_phase;
 mod pol_plan;
-#[cfg(test)]
-mod pol_tests;
 mod pol_words;
 mod proof;
 mod read;
 mod rules;
 mod statement;
-#[cfg(test)]
-mod tests;
 mod word;
 mod write;
 

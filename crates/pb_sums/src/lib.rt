@@ -11,8 +11,6 @@ mod piece;
 mod plans;
 mod prefix;
 mod rules;
-#[cfg(test)]
-mod tests;
 mod values;
 mod writing;
 

@@ -9,8 +9,6 @@ mod opening;
 mod proof_tidying;
 mod showing;
 mod statement;
-#[cfg(test)]
-mod tests;
 mod tidying;
 mod words;
 

@@ -1,0 +1,200 @@
+//! The words of a call.
+
+use crate::broken::Broken;
+use crate::constraint::is_rule;
+use pb_sums::Part;
+use pb_text::{BYTE_LIMIT, Limits};
+
+/// What is called.
+#[derive(Clone, Copy)]
+pub enum Verb {
+    Show,
+    Tidy,
+    TidyNormal,
+    Feed,
+    Stop,
+    Read,
+    Fronts,
+    Zeros,
+    Judge,
+    Forms,
+    Names,
+    Numbers,
+    Words,
+    Fault,
+    Limits,
+}
+
+/// The grammar of the text.
+#[derive(Clone, Copy)]
+pub enum Grammar {
+    Opb,
+    Proof,
+    /// Lines of a proof behind its header and its `f`.
+    Lines,
+    /// A sum, with white space or with blanks alone.
+    Sum(Part),
+    /// One statement of a proof, as a value.
+    Statement,
+}
+
+/// Which calls of a reader or a writer fail, one after another.
+#[derive(Clone, Copy)]
+pub enum Each {
+    Neither,
+    Read,
+    Write,
+}
+
+/// A call, without its input.
+#[derive(Clone, Copy)]
+pub struct Call {
+    pub verb: Verb,
+    pub grammar: Grammar,
+    pub has_blanks: bool,
+    pub bits: u32,
+    pub top: u64,
+    pub longest: u64,
+    pub reader_fails: Option<u64>,
+    pub reader_most: usize,
+    pub writer_fails: Option<u64>,
+    pub writer_most: usize,
+    pub each: Each,
+    pub is_held: bool,
+    pub has_spans: bool,
+}
+
+impl Call {
+    fn new(verb: Verb) -> Call {
+        Call {
+            verb,
+            grammar: Grammar::Opb,
+            has_blanks: false,
+            bits: 127,
+            top: (1 << 63) - 1,
+            longest: BYTE_LIMIT,
+            reader_fails: None,
+            reader_most: usize::MAX,
+            writer_fails: None,
+            writer_most: usize::MAX,
+            each: Each::Neither,
+            is_held: false,
+            has_spans: false,
+        }
+    }
+
+    /// The limits that the call names.
+    pub fn limits(&self) -> Result<Limits, Broken> {
+        match Limits::new(self.bits, self.top) {
+            Some(limits) => Ok(limits),
+            None => Err(Broken::Limits),
+        }
+    }
+}
+
+/// The call that a line spells.
+pub fn call_of(line: &str) -> Result<Call, Broken> {
+    let mut call = Call::new(verb_of(line)?);
+    for word in line.split_whitespace().skip(1) {
+        let set = match word.split_once('=') {
+            Some((key, value)) => set(&mut call, key, value),
+            None => set_word(&mut call, word),
+        };
+        if !is_left(call.verb, word) {
+            set?;
+        }
+    }
+    Ok(call)
+}
+
+/// Whether a word is left to the rows of its verb.
+fn is_left(verb: Verb, word: &str) -> bool {
+    match verb {
+        Verb::Forms => is_rule(word),
+        Verb::Words => word.starts_with("shows="),
+        Verb::Fault => true,
+        _ => false,
+    }
+}
+
+/// What the first word of a line calls.
+fn verb_of(line: &str) -> Result<Verb, Broken> {
+    match line.split_whitespace().next() {
+        Some("show") => Ok(Verb::Show),
+        Some("tidy") => Ok(Verb::Tidy),
+        Some("feed") => Ok(Verb::Feed),
+        Some("stop") => Ok(Verb::Stop),
+        Some("read") => Ok(Verb::Read),
+        Some("fronts") => Ok(Verb::Fronts),
+        Some("zeros") => Ok(Verb::Zeros),
+        Some("judge") => Ok(Verb::Judge),
+        Some("forms") => Ok(Verb::Forms),
+        Some(word) => other_verb(word),
+        None => Err(Broken::Call),
+    }
+}
+
+fn other_verb(word: &str) -> Result<Verb, Broken> {
+    match word {
+        "names" => Ok(Verb::Names),
+        "numbers" => Ok(Verb::Numbers),
+        "words" => Ok(Verb::Words),
+        "fault" => Ok(Verb::Fault),
+        "limits" => Ok(Verb::Limits),
+        _ => Err(Broken::Call),
+    }
+}
+
+/// Sets what a word without a value says. The word `same` is one of the row.
+fn set_word(call: &mut Call, word: &str) -> Result<(), Broken> {
+    match word {
+        "same" => {}
+        "opb" => call.grammar = Grammar::Opb,
+        "proof" => call.grammar = Grammar::Proof,
+        "lines" => call.grammar = Grammar::Lines,
+        "statement" => call.grammar = Grammar::Statement,
+        "sum" => call.grammar = Grammar::Sum(Part::Sum),
+        "linear" => call.grammar = Grammar::Sum(Part::Linear),
+        "at-least" => call.grammar = Grammar::Sum(Part::AtLeast),
+        _ => return set_flag(call, word),
+    }
+    Ok(())
+}
+
+fn set_flag(call: &mut Call, word: &str) -> Result<(), Broken> {
+    match (word, call.verb) {
+        ("normal", Verb::Tidy) => call.verb = Verb::TidyNormal,
+        ("blanks", _) => call.has_blanks = true,
+        ("each-read", _) => call.each = Each::Read,
+        ("each-write", _) => call.each = Each::Write,
+        ("held", _) => call.is_held = true,
+        ("spans", _) => call.has_spans = true,
+        _ => return Err(Broken::Word),
+    }
+    Ok(())
+}
+
+fn set(call: &mut Call, key: &str, value: &str) -> Result<(), Broken> {
+    let Ok(number) = value.parse::<u64>() else {
+        return Err(Broken::Word);
+    };
+    match key {
+        "bits" => call.bits = bits_of(number)?,
+        "top" => call.top = number,
+        "longest" => call.longest = number,
+        "reader-fails" => call.reader_fails = Some(number),
+        "reader-most" => call.reader_most = number as usize,
+        "writer-fails" => call.writer_fails = Some(number),
+        "writer-most" => call.writer_most = number as usize,
+        _ => return Err(Broken::Word),
+    }
+    Ok(())
+}
+
+fn bits_of(number: u64) -> Result<u32, Broken> {
+    if number < 1000 {
+        Ok(number as u32)
+    } else {
+        Err(Broken::Word)
+    }
+}

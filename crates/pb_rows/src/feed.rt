@@ -1,0 +1,230 @@
+//! Rows of feeders: a text in pieces.
+
+use crate::broken::Broken;
+use crate::call::{Call, Grammar, Verb};
+use crate::page::{Done, Page, finished, is_same, page, tell_count, tell_end};
+use pb_opb::{OpbEvent, OpbMachine, write_event};
+use pb_proof::{ProofMachine, Statement, write_statement};
+use pb_sums::{Spaces, SumEvent, SumMachine, write_linear, write_place, write_sum};
+use pb_text::{Failed, Feeder, Machine, Place, Sink, Spanned, Stop, write_bytes};
+use std::alloc::Global;
+
+/// The lines before the ones of a row of lines.
+const HEAD: &[u8] = b"pseudo-Boolean proof version 2.0\nf\n";
+
+/// An event that has a text.
+pub trait Shown {
+    fn write_shown<S: Sink>(&self, out: &mut S) -> Result<(), Failed>;
+}
+
+impl Shown for OpbEvent {
+    fn write_shown<S: Sink>(&self, out: &mut S) -> Result<(), Failed> {
+        write_event(self, out)
+    }
+}
+
+impl Shown for Statement {
+    fn write_shown<S: Sink>(&self, out: &mut S) -> Result<(), Failed> {
+        write_statement(self, out)
+    }
+}
+
+impl Shown for SumEvent {
+    fn write_shown<S: Sink>(&self, out: &mut S) -> Result<(), Failed> {
+        match self {
+            SumEvent::Sum(terms) => write_sum(terms.as_slice(), out),
+            SumEvent::Linear(linear) => write_linear(linear, out),
+        }
+    }
+}
+
+/// How a feeder stood at the end of a text.
+#[derive(Clone, Copy)]
+pub struct End {
+    pub end: Result<(), Stop>,
+    pub place: Place,
+    pub held: usize,
+}
+
+/// How a text is cut: a first piece, and pieces of one size.
+#[derive(Clone, Copy)]
+pub struct Cut {
+    pub first: usize,
+    pub size: usize,
+}
+
+/// What stands before the text of an event.
+#[derive(Clone, Copy)]
+enum Shape {
+    /// The place of its first byte.
+    First,
+    /// The place of its first byte and the one behind its last.
+    Span,
+}
+
+impl Shape {
+    fn of(call: &Call) -> Shape {
+        if call.has_spans {
+            Shape::Span
+        } else {
+            Shape::First
+        }
+    }
+}
+
+/// Feeds a text in one piece, in pieces of 1, 2 and 37 bytes, and in two pieces with each cut. Answers what the
+/// first gave that is not as wanted, or else the last.
+pub fn run_feed(alloc: Global, call: &Call, text: &[u8], wanted: &Done) -> Result<Done, Broken> {
+    for size in [1, 2, 37] {
+        let found = feed_cut(alloc, call, text, Cut { first: size, size })?;
+        if !is_same(&found, wanted) {
+            return Ok(found);
+        }
+    }
+    for first in 0..text.len() {
+        let size = usize::MAX;
+        let found = feed_cut(alloc, call, text, Cut { first, size })?;
+        if !is_same(&found, wanted) {
+            return Ok(found);
+        }
+    }
+    let (first, size) = (usize::MAX, 1);
+    feed_cut(alloc, call, text, Cut { first, size })
+}
+
+fn feed_cut(alloc: Global, call: &Call, text: &[u8], cut: Cut) -> Result<Done, Broken> {
+    let mut out = page(alloc);
+    let end = feed_all(alloc, call, text, cut, &mut out)?;
+    let mut told = page(alloc);
+    tell(end, call.is_held, &mut told)?;
+    match call.verb {
+        Verb::Stop => Ok(finished(page(alloc), told)),
+        _ => Ok(finished(out, told)),
+    }
+}
+
+fn tell<S: Sink>(end: End, is_held: bool, out: &mut S) -> Result<(), Failed> {
+    tell_end(end.end, out)?;
+    tell_count(end.place.offset, b" bytes\n", out)?;
+    if is_held {
+        tell_count(end.held as u64, b" held\n", out)?;
+    }
+    Ok(())
+}
+
+/// Feeds a text to the machine of its grammar.
+pub fn feed_all(
+    alloc: Global,
+    call: &Call,
+    text: &[u8],
+    cut: Cut,
+    out: &mut Page,
+) -> Result<End, Broken> {
+    let limits = call.limits()?;
+    let longest = call.longest.max(1);
+    let shape = Shape::of(call);
+    match call.grammar {
+        Grammar::Opb => {
+            let mut feeder = Feeder::within(OpbMachine::new(alloc, limits), longest);
+            Ok(feed_over(&mut feeder, text, cut, shape, out))
+        }
+        Grammar::Proof => {
+            let mut feeder = Feeder::within(ProofMachine::new(alloc, limits), longest);
+            Ok(feed_over(&mut feeder, text, cut, shape, out))
+        }
+        Grammar::Lines => {
+            let mut feeder = Feeder::within(ProofMachine::new(alloc, limits), longest);
+            let _ = feed_piece(&mut feeder, HEAD, shape, &mut page(alloc));
+            Ok(feed_over(&mut feeder, text, cut, shape, out))
+        }
+        Grammar::Sum(part) => {
+            let machine = SumMachine::new(alloc, spaces_of(call), part, limits);
+            let mut feeder = Feeder::within(machine, longest);
+            Ok(feed_over(&mut feeder, text, cut, shape, out))
+        }
+        Grammar::Statement => Err(Broken::Word),
+    }
+}
+
+/// The spaces of a sum: white space, or blanks alone.
+fn spaces_of(call: &Call) -> Spaces {
+    if call.has_blanks {
+        Spaces::Blank
+    } else {
+        Spaces::White
+    }
+}
+
+fn feed_over<E: Shown + Drop, M: Machine<Event = E>>(
+    feeder: &mut Feeder<M>,
+    text: &[u8],
+    cut: Cut,
+    shape: Shape,
+    out: &mut Page,
+) -> End {
+    let _ = feed_pieces(feeder, text, cut, shape, out);
+    End {
+        end: feeder.finish(),
+        place: feeder.place(),
+        held: feeder.held(),
+    }
+}
+
+fn feed_pieces<E: Shown + Drop, M: Machine<Event = E>>(
+    feeder: &mut Feeder<M>,
+    text: &[u8],
+    cut: Cut,
+    shape: Shape,
+    out: &mut Page,
+) -> Result<(), Stop> {
+    let (front, rest) = text.split_at(cut.first.min(text.len()));
+    feed_piece(feeder, front, shape, out)?;
+    for piece in rest.chunks(cut.size.max(1)) {
+        feed_piece(feeder, piece, shape, out)?;
+    }
+    Ok(())
+}
+
+/// Feeds one piece, and shows its events.
+fn feed_piece<E: Shown + Drop, M: Machine<Event = E>>(
+    feeder: &mut Feeder<M>,
+    piece: &[u8],
+    shape: Shape,
+    out: &mut Page,
+) -> Result<(), Stop> {
+    let mut rest = piece;
+    for _ in 0..piece.len() {
+        let fed = feeder.feed(rest)?;
+        let used = fed.used.min(rest.len());
+        rest = &rest[used..];
+        match fed.event {
+            Some(spanned) => {
+                let _ = show_one(&spanned, shape, out);
+            }
+            None => return Ok(()),
+        }
+    }
+    Ok(())
+}
+
+/// Writes the line of an event: the place of its first byte or both its places, and its text.
+fn show_one<E: Shown, S: Sink>(
+    spanned: &Spanned<E>,
+    shape: Shape,
+    out: &mut S,
+) -> Result<(), Failed> {
+    match shape {
+        Shape::First => write_place(spanned.first, out)?,
+        Shape::Span => write_span(spanned.first, spanned.past, out)?,
+    }
+    spanned.event.write_shown(out)?;
+    write_bytes(b"\n", out)
+}
+
+/// Writes the place of a first byte and the one behind a last byte, each with its offset.
+fn write_span<S: Sink>(first: Place, past: Place, out: &mut S) -> Result<(), Failed> {
+    write_place(first, out)?;
+    tell_count(first.offset, b" to ", out)?;
+    write_place(past, out)?;
+    tell_count(past.offset, b": ", out)
+}

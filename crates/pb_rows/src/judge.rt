@@ -1,0 +1,60 @@
+//! Rows on the rules of values, and on limits.
+
+use crate::broken::Broken;
+use crate::call::{Call, Grammar};
+use crate::name::lines_of;
+use crate::page::{Done, Page, answered, page, tell_either};
+use crate::value::{instance_of, proof_of, statement_of};
+use pb_opb::instance_is_value;
+use pb_proof::{proof_is_value, statement_is_value};
+use pb_sums::write_count;
+use pb_text::{Limits, write_bytes};
+use std::alloc::Global;
+
+/// Makes a value of the lines of the input and tells whether it meets the rules; of `judge statement`, of each line.
+pub fn run_judge(alloc: Global, call: &Call, text: &[u8]) -> Result<Done, Broken> {
+    let limits = call.limits()?;
+    let lines = lines_of(text)?;
+    let mut told = page(alloc);
+    match call.grammar {
+        Grammar::Opb => {
+            let instance = instance_of(alloc, lines)?;
+            tell(instance_is_value(&instance, limits), &mut told)?;
+        }
+        Grammar::Proof => {
+            let proof = proof_of(alloc, lines)?;
+            tell(proof_is_value(&proof, limits), &mut told)?;
+        }
+        Grammar::Statement => judge_lines(alloc, lines, limits, &mut told)?,
+        _ => return Err(Broken::Word),
+    }
+    Ok(answered(alloc, told))
+}
+
+fn judge_lines(alloc: Global, lines: &str, limits: Limits, told: &mut Page) -> Result<(), Broken> {
+    for line in lines.lines() {
+        let statement = statement_of(alloc, line)?;
+        tell(statement_is_value(&statement, limits), told)?;
+    }
+    Ok(())
+}
+
+fn tell(is_value: bool, told: &mut Page) -> Result<(), Broken> {
+    tell_either(is_value, b"value\n", b"no value\n", told)?;
+    Ok(())
+}
+
+/// Tells the limits that a call names, or that there are none.
+pub fn run_limits(alloc: Global, call: &Call) -> Result<Done, Broken> {
+    let mut told = page(alloc);
+    match Limits::new(call.bits, call.top) {
+        Some(limits) => {
+            write_count(limits.bits() as u64, &mut told)?;
+            write_bytes(b" ", &mut told)?;
+            write_count(limits.top(), &mut told)?;
+            write_bytes(b"\n", &mut told)?;
+        }
+        None => write_bytes(b"none\n", &mut told)?,
+    }
+    Ok(answered(alloc, told))
+}

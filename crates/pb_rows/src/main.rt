@@ -1,0 +1,87 @@
+//! Runs rows: calls of the library, with what each is to write and to answer.
+#![tactic(auto)]
+
+mod broken;
+mod call;
+mod command;
+mod constraint;
+mod fault;
+mod feed;
+mod job;
+mod judge;
+mod name;
+mod page;
+mod read;
+mod row;
+mod rows;
+mod spell;
+mod sweep;
+mod value;
+
+use crate::broken::Broken;
+use crate::rows::{Count, Told, run_rows, write_counts};
+use pb_text::Over;
+use std::io::{self, Write};
+use std::process::ExitCode;
+use std::rt::{Env, Files};
+use std::{env, fs};
+
+/// The exit status where a row differs.
+const DIFFERS: u8 = 1;
+
+/// The exit status where the rows could not be read.
+const FAILED: u8 = 3;
+
+/// The word that asks for a line before each row, so that one that does not end is known.
+const EACH: &str = "--each";
+
+fn main(rt: HostRuntime) -> ExitCode {
+    ExitCode::from(run(&rt, &mut rt.stderr()))
+}
+
+/// Runs the rows of all files and answers the exit status.
+fn run<R: Env + Files + Print + AllocGlobal, E: Write>(rt: &R, errors: &mut E) -> u8 {
+    let Ok(count) = run_files(rt, errors) else {
+        return FAILED;
+    };
+    match write_counts(count, &mut Over::new(io::writer(rt))) {
+        Ok(()) if count.differ == 0 => 0,
+        Ok(()) => DIFFERS,
+        Err(_) => FAILED,
+    }
+}
+
+/// Runs the rows of the files that the words name.
+fn run_files<R: Env + Files + AllocGlobal, E: Write>(
+    rt: &R,
+    errors: &mut E,
+) -> Result<Count, Broken> {
+    let mut count = Count { rows: 0, differ: 0 };
+    let mut told = Told::Differing;
+    let Ok(words) = env::args(rt) else {
+        return Err(Broken::Memory);
+    };
+    for word in words.skip(1) {
+        if word.as_str() == EACH {
+            told = Told::Each;
+        } else {
+            run_file(rt, word.as_str(), told, &mut count, errors)?;
+        }
+    }
+    Ok(count)
+}
+
+fn run_file<R: Files + AllocGlobal, E: Write>(
+    rt: &R,
+    name: &str,
+    told: Told,
+    count: &mut Count,
+    errors: &mut E,
+) -> Result<(), Broken> {
+    let Ok(text) = fs::read_to_string(rt, name) else {
+        return Err(Broken::File);
+    };
+    let mut out = Over::new(errors);
+    run_rows(rt.alloc(), name, text.as_str(), told, count, &mut out)?;
+    Ok(())
+}

@@ -1,0 +1,59 @@
+//! Rows of names and their numbers.
+
+use crate::broken::Broken;
+use crate::page::{Done, Page, answered, page, tell_count, tell_either};
+use pb_normal::Names;
+use pb_sums::is_name;
+use pb_text::write_bytes;
+use std::alloc::Global;
+
+/// Tells of each line whether it is a name.
+pub fn run_names(alloc: Global, text: &[u8]) -> Result<Done, Broken> {
+    let mut told = page(alloc);
+    for line in lines_of(text)?.lines() {
+        tell_either(is_name(line), b"name\n", b"no name\n", &mut told)?;
+    }
+    Ok(answered(alloc, told))
+}
+
+/// Numbers names: a line `x1` finds the number of the name or gives it one, `? x1` finds it, and `# 0` finds the name
+/// of a number. Tells each answer, and last how many names there are.
+pub fn run_numbers(alloc: Global, text: &[u8]) -> Result<Done, Broken> {
+    let mut names = Names::new(alloc);
+    let mut told = page(alloc);
+    for line in lines_of(text)?.lines() {
+        match line.split_once(' ') {
+            Some(("?", name)) => tell_number(names.number_of(name), &mut told)?,
+            Some(("#", number)) => tell_name(&names, number, &mut told)?,
+            Some(_) => return Err(Broken::Value),
+            None => tell_count(names.number(line)? as u64, b"\n", &mut told)?,
+        }
+    }
+    tell_count(names.len() as u64, b" names\n", &mut told)?;
+    Ok(answered(alloc, told))
+}
+
+fn tell_number(number: Option<usize>, told: &mut Page) -> Result<(), Broken> {
+    match number {
+        Some(number) => tell_count(number as u64, b"\n", told)?,
+        None => write_bytes(b"none\n", told)?,
+    }
+    Ok(())
+}
+
+fn tell_name(names: &Names, number: &str, told: &mut Page) -> Result<(), Broken> {
+    let Ok(number) = number.parse::<usize>() else {
+        return Err(Broken::Value);
+    };
+    write_bytes(names.name_of(number).unwrap_or("none").as_bytes(), told)?;
+    write_bytes(b"\n", told)?;
+    Ok(())
+}
+
+/// An input that is text.
+pub fn lines_of(text: &[u8]) -> Result<&str, Broken> {
+    match str::from_utf8(text) {
+        Ok(lines) => Ok(lines),
+        Err(_) => Err(Broken::Value),
+    }
+}

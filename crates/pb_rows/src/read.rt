@@ -1,0 +1,88 @@
+//! Rows of whole readers.
+
+use crate::broken::Broken;
+use crate::call::{Call, Grammar};
+use crate::page::{Done, Page, finished, page, tell_count, tell_end};
+use pb_opb::{instance_is_value, read_instance_within, write_instance};
+use pb_proof::{proof_is_value, read_proof_within, write_proof};
+use pb_text::{Failed, Limits, Over, Place, Sink, Stop, write_bytes};
+use std::alloc::Global;
+
+/// What a reader left.
+#[derive(Clone, Copy)]
+struct Left {
+    end: Result<(), Stop>,
+    past: Place,
+    is_value: bool,
+    left: usize,
+}
+
+/// Reads a value, writes its canonical text, and tells how many bytes were taken and left.
+pub fn run_read(alloc: Global, call: &Call, text: &[u8]) -> Result<Done, Broken> {
+    let limits = call.limits()?;
+    let mut out = page(alloc);
+    let left = match call.grammar {
+        Grammar::Opb => read_opb(alloc, text, call.longest, limits, &mut out),
+        Grammar::Proof => read_veri(alloc, text, call.longest, limits, &mut out),
+        _ => return Err(Broken::Word),
+    };
+    let mut told = page(alloc);
+    tell(left, &mut told)?;
+    Ok(finished(out, told))
+}
+
+fn read_opb(alloc: Global, text: &[u8], longest: u64, limits: Limits, out: &mut Page) -> Left {
+    let mut source = Over::new(text);
+    let read = read_instance_within(alloc, &mut source, longest.max(1), limits);
+    let left = source.into_inner().len();
+    match read {
+        Ok(spanned) => {
+            let _ = write_instance(&spanned.event, out);
+            let is_value = spanned.first == Place::START
+                && instance_is_value(&spanned.event, limits);
+            taken(spanned.past, is_value, left)
+        }
+        Err(stop) => refused(stop, left),
+    }
+}
+
+fn read_veri(alloc: Global, text: &[u8], longest: u64, limits: Limits, out: &mut Page) -> Left {
+    let mut source = Over::new(text);
+    let read = read_proof_within(alloc, &mut source, longest.max(1), limits);
+    let left = source.into_inner().len();
+    match read {
+        Ok(spanned) => {
+            let _ = write_proof(&spanned.event, out);
+            let is_value = spanned.first == Place::START && proof_is_value(&spanned.event, limits);
+            taken(spanned.past, is_value, left)
+        }
+        Err(stop) => refused(stop, left),
+    }
+}
+
+fn taken(past: Place, is_value: bool, left: usize) -> Left {
+    Left {
+        end: Ok(()),
+        past,
+        is_value,
+        left,
+    }
+}
+
+fn refused(stop: Stop, left: usize) -> Left {
+    Left {
+        end: Err(stop),
+        past: stop.place,
+        is_value: true,
+        left,
+    }
+}
+
+fn tell<S: Sink>(left: Left, out: &mut S) -> Result<(), Failed> {
+    tell_end(left.end, out)?;
+    if !left.is_value {
+        write_bytes(b"no value\n", out)?;
+    }
+    tell_count(left.past.offset, b" bytes, ", out)?;
+    tell_count(left.left as u64, b" left\n", out)
+}

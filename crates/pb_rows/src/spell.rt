@@ -1,0 +1,92 @@
+//! What the text of a row spells.
+
+use crate::broken::Broken;
+use itoa::Buffer;
+
+/// Adds what a line spells, and a line feed unless it ends in a `\`. A blank before it does not count.
+pub fn add_line(bytes: &mut Vec<u8>, line: &str) -> Result<(), Broken> {
+    let line = line.strip_prefix(' ').unwrap_or(line);
+    match line.strip_suffix('\\') {
+        Some(front) => add_text(bytes, front),
+        None => {
+            add_text(bytes, line)?;
+            bytes.push(b'\n')?;
+            Ok(())
+        }
+    }
+}
+
+/// Adds what a text spells: what stands between `\[COUNT:` and `\]` is added so often.
+pub fn add_text(bytes: &mut Vec<u8>, text: &str) -> Result<(), Broken> {
+    let mut parts = text.split("\\[");
+    if let Some(front) = parts.next() {
+        add_turn(bytes, front, 0)?;
+    }
+    for part in parts {
+        let Some((group, behind)) = part.split_once("\\]") else {
+            return Err(Broken::Escape);
+        };
+        add_group(bytes, group)?;
+        add_turn(bytes, behind, 0)?;
+    }
+    Ok(())
+}
+
+/// Adds a group, as `3:ab`.
+fn add_group(bytes: &mut Vec<u8>, group: &str) -> Result<(), Broken> {
+    let Some((count, text)) = group.split_once(':') else {
+        return Err(Broken::Escape);
+    };
+    let Ok(count) = count.parse::<u32>() else {
+        return Err(Broken::Escape);
+    };
+    for turn in 0..count {
+        add_turn(bytes, text, turn)?;
+    }
+    Ok(())
+}
+
+/// Adds what a text without groups spells, where `\#` is the number of the turn, counted from 0.
+fn add_turn(bytes: &mut Vec<u8>, text: &str, turn: u32) -> Result<(), Broken> {
+    let mut parts = text.split('\\');
+    if let Some(part) = parts.next() {
+        bytes.extend_from_slice(part.as_bytes())?;
+    }
+    for part in parts {
+        match part.strip_prefix('#') {
+            Some(rest) => {
+                bytes.extend_from_slice(Buffer::new().format(turn).as_bytes())?;
+                bytes.extend_from_slice(rest.as_bytes())?;
+            }
+            None => add_escaped(bytes, part)?,
+        }
+    }
+    Ok(())
+}
+
+/// Adds what stands behind a `\`: `t`, `r`, `n`, `s` for a tab, a return, a line feed and a `\`, or two digits of a byte.
+fn add_escaped(bytes: &mut Vec<u8>, part: &str) -> Result<(), Broken> {
+    let (code, rest) = match part.split_at_checked(2) {
+        Some(pair) => pair,
+        None => (part, ""),
+    };
+    if let Ok(byte) = u8::from_str_radix(code, 16) {
+        bytes.push(byte)?;
+        bytes.extend_from_slice(rest.as_bytes())?;
+        return Ok(());
+    }
+    add_letter(bytes, part)
+}
+
+fn add_letter(bytes: &mut Vec<u8>, part: &str) -> Result<(), Broken> {
+    let (byte, rest) = match part.as_bytes() {
+        [b't', rest @ ..] => (b'\t', rest),
+        [b'r', rest @ ..] => (b'\r', rest),
+        [b'n', rest @ ..] => (b'\n', rest),
+        [b's', rest @ ..] => (b'\\', rest),
+        _ => return Err(Broken::Escape),
+    };
+    bytes.push(byte)?;
+    bytes.extend_from_slice(rest)?;
+    Ok(())
+}

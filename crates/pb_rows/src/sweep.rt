@@ -1,0 +1,56 @@
+//! Rows of many texts that are made of one.
+
+use crate::broken::Broken;
+use crate::call::{Call, Verb};
+use crate::feed::{Cut, End, feed_all};
+use crate::page::{Done, answered, page, tell_count, tell_end};
+use pb_text::Why;
+use std::alloc::Global;
+
+/// Feeds every proper front of a text, or the text with a byte 0 at each place. Answers the first that did not stop
+/// at its end, or at that byte.
+pub fn run_sweep(alloc: Global, call: &Call, text: &[u8]) -> Result<Done, Broken> {
+    for at in 0..text.len() {
+        let end = feed_changed(alloc, call, text, at)?;
+        if !stops_at(end, at as u64, why_of(call)) {
+            return tell_odd(alloc, at as u64, end);
+        }
+    }
+    let mut told = page(alloc);
+    tell_end(Ok(()), &mut told)?;
+    Ok(answered(alloc, told))
+}
+
+fn why_of(call: &Call) -> Why {
+    match call.verb {
+        Verb::Fronts => Why::Ended,
+        _ => Why::Byte(0),
+    }
+}
+
+fn feed_changed(alloc: Global, call: &Call, text: &[u8], at: usize) -> Result<End, Broken> {
+    let cut = Cut {
+        first: usize::MAX,
+        size: 1,
+    };
+    let mut changed = Vec::new(alloc);
+    changed.extend_from_slice(&text[..at.min(text.len())])?;
+    if let Verb::Zeros = call.verb {
+        changed.push(0)?;
+    }
+    feed_all(alloc, call, changed.as_slice(), cut, &mut page(alloc))
+}
+
+fn stops_at(end: End, at: u64, why: Why) -> bool {
+    match end.end {
+        Ok(()) => false,
+        Err(stop) => stop.why == why && stop.place.offset == at,
+    }
+}
+
+fn tell_odd(alloc: Global, at: u64, end: End) -> Result<Done, Broken> {
+    let mut told = page(alloc);
+    tell_count(at, b": ", &mut told)?;
+    tell_end(end.end, &mut told)?;
+    Ok(answered(alloc, told))
+}
