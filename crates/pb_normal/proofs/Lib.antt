@@ -1,8 +1,10 @@
 pub mod Appearing
 pub mod Balance
 pub mod Collecting
+pub mod Counts
 pub mod Entries
 pub mod Faults
+pub mod Keeps
 pub mod Maps
 pub mod Measures
 pub mod Merging
