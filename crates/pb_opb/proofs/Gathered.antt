@@ -1,9 +1,10 @@
 -- Statements that are put together one by one have the value that they say.
-use Rattle.std.proofs.Common.{◌≡◌, ℕ, List, [], ◌∷◌, ◌++◌, refl, sym, ap, ◌∙◌, append_assoc, append-nil}
+use Rattle.std.proofs.Common.{◌≡◌, ℕ, Bool, List, [], ◌∷◌, ◌++◌, refl, sym, ap, ◌∙◌, append_assoc, append-nil}
 use Rattle.pb_text.specs.Spelling.{Item}
 use Rattle.pb_text.specs.Whole.{gathered, events_of, IsWhole, StopsAfter, Reading as reading, Keeping as keeping}
 use Rattle.pb_text.specs.declared.Spanned.{Spanned}
 use Rattle.pb_text.specs.declared.Stop.{Stop}
+use Rattle.pb_text.proofs.Unkept.{unkept_viable, unkept_place}
 use Rattle.pb_opb.specs.Building.{with, ended_with, nothing}
 use Rattle.pb_opb.specs.Values.{IsValueOf, last_or, variables_in, tails_in, objectives_in, constraints_in, comments_in, comment_at}
 use Rattle.pb_opb.specs.Whole.{IsRead, StopsIn, Reading, Keeping}
@@ -61,6 +62,7 @@ module _ (format : List (Item OpbEvent) → Type 0) (longest : ℕ) (b : Buildin
     past = w.past_is;
   }
 
-  pub stops_in : (seen : List ℕ) (s : Stop) → StopsAfter format longest one_more b used seen s → StopsIn format longest used seen s
-  stops_in seen s (reading marks r) = Reading marks r
-  stops_in seen s (keeping v e) = Keeping v e
+  pub stops_in : (MayAsk : List ℕ → ℕ → Type 0) (asks : Building → OpbEvent → Bool) (seen : List ℕ) (s : Stop) → StopsAfter format longest one_more b MayAsk asks used seen s → StopsIn format longest used seen s
+  stops_in MayAsk asks seen s (reading marks r asking) = Reading marks r
+  stops_in MayAsk asks seen s (keeping u) =
+      Keeping (unkept_viable format longest one_more b MayAsk asks used s u) (unkept_place format longest one_more b MayAsk asks used s u)

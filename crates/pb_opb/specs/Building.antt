@@ -1,5 +1,5 @@
 -- An instance as its statements come.
-use Rattle.std.specs.Prelude.{ℕ, ◌+◌, [], ◌∷◌, ◌++◌, Some, None}
+use Rattle.std.specs.Prelude.{ℕ, ◌+◌, ◌^◌, Bool, true, false, nat_le, [], ◌∷◌, ◌++◌, Some, None}
 use Rattle.pb_opb.specs.Values.{comment_at}
 use Rattle.pb_opb.specs.declared.event.OpbEvent.{OpbEvent}
 use Rattle.pb_opb.specs.declared.event.OpbEvent.TheVariants.{Header, Comment, Objective, Constraint}
@@ -18,6 +18,13 @@ ended_with n (Header variables constraints tail) = n
 ended_with n (Comment text) = n
 ended_with n (Objective terms) = n + 1
 ended_with n (Constraint linear) = n + 1
+
+-- To keep the statement may ask for memory: more objectives and constraints than 2^64 - 1 are in none.
+abbrev pub asks : ℕ → OpbEvent → Bool
+asks n (Header variables constraints tail) = false
+asks n (Comment text) = true
+asks n (Objective terms) = nat_le (2 ^ 64) (n + 1)
+asks n (Constraint linear) = true
 
 -- before any statement
 abbrev pub nothing : Instance

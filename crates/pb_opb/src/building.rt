@@ -1,6 +1,6 @@
 //! Puts the statements of an instance together.
 
-ghost use Rattle.std.specs.Prelude.{◌≡◌, ◌+◌, OnOk};
+ghost use Rattle.std.specs.Prelude.{◌≡◌, ◌+◌, ◌^◌, ◌≤◌, IfOk, OnErr};
 
 use crate::event::OpbEvent;
 use crate::instance::{Comment, Instance};
@@ -34,28 +34,27 @@ impl Building {
             ended: 0,
         }
     }
+}
 
-    /// One more objective or constraint. More than `2^64 - 1` are in no memory.
-    fn end_one(&mut self) -> Result<(), AllocError>
-        ensures instance { self.new.instance ≡ self.old.instance }
-        ensures ended { OnOk result (self.new.ended ≡ self.old.ended + 1) }
-    {
-        match self.ended.checked_add(1) {
-            Some(ended) => {
-                self.ended = ended;
-                Ok(())
-            }
-            None => Err(AllocError),
-        }
+/// One more objective or constraint. More than `2^64 - 1` are in no memory.
+fn one_more(count: u64) -> Result<u64, AllocError>
+    ensures ok { IfOk result (λ more. more ≡ count + 1) }
+    ensures full { OnErr result (2 ^ 64 ≤ count + 1) }
+{
+    match count.checked_add(1) {
+        Some(more) => Ok(more),
+        None => Err(AllocError),
     }
 }
 
 impl Gather for Building {
-    ghost use Rattle.pb_opb.specs.Building.{with, ended_with};
+    ghost use Rattle.pb_opb.specs.Building.{with, ended_with, asks};
 
     type Event = OpbEvent;
 
     ghost with = { λ b e. record { instance = with b.ended b.instance e; ended = ended_with b.ended e } };
+
+    ghost asks = { λ b e. asks b.ended e };
 
     fn add(&mut self, event: OpbEvent) -> Result<(), AllocError> {
         match event {
@@ -76,14 +75,17 @@ impl Gather for Building {
                 }
             }
             OpbEvent::Objective(terms) => {
+                self.ended = one_more(self.ended)?;
                 self.instance.objective = Some(terms);
-                self.end_one()
+                Ok(())
             }
             OpbEvent::Constraint(linear) => {
+                let ended = one_more(self.ended)?;
                 if self.instance.constraints.push(linear).is_err() {
                     return Err(AllocError);
                 }
-                self.end_one()
+                self.ended = ended;
+                Ok(())
             }
         }
     }

@@ -1,11 +1,12 @@
 -- Statements of a proof that are put together one by one are that proof.
-use Rattle.std.proofs.Common.{◌≡◌, ◌↔◌, ℕ, List, [], ◌∷◌, ◌++◌, refl, sym, ap, ◌∙◌, append_assoc, append-nil, All}
+use Rattle.std.proofs.Common.{◌≡◌, ◌↔◌, ℕ, Bool, List, [], ◌∷◌, ◌++◌, refl, sym, ap, ◌∙◌, append_assoc, append-nil, All}
 use Rattle.std.proofs.lemmas.List.Elements.{All-head, All-tail}
 use Rattle.pb_text.specs.Spelling.{Item}
 use Rattle.pb_text.specs.Whole.{gathered, events_of, IsWhole, StopsAfter, Reading as reading, Keeping as keeping}
 use Rattle.pb_text.specs.declared.Spanned.{Spanned}
 use Rattle.pb_text.specs.declared.Stop.{Stop}
 use Rattle.pb_text.proofs.Formats as formats
+use Rattle.pb_text.proofs.Unkept.{unkept_viable, unkept_place}
 use Rattle.pb_proof.specs.Building.{with, nothing}
 use Rattle.pb_proof.specs.Proofs.{IsStep, statements_of, IsProof, IsProofOf}
 use Rattle.pb_proof.specs.Whole.{IsRead, StopsIn, Reading, Keeping}
@@ -71,6 +72,7 @@ module _ (limit top longest : ℕ) (accepted : List (Item Statement) → Type 0)
     past = w.past_is;
   }
 
-  pub stops_in : (b : Building) (seen : List ℕ) (s : Stop) → StopsAfter accepted longest one_more b used seen s → StopsIn (IsProof limit top) longest used seen s
-  stops_in b seen s (reading marks r) = Reading marks (formats.reads accepted (IsProof limit top) only each longest _ used marks s.place _ _ r)
-  stops_in b seen s (keeping v e) = Keeping (formats.viable accepted (IsProof limit top) only each longest used v) e
+  pub stops_in : (b : Building) (MayAsk : List ℕ → ℕ → Type 0) (asks : Building → Statement → Bool) (seen : List ℕ) (s : Stop) → StopsAfter accepted longest one_more b MayAsk asks used seen s → StopsIn (IsProof limit top) longest used seen s
+  stops_in b MayAsk asks seen s (reading marks r asking) = Reading marks (formats.reads accepted (IsProof limit top) only each longest _ used marks s.place _ _ r)
+  stops_in b MayAsk asks seen s (keeping u) =
+      Keeping (formats.viable accepted (IsProof limit top) only each longest used (unkept_viable accepted longest one_more b MayAsk asks used s u)) (unkept_place accepted longest one_more b MayAsk asks used s u)

@@ -1,5 +1,5 @@
 -- A proof as its statements come.
-use Rattle.std.specs.Prelude.{[], ◌∷◌, ◌++◌, None}
+use Rattle.std.specs.Prelude.{Bool, true, false, [], ◌∷◌, ◌++◌, None}
 use Rattle.pb_proof.specs.declared.conclusion.Conclusion.TheVariants.{NoClaim}
 use Rattle.pb_proof.specs.declared.proof.Proof.{Proof}
 use Rattle.pb_proof.specs.declared.statement.Statement.{Statement}
@@ -13,6 +13,15 @@ with v Output = v
 with v (Conclude conclusion) = record v { conclusion = conclusion }
 with v End = v
 with v step = record v { steps = v.steps ++ step ∷ [] }
+
+-- to keep the statement may ask for memory
+abbrev pub asks : Statement → Bool
+asks Header = false
+asks (F count) = false
+asks Output = false
+asks (Conclude conclusion) = false
+asks End = false
+asks step = true
 
 -- before any statement
 abbrev pub nothing : Proof

@@ -23,5 +23,6 @@ pub mod Steps
 pub mod Told
 pub mod NothingRead
 pub mod Toys
+pub mod Unkept
 pub mod Wholes
 pub mod Writing

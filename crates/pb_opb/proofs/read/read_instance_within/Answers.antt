@@ -14,5 +14,5 @@ returns-in-Ok-clause-reads g c =
 pub returns-in-Err-clause-reads : goal.returns-in-Err-clause-reads
 returns-in-Err-clause-reads g c =
     let r = rw c.new-machine.ensures.begins at c.in-Err.ensures.reads in
-    let stops = stops_in (Accepts opb (begin (largest c.args.limits) (top_of c.args.limits))) c.args.longest c.new.result c.new.ensures.instance c.new.ensures.ended r.0 r.1 c.in-Err.stop r.3 in
+    let stops = stops_in (Accepts opb (begin (largest c.args.limits) (top_of c.args.limits))) c.args.longest c.new.result c.new.ensures.instance c.new.ensures.ended r.0 _ _ r.1 c.in-Err.stop r.3 in
     (r.0, r.1, r.2, stops_exactly (largest c.args.limits) (top_of c.args.limits) c.args.longest r.0 r.1 c.in-Err.stop stops)

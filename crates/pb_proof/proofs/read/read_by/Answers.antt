@@ -11,4 +11,4 @@ returns-in-Ok-clause-reads g c =
 pub returns-in-Err-clause-reads : goal.returns-in-Err-clause-reads
 returns-in-Err-clause-reads g c =
     let r = c.in-Err.ensures.reads in
-    (r.0, r.1, r.2, stops_in (largest c.args.limits) (top_of c.args.limits) c.args.longest (Accepts g.M.Machine.automaton c.args.machine) c.requires.accepts r.0 c.new.result r.1 c.in-Err.stop r.3)
+    (r.0, r.1, r.2, stops_in (largest c.args.limits) (top_of c.args.limits) c.args.longest (Accepts g.M.Machine.automaton c.args.machine) c.requires.accepts r.0 c.new.result _ _ r.1 c.in-Err.stop r.3)
