@@ -24,6 +24,7 @@ module _ {S E : Type 0} (m : Automaton S E) (longest : ℕ) (start : S) where
       alone = λ n h items f e. absurd (omega arith);
       ended = tt;
     };
+    leads = refl;
     is_state = state;
     place_is = refl;
     begun_is = sym out;
@@ -57,6 +58,7 @@ module _ {S E : Type 0} (m : Automaton S E) (longest : ℕ) (start : S) where
     left = left;
     input_is = is;
     follows = s.follows;
+    leads = s.leads;
     is_state = s.is_state;
     place_is = s.place_is;
     begun_is = s.begun_is;

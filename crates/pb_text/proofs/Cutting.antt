@@ -3,7 +3,7 @@ use Rattle.std.proofs.Common.{ℕ, List, [], ◌∷◌, ◌++◌, Result, refl, 
 use Rattle.pb_text.specs.Automaton.{Accepts}
 use Rattle.pb_text.specs.Spelling.{bytes}
 use Rattle.pb_text.specs.Reading.{Reads}
-use Rattle.pb_text.specs.Standing.{IsOpen}
+use Rattle.pb_text.specs.Standing.{IsOpen, IsUnread}
 use Rattle.pb_text.specs.Feeding.{StandsAt, Feeds, input_fed, marks_answered, bytes_fed, marks_fed, is_complete}
 use Rattle.pb_text.specs.declared.place.Spanned.{Spanned}
 use Rattle.pb_text.specs.declared.place.Stop.{Stop}
@@ -28,3 +28,8 @@ module _ {M E : Type 0} {g : Ghosts M E} (longest : ℕ) (start : M) (after : Fe
   any_cutting feeds before s counts h =
       let k = feeds_stand feeds before [] [] s counts h in
       (bytes k.1.letters, stands_reads g.automaton longest start (input_fed feeds) (marks_answered feeds) after.machine after.place after.first after.stop k.1 (is_complete after) refl)
+
+-- no feed tells that a reader failed
+pub none_read : {M E : Type 0} {g : Ghosts M E} (after : Feeder M E g) (feeds : List (List ℕ × Result (Fed E) Stop)) (before : Feeder M E g) → Feeds before feeds after → IsUnread before.stop → IsUnread after.stop
+none_read {M} {E} {g} after [] before e h = subst (λ (f : Feeder M E g). IsUnread f.stop) e h
+none_read after (f ∷ feeds) before h unread = none_read after feeds h.0 h.2 (h.1.2 unread)

@@ -4,7 +4,7 @@ use Rattle.std.proofs.lemmas.List.{append-nil}
 use Rattle.std.proofs.lemmas.Bool.{false≢true}
 use Rattle.pb_text.specs.Spelling.{Letter, bytes, place_after, place_next, place_or}
 use Rattle.pb_text.specs.Reading.{last_numeral, byte_limit, AreShort}
-use Rattle.pb_text.specs.Automaton.{Automaton, Go, End, Refuse, Accepts, Admits, IsState, is_large, begins, begins_with}
+use Rattle.pb_text.specs.Automaton.{Automaton, Go, End, Refuse, Accepts, Admits, Leads, behind, IsState, is_large, begins, begins_with}
 use Rattle.pb_text.specs.Limit.{end_of, SpentSince}
 use Rattle.pb_text.specs.Standing.{EndBy, Follows, Stands, Waits, Halts, opened}
 use Rattle.pb_text.specs.declared.place.Place.{Place}
@@ -25,6 +25,12 @@ last_numeral-snoc (m ∷ n ∷ ls) l = last_numeral-snoc (n ∷ ls) l
 -- the place of the next byte is one of a byte that may be taken
 pub before_end : (longest longest' end offset : ℕ) (first : Option Place) → longest ≡ longest' → end ≡ end_of longest first → offset ≤ end → offset ≢ end → offset < end_of longest' first
 before_end longest longest' end offset first e is le ne = omega (arith, is ∙ ap (λ (l : ℕ). end_of l first) e)
+
+module _ {S E : Type 0} (m : Automaton S E) where
+  -- one byte more
+  leads_more : (start : S) (text : List ℕ) (old : S) (b : ℕ) (new : S) → Leads m start text old → behind m (m.step old b) ≡ Some new → Leads m start (text ++ b ∷ []) new
+  leads_more start [] old b new same taken = (new, subst (λ (x : S). behind m (m.step x b) ≡ Some new) same taken, refl)
+  leads_more start (c ∷ text) old b new (mid, first, rest) taken = (mid, first, leads_more mid text old b new rest taken)
 
 module _ {S E : Type 0} (m : Automaton S E) (longest : ℕ) (start old new : S) (input : List ℕ) (marks : List (Spanned E)) (place : Place) (first : Option Place)
     (s : Stands m longest start input marks old place first None) (unfinished : m.done old ≡ false) (b : ℕ) where
@@ -49,10 +55,10 @@ module _ {S E : Type 0} (m : Automaton S E) (longest : ℕ) (start old new : S) 
   longer = length-append s.letters (letter ∷ [])
 
   -- with one byte taken
-  moved : (more : List (Spanned E)) (first' : Option Place) → Follows (Accepts m start) (Accepts m new) (s.letters ++ letter ∷ []) (marks ++ more) first' → IsState m new → is_some first' ≡ m.begun new
+  moved : behind m (m.step old b) ≡ Some new → (more : List (Spanned E)) (first' : Option Place) → Follows (Accepts m start) (Accepts m new) (s.letters ++ letter ∷ []) (marks ++ more) first' → IsState m new → is_some first' ≡ m.begun new
       → (is_some first' ≡ true → m.done new ≡ false) → length s.letters + 1 ≤ end_of longest first' → AreShort longest (length s.letters + 1) more → SpentSince (length s.letters + 1) first' (m.spent new)
       → Stands m longest start (input ++ b ∷ []) (marks ++ more) new (place_next place b) first' None
-  moved more first' follows state begins owed within short spent =
+  moved taken more first' follows state begins owed within short spent =
       let text : bytes (s.letters ++ letter ∷ []) ≡ bytes s.letters ++ b ∷ [] = bytes-append s.letters (letter ∷ []) in
       let le : length s.letters ≤ length s.letters + 1 = omega arith in
       let all : AreShort longest (length s.letters + 1) (marks ++ more) =
@@ -62,6 +68,7 @@ module _ {S E : Type 0} (m : Automaton S E) (longest : ℕ) (start old new : S) 
         left = [];
         input_is = ap (λ (x : List ℕ). x ++ b ∷ []) input_taken ∙ (sym text ∙ sym (append-nil (bytes (s.letters ++ letter ∷ []))));
         follows = follows;
+        leads = subst (λ (x : List ℕ). Leads m start x new) (sym text) (leads_more m start (bytes s.letters) old b new s.leads taken);
         is_state = state;
         place_is = next_place ∙ ap place_after (sym text);
         begun_is = begins;
@@ -75,6 +82,9 @@ module _ {S E : Type 0} (m : Automaton S E) (longest : ℕ) (start old new : S) 
       }
 
   module _ (goes : m.step old b ≡ Go new) (state : IsState m new) (lt : place.offset < end_of longest first) where
+    taken : behind m (m.step old b) ≡ Some new
+    taken = ap (behind m) goes
+
     owes : m.done new ≡ false
     owes = s.is_state.owes b new goes
 
@@ -94,7 +104,7 @@ module _ {S E : Type 0} (m : Automaton S E) (longest : ℕ) (start old new : S) 
         let follows : Follows (Accepts m start) (Accepts m old) s.letters marks (Some p) = subst (λ (q : Option Place). Follows (Accepts m start) (Accepts m old) s.letters marks q) (sym same) s.follows in
         let spent : SpentSince (length s.letters) (Some p) (m.spent old) = subst (λ (q : Option Place). SpentSince (length s.letters) q (m.spent old)) (sym same) s.spent in
         let less : place.offset < end_of longest (Some p) = subst (λ (q : Option Place). place.offset < end_of longest q) (sym same) lt in
-        moved [] (Some p)
+        moved taken [] (Some p)
         (step (Accepts m start) (Accepts m old) (Accepts m new) (Put true letter) s.letters marks (Some p) letter [] (Some p) follows (takes_within m old new b goes inside owes state) (letter_advances letter (bytes s.letters) (Some p)) (residual m old s.is_state) (residual m new state) tt)
         state (sym inside) (λ e. owes) (omega (arith, less, offset_is)) tt (omega (arith, spent, spends))
 
@@ -106,14 +116,14 @@ module _ {S E : Type 0} (m : Automaton S E) (longest : ℕ) (start old new : S) 
         let follows : Follows (Accepts m start) (Accepts m old) s.letters marks None = subst (λ (q : Option Place). Follows (Accepts m start) (Accepts m old) s.letters marks q) (sym same) s.follows in
         let less : place.offset < byte_limit = subst (λ (q : Option Place). place.offset < end_of longest q) (sym same) lt in
         let k = step (Accepts m start) (Accepts m old) (Accepts m new) (Put true letter) s.letters marks None letter [] (Some (place_after (bytes s.letters))) follows (takes_within m old new b goes inside owes state) (letter_advances letter (bytes s.letters) None) (residual m old s.is_state) (residual m new state) tt in
-        moved [] (Some place) (subst (λ (p : Place). Follows (Accepts m start) (Accepts m new) (s.letters ++ letter ∷ []) (marks ++ []) (Some p)) (sym s.place_is) k)
+        moved taken [] (Some place) (subst (λ (p : Place). Follows (Accepts m start) (Accepts m new) (s.letters ++ letter ∷ []) (marks ++ []) (Some p)) (sym s.place_is) k)
         state (sym inside) (λ e. owes) (omega (arith, less, offset_is, s.some)) tt (omega (arith, offset_is, spends, spent_nothing out))
 
     from_between : None ≡ first → m.begun old ≡ false → m.begun new ≡ false → Stands m longest start (input ++ b ∷ []) (marks ++ []) new (place_next place b) None None
     from_between same before out =
         let follows : Follows (Accepts m start) (Accepts m old) s.letters marks None = subst (λ (q : Option Place). Follows (Accepts m start) (Accepts m old) s.letters marks q) (sym same) s.follows in
         let less : place.offset < byte_limit = subst (λ (q : Option Place). place.offset < end_of longest q) (sym same) lt in
-        moved [] None
+        moved taken [] None
         (step (Accepts m start) (Accepts m old) (Accepts m new) (Put false letter) s.letters marks None letter [] None follows (takes_between m old new b goes out owes state) (gap_advances letter (bytes s.letters) None) (residual m old s.is_state) (residual m new state) tt)
         state (sym out) (λ e. absurd (false≢true e)) (omega (arith, less, offset_is)) tt (state.empties out)
 
@@ -150,7 +160,7 @@ module _ {S E : Type 0} (m : Automaton S E) (longest : ℕ) (start old new : S) 
       let ended : EndBy (length (s.letters ++ letter ∷ [])) (q ∷ []) =
       (omega (arith, place_after-offset (here ++ b ∷ []), length-append here (b ∷ []), length-bytes s.letters, longer), tt) in
       let k = step (Accepts m start) (Accepts m old) (Accepts m new) (PutLast letter e) s.letters marks first letter (q ∷ []) None s.follows (takes_last m old new b e ends out state) (last_advances letter e here first) (residual m old s.is_state) (residual m new state) ended in
-      moved (n ∷ []) None (subst (λ (r : Spanned E). Follows (Accepts m start) (Accepts m new) (s.letters ++ letter ∷ []) (marks ++ r ∷ []) None) same k)
+      moved (ap (behind m) ends) (n ∷ []) None (subst (λ (r : Spanned E). Follows (Accepts m start) (Accepts m new) (s.letters ++ letter ∷ []) (marks ++ r ∷ []) None) same k)
       state (sym out) (λ h. absurd (false≢true h)) (omega (arith, end_limit longest first, lt, offset_is)) (mark_fits first e (place_next place b) past_offset lt) (state.empties out)
 
   -- a stop at the byte, the machine being where it was
@@ -162,6 +172,7 @@ module _ {S E : Type 0} (m : Automaton S E) (longest : ℕ) (start old new : S) 
         left = b ∷ [];
         input_is = ap (λ (x : List ℕ). x ++ b ∷ []) input_taken;
         follows = subst (λ (x : List (Spanned E)). Follows (Accepts m start) (Accepts m old) s.letters x first) (sym (append-nil marks)) s.follows;
+        leads = s.leads;
         is_state = s.is_state;
         place_is = s.place_is;
         begun_is = s.begun_is;

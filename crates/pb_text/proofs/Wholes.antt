@@ -1,23 +1,23 @@
 -- Pulls in a row are a whole read.
-use Rattle.std.proofs.Common.{◌≡◌, ℕ, List, [], ◌∷◌, ◌++◌, length, map, take, true, false, Option, Some, None, Result, Ok, Err, refl, sym, ap, ap₂, ◌∙◌, subst, subst₂, append-nil, append_assoc, arith, length-append}
+use Rattle.std.proofs.Common.{◌≡◌, ℕ, List, [], ◌∷◌, ◌++◌, length, map, take, Bool, true, false, IsTrue, Option, Some, None, Result, Ok, Err, refl, sym, ap, ap₂, ◌∙◌, subst, subst₂, append-nil, append_assoc, arith, length-append}
 use Rattle.std.proofs.Math.Seq.{take-append_seam}
-use Rattle.pb_text.specs.Automaton.{Automaton, Accepts}
+use Rattle.std.proofs.lemmas.List.{append_cancel_left}
+use Rattle.pb_text.specs.Automaton.{Automaton, Accepts, Leads, MayAsk}
 use Rattle.pb_text.specs.Spelling.{Letter, Item, bytes, marks_since, place_after}
-use Rattle.pb_text.specs.Reading.{Reads, IsSpelled, Viable}
+use Rattle.pb_text.specs.Reading.{Reads, IsSpelled}
 use Rattle.pb_text.specs.Limit.{end_of}
-use Rattle.pb_text.specs.Standing.{Stands, Waits}
+use Rattle.pb_text.specs.Standing.{Stands, Waits, Halts}
 use Rattle.pb_text.specs.Feeding.{StandsAt, is_complete}
 use Rattle.pb_text.specs.Pulling.{Pulls, Took}
-use Rattle.pb_text.specs.Whole.{gathered, events_of, Reading, Keeping, ReadsWhole}
+use Rattle.pb_text.specs.Whole.{gathered, events_of, IsAsking, Reading, Keeping, ReadsWhole}
 use Rattle.pb_text.specs.declared.place.Place.{Place}
 use Rattle.pb_text.specs.declared.place.Spanned.{Spanned}
 use Rattle.pb_text.specs.declared.place.Stop.{Stop}
-use Rattle.pb_text.specs.declared.place.Why.TheVariants.{Memory}
+use Rattle.pb_text.specs.declared.place.Why.{Why}
+use Rattle.pb_text.specs.declared.place.Why.TheVariants.{Byte, TooLarge, Ended, TooLong, Read, Memory}
 use Rattle.pb_text.specs.declared.feeder.Feeder.{Feeder}
 use Rattle.pb_text.specs.declared.machine.Machine.{Ghosts}
 use Rattle.pb_text.specs.Source.{Lost}
-use Rattle.pb_text.proofs.Residual.{residual}
-use Rattle.pb_text.proofs.Answer.{is_viable}
 use Rattle.pb_text.proofs.Short.{place_after-offset}
 use Rattle.pb_text.proofs.Told.{stands_reads}
 
@@ -38,9 +38,11 @@ lost_all None after taken seen t = tt
 lost_all (Some bytes) after taken seen t = (seen, t.0, t.1)
 
 -- a machine that stopped is not done
-pub halted : {S E : Type 0} (m : Automaton S E) (state : S) (end : ℕ) (letters : List Letter) (left : List ℕ) (place : Place) (stop : Option Stop) (halt : Stop) → stop ≡ Some halt → Waits m state end letters left place stop → (m.done state ≡ false) × (halt.place ≡ place)
+pub halted : {S E : Type 0} (m : Automaton S E) (state : S) (end : ℕ) (letters : List Letter) (left : List ℕ) (place : Place) (stop : Option Stop) (halt : Stop) → stop ≡ Some halt → Waits m state end letters left place stop → (m.done state ≡ false) × (halt.place ≡ place) × Halts m state end letters left halt.why
 halted m state end letters left place None halt e w = cc
-halted m state end letters left place (Some s) halt e w = (w.0, ap (λ (x : Stop). x.place) (sym (let k : s ≡ halt = cc in k)) ∙ w.1)
+halted m state end letters left place (Some s) halt e w =
+    let same : s ≡ halt = cc in
+    (w.0, ap (λ (x : Stop). x.place) (sym same) ∙ w.1, subst (λ (x : Stop). Halts m state end letters left x.why) same w.2)
 
 -- the events of marks
 marks_events : {E : Type 0} (first : Option Place) (before : List ℕ) (items : List (Item E)) → map (λ m. m.event) (marks_since first before items) ≡ events_of items
@@ -59,9 +61,9 @@ module _ {M E : Type 0} {g : Ghosts M E} (longest : ℕ) (start : M) (marks : Li
         same_front (bytes s.letters) (taken ++ p.taken) s.left left (sym s.input_is ∙ e)
         (sym (place_after-offset (bytes s.letters)) ∙ (sym (ap (λ (q : Place). q.offset) s.place_is) ∙ omega (arith, p.offset_is, length-append taken p.taken)))
 
-  module _ {V : Type 0} (with : V → E → V) (empty value : V) (value_is : value ≡ gathered with empty (map (λ m. m.event) marks)) where
+  module _ {V : Type 0} (with : V → E → V) (asks : V → E → Bool) (empty value : V) (value_is : value ≡ gathered with empty (map (λ m. m.event) marks)) where
     pub whole_done : (p : Pulls longest start taken marks old now (Ok None) new after) → new.stop ≡ None → is_complete new ≡ true
-        → ReadsWhole (Accepts g.automaton start) longest with empty before (Ok (record { event = value; first = record { line = 1; column = 1; offset = 0 }; past = new.place })) after
+        → ReadsWhole (Accepts g.automaton start) longest with empty (MayAsk g.automaton start) asks before (Ok (record { event = value; first = record { line = 1; column = 1; offset = 0 }; past = new.place })) after
     unfolding place_after
     whole_done p running done =
         let s : Stands g.automaton longest start (taken ++ (p.taken ++ p.seen)) marks new.machine new.place new.first new.stop = rw append-nil at p.stands.1 in
@@ -81,9 +83,19 @@ module _ {M E : Type 0} {g : Ghosts M E} (longest : ℕ) (start : M) (marks : Li
           },
         )
 
-  pub whole_stopped : {V : Type 0} (with : V → E → V) (empty : V) (stop : Stop) (p : Pulls longest start taken marks old now (Err stop) new after) → new.stop ≡ Some stop
-      → ReadsWhole (Accepts g.automaton start) longest with empty before (Err stop) after
-  whole_stopped with empty stop p halts =
+  -- a machine that stopped for want of memory was asking
+  asking : (may_ask : List ℕ → ℕ → Type 0) (state : M) (end : ℕ) (letters : List Letter) (used seen left : List ℕ) (why : Why) → left ≡ seen → ((b : ℕ) → IsTrue (g.automaton.asks state b) → may_ask used b)
+      → Halts g.automaton state end letters left why → {V : Type 0} (with : V → E → V) (empty : V) → IsAsking (Accepts g.automaton start) longest with empty may_ask used seen why
+  asking may_ask state end letters used seen left (Byte b) e may h with empty = tt
+  asking may_ask state end letters used seen left TooLarge e may h with empty = tt
+  asking may_ask state end letters used seen left Ended e may h with empty = tt
+  asking may_ask state end letters used seen left TooLong e may h with empty = tt
+  asking may_ask state end letters used seen left Read e may h with empty = tt
+  asking may_ask state end letters used seen left Memory e may h with empty = (h.0, h.1, sym e ∙ h.2, may h.0 h.4)
+
+  pub whole_stopped : {V : Type 0} (with : V → E → V) (empty : V) (asks : V → E → Bool) (stop : Stop) (p : Pulls longest start taken marks old now (Err stop) new after) → new.stop ≡ Some stop
+      → ReadsWhole (Accepts g.automaton start) longest with empty (MayAsk g.automaton start) asks before (Err stop) after
+  whole_stopped with empty asks stop p halts =
       let s : Stands g.automaton longest start (taken ++ (p.taken ++ p.seen)) marks new.machine new.place new.first new.stop = rw append-nil at p.stands.1 in
       let used : bytes s.letters ≡ taken ++ p.taken = letters_are (Err stop) p (taken ++ (p.taken ++ p.seen)) s p.seen (sym (append_assoc taken p.taken p.seen)) in
       let w = halted g.automaton new.machine (end_of longest new.first) s.letters s.left new.place new.stop stop halts s.waits in
@@ -91,7 +103,11 @@ module _ {M E : Type 0} {g : Ghosts M E} (longest : ℕ) (start : M) (marks : Li
       let r' : Reads (Accepts g.automaton start) longest ((taken ++ p.taken) ++ p.seen) (taken ++ p.taken) marks stop.place false (Some stop) =
       subst₂ (λ (x y : List ℕ). Reads (Accepts g.automaton start) longest x y marks stop.place false (Some stop)) (sym (append_assoc taken p.taken p.seen)) used
       (subst₂ (λ (q : Place) (o : Option Stop). Reads (Accepts g.automaton start) longest (taken ++ (p.taken ++ p.seen)) (bytes s.letters) marks q false o) (sym w.1) halts r) in
-      (taken ++ p.taken, p.seen, took_all before now after taken p.taken p.seen lost p.took, Reading marks r')
+      let left : s.left ≡ p.seen = append_cancel_left (taken ++ p.taken) s.left p.seen (ap (λ (x : List ℕ). x ++ s.left) (sym used) ∙ (sym s.input_is ∙ sym (append_assoc taken p.taken p.seen))) in
+      let may : (b : ℕ) → IsTrue (g.automaton.asks new.machine b) → MayAsk g.automaton start (taken ++ p.taken) b =
+      (λ b h. (new.machine, subst (λ (x : List ℕ). Leads g.automaton start x new.machine) used s.leads, h)) in
+      let a = asking (MayAsk g.automaton start) new.machine (end_of longest new.first) s.letters (taken ++ p.taken) p.seen s.left stop.why left may w.2 with empty in
+      (taken ++ p.taken, p.seen, took_all before now after taken p.taken p.seen lost p.took, Reading marks r' a)
 
   -- after an event
   pub whole_event : (m : Spanned E) (p : Pulls longest start taken marks old now (Ok (Some m)) new after)
@@ -99,15 +115,26 @@ module _ {M E : Type 0} {g : Ghosts M E} (longest : ℕ) (start : M) (marks : Li
   whole_event m p = (lost_all before after (taken ++ p.taken) p.seen (took_all before now after taken p.taken p.seen lost p.took), omega (arith, p.offset_is, length-append taken p.taken), p.stands)
 
   -- where an event could not be kept
-  pub whole_unkept : {V : Type 0} (with : V → E → V) (empty : V) (m : Spanned E) (p : Pulls longest start taken marks old now (Ok (Some m)) new after)
-      → ReadsWhole (Accepts g.automaton start) longest with empty before (Err (record { place = new.place; why = Memory })) after
-  whole_unkept with empty m p =
+  pub whole_unkept : {V : Type 0} (with : V → E → V) (empty : V) (asks : V → E → Bool) (m : Spanned E) (p : Pulls longest start taken marks old now (Ok (Some m)) new after) → new.stop ≡ None → m.past ≡ new.place
+      → IsTrue (asks (gathered with empty (map (λ n. n.event) marks)) m.event)
+      → ReadsWhole (Accepts g.automaton start) longest with empty (MayAsk g.automaton start) asks before (Err (record { place = new.place; why = Memory })) after
+  whole_unkept with empty asks m p running past h =
       let s = p.stands.1 in
       let used : bytes s.letters ≡ taken ++ p.taken = same_front (bytes s.letters) (taken ++ p.taken) s.left [] (sym s.input_is ∙ sym (append-nil (taken ++ p.taken)))
       (sym (place_after-offset (bytes s.letters)) ∙ (sym (ap (λ (q : Place). q.offset) s.place_is) ∙ omega (arith, p.offset_is, length-append taken p.taken))) in
-      let viable = is_viable (Accepts g.automaton start) (Accepts g.automaton new.machine) s.letters (marks ++ m ∷ []) new.first s.follows (residual g.automaton new.machine s.is_state) in (
+      let r = stands_reads g.automaton longest start (taken ++ p.taken) (marks ++ m ∷ []) new.machine new.place new.first new.stop s (is_complete new) refl in
+      let r' : Reads (Accepts g.automaton start) longest (taken ++ p.taken) (taken ++ p.taken) (marks ++ m ∷ []) m.past (is_complete new) None =
+      subst₂ (λ (q : Place) (o : Option Stop). Reads (Accepts g.automaton start) longest (taken ++ p.taken) (taken ++ p.taken) (marks ++ m ∷ []) q (is_complete new) o) (sym past) running
+      (subst (λ (x : List ℕ). Reads (Accepts g.automaton start) longest (taken ++ p.taken) x (marks ++ m ∷ []) new.place (is_complete new) new.stop) used r) in (
         taken ++ p.taken,
         p.seen,
         took_all before now after taken p.taken p.seen lost p.took,
-        Keeping (subst (λ (x : List ℕ). Viable (Accepts g.automaton start) x) used viable) (ap (λ (q : Place). let t : Stop = record { place = q; why = Memory } in t) (s.place_is ∙ ap place_after used)),
+        Keeping (record {
+          marks = marks;
+          last = m;
+          done = is_complete new;
+          reads = r';
+          asking = h;
+          stop_is = ap (λ (q : Place). let t : Stop = record { place = q; why = Memory } in t) (sym past);
+        }),
       )

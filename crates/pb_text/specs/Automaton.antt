@@ -1,5 +1,5 @@
 -- What a machine is: a step from state to state for each byte, and what a state accepts.
-use Rattle.std.specs.Prelude.{◌≡◌, ℕ, ◌+◌, ◌≤◌, List, [], ◌∷◌, Bool, true, false, ◌&&◌, IsTrue}
+use Rattle.std.specs.Prelude.{◌≡◌, ℕ, ◌+◌, ◌≤◌, List, [], ◌∷◌, Bool, true, false, ◌&&◌, IsTrue, Option, None, Some}
 use Rattle.pb_text.specs.Classes.{is_digit}
 use Rattle.pb_text.specs.Spelling.{Letter, Item, bytes_of}
 use Rattle.pb_text.specs.declared.machine.Push.{Push}
@@ -87,6 +87,21 @@ module _ {S E : Type 0} (m : Automaton S E) where
   abbrev pub Runs : S → List ℕ → S → Type 0
   Runs old [] new = new ≡ old
   Runs old (b ∷ text) new = (mid : S) × (m.step old b ≡ Go mid) × IsState mid × Runs mid text new
+
+  -- The state behind a byte that is taken.
+  abbrev pub behind : Next S E → Option S
+  behind (Go s) = Some s
+  behind (End e s) = Some s
+  behind Refuse = None
+
+  -- Bytes lead from old to new: each is taken.
+  abbrev pub Leads : S → List ℕ → S → Type 0
+  Leads old [] new = new ≡ old
+  Leads old (b ∷ text) new = (mid : S) × (behind (m.step old b) ≡ Some mid) × Leads mid text new
+
+  -- Behind these bytes the next one may ask for memory.
+  abbrev pub MayAsk : S → List ℕ → ℕ → Type 0
+  MayAsk start used b = (state : S) × Leads start used state × IsTrue (m.asks state b)
 
   abbrev pub begins_with : Bool → Next S E → Bool
   begins_with true next = false

@@ -3,7 +3,7 @@ use Rattle.std.specs.Prelude.{◌≡◌, ℕ, ◌≤◌, List, [], ◌∷◌, �
 use Rattle.pb_text.specs.Spelling.{place_after}
 use Rattle.pb_text.specs.Automaton.{Accepts}
 use Rattle.pb_text.specs.Reading.{IsFront, HasOpen}
-use Rattle.pb_text.specs.Standing.{Stands, IsOpen}
+use Rattle.pb_text.specs.Standing.{Stands, IsOpen, IsUnread}
 use Rattle.pb_text.specs.declared.place.Place.{Place}
 use Rattle.pb_text.specs.declared.place.Spanned.{Spanned}
 use Rattle.pb_text.specs.declared.place.Stop.{Stop}
@@ -69,6 +69,7 @@ FeedsOnce {M} {E} {g} old piece result new =
     → StandsAt longest start input marks old
     → StandsAt longest start (input ++ bytes_fed result piece) (marks ++ marks_fed result) new)
     × (IsOpen old.stop → IsOpen new.stop)
+    × (IsUnread old.stop → IsUnread new.stop)
 
 -- feeds in a row, each a piece with what it answered
 abbrev pub Feeds : {M E : Type 0} {g : Ghosts M E} → Feeder M E g → List (List ℕ × Result (Fed E) Stop) → Feeder M E g → Type 0

@@ -1,5 +1,5 @@
 -- What a source or sink over a reader or a writer keeps.
-use Rattle.std.specs.Prelude.{ℕ}
+use Rattle.std.specs.Prelude.{ℕ, Option}
 use Rattle.pb_text.specs.declared.over.Over.{Over}
 
 abbrev pub inner_of : {T : Type 0} → Over T → T
@@ -8,3 +8,7 @@ inner_of o = o.inner
 -- how often it has failed
 abbrev pub failures_of : {T : Type 0} → Over T → ℕ
 failures_of o = o.failures
+
+-- the byte that was shown and not taken
+abbrev pub shown_of : {T : Type 0} → Over T → Option ℕ
+shown_of o = o.shown

@@ -2,7 +2,7 @@
 use Rattle.std.specs.Prelude.{◌≡◌, ◌≢◌, ◌⊎◌, ℕ, ◌≤◌, ◌<◌, List, [], ◌∷◌, ◌++◌, length, take, Bool, true, false, IsTrue, Option, None, Some, is_some}
 use Rattle.pb_text.specs.Spelling.{Letter, Item, bytes, letters_of, bytes_of, marks_since, marks_of, place_after}
 use Rattle.pb_text.specs.Reading.{IsFront, last_numeral, AreShort}
-use Rattle.pb_text.specs.Automaton.{Automaton, Refuse, Accepts, Admits, IsState, is_large}
+use Rattle.pb_text.specs.Automaton.{Automaton, Refuse, Accepts, Admits, Leads, IsState, is_large}
 use Rattle.pb_text.specs.Limit.{end_of, SpentSince}
 use Rattle.pb_text.specs.declared.place.Place.{Place}
 use Rattle.pb_text.specs.declared.place.Spanned.{Spanned}
@@ -51,6 +51,7 @@ module _ {S E : Type 0} (m : Automaton S E) where
     pub left : List ℕ
     pub input_is : input ≡ bytes letters ++ left
     pub follows : Follows (Accepts m start) (Accepts m state) letters marks first
+    pub leads : Leads m start (bytes letters) state
     pub is_state : IsState m state
     pub place_is : place ≡ place_after (bytes letters)
     pub begun_is : is_some first ≡ m.begun state
@@ -80,3 +81,8 @@ Counts Memory = Unit {0}
 abbrev pub IsOpen : Option Stop → Type 0
 IsOpen None = Unit {0}
 IsOpen (Some s) = Counts s.why
+
+-- No reader has failed.
+abbrev pub IsUnread : Option Stop → Type 0
+IsUnread None = Unit {0}
+IsUnread (Some s) = s.why ≢ Read

@@ -110,6 +110,7 @@ impl<M: Machine> Feeder<M> {
             → StandsAt longest start input marks self.old
             → (used : List ℕ) × EndsAs (Accepts M.automaton start) longest input used marks (place_of self.new) result }
         ensures again { (stop : Stop) → halt_of self.old ≡ Some stop → (result ≡ Err stop) × (self.new ≡ self.old) }
+        ensures ok { OnOk result (self.new ≡ self.old) }
         ensures stop { halt_of self.new ≡ stop_of result }
         ensures place { place_of self.new ≡ place_of self.old }
         ensures state { state_of self.new ≡ state_of self.old }
@@ -134,6 +135,11 @@ impl<M: Machine> Feeder<M> {
         ensures again { (stop : Stop) → halt_of self.old ≡ Some stop → (result ≡ Err stop) × (self.new ≡ self.old) }
         ensures done { is_complete self.old ≡ true → halt_of self.old ≡ None
             → (result ≡ Ok (record { used = 0; event = None })) × (self.new ≡ self.old) }
+        // With an event it takes the bytes through that event's last, and one at least.
+        ensures some { (fed : Fed M.Event) (event : Spanned M.Event) → result ≡ Ok fed → fed.event ≡ Some event → 0 < fed.used }
+        ensures past { (fed : Fed M.Event) (event : Spanned M.Event) → result ≡ Ok fed → fed.event ≡ Some event → event.past ≡ place_of self.new }
+        // There is no reader that could fail.
+        ensures unread { halt_of self.old ≡ None → IfErr result (λ stop. stop.why ≢ Why.Read) }
         // Memory is wanted only at a byte that may ask for it.
         ensures memory { halt_of self.old ≡ None → IfErr result (λ stop. (b : ℕ)
             × (slice_get piece.now ((place_of self.new).offset - (place_of self.old).offset) ≡ Some b) × WantsMemory stop self.new b) }

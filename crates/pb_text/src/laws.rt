@@ -3,7 +3,7 @@
 ghost use Rattle.std.specs.Prelude.{◌≡◌, ℕ, List, [], Bool, Result};
 ghost use Rattle.pb_text.specs.Automaton.{Accepts};
 ghost use Rattle.pb_text.specs.Reading.{Reads};
-ghost use Rattle.pb_text.specs.Standing.{IsOpen};
+ghost use Rattle.pb_text.specs.Standing.{IsOpen, IsUnread};
 ghost use Rattle.pb_text.specs.Feeding.{StandsAt, Feeds, input_fed, marks_answered, place_of, halt_of, is_complete};
 ghost use Rattle.pb_text.specs.declared.feeder.Fed.{Fed};
 ghost use Rattle.pb_text.specs.declared.feeder.Feeder.{Feeder};
@@ -14,10 +14,15 @@ use crate::machine::Machine;
 /// However the input is cut: after any feeds in a row of a feeder that was new, what was answered is a read of all
 /// bytes fed.
 pub fn any_cutting<M: Machine>()
-    ensures { (longest : ℕ) (start : M) (before after : Feeder M M.Event M.Machine) (feeds : List (List ℕ × Result (Fed M.Event) Stop))
+    ensures reads { (longest : ℕ) (start : M) (before after : Feeder M M.Event M.Machine) (feeds : List (List ℕ × Result (Fed M.Event) Stop))
         → StandsAt longest start [] [] before
         → IsOpen (halt_of before)
         → Feeds before feeds after
         → (used : List ℕ) × Reads (Accepts M.automaton start) longest (input_fed feeds) used (marks_answered feeds)
         (place_of after) (is_complete after) (halt_of after) }
+    // There is no reader that could fail.
+    ensures unread { (before after : Feeder M M.Event M.Machine) (feeds : List (List ℕ × Result (Fed M.Event) Stop))
+        → IsUnread (halt_of before)
+        → Feeds before feeds after
+        → IsUnread (halt_of after) }
 {}

@@ -22,11 +22,12 @@ pub struct Over<T> {
 }
 
 impl<T> Over<T> {
-    ghost use Rattle.pb_text.specs.Kept.{inner_of, failures_of};
+    ghost use Rattle.pb_text.specs.Kept.{inner_of, failures_of, shown_of};
 
     pub fn new(inner: T) -> Self
         ensures inner { inner_of result ≡ inner }
         ensures failures { failures_of result ≡ 0 }
+        ensures shown { shown_of result ≡ None }
     {
         Over {
             inner,

@@ -1,7 +1,7 @@
 //! Reads one whole spelling.
 
-ghost use Rattle.std.specs.Prelude.{false, ◌≡◌, ◌<◌, None, IfOk, OnOk};
-ghost use Rattle.pb_text.specs.Automaton.{Accepts};
+ghost use Rattle.std.specs.Prelude.{Bool, true, false, ◌≡◌, ◌<◌, None, IfOk, OnOk, OnErr, IsTrue};
+ghost use Rattle.pb_text.specs.Automaton.{Accepts, MayAsk};
 ghost use Rattle.pb_text.specs.Blank.{IsInReach};
 ghost use Rattle.pb_text.specs.Pulling.{faults_after};
 ghost use Rattle.pb_text.specs.Whole.{ReadsWhole};
@@ -20,16 +20,21 @@ pub trait Gather {
     /// The value with an event more.
     ghost with: { Self → Self.Event → Self };
 
-    /// Adds an event.
+    /// Whether to keep the event may ask for memory.
+    ghost asks: { Self → Self.Event → Bool } = { λ value event. true };
+
+    /// Adds an event. Where memory ran out the value is unchanged.
     fn add(&mut self, event: Self::Event) -> Result<(), AllocError>
-        ensures { OnOk result (self.new ≡ with self.old event) };
+        ensures ok { OnOk result (self.new ≡ with self.old event) }
+        ensures unchanged { OnErr result (self.new ≡ self.old) }
+        ensures asking { OnErr result (IsTrue (asks self.old event)) };
 }
 
 /// Reads one spelling of a machine's texts and puts its events together, beginning with `empty`. It takes the
 /// bytes of that spelling alone.
 ///
-/// A stop is that of the machine's feeder; `Memory` also comes where an event could not be kept, and stands
-/// behind it.
+/// A stop is that of the machine's feeder, where `Memory` comes only at a byte that may ask for it; `Memory` also
+/// comes where an event could not be kept, and then stands behind it.
 pub fn read_whole<S: Source, M: Machine + Drop, G: Gather<Event = M::Event> + Drop>(
     source: &mut S,
     machine: M,
@@ -38,7 +43,7 @@ pub fn read_whole<S: Source, M: Machine + Drop, G: Gather<Event = M::Event> + Dr
 ) -> Result<Spanned<G>, Stop>
     requires between { M.automaton.begun machine ≡ false }
     requires some { 0 < longest }
-    ensures reads { ReadsWhole (Accepts M.automaton machine) longest G.with empty (S.left source.old) result (S.left source.new) }
+    ensures reads { ReadsWhole (Accepts M.automaton machine) longest G.with empty (MayAsk M.automaton machine) G.asks (S.left source.old) result (S.left source.new) }
     ensures past { IfOk result (λ m. IsInReach m.past) }
     // `Read` comes only where the source failed.
     ensures faults { S.faults source.new ≡ faults_after None result (S.faults source.old) }

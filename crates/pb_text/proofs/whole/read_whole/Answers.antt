@@ -1,4 +1,4 @@
-use Rattle.std.proofs.Common.{◌≡◌, ◌+◌, ◌-◌, ◌≤◌, ◌<◌, ◌^◌, ℕ, [], ◌∷◌, ◌++◌, ap, ◌∙◌, refl, Option, arith}
+use Rattle.std.proofs.Common.{◌≡◌, ◌+◌, ◌-◌, ◌≤◌, ◌<◌, ◌^◌, ℕ, [], ◌∷◌, ◌++◌, ap, ◌∙◌, refl, subst, IsTrue, Option, arith}
 use Rattle.pb_text.specs.Limit.{end_of}
 use Rattle.pb_text.proofs.Short.{end_limit}
 use Rattle.pb_text.specs.declared.place.Place.{Place}
@@ -18,7 +18,8 @@ returns-in-Err-add-clause-reads g c =
     let i = c.loop-spanned.invariant.stands in
     let t = rw (c.in-Ok-Some.is, c.in-Ok-Some.field-0-is) at c.pull.ensures in
     let p = t.pulls c.args.longest c.args.machine i.0 i.1 (rw c.loop-spanned.invariant.running tt) i.5 in
-    rw c.place.ensures.place (whole_unkept {g = g.M.Machine} c.args.longest c.args.machine i.1 c.loop-spanned.feeder c.pull.new.feeder (g.S.Source.left c.args.source.now) (g.S.Source.left c.loop-spanned.source) (g.S.Source.left c.pull.new.source) i.0 i.2 i.3 g.G.Gather.with c.args.empty c.in-Ok-Some.spanned p)
+    rw c.place.ensures.place (whole_unkept {g = g.M.Machine} c.args.longest c.args.machine i.1 c.loop-spanned.feeder c.pull.new.feeder (g.S.Source.left c.args.source.now) (g.S.Source.left c.loop-spanned.source) (g.S.Source.left c.pull.new.source) i.0 i.2 i.3 g.G.Gather.with c.args.empty g.G.Gather.asks c.in-Ok-Some.spanned p
+    t.stop (t.past c.in-Ok-Some.spanned refl) (subst (λ (v : _). IsTrue (g.G.Gather.asks v c.in-Ok-Some.spanned.event)) i.4 c.in-Err-add.ensures.asking))
 
 less : (a b end longest : ℕ) (q : Option Place) → a < b → b ≤ end → end ≡ end_of longest q → 2 ^ 40 + 1 - b < 2 ^ 40 + 1 - a
 less a b end longest q h k e = omega (arith, end_limit longest q)
@@ -38,7 +39,7 @@ loop-spanned-preserved g c =
     record {
       running = t.stop;
       faults = rw c.loop-spanned.invariant.running at t.faults ∙ c.loop-spanned.invariant.faults;
-      stands = (i.0 ++ p.taken, i.1 ++ c.in-Ok-Some.spanned ∷ [], e.0, e.1, gathered_more g.G.Gather.with c.args.empty c.loop-spanned.value c.add.new.self i.1 c.in-Ok-Some.spanned i.4 c.in_default.ensures, e.2);
+      stands = (i.0 ++ p.taken, i.1 ++ c.in-Ok-Some.spanned ∷ [], e.0, e.1, gathered_more g.G.Gather.with c.args.empty c.loop-spanned.value c.add.new.self i.1 c.in-Ok-Some.spanned i.4 c.in_default.ensures.ok, e.2);
     }
 
 pub returns-in-Ok-None-clause-reads : goal.returns-in-Ok-None-clause-reads
@@ -47,11 +48,11 @@ returns-in-Ok-None-clause-reads g c =
     let t = rw (c.in-Ok-None.is, c.in-Ok-None.field-0-is) at c.pull.ensures in
     let p = t.pulls c.args.longest c.args.machine i.0 i.1 (rw c.loop-spanned.invariant.running tt) i.5 in
     rw c.place-in-Ok-None.ensures.place (whole_done {g = g.M.Machine} c.args.longest c.args.machine i.1 c.loop-spanned.feeder c.pull.new.feeder (g.S.Source.left c.args.source.now) (g.S.Source.left c.loop-spanned.source) (g.S.Source.left c.pull.new.source) i.0 i.2 i.3
-    g.G.Gather.with c.args.empty c.loop-spanned.value i.4 p t.stop (t.last refl))
+    g.G.Gather.with g.G.Gather.asks c.args.empty c.loop-spanned.value i.4 p t.stop (t.last refl))
 
 pub returns-in-Err-clause-reads : goal.returns-in-Err-clause-reads
 returns-in-Err-clause-reads g c =
     let i = c.loop-spanned.invariant.stands in
     let t = rw c.in-Err.is at c.pull.ensures in
     let p = t.pulls c.args.longest c.args.machine i.0 i.1 (rw c.loop-spanned.invariant.running tt) i.5 in
-    whole_stopped {g = g.M.Machine} c.args.longest c.args.machine i.1 c.loop-spanned.feeder c.pull.new.feeder (g.S.Source.left c.args.source.now) (g.S.Source.left c.loop-spanned.source) (g.S.Source.left c.pull.new.source) i.0 i.2 i.3 g.G.Gather.with c.args.empty c.in-Err.stop p t.stop
+    whole_stopped {g = g.M.Machine} c.args.longest c.args.machine i.1 c.loop-spanned.feeder c.pull.new.feeder (g.S.Source.left c.args.source.now) (g.S.Source.left c.loop-spanned.source) (g.S.Source.left c.pull.new.source) i.0 i.2 i.3 g.G.Gather.with c.args.empty g.G.Gather.asks c.in-Err.stop p t.stop

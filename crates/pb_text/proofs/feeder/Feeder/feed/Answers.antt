@@ -29,6 +29,7 @@ returns-in-Some-clause-feeds g c = (
       let k = stands_more g.M.Machine.automaton longest start f.machine input marks f.place f.first c.args.piece.now f.stop counts (λ e. cc) s.1 in
       (s.0, rw append-nil k),
   λ k. k,
+  λ k. k,
 )
 
 pub returns-in-Err-clause-feeds : goal.returns-in-Err-clause-feeds
@@ -43,6 +44,7 @@ returns-in-Err-clause-feeds g c = (
             (whole input c.args.piece.now c.loop-used.used c.loop-used-test.true) m,
       ),
   λ k. c.take.ensures.counted,
+  λ k. let t = rw c.in-Err.is at c.take.ensures in rw t.stop t.unread,
 )
 
 pub returns-in-Err-clause-memory : goal.returns-in-Err-clause-memory
@@ -64,6 +66,7 @@ returns-in-Ok-Some-clause-feeds g c = (
       subst (λ (x : List ℕ). StandsAt longest start x (marks ++ c.in-Ok-Some.event ∷ []) n)
       (one_more input c.args.piece.now c.loop-used.used c.loop-used-test.true) k,
   λ k. c.take.ensures.counted,
+  λ k. let t = rw (c.in-Ok-Some.is, c.in-Ok-Some.field-0-is) at c.take.ensures in rw t.stop tt,
 )
 
 pub loop-used-preserved : goal.loop-used-preserved
@@ -96,5 +99,6 @@ returns-clause-feeds g c = (
       let k = c.loop-used.invariant.stands longest start input marks s in
       let whole : take c.loop-used.used c.args.piece.now ≡ c.args.piece.now = all_of c.args.piece.now c.loop-used.used (omega (arith, c.loop-used.invariant.bound, c.loop-used-test.false)) in
       rw append-nil (subst (λ (x : List ℕ). StandsAt longest start (input ++ x) marks c.loop-used.self) whole k),
+  λ k. rw c.loop-used.invariant.running tt,
   λ k. rw c.loop-used.invariant.running tt,
 )
