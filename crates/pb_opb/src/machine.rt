@@ -219,16 +219,6 @@ impl Machine for OpbMachine {
 
     ghost automaton = { opb };
 
-    #[inline(always)]
-    fn goes(&mut self, byte: u8) -> bool {
-        let went = match self.phase {
-            Phase::Constraint | Phase::Objective => self.inner.goes(byte),
-            _ => false,
-        };
-        let _ = self.is_done();
-        went
-    }
-
     fn run(&mut self, piece: &[u8]) -> usize {
         let taken = match self.phase {
             Phase::Constraint | Phase::Objective => self.inner.run(piece),

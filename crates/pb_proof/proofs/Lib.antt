@@ -48,6 +48,7 @@ pub mod PolTheorems
 mod PolTrees
 mod PolUnits
 mod PolWalks
+mod PostfixLaws
 mod ProofAlive
 mod ProofComplete
 mod ProofExact
@@ -58,6 +59,7 @@ mod ProofSound
 pub mod ProofSpelled
 mod ProofStates
 pub mod ProofValues
+mod ReadStatements
 pub mod ReadsBack
 mod Results
 mod Spaced

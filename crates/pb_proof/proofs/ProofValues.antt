@@ -92,7 +92,7 @@ module _ (limit top : ℕ) where
   statement_value (Conclude c) t (a, b, e, w, (x, y, f, (p, q, g, s, h), k)) = claim_value c q h
   statement_value End t h = tt
 
-  events_values : (items : List (Item Statement)) → All (λ i. IsGap i.gap × SpellsStatement limit top i.event i.text) items → All (IsStatementValue limit top) (events_of items)
+  pub events_values : (items : List (Item Statement)) → All (λ i. IsGap i.gap × SpellsStatement limit top i.event i.text) items → All (IsStatementValue limit top) (events_of items)
   events_values [] h = All-nil (IsStatementValue limit top)
   events_values (i ∷ items) h =
       let P : Item Statement → Type 0 = λ i. IsGap i.gap × SpellsStatement limit top i.event i.text in

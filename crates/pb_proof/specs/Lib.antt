@@ -9,6 +9,7 @@ pub mod Formats
 pub mod Goal
 pub mod Ids
 pub mod Inner
+pub mod Leaving
 pub mod Lines
 pub mod Literals
 pub mod Machine

@@ -1,10 +1,13 @@
 -- The laws of proofs and their values.
-use Rattle.std.specs.Prelude.{◌≡◌, ℕ, ◌^◌, ◌<◌, List}
+use Rattle.std.specs.Prelude.{◌≡◌, ℕ, ◌^◌, ◌<◌, List, [], ◌++◌, map, All, Bool, true, Option}
+use Rattle.pb_text.specs.Reading.{Reads}
 use Rattle.pb_text.specs.Spelling.{Letter, Item, bytes_of}
 use Rattle.pb_text.specs.Whole.{events_of}
+use Rattle.pb_text.specs.declared.Place.{Place}
 use Rattle.pb_text.specs.declared.Spanned.{Spanned}
+use Rattle.pb_text.specs.declared.Stop.{Stop}
 use Rattle.pb_proof.specs.Lines.{SpellsStatement}
-use Rattle.pb_proof.specs.Proofs.{IsProof, IsProofOf}
+use Rattle.pb_proof.specs.Proofs.{statements_of, IsProof, IsProofOf}
 use Rattle.pb_proof.specs.Values.{IsStatementValue, IsProofValue}
 use Rattle.pb_proof.specs.Canonical.{proof_bytes}
 use Rattle.pb_proof.specs.Whole.{IsRead}
@@ -23,6 +26,20 @@ StatementValues = (limit top : ℕ) (s : Statement) (text : List Letter) → Spe
 abbrev pub ProofValues : Type 0
 ProofValues = (limit top : ℕ) (items : List (Item Statement)) (v : Proof) → IsProof limit top items → IsProofOf (events_of items) v →
     IsProofValue limit top v
+
+-- The first statements of a proof, in order, or all of them; they and the proof meet the rules.
+pub record BeginProof (limit top : ℕ) (statements : List Statement) (all : Bool) : Type 0 where
+  pub value : Proof
+  pub rest : List Statement
+  pub order : statements_of value ≡ statements ++ rest
+  pub whole : all ≡ true → rest ≡ []
+  pub each : All (IsStatementValue limit top) statements
+  pub rules : IsProofValue limit top value
+
+-- What was read of a proof begins one, and is a whole one where the read is done.
+abbrev pub ReadStatements : Type 0
+ReadStatements = (limit top longest : ℕ) (input used : List ℕ) (marks : List (Spanned Statement)) (place : Place) (done : Bool) (stop : Option Stop) →
+    Reads (IsProof limit top) longest input used marks place done stop → BeginProof limit top (map (λ m. m.event) marks) done
 
 -- Statements are those of one proof at most.
 abbrev pub OneValue : Type 0

@@ -39,9 +39,11 @@ mod write;
 pub use conclusion::{Bound, Conclusion};
 pub use laws::{larger_limits, no_front, one_proof, proofs_are_exact};
 pub use laws_of_values::{
-    canonical_proof_spells, one_value, proofs_are_values, written_proof_reads_back,
+    canonical_proof_spells, one_value, postfix_words, proofs_are_values, reads_are_of_proofs,
+    written_proof_reads_back,
 };
 pub use machine::ProofMachine;
+pub use phase::Stage;
 pub use proof::Proof;
 pub use read::{read_proof, read_proof_within};
 pub use rules::{proof_is_value, statement_is_value};

@@ -50,8 +50,12 @@ fn replace(inner: &mut Option<Inner>, next: Option<Inner>)
 }
 
 impl ProofMachine {
-    ghost use Rattle.std.specs.Prelude.{List, ◌↔◌};
+    ghost use Rattle.std.specs.Prelude.{ℕ, List, Bool, ◌↔◌};
     ghost use Rattle.pb_text.specs.Automaton.{Accepts};
+    ghost use Rattle.pb_text.specs.Reading.{Reads};
+    ghost use Rattle.pb_text.specs.declared.Place.{Place};
+    ghost use Rattle.pb_text.specs.declared.Spanned.{Spanned};
+    ghost use Rattle.pb_text.specs.declared.Stop.{Stop};
     ghost use Rattle.pb_text.specs.Spelling.{Item};
     ghost use Rattle.pb_proof.specs.Proofs.{IsProof};
     ghost use Rattle.pb_proof.specs.State.{proofs, begin};
@@ -59,6 +63,10 @@ impl ProofMachine {
     /// A machine before a proof, which accepts exactly the proofs under the limits. It takes no memory.
     pub fn new(alloc: Global, limits: Limits) -> Self
         ensures accepts { (items : List (Item Statement)) → Accepts proofs result items ↔ IsProof (largest limits) (top_of limits) items }
+        // What is read by it is read of the proofs.
+        ensures reads { (longest : ℕ) (input used : List ℕ) (marks : List (Spanned Statement)) (place : Place) (done : Bool) (stop : Option Stop)
+            → Reads (Accepts proofs result) longest input used marks place done stop
+            → Reads (IsProof (largest limits) (top_of limits)) longest input used marks place done stop }
         ensures begins { result ≡ begin (largest limits) (top_of limits) }
         ensures between { proofs.begun result ≡ false }
     {

@@ -1,7 +1,7 @@
 //! What a machine of proofs has read last, and what it does with a byte.
 
-/// What may come next.
-#[derive(Clone, Copy, Drop)]
+/// How far a proof has come: which statements may come next.
+#[derive(Clone, Copy, Drop, PartialEq, Eq)]
 pub enum Stage {
     /// The header.
     Opening,
@@ -13,7 +13,7 @@ pub enum Stage {
     Claim,
     /// The closing words.
     Closing,
-    /// Nothing.
+    /// Nothing: the proof is complete.
     Complete,
 }
 

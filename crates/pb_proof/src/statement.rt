@@ -1,6 +1,7 @@
 //! The statements of a proof.
 
 use crate::conclusion::Conclusion;
+use crate::phase::Stage;
 use crate::word::PolWord;
 use pb_sums::{Linear, Literal};
 use pb_text::Sequence;
@@ -29,4 +30,35 @@ pub enum Statement {
     Conclude(Conclusion),
     /// `end pseudo-Boolean proof`.
     End,
+}
+
+impl Statement {
+    ghost use Rattle.std.specs.Prelude.{◌≡◌};
+    ghost use Rattle.pb_proof.specs.Order.{stage_of, stage_after};
+
+    /// The stage of a proof at which the statement may come.
+    pub fn stage(&self) -> Stage
+        ensures { result ≡ stage_of self.now }
+    {
+        match self {
+            Statement::Header => Stage::Opening,
+            Statement::F(_) => Stage::Formula,
+            Statement::Conclude(_) => Stage::Claim,
+            Statement::End => Stage::Closing,
+            _ => Stage::Steps,
+        }
+    }
+
+    /// The stage of a proof behind the statement, where it may come.
+    pub fn stage_behind(&self) -> Stage
+        ensures { result ≡ stage_after self.now }
+    {
+        match self {
+            Statement::Header => Stage::Formula,
+            Statement::Output => Stage::Claim,
+            Statement::Conclude(_) => Stage::Closing,
+            Statement::End => Stage::Complete,
+            _ => Stage::Steps,
+        }
+    }
 }

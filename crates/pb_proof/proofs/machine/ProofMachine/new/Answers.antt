@@ -1,6 +1,16 @@
 use Rattle.pb_text.specs.Limits.{largest, top_of}
+use Rattle.pb_text.specs.Automaton.{Accepts}
+use Rattle.pb_text.proofs.Formats as formats
+use Rattle.pb_proof.specs.Proofs.{IsProof}
+use Rattle.pb_proof.specs.State.{proofs, begin}
 use Rattle.pb_proof.proofs.ProofExact.{reads_proofs}
 use Rattle.pb_proof.proofs.machine.ProofMachine.new.Goals as goal
 
 pub returns-clause-accepts : goal.returns-clause-accepts
 returns-clause-accepts c = reads_proofs (largest c.args.limits) (top_of c.args.limits)
+
+pub returns-clause-reads : goal.returns-clause-reads
+returns-clause-reads c =
+    let l = largest c.args.limits in
+    let t = top_of c.args.limits in
+    λ longest. formats.reads (Accepts proofs (begin l t)) (IsProof l t) (λ items h. (reads_proofs l t items).0 h) (λ items h. (reads_proofs l t items).1 h) longest
