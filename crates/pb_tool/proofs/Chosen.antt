@@ -95,7 +95,7 @@ module _ (before mid : Option (List ℕ)) (k : Keeps before mid) where
   module _ {V : Type 0} where
     file_before : (IsReadOf : List ℕ → Spanned V → Type 0) (after : Option (List ℕ)) (v : V) → IsFile IsReadOf mid after v → IsFile IsReadOf before after v
     file_before IsReadOf after v f =
-        record { used = f.used; rest = f.rest; took = took_before before mid after (f.used ++ f.rest) [] k f.took; read = f.read; spelled = f.spelled; blank = f.blank; value = f.value }
+        record { used = f.used; rest = f.rest; took = took_before before mid after (f.used ++ f.rest) [] k f.took; read = f.read; spelled = f.spelled; blank = f.blank; within = f.within; value = f.value }
 
     no_file_before : (Reads : Option (List ℕ) → Result (Spanned V) Stop → Option (List ℕ) → Type 0) → ((result : Result (Spanned V) Stop) (after : Option (List ℕ)) → Reads mid result after → Reads before result after)
         → (after : Option (List ℕ)) (s : Stop) → IsRefused Reads mid after s → IsRefused Reads before after s

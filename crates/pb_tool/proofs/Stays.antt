@@ -1,23 +1,16 @@
--- What was written of an instance is read as that instance.
+-- What is read of a canonical text, with a line feed behind it or none.
 use Rattle.std.proofs.Common.{◌≡◌, ◌≢◌, ◌⊎◌, inl, inr, ℕ, ◌<◌, ◌≤◌, ◌^◌, List, [], ◌∷◌, ◌++◌, length, Bool, true, false, cond, Option, Some, Err, refl, sym, ap, ◌∙◌, subst, append-nil, append_assoc, arith, length-append}
 use Rattle.pb_text.specs.Blank.{ReadsBlank, IsStray, passes}
 use Rattle.pb_text.specs.Pulling.{Took}
-use Rattle.pb_text.specs.Reading.{Explains, IsBad, IsFull, IsUnderWay, Overruns, byte_limit}
-use Rattle.pb_text.specs.Spelling.{Item, bytes_of, marks_of}
+use Rattle.pb_text.specs.Reading.{Explains, IsBad, IsFull, IsUnderWay, Overruns, Reads, byte_limit}
+use Rattle.pb_text.specs.Spelling.{Item, bytes_of, marks_of, place_after}
 use Rattle.pb_text.specs.declared.Place.{Place}
 use Rattle.pb_text.specs.declared.Spanned.{Spanned}
 use Rattle.pb_text.specs.declared.Stop.{Stop}
 use Rattle.pb_text.specs.declared.Why.{Why}
 use Rattle.pb_text.specs.declared.Why.TheVariants.{Byte, TooLarge, Ended, TooLong, Read, Memory}
 use Rattle.pb_opb.specs.Canonical.{instance_bytes}
-use Rattle.pb_opb.specs.Formats.{NoFront}
-use Rattle.pb_opb.specs.Instances.{IsInstance}
-use Rattle.pb_opb.specs.Statements.{CanonicalInstance, ReadsBack}
-use Rattle.pb_opb.specs.Values.{IsValueOf, IsInstanceValue}
-use Rattle.pb_opb.specs.Whole.{IsRead, StopsIn}
-use Rattle.pb_opb.specs.Whole.StopsIn.{Reading, Keeping}
 use Rattle.pb_opb.specs.declared.Instance.{Instance}
-use Rattle.pb_opb.specs.declared.OpbEvent.{OpbEvent}
 use Rattle.pb_tool.specs.Staying.{IsOutside}
 use Rattle.pb_tool.specs.Tidying.{ends_in_feed, tidied}
 use Rattle.pb_tool.proofs.Shown.{after_offset}
@@ -46,6 +39,7 @@ same_rest (x ∷ a) b c e = let rest : a ++ b ≡ a ++ c = cc in same_rest a b c
 abbrev IsFeed : List ℕ → Type 0
 IsFeed rest = (rest ≡ []) ⊎ (rest ≡ 10 ∷ [])
 
+-- what is written for an instance
 pub written : (v : Instance) → (rest : List ℕ) × (tidied v ≡ instance_bytes v ++ rest) × IsFeed rest
 written v = by_end (ends_in_feed (instance_bytes v))
   where
@@ -74,65 +68,63 @@ overrun longest n [] h = absurd h
 overrun longest n (m ∷ marks) (inl (e, k)) = omega (arith, e)
 overrun longest n (m ∷ marks) (inr h) = overrun longest n marks h
 
-module _ (canonical : CanonicalInstance) (front : NoFront) (back : ReadsBack) (limit top : ℕ) (low : limit < 2 ^ 127) (high : top < 2 ^ 63) (v : Instance) (rules : IsInstanceValue limit top v) where
-  -- an instance that begins the canonical text, or that this begins, is it
-  same_used : (used seen rest : List ℕ) (items : List (Item OpbEvent)) → IsInstance limit top items → bytes_of items ≡ used → used ++ seen ≡ instance_bytes v ++ rest → used ≡ instance_bytes v
-  same_used used seen rest items h e k =
-      let (own, spells, bytes, value) = canonical limit top v low high rules in
-      by_length own spells bytes (two_fronts (instance_bytes v) rest used seen (sym k))
+strays : (used more left rest : List ℕ) (place : Place) (why : Why) → IsFeed rest → rest ≡ more ++ left → place.offset ≡ length used → IsStray place more left why → IsOutside (length (used ++ (more ++ left))) why
+strays used more left rest place (Byte b) feed e o (next, is, p, bound) = passes_feed rest more next b feed (e ∙ ap (λ (x : List ℕ). more ++ x) is) p
+strays used more left rest place TooLong feed e o (some, h) =
+    let most : byte_limit ≤ length (used ++ more) = omega (arith, h, o, length-append used more) in
+    subst (λ (t : List ℕ). byte_limit < length t) (append_assoc used more left) (longer (used ++ more) left some most)
+strays used more left rest place Read feed e o h = tt
+strays used more left rest place TooLarge feed e o h = h
+strays used more left rest place Ended feed e o h = h
+strays used more left rest place Memory feed e o h = tt
+
+-- a format, and a text that spells something of it, of which no spelling is a front of another
+module _ {E : Type 0} (format : List (Item E) → Type 0) (text : List ℕ) (own : List (Item E)) (spells : format own) (bytes : bytes_of own ≡ text)
+    (front : (items items' : List (Item E)) (more : List ℕ) → format items → format items' → bytes_of items' ≡ bytes_of items ++ more → more ≡ []) where
+  -- a spelling that begins the text, or that this begins, is it
+  pub same_used : (used seen rest : List ℕ) (items : List (Item E)) → format items → bytes_of items ≡ used → used ++ seen ≡ text ++ rest → used ≡ text
+  same_used used seen rest items h e k = by_length (two_fronts text rest used seen (sym k))
     where
-      by_length : (own : List (Item OpbEvent)) → IsInstance limit top own → bytes_of own ≡ instance_bytes v → Compared (instance_bytes v) used → used ≡ instance_bytes v
-      by_length own spells bytes (inl (m, p)) =
-          let none : m ≡ [] = front limit top own items m spells h (e ∙ (p ∙ ap (λ (x : List ℕ). x ++ m) (sym bytes))) in
-          p ∙ (ap (λ (x : List ℕ). instance_bytes v ++ x) none ∙ append-nil (instance_bytes v))
-      by_length own spells bytes (inr (x, m, p)) =
-          let none : x ∷ m ≡ [] = front limit top items own (x ∷ m) h spells (bytes ∙ (p ∙ ap (λ (y : List ℕ). y ++ x ∷ m) (sym e))) in
+      by_length : Compared text used → used ≡ text
+      by_length (inl (m, p)) =
+          let none : m ≡ [] = front own items m spells h (e ∙ (p ∙ ap (λ (x : List ℕ). x ++ m) (sym bytes))) in
+          p ∙ (ap (λ (x : List ℕ). text ++ x) none ∙ append-nil text)
+      by_length (inr (x, m, p)) =
+          let none : x ∷ m ≡ [] = front items own (x ∷ m) h spells (bytes ∙ (p ∙ ap (λ (y : List ℕ). y ++ x ∷ m) (sym e))) in
           absurd cc
 
-  pub stays : (longest : ℕ) (used seen rest : List ℕ) (m : Spanned Instance) → IsRead (IsInstance limit top) longest IsValueOf used m → used ++ seen ≡ instance_bytes v ++ rest → m.event ≡ v
-  stays longest used seen rest m r k =
-      let same : used ≡ instance_bytes v = same_used used seen rest r.spelled.items r.spelled.spelled r.spelled.used_are k in
-      back limit top longest v m low high rules (subst (λ (u : List ℕ). IsRead (IsInstance limit top) longest IsValueOf u m) same r)
-
-  -- what is under way there is a shorter front of the canonical text
-  shorter : (used left rest : List ℕ) (marks : List (Spanned OpbEvent)) → IsUnderWay (IsInstance limit top) (2 ^ 40) used marks → used ++ left ≡ instance_bytes v ++ rest
-      → (x : ℕ) × (m : List ℕ) × (instance_bytes v ≡ used ++ x ∷ m)
-  shorter used left rest marks u k =
-      let (own, spells, bytes, value) = canonical limit top v low high rules in
-      by_length own spells bytes (two_fronts (instance_bytes v) rest used left (sym k))
+  -- what is under way there is a shorter front of the text
+  shorter : (used left rest : List ℕ) (marks : List (Spanned E)) → IsUnderWay format (2 ^ 40) used marks → used ++ left ≡ text ++ rest → (x : ℕ) × (m : List ℕ) × (text ≡ used ++ x ∷ m)
+  shorter used left rest marks u k = by_length (two_fronts text rest used left (sym k))
     where
-      by_length : (own : List (Item OpbEvent)) → IsInstance limit top own → bytes_of own ≡ instance_bytes v → Compared (instance_bytes v) used → (x : ℕ) × (m : List ℕ) × (instance_bytes v ≡ used ++ x ∷ m)
-      by_length own spells bytes (inl (m, p)) = absurd (u.unfinished own spells (m, p ∙ ap (λ (x : List ℕ). x ++ m) (sym bytes)))
-      by_length own spells bytes (inr h) = h
+      by_length : Compared text used → (x : ℕ) × (m : List ℕ) × (text ≡ used ++ x ∷ m)
+      by_length (inl (m, p)) = absurd (u.unfinished own spells (m, p ∙ ap (λ (x : List ℕ). x ++ m) (sym bytes)))
+      by_length (inr h) = h
 
-  next_is : (used left rest m : List ℕ) (x : ℕ) → used ++ left ≡ instance_bytes v ++ rest → instance_bytes v ≡ used ++ x ∷ m → left ≡ x ∷ (m ++ rest)
+  next_is : (used left rest m : List ℕ) (x : ℕ) → used ++ left ≡ text ++ rest → text ≡ used ++ x ∷ m → left ≡ x ∷ (m ++ rest)
   next_is used left rest m x k p = same_rest used left (x ∷ (m ++ rest)) (k ∙ (ap (λ (y : List ℕ). y ++ rest) p ∙ append_assoc used (x ∷ m) rest))
 
-  not_bad : (used more rest : List ℕ) (b : ℕ) (marks : List (Spanned OpbEvent)) → IsUnderWay (IsInstance limit top) (2 ^ 40) used marks → IsBad (IsInstance limit top) (2 ^ 40) used b
-      → used ++ b ∷ more ≡ instance_bytes v ++ rest → ⊥
+  not_bad : (used more rest : List ℕ) (b : ℕ) (marks : List (Spanned E)) → IsUnderWay format (2 ^ 40) used marks → IsBad format (2 ^ 40) used b → used ++ b ∷ more ≡ text ++ rest → ⊥
   not_bad used more rest b marks u bad k =
       let (x, m, p) = shorter used (b ∷ more) rest marks u k in
       let next : b ∷ more ≡ x ∷ (m ++ rest) = next_is used (b ∷ more) rest m x k p in
       let same : b ≡ x = cc in
-      let (own, spells, bytes, value) = canonical limit top v low high rules in
       bad.refused (own, spells, (m, bytes ∙ (p ∙ (ap (λ (y : ℕ). used ++ y ∷ m) (sym same) ∙ sym (append_assoc used (b ∷ []) m)))))
 
-  not_ended : (used rest : List ℕ) (marks : List (Spanned OpbEvent)) → IsUnderWay (IsInstance limit top) (2 ^ 40) used marks → used ++ [] ≡ instance_bytes v ++ rest → ⊥
+  not_ended : (used rest : List ℕ) (marks : List (Spanned E)) → IsUnderWay format (2 ^ 40) used marks → used ++ [] ≡ text ++ rest → ⊥
   not_ended used rest marks u k =
       let (x, m, p) = shorter used [] rest marks u k in
       let next : [] ≡ x ∷ (m ++ rest) = next_is used [] rest m x k p in
       cc
 
-  full : (used left rest : List ℕ) (marks : List (Spanned OpbEvent)) → IsUnderWay (IsInstance limit top) (2 ^ 40) used marks → IsFull (IsInstance limit top) (2 ^ 40) used
-      → used ++ left ≡ instance_bytes v ++ rest → byte_limit ≤ length used
+  full : (used left rest : List ℕ) (marks : List (Spanned E)) → IsUnderWay format (2 ^ 40) used marks → IsFull format (2 ^ 40) used → used ++ left ≡ text ++ rest → byte_limit ≤ length used
   full used left rest marks u (inl e) k = omega (arith, e)
   full used left rest marks u (inr over) k =
       let (x, m, p) = shorter used left rest marks u k in
-      let (own, spells, bytes, value) = canonical limit top v low high rules in
       overrun (2 ^ 40) (length used) (marks_of own) (over own spells (x ∷ m, bytes ∙ p))
 
-  explained : (used left rest : List ℕ) (marks : List (Spanned OpbEvent)) (why : Why) → IsUnderWay (IsInstance limit top) (2 ^ 40) used marks → Explains (IsInstance limit top) (2 ^ 40) used left why
-      → used ++ left ≡ instance_bytes v ++ rest → IsOutside (length (used ++ left)) why
+  explained : (used left rest : List ℕ) (marks : List (Spanned E)) (why : Why) → IsUnderWay format (2 ^ 40) used marks → Explains format (2 ^ 40) used left why → used ++ left ≡ text ++ rest
+      → IsOutside (length (used ++ left)) why
   explained used left rest marks (Byte b) u (more, e, bad, number) k = not_bad used more rest b marks u bad (ap (λ (x : List ℕ). used ++ x) (sym e) ∙ k)
   explained used left rest marks TooLarge u (b, more, e, bad, digit, number) k = not_bad used more rest b marks u bad (ap (λ (x : List ℕ). used ++ x) (sym e) ∙ k)
   explained used left rest marks TooLong u (some, h) k = longer used left some (full used left rest marks u h k)
@@ -140,27 +132,19 @@ module _ (canonical : CanonicalInstance) (front : NoFront) (back : ReadsBack) (l
   explained used left rest marks Read u h k = tt
   explained used left rest marks Memory u h k = tt
 
-  pub in_text : (used seen rest : List ℕ) (s : Stop) → StopsIn (IsInstance limit top) (2 ^ 40) used seen s → used ++ seen ≡ instance_bytes v ++ rest → IsOutside (length (used ++ seen)) s.why
-  in_text used seen rest s (Reading marks r) k =
+  -- no fault of the text itself
+  pub in_text : (used seen rest : List ℕ) (marks : List (Spanned E)) (s : Stop) → Reads format (2 ^ 40) (used ++ seen) used marks s.place false (Some s) → used ++ seen ≡ text ++ rest
+      → IsOutside (length (used ++ seen)) s.why
+  in_text used seen rest marks s r k =
       let (under, place, why) = r.answer in
       subst (λ (t : List ℕ). IsOutside (length t) s.why) (sym r.input_is) (explained used r.left rest marks s.why under why (sym r.input_is ∙ k))
-  in_text used seen rest s (Keeping viable e) k = subst (IsOutside (length (used ++ seen))) (sym (ap (λ (t : Stop). t.why) e)) tt
 
-  strays : (used more left rest : List ℕ) (place : Place) (why : Why) → IsFeed rest → rest ≡ more ++ left → place.offset ≡ length used → IsStray place more left why → IsOutside (length (used ++ (more ++ left))) why
-  strays used more left rest place (Byte b) feed e o (next, is, p, bound) = passes_feed rest more next b feed (e ∙ ap (λ (x : List ℕ). more ++ x) is) p
-  strays used more left rest place TooLong feed e o (some, h) =
-      let most : byte_limit ≤ length (used ++ more) = omega (arith, h, o, length-append used more) in
-      subst (λ (t : List ℕ). byte_limit < length t) (append_assoc used more left) (longer (used ++ more) left some most)
-  strays used more left rest place Read feed e o h = tt
-  strays used more left rest place TooLarge feed e o h = h
-  strays used more left rest place Ended feed e o h = h
-  strays used more left rest place Memory feed e o h = tt
-
-  pub in_rest : (used seen rest : List ℕ) (m : Spanned Instance) (mid after : Option (List ℕ)) (s : Stop) → IsRead (IsInstance limit top) (2 ^ 40) IsValueOf used m
-      → used ++ seen ≡ instance_bytes v ++ rest → IsFeed rest → mid ≡ Some seen → ReadsBlank m.past mid (Err s) after → IsOutside (length (used ++ seen)) s.why
-  in_rest used seen rest m mid after s r k feed is (more, left, took, blank, place, stray) =
-      let same : used ≡ instance_bytes v = same_used used seen rest r.spelled.items r.spelled.spelled r.spelled.used_are k in
+  -- nor of the line feed behind it
+  pub in_rest : (used seen rest : List ℕ) (items : List (Item E)) (past : Place) (mid after : Option (List ℕ)) (s : Stop) → format items → bytes_of items ≡ used → past ≡ place_after used
+      → used ++ seen ≡ text ++ rest → IsFeed rest → mid ≡ Some seen → ReadsBlank past mid (Err s) after → IsOutside (length (used ++ seen)) s.why
+  in_rest used seen rest items past mid after s h e at k feed is (more, left, took, blank, place, stray) =
+      let same : used ≡ text = same_used used seen rest items h e k in
       let behind : seen ≡ rest = same_rest used seen rest (k ∙ ap (λ (x : List ℕ). x ++ rest) (sym same)) in
       let now : Took (Some seen) more left after = subst (λ (z : Option (List ℕ)). Took z more left after) is took in
-      let offset : m.past.offset ≡ length used = ap (λ (p : Place). p.offset) r.past ∙ after_offset used in
-      subst (λ (t : List ℕ). IsOutside (length (used ++ t)) s.why) (sym now.0) (strays used more left rest m.past s.why feed (sym behind ∙ now.0) offset stray)
+      let offset : past.offset ≡ length used = ap (λ (p : Place). p.offset) at ∙ after_offset used in
+      subst (λ (t : List ℕ). IsOutside (length (used ++ t)) s.why) (sym now.0) (strays used more left rest past s.why feed (sym behind ∙ now.0) offset stray)

@@ -58,9 +58,13 @@ pub record IsNormalised (v w : Instance) : Type 0 where
 abbrev pub Passes : ℕ → Linear → Type 0
 Passes limit c = limit < magnitude c.terms + unsigned_abs c.degree
 
+-- some constraint does
+abbrev pub SomePasses : ℕ → List Linear → Type 0
+SomePasses limit cs = (c : Linear) × Contains cs c × Passes limit c
+
 -- some constraint of the instance does
 abbrev pub Overflows : ℕ → Instance → Type 0
-Overflows limit v = (c : Linear) × Contains v.constraints c × Passes limit c
+Overflows limit v = SomePasses limit v.constraints
 
 -- each constraint of the instance holds, as it is written
 abbrev pub Solves : (List ℕ → Bool) → Instance → Type 0

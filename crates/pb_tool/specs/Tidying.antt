@@ -1,8 +1,9 @@
 -- What `pb tidy` writes.
-use Rattle.std.specs.Prelude.{◌≡◌, ℕ, ◌==◌, Bool, true, false, cond, List, [], ◌∷◌, ◌++◌, Option, Some, None, Result, Ok, Err}
+use Rattle.std.specs.Prelude.{◌≡◌, ◌≤◌, length, ℕ, ◌==◌, Bool, true, false, cond, List, [], ◌∷◌, ◌++◌, Option, Some, None, Result, Ok, Err}
 use Rattle.pb_text.specs.Blank.{IsBlank, ReadsBlank}
 use Rattle.pb_text.specs.Limits.{largest, top_of}
 use Rattle.pb_text.specs.Pulling.{Took}
+use Rattle.pb_text.specs.Reading.{byte_limit}
 use Rattle.pb_text.specs.Spelling.{Item}
 use Rattle.pb_text.specs.Writing.{Wrote, Broke}
 use Rattle.pb_text.specs.declared.Limits.{Limits}
@@ -50,11 +51,11 @@ abbrev pub IsAsked : Bool → ℕ → Instance → Instance → Type 0
 IsAsked false limit v w = w ≡ v
 IsAsked true limit v w = IsNormalised v w × ¬ Overflows limit v
 
--- Why there is no such instance: with `normal` a constraint of v passes the limit, or memory ran out.
+-- Why there is no such instance: with `normal` a constraint of v passes the limit, or none does and memory ran out.
 abbrev pub IsDenied : Bool → ℕ → Instance → ToolFault → Type 0
 IsDenied false limit v e = ⊥
 IsDenied true limit v (Overflow File) = Overflows limit v
-IsDenied true limit v (Memory File) = Unit {0}
+IsDenied true limit v (Memory File) = ¬ Overflows limit v
 IsDenied true limit v _ = ⊥
 
 module _ {V : Type 0} where
@@ -66,6 +67,7 @@ module _ {V : Type 0} where
     pub read : Spanned V
     pub spelled : IsReadOf used read
     pub blank : IsBlank rest
+    pub within : length (used ++ rest) ≤ byte_limit
     pub value : read.event ≡ v
 
   -- The input was refused: it begins with no spelling, or the rest behind that is not blank.

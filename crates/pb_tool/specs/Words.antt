@@ -26,13 +26,18 @@ abbrev pub reader_command : Text → App
 reader_command name =
     with_rule (with_rule (with_rule (new_app name) file_rule) (flag_rule (codes "longest"))) (flag_rule (codes "bits"))
 
+abbrev pub show_command : App
+show_command = reader_command (codes "show")
+
 abbrev pub tidy_command : App
 tidy_command = with_rule (reader_command (codes "tidy")) normal_rule
 
+-- the program without its subcommands
+abbrev pub pb_program : App
+pb_program = on_top (λ s. record s { has_version = true; subcommand_required = true; arg_required_else_help = true }) (new_app (codes "pb"))
+
 abbrev pub pb_command : App
-pb_command =
-    let pb = on_top (λ s. record s { subcommand_required = true; arg_required_else_help = true }) (new_app (codes "pb")) in
-    with_subcommand (with_subcommand pb (reader_command (codes "show")).top) tidy_command.top
+pb_command = with_subcommand (with_subcommand pb_program show_command.top) tidy_command.top
 
 -- ---- what it finds
 
@@ -50,11 +55,14 @@ IsFlagOr other low high (Some text) number = IsUnsignedIn low high text × (numb
 abbrev pub IsSwitch : Option Text → Bool → Type 0
 IsSwitch text on = IsTrue on ↔ (text ≡ Some (codes "true"))
 
+-- the numbers of the two flags `--longest` and `--bits`
+abbrev pub AreNumbersOf : List Row → Option ℕ → ℕ → Type 0
+AreNumbersOf rows longest bits = IsFlag 1 (2 ^ 40) (first_of (codes "longest") rows) longest × IsFlagOr 127 31 127 (first_of (codes "bits") rows) bits
+
 -- a subcommand's entries are FILE and the two flags with numbers
 pub record HasEntries (rows : List Row) (file : Option (String Global)) (longest : Option ℕ) (bits : ℕ) : Type 0 where
   pub file_is : option_map string_bytes file ≡ first_of (codes "file") rows
-  pub longest_is : IsFlag 1 (2 ^ 40) (first_of (codes "longest") rows) longest
-  pub bits_are : IsFlagOr 127 31 127 (first_of (codes "bits") rows) bits
+  pub numbers_are : AreNumbersOf rows longest bits
 
 -- the name of a subcommand that reads a file
 abbrev pub IsReader : Text → Type 0

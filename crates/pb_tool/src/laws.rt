@@ -3,7 +3,8 @@
 ghost use Rattle.std.specs.Prelude.{◌≡◌, ◌↔◌, ℕ, Bool, List};
 ghost use Rattle.pb_opb.specs.declared.Instance.{Instance};
 ghost use Rattle.pb_tool.specs.Normalised.{IsNormalised, Solves};
-ghost use Rattle.pb_tool.specs.Staying.{HasNoFault, StaysAsIs};
+ghost use Rattle.pb_tool.specs.Staying.{HasNoFault, IsTakenForInstance, StaysAsIs};
+ghost use Rattle.pb_tool.specs.Staying.{IsTakenForProof, ProofHasNoFault, ProofStaysAsIs};
 
 /// The normal form of an instance has exactly its solutions.
 pub fn normal_forms_keep_solutions()
@@ -15,9 +16,26 @@ pub fn one_normal_form()
     ensures { (v w u : Instance) → IsNormalised v w → IsNormalised v u → w ≡ u }
 {}
 
-/// What `tidy` writes of an instance stays as it is: `tidy` reads it as that instance alone, so it writes the same; and
-/// with no limit on statements it refuses it only where the source fails, memory runs out, or it has over `2^40` bytes.
+/// What `tidy` writes of an instance stays as it is: `tidy` takes it for an instance and reads it as that instance alone,
+/// so it writes the same; and with no limit on statements it refuses it only where the source fails, memory runs out, or
+/// it has over `2^40` bytes.
 pub fn tidied_text_stays()
+    ensures taken { IsTakenForInstance }
     ensures same { StaysAsIs }
     ensures faultless { HasNoFault }
-{}
+{
+    pb_opb::canonical_instance_spells();
+    pb_opb::no_front();
+    pb_opb::written_instance_reads_back();
+}
+
+/// What `tidy` writes of a proof stays as it is, as what it writes of an instance does.
+pub fn tidied_proof_stays()
+    ensures taken { IsTakenForProof }
+    ensures same { ProofStaysAsIs }
+    ensures faultless { ProofHasNoFault }
+{
+    pb_proof::canonical_proof_spells();
+    pb_proof::no_front();
+    pb_proof::written_proof_reads_back();
+}

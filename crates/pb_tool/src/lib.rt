@@ -13,7 +13,9 @@ mod tidying;
 mod words;
 
 pub use fault::{Input, ToolFault, status, write_fault};
-pub use laws::{normal_forms_keep_solutions, one_normal_form, tidied_text_stays};
+pub use laws::{
+    normal_forms_keep_solutions, one_normal_form, tidied_proof_stays, tidied_text_stays,
+};
 pub use limiting::limits_of;
 pub use showing::show;
 pub use tidying::tidy;

@@ -9,10 +9,9 @@ ghost use Rattle.pb_tool.specs.Files.{TidiesFile};
 ghost use Rattle.pb_tool.specs.Tidying.{is_bare, tidied, IsAsked, IsDenied, IsNoOpbFile, IsOpbFile, Tidies};
 
 use crate::fault::{Input, ToolFault, refused};
-use crate::normalising::normalised;
+use crate::normalising::{normalised, overflows};
 use crate::opening::{Format, format_of, unread_file};
 use crate::proof_tidying::tidy_proof;
-use pb_normal::NormalFault;
 use pb_opb::{Instance, read_instance_within, write_instance};
 use pb_text::{BYTE_LIMIT, Failed, Limits, Sink, Source, Stop, rest_is_blank, write_bytes};
 use std::alloc::Global;
@@ -112,10 +111,12 @@ fn asked(
     if !normal {
         return Ok(instance);
     }
+    if overflows(instance.constraints.as_slice(), limits) {
+        return Err(ToolFault::Overflow(Input::File));
+    }
     match normalised(alloc, instance, limits) {
         Ok(form) => Ok(form),
-        Err(NormalFault::Overflow) => Err(ToolFault::Overflow(Input::File)),
-        Err(NormalFault::Memory) => Err(ToolFault::Memory(Input::File)),
+        Err(_) => Err(ToolFault::Memory(Input::File)),
     }
 }
 

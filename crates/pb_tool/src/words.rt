@@ -8,9 +8,10 @@ ghost use Rattle.clap.specs.Words.{IsUnsignedIn, app_of, fault_of, first_of, fou
 ghost use Rattle.clap.specs.Words.{rows_of, rule_of, subcommand_of};
 ghost use Rattle.clap.specs.Walk.{texts};
 ghost use Rattle.clap.specs.declared.builder.Command.TheViews.{out-Command as fields_of};
-ghost use Rattle.pb_tool.specs.Words.{AsksFor, ExplainsWords, HasRanges, IsEntryFault, IsFlag};
-ghost use Rattle.pb_tool.specs.Words.{IsFlagFault, IsReader, IsSwitch, file_rule, flag_rule};
-ghost use Rattle.pb_tool.specs.Words.{normal_rule, pb_command, reader_command, tidy_command};
+ghost use Rattle.pb_tool.specs.Words.{AreInRange, AreNumbersOf, AsksFor, ExplainsWords, HasRanges};
+ghost use Rattle.pb_tool.specs.Words.{IsEntryFault, IsFlag, IsFlagFault, IsReader, IsSwitch};
+ghost use Rattle.pb_tool.specs.Words.{file_rule, flag_rule, normal_rule, pb_command, pb_program};
+ghost use Rattle.pb_tool.specs.Words.{reader_command, show_command, tidy_command};
 
 use clap::error::ErrorKind;
 use clap::{Arg, ArgAction, ArgMatches, Command};
@@ -20,20 +21,36 @@ use thiserror::Error;
 /// The most bytes that a statement may be allowed.
 const MOST_BYTES: u64 = 1 << 40;
 
-const PB_EXAMPLE: &str = "\
+/// The version that `--version` prints.
+const VERSION: &str = "0.1.0";
+
+const PB_HELP: &str = "\
 Example: pb tidy instance.opb
 prints the instance in its canonical spelling, or says on standard error where and why the text
-is no instance. A file that begins with p is taken for a proof.";
+is no instance. A file that begins with p is taken for a proof.
 
-const SHOW_EXAMPLE: &str = "\
+Exit status:
+  0  done, or help or the version was printed
+  1  the file was refused: standard error has the place and the reason
+  2  wrong words
+  3  the file could not be opened or read, the output could not be written, or memory ran out";
+
+const SHOW_HELP: &str = "\
 Example: where instance.opb has the lines
   * #variable= 2 #constraint= 1
   1 x1   1 x2>=1;
 pb show instance.opb prints
   1:1 * #variable= 2 #constraint= 1
-  2:1 +1 x1 +1 x2 >= 1 ;";
+  2:1 +1 x1 +1 x2 >= 1 ;
 
-const TIDY_EXAMPLE: &str = "\
+Exit status:
+  0  all statements were printed
+  1  the file was refused: standard error has the place and the reason, and the statements
+     before that place were printed
+  2  wrong words
+  3  the file could not be opened or read, the output could not be written, or memory ran out";
+
+const TIDY_HELP: &str = "\
 Example: where instance.opb has the lines
   * #variable= 2 #constraint= 1
   1 x1   1 x2>=1;
@@ -43,7 +60,14 @@ pb tidy instance.opb prints
 and, where its second line is 1 x1 -1 x2 = 0;, pb tidy --normal instance.opb prints
   * #variable= 2 #constraint= 2
   +1 x1 +1 ~x2 >= 1 ;
-  +1 ~x1 +1 x2 >= 1 ;";
+  +1 ~x1 +1 x2 >= 1 ;
+
+Exit status:
+  0  the canonical spelling was printed
+  1  the file was refused: standard error has the reason, and the place where there is one, and
+     nothing was printed
+  2  wrong words
+  3  the file could not be opened or read, the output could not be written, or memory ran out";
 
 /// What the words ask for. `longest` is the most bytes of a statement, 1 to `2^40`, where there is
 /// such a limit; `bits` are those of the largest magnitude of a number, 31 to 127.
@@ -108,24 +132,17 @@ pub fn read_words(alloc: Global, words: &[&str]) -> Result<Job, WordsFault>
     let Some((name, given)) = matches.subcommand() else {
         unreachable!()
     };
-    job_of(alloc, &mut command, name, given)
+    job_of(alloc, name, given)
 }
 
 /// What a subcommand asks for with its entries.
-fn job_of(
-    alloc: Global,
-    command: &mut Command<'_>,
-    name: &str,
-    given: &ArgMatches<'_>,
-) -> Result<Job, WordsFault>
+fn job_of(alloc: Global, name: &str, given: &ArgMatches<'_>) -> Result<Job, WordsFault>
     requires { IsReader name.now }
     ensures ok { IfOk result (AsksFor (Some (name.now, rows_of (found_of given.now)))) }
     ensures ranges { IfOk result HasRanges }
     ensures err { IfErr result (IsEntryFault (rows_of (found_of given.now))) }
 {
-    let longest = number(alloc, command, given, "longest", 1, MOST_BYTES)?;
-    let bits = number(alloc, command, given, "bits", 31, 127)?;
-    let bits = bits.unwrap_or(127) as u32;
+    let (longest, bits) = numbers_of(alloc, name, given)?;
     let file = file_name(alloc, given)?;
     match name {
         "show" => Ok(Job::Show {
@@ -140,6 +157,21 @@ fn job_of(
             bits,
         }),
     }
+}
+
+/// The numbers of a subcommand's two flags, `--longest` and `--bits`.
+fn numbers_of(
+    alloc: Global,
+    name: &str,
+    given: &ArgMatches<'_>,
+) -> Result<(Option<u64>, u32), WordsFault>
+    ensures ok { IfOk result (λ r. AreNumbersOf (rows_of (found_of given.now)) r.0 r.1) }
+    ensures ranges { IfOk result (λ r. AreInRange r.0 r.1) }
+    ensures err { IfErr result (IsEntryFault (rows_of (found_of given.now))) }
+{
+    let longest = number(alloc, name, given, "longest", 1, MOST_BYTES)?;
+    let bits = number(alloc, name, given, "bits", 31, 127)?;
+    Ok((longest, bits.unwrap_or(127) as u32))
 }
 
 /// The file's name, where one is given.
@@ -163,10 +195,10 @@ fn is_given(given: &ArgMatches<'_>, flag: &str) -> bool
     }
 }
 
-/// The number of a flag, where the flag is given.
+/// The number of a flag of the subcommand with a name, where the flag is given.
 fn number(
     alloc: Global,
-    command: &mut Command<'_>,
+    name: &str,
     given: &ArgMatches<'_>,
     flag: &str,
     low: u64,
@@ -185,8 +217,19 @@ fn number(
     let message = format!(in alloc;
         "invalid value '{text}' for '--{flag}': it takes a number from {low} to {high}"
     )?;
-    let error = command.error(ErrorKind::ValueValidation, message.as_str())?;
+    let error = wrong_number(alloc, name, message.as_str())?;
     Err(WordsFault::Words(error))
+}
+
+/// The error of a number that a flag does not take, with the usage of its subcommand.
+fn wrong_number(alloc: Global, name: &str, message: &str) -> Result<clap::Error, AllocError>
+    ensures { IfOk result (λ e. kind_of e ≡ ErrorKind.ValueValidation) }
+{
+    let mut subcommand = match name {
+        "show" => show(alloc)?.bin_name("pb show")?,
+        _ => tidy(alloc)?.bin_name("pb tidy")?,
+    };
+    subcommand.error(ErrorKind::ValueValidation, message)
 }
 
 /// The number that a text spells, where it lies from `low` to `high`.
@@ -205,23 +248,38 @@ fn command<'a>(alloc: Global) -> Result<Command<'a>, clap::Error>
     ensures ok { IfOk result (λ c. app_of c ≡ pb_command) }
     ensures err { IfErr result (λ e. kind_of e ≡ ErrorKind.OutOfMemory) }
 {
-    let show = reader(
-        alloc,
-        "show",
-        "Print each statement of an instance or a proof as it comes, after its line and column",
-        SHOW_EXAMPLE,
-    )?;
+    let show = show(alloc)?;
     let tidy = tidy(alloc)?;
-    let command = Command::new(alloc, "pb")
+    let command = program(alloc).subcommand(show)?.subcommand(tidy)?;
+    Ok(command)
+}
+
+/// The program without its subcommands.
+fn program<'a>(alloc: Global) -> Command<'a>
+    ensures app { app_of result ≡ pb_program }
+    ensures local { (fields_of result).has_globals ≡ false }
+{
+    Command::new(alloc, "pb")
+        .version(VERSION)
         .about(
             "Reads and writes pseudo-Boolean instances in the OPB format, and proofs in VeriPB 2.0",
         )
-        .after_help(PB_EXAMPLE)
+        .after_help(PB_HELP)
         .subcommand_required(true)
         .arg_required_else_help(true)
-        .subcommand(show)?
-        .subcommand(tidy)?;
-    Ok(command)
+}
+
+/// The subcommand `show`.
+fn show<'a>(alloc: Global) -> Result<Command<'a>, AllocError>
+    ensures app { IfOk result (λ c. app_of c ≡ show_command) }
+    ensures local { IfOk result (λ c. (fields_of c).has_globals ≡ false) }
+{
+    reader(
+        alloc,
+        "show",
+        "Print each statement of an instance or a proof as it comes, after its line and column",
+        SHOW_HELP,
+    )
 }
 
 /// The subcommand `tidy`.
@@ -233,7 +291,7 @@ fn tidy<'a>(alloc: Global) -> Result<Command<'a>, AllocError>
         alloc,
         "tidy",
         "Print the canonical spelling of an instance or a proof, once all of it was read",
-        TIDY_EXAMPLE,
+        TIDY_HELP,
     )?
     .arg(normal(alloc))
 }
@@ -243,14 +301,14 @@ fn reader<'a>(
     alloc: Global,
     name: &'a str,
     about: &'a str,
-    example: &'a str,
+    help: &'a str,
 ) -> Result<Command<'a>, AllocError>
     ensures app { IfOk result (λ c. app_of c ≡ reader_command name.entry.now) }
     ensures local { IfOk result (λ c. (fields_of c).has_globals ≡ false) }
 {
     Command::new(alloc, name)
         .about(about)
-        .after_help(example)
+        .after_help(help)
         .arg(file(alloc))?
         .arg(flag(
             alloc,

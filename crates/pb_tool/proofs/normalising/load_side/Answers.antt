@@ -4,7 +4,7 @@ use Rattle.pb_tool.proofs.normalising.load_side.Goals as goal
 
 pub returns-clause-forms : goal.returns-clause-forms
 returns-clause-forms c = (
-  c.in_ok-to_linear.field-0,
-  (c.in_ok-form.form ∷ [], (c.in_ok-form.ensures.form, tt), ap (λ (linear : Linear). linear ∷ []) c.in_ok-to_linear.ensures.linear),
+  c.in-Ok-to_linear.linear,
+  (c.in-Ok.form ∷ [], (c.in-Ok.ensures.form, tt), ap (λ (linear : Linear). linear ∷ []) c.in-Ok-to_linear.ensures.linear),
   c.in_ok-push.ensures.items,
 )

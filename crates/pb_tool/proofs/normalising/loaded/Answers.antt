@@ -1,22 +1,11 @@
 use Rattle.std.proofs.Common.{arith}
-use Rattle.std.proofs.lemmas.List.Elements.{All-nil, All-push}
-use Rattle.pb_text.specs.Limits.{largest}
-use Rattle.pb_sums.specs.declared.Linear.{Linear}
-use Rattle.pb_tool.specs.Normalised.{Passes}
-use Rattle.pb_tool.proofs.Loads.{loaded_at, loaded_none, take_one}
+use Rattle.pb_tool.proofs.Loads.{loaded_at, loaded_none}
 use Rattle.pb_tool.proofs.normalising.loaded.Goals as goal
 
 pub loop-constraint-init : goal.loop-constraint-init
-loop-constraint-init c = (
-  rw c.new-forms.ensures.items (loaded_none c.args.names.now),
-  All-nil (λ (x : Linear). ¬ Passes (largest c.args.limits) x),
-)
+loop-constraint-init c = rw c.new-forms.ensures.items (loaded_none c.args.names.now)
 
 pub loop-constraint-preserved : goal.loop-constraint-preserved
 loop-constraint-preserved c =
-    let x = c.constraint-item.result in (
-      loaded_at c.args.names.now c.loop-constraint.names c.load.new.names c.args.constraints.now c.loop-constraint.constraint-index x _ _ (omega arith) c.constraint-item.is c.requires
-          c.loop-constraint.invariant.0 c.in_ok-load.ensures.names c.in_ok-load.ensures.forms,
-      rw (take_one c.args.constraints.now c.loop-constraint.constraint-index x (omega arith) c.constraint-item.is)
-          (All-push (λ (y : Linear). ¬ Passes (largest c.args.limits) y) _ x c.loop-constraint.invariant.1 c.in_ok-load.ensures.fits),
-    )
+    loaded_at c.args.names.now c.loop-constraint.names c.load.new.names c.args.constraints.now c.loop-constraint.constraint-index c.constraint-item.result _ _ (omega arith) c.constraint-item.is c.requires.distinct
+    c.loop-constraint.invariant c.in_ok-load.ensures.names c.in_ok-load.ensures.forms

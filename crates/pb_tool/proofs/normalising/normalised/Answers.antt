@@ -2,11 +2,11 @@ use Rattle.std.proofs.Common.{refl}
 use Rattle.pb_tool.proofs.Loads.{first_distinct, loaded_all}
 use Rattle.pb_tool.proofs.normalising.normalised.Goals as goal
 
-pub loaded-requires : goal.loaded-requires
-loaded-requires c = first_distinct _ c.args.instance c.in_ok-names.ensures
+pub loaded-requires-clause-distinct : goal.loaded-requires-clause-distinct
+loaded-requires-clause-distinct c = first_distinct _ c.args.instance c.in_ok-names.ensures
 
-pub returns-clause-normal : goal.returns-clause-normal
-returns-clause-normal c = record {
+pub returns : goal.returns
+returns c = record {
   variables = refl;
   objective = refl;
   tail = c.new.ensures;

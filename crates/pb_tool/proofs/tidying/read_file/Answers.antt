@@ -1,13 +1,18 @@
-use Rattle.std.proofs.Common.{[], refl}
+use Rattle.std.proofs.Common.{[], refl, ap, ◌∙◌, ◌≤◌, ◌++◌, length, length-append, arith}
+use Rattle.pb_text.specs.Reading.{byte_limit}
+use Rattle.pb_text.specs.declared.Place.{Place}
 use Rattle.pb_tool.specs.Tidying.IsRefused.{InRest}
 use Rattle.pb_tool.proofs.Feeds.{took_join}
+use Rattle.pb_tool.proofs.Shown.{after_offset}
 use Rattle.pb_tool.proofs.tidying.read_file.Goals as goal
 
 pub returns-in-Ok-rest_is_blank-clause-file : goal.returns-in-Ok-rest_is_blank-clause-file
 returns-in-Ok-rest_is_blank-clause-file g c =
     let (used, seen, took, read) = c.in-Ok.ensures.reads in
     let (rest, more, blank, bound) = c.in-Ok-rest_is_blank.ensures.blank in
-    record { used = used; rest = rest; took = took_join _ _ _ used rest seen [] took more; read = c.in-Ok.read; spelled = read; blank = blank; value = refl }
+    let at = ap (λ (q : Place). q.offset) read.past ∙ after_offset used in
+    let within : length (used ++ rest) ≤ byte_limit = omega (arith, bound, at, length-append used rest) in
+    record { used = used; rest = rest; within = within; took = took_join _ _ _ used rest seen [] took more; read = c.in-Ok.read; spelled = read; blank = blank; value = refl }
 
 pub returns-in-Err-rest_is_blank-clause-refused : goal.returns-in-Err-rest_is_blank-clause-refused
 returns-in-Err-rest_is_blank-clause-refused g c =

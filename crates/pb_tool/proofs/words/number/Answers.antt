@@ -14,6 +14,6 @@ returns-in-Some-number_within-clause-ok c =
 
 pub returns-clause-err : goal.returns-clause-err
 returns-clause-err c = (
-  c.in_ok-error.ensures.kind,
+  c.in_ok-error.ensures,
   outside c.args.low c.args.high c.in-Some.text.now _ (c.in-Some.ensures ∙ first_value-rows (found_of c.args.given.now) c.args.flag.now) c.in_default-number_within.ensures,
 )
