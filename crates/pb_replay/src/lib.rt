@@ -4,6 +4,7 @@
 mod fault;
 pub mod laws;
 mod numbered;
+mod propagate;
 mod replay;
 mod state;
 mod step;

@@ -1,0 +1,126 @@
+-- The store after a form came, left, or was made empty.
+use Rattle.std.specs.Prelude.{map}
+use Rattle.std.proofs.Common.{◌≡◌, ℕ, ◌+◌, ◌<◌, ◌++◌, ◌∷◌, [], List, Vec, Global, refl, sym, ◌∙◌, ap, subst, arith, inl, inr, length, get_or, take, set, length-set, length-append, get_or-set_same, get_or-set_other, zero, suc}
+use Rattle.std.proofs.lemmas.Bool.{cases_eq, cases_lt}
+use Rattle.std.proofs.lemmas.List.{map-append, length-map, take_more, take_all, length-take-le, get_or_append_left, map-set}
+use Rattle.std.proofs.lemmas.List.Elements.{All-push, All-set, All-take}
+use Rattle.pb_replay.specs.declared.propagate.term.Term.{Term}
+use Rattle.pb_replay.specs.declared.propagate.term.Occurrence.{Occurrence}
+use Rattle.pb_replay.specs.declared.propagate.kept.Kept.{Kept}
+use Rattle.pb_replay.specs.Engine.Lists.{Shape, AreInside}
+use Rattle.pb_replay.specs.Engine.Fields.{shapes_of, kept_shape, spots_of, entries_of}
+use Rattle.pb_replay.specs.Engine.Links.{terms_at, IsLinked, IsStored, cut}
+use Rattle.pb_replay.proofs.Engine.Gets.{last-is}
+use Rattle.pb_replay.proofs.Engine.Places.{entries-length}
+use Rattle.pb_replay.proofs.Engine.Links.{cut-length}
+use Rattle.pb_replay.proofs.Engine.Storages.{linked-named, link-start, link-end, link-vacant, cut-all}
+
+pub entered-stored : (keep : List Kept) (k : Kept) (sp : List (Vec ℕ Global)) (v : Vec ℕ Global) (occ occ' : List (Vec Occurrence Global)) (n form : ℕ) (terms : List Term) →
+    form ≡ length keep → terms ≡ k.terms.items → length occ' ≡ length occ → length v.items ≡ length terms → AreInside n k.terms.items →
+    ((base : List Shape) (others : List (List ℕ)) → form < length base → terms_at base form ≡ terms → length others ≡ form → IsLinked (cut base form 0) (others ++ [] ∷ []) (entries_of occ) → IsLinked (cut base form (length terms)) (others ++ v.items ∷ []) (entries_of occ')) →
+    IsStored (shapes_of keep) (spots_of sp) (entries_of occ) n → IsStored (shapes_of (keep ++ (k ∷ []))) (spots_of (sp ++ (v ∷ []))) (entries_of occ') n
+entered-stored keep k sp v occ occ' n form terms form_is terms_is sizes count inside link old =
+    let forms = shapes_of keep in
+    let x : Shape = kept_shape k in
+    let base = forms ++ (x ∷ []) in
+    let forms_size : length forms ≡ length keep = length-map keep kept_shape in
+    let long : length base ≡ length forms + 1 = length-append forms (x ∷ []) in
+    let at : form ≡ length forms = omega (arith, form_is, forms_size) in
+    let form_in : form < length base = omega (arith, at, long) in
+    let terms_here : terms_at base form ≡ terms = ap (λ (f : Shape). f.terms) (last-is forms x (record { terms = []; degree = 0 }) form at) ∙ sym terms_is in
+    let others_size : length (spots_of sp) ≡ form = old.whole.sizes ∙ sym at in
+    let start : IsLinked (cut base form 0) (spots_of sp ++ ([] ∷ [])) (entries_of occ) = rw at (link-start forms (spots_of sp) (entries_of occ) x old.whole) in
+    let done : IsLinked (cut base form (length terms)) (spots_of sp ++ (v.items ∷ [])) (entries_of occ') = link base (spots_of sp) form_in terms_here others_size start in
+    let whole : IsLinked base (spots_of sp ++ (v.items ∷ [])) (entries_of occ') = rw (cut-all base form (length terms) (omega (arith, ap length terms_here))) at done in
+    let forms_more : shapes_of (keep ++ (k ∷ [])) ≡ base = map-append kept_shape keep (k ∷ []) in
+    let spots_more : spots_of (sp ++ (v ∷ [])) ≡ spots_of sp ++ (v.items ∷ []) = map-append (λ (w : Vec ℕ Global). w.items) sp (v ∷ []) in
+    rw (forms_more, spots_more) (record {
+      whole = whole;
+      named = linked-named base (spots_of sp ++ (v.items ∷ [])) (entries_of occ') whole;
+      places = omega (arith, old.places, sizes, entries-length occ, entries-length occ');
+      inside = All-push (λ (f : Shape). AreInside n f.terms) forms x old.inside inside;
+      rooms = λ s less. elim (cases_lt s (length forms)) [
+        | inl before ↦
+            ap length (get_or_append_left (spots_of sp) (v.items ∷ []) [] s (omega (arith, before, old.whole.sizes)))
+            ∙ old.rooms s before ∙ sym (ap (λ (f : Shape). length f.terms) (get_or_append_left forms (x ∷ []) (record { terms = []; degree = 0 }) s before))
+        | inr after ↦
+            let here : s ≡ length forms = omega (arith, after, less, long) in
+            let mine : length (get_or (spots_of sp ++ (v.items ∷ [])) s []) ≡ length terms = ap length (last-is (spots_of sp) v.items [] s (omega (arith, here, old.whole.sizes))) ∙ count in
+            let its : length (terms_at base s) ≡ length terms = ap (λ (f : Shape). length f.terms) (last-is forms x (record { terms = []; degree = 0 }) s here) ∙ ap length (sym terms_is) in
+            mine ∙ sym its
+      ];
+    })
+
+split-last : {X : Type 0} (xs : List X) (n : ℕ) (d : X) → length xs ≡ n + 1 → xs ≡ take n xs ++ (get_or xs n d ∷ [])
+split-last xs n d h = sym (take_all (n + 1) xs (omega (arith, h))) ∙ take_more xs n d (omega (arith, h))
+
+get-take_front : {X : Type 0} (xs : List X) (n s : ℕ) (d : X) → s < n → get_or (take n xs) s d ≡ get_or xs s d
+get-take_front [] zero s d h = absurd (omega (arith, h))
+get-take_front [] (suc n) s d h = refl
+get-take_front (x ∷ xs) zero s d h = absurd (omega (arith, h))
+get-take_front (x ∷ xs) (suc n) zero d h = refl
+get-take_front (x ∷ xs) (suc n) (suc s) d h = get-take_front xs n s d (omega (arith, h))
+
+pub left-stored : (keep : List Kept) (sp sp0 : List (Vec ℕ Global)) (occ occ0 : List (Vec Occurrence Global)) (n number : ℕ) → length keep ≡ number + 1 → length occ ≡ length occ0 →
+    ((s : ℕ) → length (get_or (spots_of sp) s []) ≡ length (get_or (spots_of sp0) s [])) → IsLinked (cut (shapes_of keep) number 0) (spots_of sp) (entries_of occ) → IsStored (shapes_of keep) (spots_of sp0) (entries_of occ0) n →
+    IsStored (shapes_of (take number keep)) (spots_of (take number sp)) (entries_of occ) n
+left-stored keep sp sp0 occ occ0 n number count sizes rooms linked old =
+    let forms = shapes_of keep in
+    let front = take number forms in
+    let e : Shape = record { terms = []; degree = 0 } in
+    let forms_size : length forms ≡ number + 1 = length-map keep kept_shape ∙ count in
+    let spots_size : length (spots_of sp) ≡ number + 1 = omega (arith, linked.sizes, cut-length forms number 0, forms_size) in
+    let front_size : length front ≡ number = length-take-le number forms (omega (arith, forms_size)) in
+    let spots_front : length (take number (spots_of sp)) ≡ number = length-take-le number (spots_of sp) (omega (arith, spots_size)) in
+    let forms_split = split-last forms number e forms_size in
+    let spots_split = split-last (spots_of sp) number [] spots_size in
+    let split : IsLinked (cut (front ++ (get_or forms number e ∷ [])) number 0) (take number (spots_of sp) ++ (get_or (spots_of sp) number [] ∷ [])) (entries_of occ) =
+    subst (λ xs. IsLinked (cut xs number 0) (take number (spots_of sp) ++ (get_or (spots_of sp) number [] ∷ [])) (entries_of occ)) forms_split (subst (λ ys. IsLinked (cut forms number 0) ys (entries_of occ)) spots_split linked) in
+    let at_end : IsLinked (cut (front ++ (get_or forms number e ∷ [])) (length front) 0) (take number (spots_of sp) ++ (get_or (spots_of sp) number [] ∷ [])) (entries_of occ) = rw front_size split in
+    let whole : IsLinked front (take number (spots_of sp)) (entries_of occ) = link-end front (take number (spots_of sp)) (entries_of occ) (get_or forms number e) (get_or (spots_of sp) number []) (omega (arith, front_size, spots_front)) at_end in
+    let forms_less : shapes_of (take number keep) ≡ front = map-take kept_shape number keep in
+    let spots_less : spots_of (take number sp) ≡ take number (spots_of sp) = map-take (λ (w : Vec ℕ Global). w.items) number sp in
+    rw (forms_less, spots_less) (record {
+      whole = whole;
+      named = linked-named front (take number (spots_of sp)) (entries_of occ) whole;
+      places = omega (arith, old.places, sizes, entries-length occ, entries-length occ0);
+      inside = All-take (λ (f : Shape). AreInside n f.terms) number forms old.inside;
+      rooms = λ s less.
+          let before : s < number = omega (arith, less, front_size) in
+          ap length (get-take_front (spots_of sp) number s [] before) ∙ rooms s ∙ old.rooms s (omega (arith, before, forms_size)) ∙ sym (ap (λ (f : Shape). length f.terms) (get-take_front forms number s e before));
+    })
+  where
+    map-take : {X Y : Type 0} (f : X → Y) (m : ℕ) (xs : List X) → map f (take m xs) ≡ take m (map f xs)
+    map-take f zero [] = refl
+    map-take f (suc m) [] = refl
+    map-take f zero (x ∷ xs) = refl
+    map-take f (suc m) (x ∷ xs) = ap (λ ys. f x ∷ ys) (map-take f m xs)
+
+pub vacated-stored : (keep : List Kept) (k : Kept) (sp sp0 : List (Vec ℕ Global)) (v : Vec ℕ Global) (occ occ0 : List (Vec Occurrence Global)) (n form : ℕ) → form < length keep → k.terms.items ≡ [] → v.items ≡ [] → length occ ≡ length occ0 →
+    ((s : ℕ) → length (get_or (spots_of sp) s []) ≡ length (get_or (spots_of sp0) s [])) → IsLinked (cut (shapes_of keep) form 0) (spots_of sp) (entries_of occ) → IsStored (shapes_of keep) (spots_of sp0) (entries_of occ0) n →
+    IsStored (shapes_of (set keep form k)) (spots_of (set sp form v)) (entries_of occ) n
+vacated-stored keep k sp sp0 v occ occ0 n form inside empty no_spots sizes rooms linked old =
+    let forms = shapes_of keep in
+    let e : Shape = record { terms = []; degree = 0 } in
+    let forms_size : length forms ≡ length keep = length-map keep kept_shape in
+    let here : form < length forms = omega (arith, inside, forms_size) in
+    let spots_size : length (spots_of sp) ≡ length forms = omega (arith, linked.sizes, cut-length forms form 0) in
+    let forms_set : shapes_of (set keep form k) ≡ set forms form (kept_shape k) = map-set kept_shape keep form k in
+    let spots_set : spots_of (set sp form v) ≡ set (spots_of sp) form [] = map-set (λ (w : Vec ℕ Global). w.items) sp form v ∙ ap (λ xs. set (spots_of sp) form xs) no_spots in
+    let whole = link-vacant forms (spots_of sp) (entries_of occ) form (kept_shape k) here empty linked in
+    rw (forms_set, spots_set) (record {
+      whole = whole;
+      named = linked-named (set forms form (kept_shape k)) (set (spots_of sp) form []) (entries_of occ) whole;
+      places = omega (arith, old.places, sizes, entries-length occ, entries-length occ0);
+      inside = All-set (λ (f : Shape). AreInside n f.terms) forms form (kept_shape k) (none_inside k.terms.items empty) old.inside;
+      rooms = λ s less. elim (cases_eq s form) [
+        | inl same ↦ rw same (ap length (get_or-set_same (spots_of sp) form [] [] (omega (arith, here, spots_size))) ∙ sym (ap (λ (f : Shape). length f.terms) (get_or-set_same forms form (kept_shape k) e here) ∙ ap length empty))
+        | inr other ↦ ap length (get_or-set_other (spots_of sp) form s [] [] other) ∙ rooms s ∙ old.rooms s (omega (arith, less, length-set forms form (kept_shape k))) ∙ sym (ap (λ (f : Shape). length f.terms) (get_or-set_other forms form s (kept_shape k) e other))
+      ];
+    })
+  where
+    none_inside : (ts : List Term) → ts ≡ [] → AreInside n ts
+    none_inside ts h i d less = absurd (omega (arith, less, ap length h))
+
+pub take-at : {X : Type 0} (xs ys : List X) (a b : ℕ) → a ≡ b → xs ≡ ys → take a xs ≡ take b ys
+take-at xs ys a b e f = ap (λ n. take n xs) e ∙ ap (take b) f

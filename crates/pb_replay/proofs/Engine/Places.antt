@@ -1,0 +1,136 @@
+-- Entering and leaving, by what the program reads.
+use Rattle.std.specs.Prelude.{Some, slice_get, swap_remove, All}
+use Rattle.std.proofs.Common.{◌≡◌, ℕ, ◌+◌, ◌-◌, ◌*◌, ◌<◌, ◌≤◌, ◌⊎◌, ◌++◌, ◌∷◌, [], List, Vec, Global, refl, sym, ◌∙◌, ap, subst, arith, inl, inr, length, get_or, set, length-set, length-append, get_or-set_same, get_or-set_other}
+use Rattle.std.proofs.lemmas.Bool.{cases_eq, cases_lt}
+use Rattle.std.proofs.lemmas.List.{get_or_default, map-set, length-map, get_or-map, set_past}
+use Rattle.std.proofs.lemmas.Option.{slice_get-get_or, slice_get_within, get_or_from_slice_get}
+use Rattle.pb_replay.specs.declared.propagate.term.Term.{Term}
+use Rattle.pb_replay.specs.declared.propagate.term.Occurrence.{Occurrence}
+use Rattle.pb_replay.specs.Engine.Lists.{Shape, AreInside}
+use Rattle.pb_replay.specs.Engine.Counts.{place}
+use Rattle.pb_replay.specs.Engine.Fields.{entries_of, spots_of}
+use Rattle.pb_replay.specs.Engine.Links.{terms_at, Moved, none, last, IsLinked, cut}
+use Rattle.pb_replay.proofs.Engine.Gets.{get-push_same, get-push_other, last-is, not_last}
+use Rattle.pb_replay.proofs.Engine.Crosses.{Same}
+use Rattle.pb_replay.proofs.Engine.Links.{link-next}
+use Rattle.pb_replay.proofs.Engine.Unlinks.{swap-here, swap-length, unlink-next, named-spot, named-entry}
+use Rattle.pb_replay.specs.declared.propagate.kept.Kept.{Kept}
+use Rattle.pb_replay.specs.Engine.Fields.{shapes_of, kept_shape}
+use Rattle.pb_replay.proofs.Engine.Links.{cut-length}
+use Rattle.pb_replay.proofs.Engine.Looks.{shape-at, term-inside}
+use Rattle.pb_replay.proofs.Engine.Puts.{entries-at, place-inside}
+
+pub entries-length : (occ : List (Vec Occurrence Global)) → length (entries_of occ) ≡ length occ
+entries-length occ = length-map occ (λ (v : Vec Occurrence Global). v.items)
+
+pub link-by : (base : List Shape) (others : List (List ℕ)) (occ : List (Vec Occurrence Global)) (form i : ℕ) (terms : List Term) (d : Term) (p : ℕ) (idx v0 v1 : Vec Occurrence Global) (spots spots' : List ℕ) (spot : ℕ) →
+    form < length base → terms_at base form ≡ terms → length others ≡ form → i < length terms → p ≡ place (get_or terms i d).literal → p < length occ → idx ≡ get_or occ p idx → spot ≡ length idx.items → v0 ≡ get_or occ p v0 →
+    v1.items ≡ v0.items ++ (record { form = form; index = i; coefficient = (get_or terms i d).coefficient } ∷ []) → spots' ≡ spots ++ (spot ∷ []) → length spots ≡ i →
+    IsLinked (cut base form i) (others ++ spots ∷ []) (entries_of occ) → IsLinked (cut base form (i + 1)) (others ++ spots' ∷ []) (entries_of (set occ p v1))
+link-by base others occ form i terms d p idx v0 v1 spots spots' spot inside same count within at room index_is spot_is value pushed longer size old =
+    let t : Term = get_or terms i d in
+    let e : Occurrence = record { form = form; index = i; coefficient = t.coefficient } in
+    let within_base : i < length (terms_at base form) = omega (arith, within, ap length same) in
+    let is : t ≡ get_or (terms_at base form) i t = rw same (get_or_default terms i d t within) in
+    let es_v0 = entries-at occ p p v0 room value refl in
+    let es_idx = entries-at occ p p idx room index_is refl in
+    let room_place : place t.literal < length (entries_of occ) = omega (arith, room, at, entries-length occ) in
+    let grown : entries_of (set occ p v1) ≡ set (entries_of occ) (place t.literal) (get_or (entries_of occ) (place t.literal) [] ++ (e ∷ [])) =
+    map-set (λ (v : Vec Occurrence Global). v.items) occ p v1 ∙ ap (λ xs. set (entries_of occ) p xs) (pushed ∙ ap (λ xs. xs ++ (e ∷ [])) (sym es_v0)) ∙ ap (λ q. set (entries_of occ) q (get_or (entries_of occ) q [] ++ (e ∷ []))) at in
+    let those : get_or (others ++ spots' ∷ []) form [] ≡ spots' = last-is others spots' [] form (sym count) in
+    let spot_now : slice_get (get_or (others ++ spots' ∷ []) form []) i ≡ Some (length (get_or (entries_of occ) (place t.literal) [])) =
+    ap (λ (xs : List ℕ). slice_get xs i) (those ∙ longer) ∙ get-push_same spots i spot (sym size) ∙ ap (λ n. Some n) (spot_is ∙ ap length (sym es_idx) ∙ ap (λ q. length (get_or (entries_of occ) q [])) at) in
+    link-next base (others ++ spots ∷ []) (others ++ spots' ∷ []) (entries_of occ) (entries_of (set occ p v1)) form i t e inside within_base is room_place refl refl refl grown spot_now
+    (λ s j n. agree s j n (cases_eq s form))
+    (omega (arith, length-append others (spots ∷ []), length-append others (spots' ∷ [])))
+    old
+  where
+    agree : (s j : ℕ) → (Same s j form i → ⊥) → (s ≡ form) ⊎ (s ≡ form → ⊥) → slice_get (get_or (others ++ spots' ∷ []) s []) j ≡ slice_get (get_or (others ++ spots ∷ []) s []) j
+    agree s j n (inr other) = ap (λ (xs : List ℕ). slice_get xs j) (not_last others spots' spots [] s (λ h. other (h ∙ count)))
+    agree s j n (inl here) =
+        let here_count : s ≡ length others = here ∙ sym count in
+        ap (λ (xs : List ℕ). slice_get xs j) (last-is others spots' [] s here_count ∙ longer) ∙ get-push_other spots j spot (λ h. n (here, h ∙ size)) ∙ sym (ap (λ (xs : List ℕ). slice_get xs j) (last-is others spots [] s here_count))
+
+-- an entry is taken out
+pub taken-lists : (occ : List (Vec Occurrence Global)) (p q : ℕ) (v0 v1 : Vec Occurrence Global) (e : Occurrence) → p < length occ → v0 ≡ get_or occ p v0 → e ≡ get_or v0.items q e → v1.items ≡ swap_remove v0.items q e → (x : Occurrence) × (x ≡ get_or (get_or (entries_of occ) p []) q x) × (entries_of (set occ p v1) ≡ set (entries_of occ) p (swap_remove (get_or (entries_of occ) p []) q x))
+taken-lists occ p q v0 v1 e room value item gone =
+    let es = entries-at occ p p v0 room value refl in
+    (e, rw es item, map-set (λ (v : Vec Occurrence Global). v.items) occ p v1 ∙ ap (λ xs. set (entries_of occ) p xs) (gone ∙ ap (λ xs. swap_remove xs q e) (sym es)))
+
+pub taken-last : (occ : List (Vec Occurrence Global)) (p q : ℕ) (v0 v1 : Vec Occurrence Global) (e : Occurrence) (spots : List (List ℕ)) → p < length occ → v0 ≡ get_or occ p v0 → v1.items ≡ swap_remove v0.items q e → q < length (get_or (entries_of occ) p []) → length v1.items ≤ q → Moved (get_or (entries_of occ) p []) q spots spots
+taken-last occ p q v0 v1 e spots room value gone inside short =
+    let es = entries-at occ p p v0 room value refl in
+    let inside_v0 : q < length v0.items = omega (arith, inside, ap length es) in
+    none (omega (arith, inside, ap length es, swap-length v0.items q e inside_v0, ap length gone, short))
+
+pub taken-moved : (occ : List (Vec Occurrence Global)) (p q : ℕ) (v0 v1 : Vec Occurrence Global) (e m : Occurrence) → p < length occ → v0 ≡ get_or occ p v0 → v1.items ≡ swap_remove v0.items q e → q < length (get_or (entries_of occ) p []) → q < length v1.items → m ≡ get_or v1.items q m →
+    (q + 1 < length (get_or (entries_of occ) p [])) × (slice_get (get_or (entries_of occ) p []) (length (get_or (entries_of occ) p []) - 1) ≡ Some m)
+taken-moved occ p q v0 v1 e m room value gone inside more item =
+    let es = entries-at occ p p v0 room value refl in
+    let inside_v0 : q < length v0.items = omega (arith, inside, ap length es) in
+    let beyond : q + 1 < length v0.items = omega (arith, swap-length v0.items q e inside_v0, ap length gone, more) in
+    let last_at : slice_get v0.items (length v0.items - 1) ≡ Some (get_or v0.items (length v0.items - 1) m) = slice_get-get_or v0.items (length v0.items - 1) m (omega (arith, beyond)) in
+    let here = swap-here v0.items q e (get_or v0.items (length v0.items - 1) m) beyond last_at in
+    let read : get_or v1.items q m ≡ get_or v0.items (length v0.items - 1) m = ap (λ (xs : List Occurrence). get_or xs q m) gone ∙ get_or_from_slice_get (swap_remove v0.items q e) q (get_or v0.items (length v0.items - 1) m) m here in
+    let is : m ≡ get_or v0.items (length v0.items - 1) m = item ∙ read in
+    (rw es beyond, rw es (last_at ∙ ap (λ x. Some x) (sym is)))
+
+pub spots-moved : (spots : List (Vec ℕ Global)) (es : List Occurrence) (q : ℕ) (m : Occurrence) (w0 w1 : Vec ℕ Global) → m.form < length spots → w0 ≡ get_or spots m.form w0 → w1.items ≡ set w0.items m.index q → q + 1 < length es → slice_get es (length es - 1) ≡ Some m → Moved es q (spots_of spots) (spots_of (set spots m.form w1))
+spots-moved spots es q m w0 w1 room value put more at =
+    let those : get_or (spots_of spots) m.form [] ≡ w0.items = get_or-map (λ (v : Vec ℕ Global). v.items) spots m.form w0 [] room ∙ ap (λ (v : Vec ℕ Global). v.items) (sym value) in
+    let shape : spots_of (set spots m.form w1) ≡ set (spots_of spots) m.form (set (get_or (spots_of spots) m.form []) m.index q) =
+    map-set (λ (v : Vec ℕ Global). v.items) spots m.form w1 ∙ ap (λ xs. set (spots_of spots) m.form xs) (put ∙ ap (λ (xs : List ℕ). set xs m.index q) (sym those)) in
+    rw shape (last m more at)
+
+pub set-read : {X : Type 0} (xs : List X) (p : ℕ) (y z : X) → p < length xs → z ≡ get_or (set xs p y) p z → z ≡ y
+set-read xs p y z room is = is ∙ get_or-set_same xs p y z room
+
+pub spots-read : (spots : List (Vec ℕ Global)) (s i : ℕ) (w0 : Vec ℕ Global) → s < length spots → w0 ≡ get_or spots s w0 → i < length (get_or (spots_of spots) s []) → i < length w0.items
+spots-read spots s i w0 room value h =
+    let those : get_or (spots_of spots) s [] ≡ w0.items = get_or-map (λ (v : Vec ℕ Global). v.items) spots s w0 [] room ∙ ap (λ (v : Vec ℕ Global). v.items) (sym value) in
+    omega (arith, h, ap length those)
+
+-- what a term's removal needs and does
+pub record UnlinkRead (base : List Shape) (spots : List (List ℕ)) (lists : List (List Occurrence)) (form j q p : ℕ) : Type 0 where
+  pub spot_in : q < length (get_or lists p [])
+  pub named : (e : Occurrence) → slice_get (get_or lists p []) (length (get_or lists p []) - 1) ≡ Some e → (e.form < length spots) × (e.index < length (get_or spots e.form []))
+  pub next : (spots' : List (List ℕ)) (lists' : List (List Occurrence)) → ((e : Occurrence) × (e ≡ get_or (get_or lists p []) q e) × (lists' ≡ set lists p (swap_remove (get_or lists p []) q e))) → Moved (get_or lists p []) q spots spots' → IsLinked (cut base form j) spots' lists'
+
+pub unlink-read : (keep keep' : List Kept) (sp : List (Vec ℕ Global)) (occ : List (Vec Occurrence Global)) (n form left j : ℕ) (k : Kept) (t : Term) (w : Vec ℕ Global) (q p : ℕ) →
+    keep' ≡ keep → left ≡ j + 1 → form < length keep → k ≡ get_or keep' form k → left ≤ length (terms_at (shapes_of keep) form) → t ≡ get_or k.terms.items j t → w ≡ get_or sp form w → length (get_or (spots_of sp) form []) ≡ length (terms_at (shapes_of keep) form) → q ≡ get_or w.items j q → p ≡ place t.literal →
+    All (λ f. AreInside n f.terms) (shapes_of keep) → length occ ≡ 2 * n → IsLinked (cut (shapes_of keep) form left) (spots_of sp) (entries_of occ) → UnlinkRead (shapes_of keep) (spots_of sp) (entries_of occ) form j q p
+unlink-read keep keep' sp occ n form left j k t w q p same count inside kept_is most item spots_is rooms spot_is place_is all places old =
+    let base = shapes_of keep in
+    let kept_here : k ≡ get_or keep form k = rw same at kept_is in
+    let inside_base : form < length base = omega (arith, inside, length-map keep kept_shape) in
+    let within : j < length (terms_at base form) = omega (arith, most, count) in
+    let those : terms_at base form ≡ k.terms.items = ap (λ (f : Shape). f.terms) (shape-at keep form k inside kept_here (record { terms = []; degree = 0 })) in
+    let is : t ≡ get_or (terms_at base form) j t = rw those item in
+    let inside_sp : form < length sp = omega (arith, old.sizes, cut-length base form left, inside_base, length-map sp (λ (v : Vec ℕ Global). v.items)) in
+    let spots_here : get_or (spots_of sp) form [] ≡ w.items = get_or-map (λ (v : Vec ℕ Global). v.items) sp form w [] inside_sp ∙ ap (λ (v : Vec ℕ Global). v.items) (sym spots_is) in
+    let within_w : j < length w.items = omega (arith, within, rooms, ap length spots_here) in
+    let spot : slice_get (get_or (spots_of sp) form []) j ≡ Some q = ap (λ (xs : List ℕ). slice_get xs j) spots_here ∙ slice_get-get_or w.items j q within_w ∙ ap (λ x. Some x) (sym spot_is) in
+    let linked : IsLinked (cut base form (j + 1)) (spots_of sp) (entries_of occ) = subst (λ x. IsLinked (cut base form x) (spots_of sp) (entries_of occ)) count old in
+    let variable : t.literal.variable < n = term-inside keep n form k k.terms.items j t inside kept_here refl (omega (arith, within, ap length those)) item all in
+    let room : place t.literal < length (entries_of occ) = omega (arith, place-inside t.literal n variable, places, entries-length occ) in
+    let entry = named-entry base (spots_of sp) (entries_of occ) form j q t inside_base within is spot linked in
+    rw place_is (record {
+      spot_in = slice_get_within (get_or (entries_of occ) (place t.literal) []) q entry.entry entry.is;
+      named = λ e h. named-spot (cut base form (j + 1)) (spots_of sp) (entries_of occ) (place t.literal) (length (get_or (entries_of occ) (place t.literal) []) - 1) e h linked;
+      next = λ spots' lists' taken moved. unlink-next base (spots_of sp) spots' (entries_of occ) lists' form j q t taken.0 inside_base within is spot room taken.1 taken.2 moved linked;
+    })
+
+-- a move leaves the sizes as they were
+pub moved-rooms : (es : List Occurrence) (q : ℕ) (spots spots' : List (List ℕ)) → Moved es q spots spots' → (s : ℕ) → length (get_or spots' s []) ≡ length (get_or spots s [])
+moved-rooms es q spots _ (none end) s = refl
+moved-rooms es q spots _ (last m more at) s = elim (cases_eq s m.form) [
+  | inr other ↦ ap length (get_or-set_other spots m.form s (set (get_or spots m.form []) m.index q) [] other)
+  | inl here ↦ elim (cases_lt m.form (length spots)) [
+    | inl inside ↦ rw here (ap length (get_or-set_same spots m.form (set (get_or spots m.form []) m.index q) [] inside) ∙ length-set (get_or spots m.form []) m.index q)
+    | inr past ↦ ap (λ (xs : List (List ℕ)). length (get_or xs s [])) (set_past spots m.form (set (get_or spots m.form []) m.index q) past)
+  ]
+]
+
+pub taken-length : (occ occ' : List (Vec Occurrence Global)) (p q : ℕ) → ((e : Occurrence) × (e ≡ get_or (get_or (entries_of occ) p []) q e) × (entries_of occ' ≡ set (entries_of occ) p (swap_remove (get_or (entries_of occ) p []) q e))) → length occ' ≡ length occ
+taken-length occ occ' p q taken =
+    omega (arith, entries-length occ, entries-length occ', ap length taken.2, length-set (entries_of occ) p (swap_remove (get_or (entries_of occ) p []) q taken.0))

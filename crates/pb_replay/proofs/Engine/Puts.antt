@@ -1,0 +1,96 @@
+use Rattle.std.specs.Prelude.{All, Bool, true, false, if◌then◌else◌}
+use Rattle.std.proofs.Common.{◌≡◌, ℕ, ◌+◌, ◌-◌, ◌*◌, ◌^◌, ◌<◌, ◌≤◌, ◌++◌, ◌∷◌, [], List, sym, ◌∙◌, ap, subst, arith, length, get_or, set, drop, min, length-append, length-set, Vec, Global}
+use Rattle.std.proofs.lemmas.List.{drop_more, drop_all, get_or-map, length-map}
+use Rattle.std.proofs.lemmas.List.Sums.{sum_by_push}
+use Rattle.pb_replay.specs.declared.numbered.NumberedLiteral.{NumberedLiteral}
+use Rattle.pb_replay.specs.declared.propagate.term.Occurrence.{Occurrence}
+use Rattle.pb_replay.specs.Engine.Lists.{Shape, negation}
+use Rattle.pb_replay.specs.Engine.Counts.{place, IsCounted, IsTidy, IsPaid, IsAbsent, spent}
+use Rattle.pb_replay.specs.Engine.Fields.{entries_of}
+use Rattle.pb_replay.proofs.Engine.Runs.{Counted-fits, Counted-lower, Tidy-lower, absent-push}
+
+-- the first j entries were taken from the open sums
+pub record IsPutting (forms : List Shape) (es : List Occurrence) (opens0 cands : List ℕ) (list : List NumberedLiteral) (work0 : List ℕ) (next visits0 : ℕ) (opens work : List ℕ) (visits j : ℕ) : Type 0 where
+  pub counted : IsCounted forms opens list (drop j es)
+  pub tidy : (busy : ℕ) → IsTidy forms opens0 cands list work0 next busy → IsTidy forms opens cands list work next busy
+  pub longer : (s : ℕ) → IsAbsent work 0 s → IsAbsent work0 0 s
+  pub sizes : length opens ≡ length forms
+  pub grown : length work ≡ length work0 + j
+  pub upper : visits ≤ visits0 + j
+  pub rising : visits0 ≤ visits
+
+pub Putting-start : (forms : List Shape) (es : List Occurrence) (opens cands : List ℕ) (list : List NumberedLiteral) (work : List ℕ) (next visits : ℕ) → IsCounted forms opens list es → length opens ≡ length forms → IsPutting forms es opens cands list work next visits opens work visits 0
+Putting-start forms es opens cands list work next visits c s = record {
+  counted = c;
+  tidy = λ busy t. t;
+  longer = λ s gone. gone;
+  sizes = s;
+  grown = omega arith;
+  upper = omega arith;
+  rising = omega arith;
+}
+
+pub Putting-fits : (forms : List Shape) (es : List Occurrence) (opens0 cands : List ℕ) (list : List NumberedLiteral) (work0 : List ℕ) (next visits0 : ℕ) (opens work : List ℕ) (visits j : ℕ) (d : Occurrence) (f : Shape) → j < length es → (get_or es j d).form < length forms → IsPutting forms es opens0 cands list work0 next visits0 opens work visits j → (get_or es j d).coefficient ≤ get_or opens (get_or es j d).form 0
+Putting-fits forms es opens0 cands list work0 next visits0 opens work visits j d f inside named p =
+    Counted-fits forms opens list (get_or es j d) (drop (j + 1) es) f named (subst (IsCounted forms opens list) (drop_more es j d inside) p.counted)
+
+pub Putting-next : (forms : List Shape) (es : List Occurrence) (opens0 cands : List ℕ) (list : List NumberedLiteral) (work0 : List ℕ) (next visits0 : ℕ) (opens work : List ℕ) (visits j : ℕ) (opens' work' : List ℕ) (visits' : ℕ) (d : Occurrence) → j < length es → (get_or es j d).form < length forms → next ≤ length work0 → opens' ≡ set opens (get_or es j d).form (get_or opens (get_or es j d).form 0 - (get_or es j d).coefficient) → work' ≡ work ++ ((get_or es j d).form ∷ []) → visits' ≡ min (visits + 1) (2 ^ 64 - 1) → visits ≤ visits' → IsPutting forms es opens0 cands list work0 next visits0 opens work visits j → IsPutting forms es opens0 cands list work0 next visits0 opens' work' visits' (j + 1)
+Putting-next forms es opens0 cands list work0 next visits0 opens work visits j opens' work' visits' d inside named within is longer seen small p =
+    let e = get_or es j d in
+    let room : e.form < length opens = omega (arith, named, p.sizes) in
+    record {
+      counted = Counted-lower forms opens opens' list e (drop (j + 1) es) is room (subst (IsCounted forms opens list) (drop_more es j d inside) p.counted);
+      tidy = λ busy t. Tidy-lower forms opens opens' cands list work work' next busy e.form (get_or opens e.form 0 - e.coefficient) is longer named (omega (arith, p.grown, within)) (p.tidy busy t);
+      longer = λ s gone. p.longer s (absent-push work e.form 0 s (let from = rw longer at gone in from));
+      sizes = ap length is ∙ length-set opens e.form (get_or opens e.form 0 - e.coefficient) ∙ p.sizes;
+      grown = omega (arith, ap length longer, length-append work (e.form ∷ []), p.grown);
+      upper = least_upper visits visits' visits0 j seen p.upper;
+      rising = omega (arith, small, p.rising);
+    }
+  where
+    least_upper : (v w a i : ℕ) → w ≡ min (v + 1) (2 ^ 64 - 1) → v ≤ a + i → w ≤ a + (i + 1)
+    least_upper v w a i e h = omega arith
+
+pub Putting-counted : (forms : List Shape) (es : List Occurrence) (opens0 cands : List ℕ) (list : List NumberedLiteral) (work0 : List ℕ) (next visits0 : ℕ) (opens work : List ℕ) (visits j : ℕ) → length es ≤ j → IsPutting forms es opens0 cands list work0 next visits0 opens work visits j → IsCounted forms opens list []
+Putting-counted forms es opens0 cands list work0 next visits0 opens work visits j all p = subst (IsCounted forms opens list) (drop_all j es all) p.counted
+
+pub Putting-paid : (lists : List (List Occurrence)) (forms : List Shape) (opens0 cands : List ℕ) (list longer : List NumberedLiteral) (work0 : List ℕ) (next visits0 : ℕ) (opens work : List ℕ) (visits j : ℕ) (l : NumberedLiteral) → longer ≡ list ++ (l ∷ []) → j ≡ length (get_or lists (place (negation l)) []) → IsPutting forms (get_or lists (place (negation l)) []) opens0 cands longer work0 next visits0 opens work visits j → IsPaid lists list longer cands cands work0 work visits0 visits 0
+Putting-paid lists forms opens0 cands list longer work0 next visits0 opens work visits j l e n p =
+    let more : spent lists longer ≡ spent lists list + length (get_or lists (place (negation l)) []) =
+    ap (spent lists) e ∙ sum_by_push (λ k. length (get_or lists (place (negation k)) [])) list l in
+    record {
+      upper = omega (arith, more, n, p.upper);
+      work = omega (arith, more, n, p.grown);
+      rising = p.rising;
+    }
+
+-- by what the program reads
+pub entries-at : (occ : List (Vec Occurrence Global)) (p q : ℕ) (v : Vec Occurrence Global) → q < length occ → v ≡ get_or occ q v → q ≡ p → get_or (entries_of occ) p [] ≡ v.items
+entries-at occ p q v inside is same =
+    let at : get_or (entries_of occ) q [] ≡ (get_or occ q v).items = get_or-map (λ (w : Vec Occurrence Global). w.items) occ q v [] inside in
+    rw (← same) (at ∙ ap (λ (w : Vec Occurrence Global). w.items) (sym is))
+
+pub Putting-fits_at : (forms : List Shape) (es items : List Occurrence) (opens0 cands : List ℕ) (list : List NumberedLiteral) (work0 : List ℕ) (next visits0 : ℕ) (opens work : List ℕ) (visits j : ℕ) (e : Occurrence) → es ≡ items → e ≡ get_or items j e → j < length items → All (λ x. x.form < length forms) es → IsPutting forms es opens0 cands list work0 next visits0 opens work visits j → e.coefficient ≤ get_or opens e.form 0
+Putting-fits_at forms es items opens0 cands list work0 next visits0 opens work visits j e same is inside named p =
+    let at : e ≡ get_or es j e = rw same is in
+    let inside_es : j < length es = omega (arith, ap length same, inside) in
+    subst (λ (x : Occurrence). x.coefficient ≤ get_or opens x.form 0) (sym at) (Putting-fits forms es opens0 cands list work0 next visits0 opens work visits j e (record { terms = []; degree = 0 }) inside_es (named j e inside_es) p)
+
+pub Putting-next_at : (forms : List Shape) (es items : List Occurrence) (opens0 cands : List ℕ) (list : List NumberedLiteral) (work0 : List ℕ) (next visits0 : ℕ) (opens work : List ℕ) (visits j : ℕ) (opens' work' : List ℕ) (visits' : ℕ) (e : Occurrence) → es ≡ items → e ≡ get_or items j e → j < length items → All (λ x. x.form < length forms) es → next ≤ length work0 → opens' ≡ set opens e.form (get_or opens e.form 0 - e.coefficient) → work' ≡ work ++ (e.form ∷ []) → visits' ≡ min (visits + 1) (2 ^ 64 - 1) → visits ≤ visits' → IsPutting forms es opens0 cands list work0 next visits0 opens work visits j → IsPutting forms es opens0 cands list work0 next visits0 opens' work' visits' (j + 1)
+Putting-next_at forms es items opens0 cands list work0 next visits0 opens work visits j opens' work' visits' e same is inside named within lower longer seen small p =
+    let at : e ≡ get_or es j e = rw same is in
+    let inside_es : j < length es = omega (arith, ap length same, inside) in
+    Putting-next forms es opens0 cands list work0 next visits0 opens work visits j opens' work' visits' e inside_es (named j e inside_es) within
+    (subst (λ (x : Occurrence). opens' ≡ set opens x.form (get_or opens x.form 0 - x.coefficient)) at lower)
+    (subst (λ (x : Occurrence). work' ≡ work ++ (x.form ∷ [])) at longer) seen small p
+
+pub place-inside : (l : NumberedLiteral) (n : ℕ) → l.variable < n → place l < 2 * n
+place-inside l n h = by_sign l.negated l.variable h
+  where
+    by_sign : (b : Bool) (v : ℕ) → v < n → 2 * v + (if b then 1 else 0) < 2 * n
+    by_sign true v h = omega arith
+    by_sign false v h = omega arith
+
+pub place-read : (occ : List (Vec Occurrence Global)) (n : ℕ) (l : NumberedLiteral) (q : ℕ) → l.variable < n → q ≡ place (negation l) → length (entries_of occ) ≡ 2 * n → q < length occ
+place-read occ n l q h e sizes =
+    omega (arith, place-inside (negation l) n h, e, sizes, length-map occ (λ (v : Vec Occurrence Global). v.items))

@@ -1,0 +1,46 @@
+use Rattle.std.specs.Prelude.{All}
+use Rattle.std.proofs.Common.{◌≡◌, ℕ, ◌<◌, ◌∷◌, [], List, refl, arith, length, get_or}
+use Rattle.std.proofs.lemmas.List.Sums.{sum_by-cons}
+use Rattle.pb_replay.specs.declared.propagate.term.Term.{Term}
+use Rattle.pb_replay.specs.Engine.Lists.{Shape, negation, open_part, open_sum, size}
+use Rattle.pb_replay.specs.Engine.Counts.{weight_in, IsAbsent, IsCalm, IsCounted, IsTidy, IsUndone}
+use Rattle.pb_replay.proofs.Engine.Literals.{has-none, open_part-open}
+
+open_sum-empty : (terms : List Term) → open_sum [] terms ≡ size terms
+open_sum-empty [] = refl
+open_sum-empty (t ∷ ts) =
+    let first = open_part-open [] t (has-none (negation t.literal)) in
+    let rest = open_sum-empty ts in
+    let left = sum_by-cons (open_part []) t ts in
+    let right = sum_by-cons (λ (x : Term). x.coefficient) t ts in
+    omega (arith, first, rest, left, right)
+
+-- forms that cannot propagate from the empty list stand aside; all others begin on the work list
+pub record IsEager (forms : List Shape) (work : List ℕ) : Type 0 where
+  pub named : All (λ s. s < length forms) work
+  pub aside : (s : ℕ) (d : Shape) → s < length forms → IsAbsent work 0 s → IsCalm (get_or forms s d) (size (get_or forms s d).terms) 0
+
+-- what a propagation from no literals needs of its beginning holds where each form is as it was made
+pub rest-counted : (forms : List Shape) (opens cands : List ℕ) → IsUndone forms opens cands [] 0 → IsCounted forms opens [] []
+rest-counted forms opens cands u = record {
+  each = λ s d inside.
+      let clean = u.clean s d inside (λ i from less. absurd (omega (arith, less))) in
+      let sum = open_sum-empty (get_or forms s d).terms in
+      let nothing : weight_in s [] ≡ 0 = refl in
+      omega (arith, clean.0, sum, nothing);
+}
+
+pub rest-tidy : (forms : List Shape) (opens cands work : List ℕ) → IsUndone forms opens cands [] 0 → IsEager forms work → IsTidy forms opens cands [] work 0 (length forms)
+rest-tidy forms opens cands work u e = record {
+  calm = λ s d inside idle gone.
+      let clean = u.clean s d inside (λ i from less. absurd (omega (arith, less))) in
+      rw (clean.0, clean.1) (e.aside s d inside gone);
+  passed = λ s d inside k f before within.
+      let clean = u.clean s d inside (λ i from less. absurd (omega (arith, less))) in
+      absurd (omega (arith, clean.1, before));
+  bounded = λ s d inside.
+      let clean = u.clean s d inside (λ i from less. absurd (omega (arith, less))) in
+      omega (arith, clean.1);
+  clean = λ s d inside gone. u.clean s d inside (λ i from less. absurd (omega (arith, less)));
+  named = e.named;
+}

@@ -1,0 +1,347 @@
+-- The engine between two calls: what a call finds, and what it leaves.
+use Rattle.std.specs.Prelude.{All, map, filter, Option, Some, None, slice_get, Contains}
+use Rattle.std.proofs.Common.{◌≡◌, ℕ, zero, suc, ◌+◌, ◌-◌, ◌<◌, ◌≤◌, ◌⊎◌, ◌++◌, ◌∷◌, [], List, Bool, true, false, refl, sym, ◌∙◌, ap, subst, arith, inl, inr, length, get_or, take, set, length-set, length-append}
+use Rattle.std.proofs.lemmas.Bool.{cases_lt, cases_Bool, both_ways}
+use Rattle.std.proofs.lemmas.List.{length-map, map-append, map-set, get_or_append_left, append-nil}
+use Rattle.pb_normal.specs.Form.{Form}
+use Rattle.pb_normal.specs.Rules.{opposite}
+use Rattle.pb_normal.specs.declared.entry.Entry.{Entry}
+use Rattle.pb_replay.specs.declared.propagate.kept.Kept.{Kept}
+use Rattle.pb_replay.specs.Engine.Lists.{Shape, size}
+use Rattle.pb_replay.specs.Engine.Forms.{IsKeptAs}
+use Rattle.pb_replay.specs.Engine.Counts.{IsAbsent, IsCalm, IsUndone}
+use Rattle.pb_replay.specs.Engine.Fields.{shapes_of, kept_shape, HasEntered, IsEmpty}
+use Rattle.pb_replay.specs.Engine.Rest.{IsSlot, AreSlots, AreRising, waits, kept_waits, IsEager, AreAtRest}
+use Rattle.pb_replay.specs.Engine.Live.{Live}
+use Rattle.pb_replay.specs.Propagation.{With}
+use Rattle.pb_replay.proofs.Engine.Rested.{IsEager as IsCalmBut}
+use Rattle.pb_replay.proofs.Engine.Bridge.{AreKept}
+use Rattle.pb_replay.proofs.Engine.Gets.{last-is}
+
+pub record Element {X : Type 0} (xs : List X) (s : ℕ) : Type 0 where
+  pub value : X
+  pub at : (d : X) → get_or xs s d ≡ value
+  pub got : slice_get xs s ≡ Some value
+
+pub element : {X : Type 0} (xs : List X) (s : ℕ) → s < length xs → Element xs s
+element [] s h = absurd (omega (arith, h))
+element (x ∷ xs) zero h = record { value = x; at = λ d. refl; got = refl }
+element (x ∷ xs) (suc s) h =
+    let e = element xs s (omega (arith, h)) in
+    record { value = e.value; at = e.at; got = e.got }
+
+mapped : {X Y : Type 0} (f : X → Y) (xs : List X) (s : ℕ) (d : Y) (e : X) → s < length xs → get_or (map f xs) s d ≡ f (get_or xs s e)
+mapped f [] s d e h = absurd (omega (arith, h))
+mapped f (x ∷ xs) zero d e h = refl
+mapped f (x ∷ xs) (suc s) d e h = mapped f xs s d e (omega (arith, h))
+
+same-lists : (xs ys : List ℕ) → length xs ≡ length ys → ((s : ℕ) → s < length ys → get_or xs s 0 ≡ get_or ys s 0) → xs ≡ ys
+same-lists [] [] e h = refl
+same-lists [] (y ∷ ys) e h = absurd (omega (arith, e))
+same-lists (x ∷ xs) [] e h = absurd (omega (arith, e))
+same-lists (x ∷ xs) (y ∷ ys) e h =
+    let first : x ≡ y = h 0 (omega arith) in
+    let rest = same-lists xs ys (omega (arith, e)) (λ s less. h (suc s) (omega (arith, less))) in
+    rw (first, rest) refl
+
+-- at rest each form is as it was made
+pub rest-undone : (keep : List Kept) (opens cands : List ℕ) → AreAtRest keep opens cands → IsUndone (shapes_of keep) opens cands [] 0
+rest-undone keep opens cands r = record {
+  clean = λ s d less gone.
+      let inside : s < length keep = omega (arith, less, length-map keep kept_shape) in
+      let e = element keep s inside in
+      let k = e.value in
+      let opened : get_or opens s 0 ≡ k.total = ap (λ (xs : List ℕ). get_or xs s 0) r.opened ∙ mapped (λ (x : Kept). x.total) keep s 0 k inside ∙ ap (λ (x : Kept). x.total) (e.at k) in
+      let passed : get_or cands s 0 ≡ 0 = ap (λ (xs : List ℕ). get_or xs s 0) r.passed ∙ mapped (λ (x : Kept). 0) keep s 0 k inside in
+      let shape : get_or (shapes_of keep) s d ≡ kept_shape k = mapped kept_shape keep s d k inside ∙ ap kept_shape (e.at k) in
+      (opened ∙ k.sum ∙ sym (ap (λ (f : Shape). size f.terms) shape), passed);
+  named = λ i d h. absurd (omega (arith, h));
+}
+
+pub undone-rest : (keep : List Kept) (opens cands work : List ℕ) (from : ℕ) → length opens ≡ length keep → length cands ≡ length keep → length work ≤ from → IsUndone (shapes_of keep) opens cands work from → AreAtRest keep opens cands
+undone-rest keep opens cands work from o c all u = record {
+  opened = same-lists opens (map (λ k. k.total) keep) (omega (arith, o, length-map keep (λ (k : Kept). k.total))) (λ s less. (both_at s less).0);
+  passed = same-lists cands (map (λ k. 0) keep) (omega (arith, c, length-map {B = ℕ} keep (λ (k : Kept). 0))) (λ s less. (zero_at s less));
+}
+  where
+    both_at : (s : ℕ) → s < length (map (λ (k : Kept). k.total) keep) → (get_or opens s 0 ≡ get_or (map (λ (k : Kept). k.total) keep) s 0) × (s ≡ s)
+    both_at s less =
+        let inside : s < length keep = omega (arith, less, length-map keep (λ (k : Kept). k.total)) in
+        let e = element keep s inside in
+        let k = e.value in
+        let shape : get_or (shapes_of keep) s (kept_shape k) ≡ kept_shape k = mapped kept_shape keep s (kept_shape k) k inside ∙ ap kept_shape (e.at k) in
+        let clean = u.clean s (kept_shape k) (omega (arith, inside, length-map keep kept_shape)) (λ i after h. absurd (omega (arith, after, h, all))) in
+        (clean.0 ∙ ap (λ (f : Shape). size f.terms) shape ∙ sym k.sum ∙ sym (mapped (λ (x : Kept). x.total) keep s 0 k inside ∙ ap (λ (x : Kept). x.total) (e.at k)), refl)
+
+    zero_at : (s : ℕ) → s < length {A = ℕ} (map (λ (k : Kept). 0) keep) → get_or cands s 0 ≡ get_or {A = ℕ} (map (λ (k : Kept). 0) keep) s 0
+    zero_at s less =
+        let inside : s < length keep = omega (arith, less, length-map {B = ℕ} keep (λ (k : Kept). 0)) in
+        let e = element keep s inside in
+        let clean = u.clean s (kept_shape e.value) (omega (arith, inside, length-map keep kept_shape)) (λ i after h. absurd (omega (arith, after, h, all))) in
+        clean.1 ∙ sym (mapped (λ (x : Kept). 0) keep s 0 e.value inside)
+
+-- a form that does not wait is calm
+pub calm-but : (keep : List Kept) (work : List ℕ) → IsEager keep work → IsCalmBut (shapes_of keep) work
+calm-but keep work e = record {
+  named = λ i d h. let named = e.named i d h in omega (arith, named, length-map keep kept_shape);
+  aside = λ s d less gone.
+      let inside : s < length keep = omega (arith, less, length-map keep kept_shape) in
+      let x = element keep s inside in
+      let k = x.value in
+      let idle : k.eager ≡ false = sym (ap kept_waits x.got) ∙ e.aside s inside gone in
+      let shape : get_or (shapes_of keep) s d ≡ kept_shape k = mapped kept_shape keep s d k inside ∙ ap kept_shape (x.at k) in
+      let calm : IsCalm (kept_shape k) (size (kept_shape k).terms) 0 = rw k.sum at k.aside idle in
+      rw shape calm;
+}
+
+-- only the forms that wait stay on the list
+filter-tail : (p : ℕ → Bool) (x : ℕ) (xs : List ℕ) (s : ℕ) (b : Bool) → p x ≡ b → IsAbsent (filter p (x ∷ xs)) 0 s → IsAbsent (filter p xs) 0 s
+filter-tail p x xs s true e gone i from less at = gone (suc i) (omega arith) (rw e (omega (arith, less))) (rw e at)
+filter-tail p x xs s false e gone i from less at = gone i from (rw e less) (rw e at)
+
+filter-head : (p : ℕ → Bool) (x : ℕ) (xs : List ℕ) (s : ℕ) → p x ≡ true → IsAbsent (filter p (x ∷ xs)) 0 s → x ≡ s → ⊥
+filter-head p x xs s e gone same = gone 0 (omega arith) (rw e (omega arith)) (rw e same)
+
+filter-has : (p : ℕ → Bool) (xs : List ℕ) (s : ℕ) → p s ≡ true → IsAbsent (filter p xs) 0 s → IsAbsent xs 0 s
+filter-has p [] s h gone i from less at = omega (arith, less)
+filter-has p (x ∷ xs) s h gone zero from less at = filter-head p x xs s (ap p at ∙ h) gone at
+filter-has p (x ∷ xs) s h gone (suc i) from less at = filter-has p xs s h (filter-tail p x xs s (p x) refl gone) i (omega arith) (omega (arith, less)) at
+
+filter-all : (P : ℕ → Type 0) (p : ℕ → Bool) (xs : List ℕ) → All P xs → All P (filter p xs)
+filter-all P p [] all = all
+filter-all P p (x ∷ xs) all = by_head (p x) refl (filter-all P p xs (λ i d h. all (suc i) d (omega (arith, h))))
+  where
+    grown : (ys : List ℕ) → All P ys → All P (x ∷ ys)
+    grown ys a zero d h = all 0 d (omega arith)
+    grown ys a (suc i) d h = a i d (omega (arith, h))
+
+    by_head : (b : Bool) → p x ≡ b → All P (filter p xs) → All P (filter p (x ∷ xs))
+    by_head true e a = rw e (grown (filter p xs) a)
+    by_head false e a = rw e a
+
+rising-less : (n m : ℕ) (xs : List ℕ) → m ≤ n → AreRising n xs → AreRising m xs
+rising-less n m [] h r = r
+rising-less n m (x ∷ xs) h r = (omega (arith, h, r.0), r.1)
+
+filter-rising : (p : ℕ → Bool) (n : ℕ) (xs : List ℕ) → AreRising n xs → AreRising n (filter p xs)
+filter-rising p n [] r = r
+filter-rising p n (x ∷ xs) r = by_head (p x) refl (filter-rising p (x + 1) xs r.1)
+  where
+    by_head : (b : Bool) → p x ≡ b → AreRising (x + 1) (filter p xs) → AreRising n (filter p (x ∷ xs))
+    by_head true e a = rw e (r.0, a)
+    by_head false e a = rw e (rising-less (x + 1) n (filter p xs) (omega (arith, r.0)) a)
+
+-- the list without the forms that left
+pub eager-filter : (keep : List Kept) (eager : List ℕ) → IsEager keep eager → IsEager keep (filter (waits keep) eager)
+eager-filter keep eager e = record {
+  named = filter-all (λ s. s < length keep) (waits keep) eager e.named;
+  rising = filter-rising (waits keep) 0 eager e.rising;
+  aside = λ s less gone. elim (cases_Bool (waits keep s)) [
+    | inr idle ↦ idle
+    | inl waiting ↦ absurd (both_ways _ (e.aside s less (filter-has (waits keep) eager s waiting gone)) waiting)
+  ];
+}
+
+-- a form has come
+waits-before : (keep : List Kept) (k : Kept) (s : ℕ) → s < length keep → waits (keep ++ (k ∷ [])) s ≡ waits keep s
+waits-before [] k s h = absurd (omega (arith, h))
+waits-before (x ∷ xs) k zero h = refl
+waits-before (x ∷ xs) k (suc s) h = waits-before xs k s (omega (arith, h))
+
+rising-push : (n : ℕ) (xs : List ℕ) (y : ℕ) → n ≤ y → All (λ s. s < y) xs → AreRising n xs → AreRising n (xs ++ (y ∷ []))
+rising-push n [] y h all r = (h, tt)
+rising-push n (x ∷ xs) y h all r =
+    let less : x < y = all 0 x (omega arith) in
+    (r.0, rising-push (x + 1) xs y (omega (arith, less)) (λ i d k. all (suc i) d (omega (arith, k))) r.1)
+
+absent-front : (xs ys : List ℕ) (s : ℕ) → IsAbsent (xs ++ ys) 0 s → IsAbsent xs 0 s
+absent-front xs ys s gone i from less at = gone i from (omega (arith, less, length-append xs ys)) (get_or_append_left xs ys 0 i less ∙ at)
+
+pub eager-entered : (keep keep' : List Kept) (k : Kept) (eager eager' : List ℕ) (number : ℕ) → keep' ≡ keep ++ (k ∷ []) → number ≡ length keep → eager' ≡ eager ++ filter (waits keep') (number ∷ []) → IsEager keep eager → IsEager keep' eager'
+eager-entered keep keep' k eager eager' number same at more e = rw more (by_head (waits keep' number) refl)
+  where
+    long : length keep' ≡ length keep + 1
+    long = omega (arith, ap length same, length-append keep (k ∷ []))
+
+    idle_before : (s : ℕ) → s < length keep → waits keep' s ≡ waits keep s
+    idle_before s less = ap (λ (xs : List Kept). waits xs s) same ∙ waits-before keep k s less
+
+    below : All (λ s. s < number) eager
+    below i d h = let named = e.named i d h in omega (arith, named, at)
+
+    by_head : (b : Bool) → waits keep' number ≡ b → IsEager keep' (eager ++ filter (waits keep') (number ∷ []))
+    by_head true h = rw h (record {
+      named = λ i d less. elim (cases_lt i (length eager)) [
+        | inl before ↦ let named = e.named i d before in rw (get_or_append_left eager (number ∷ []) d i before) (omega (arith, named, long))
+        | inr after ↦ rw (last-is eager number d i (omega (arith, after, less, length-append eager (number ∷ [])))) (omega (arith, at, long))
+      ];
+      rising = rising-push 0 eager number (omega arith) below e.rising;
+      aside = λ s less gone. elim (cases_lt s (length keep)) [
+        | inl before ↦ idle_before s before ∙ e.aside s before (absent-front eager (number ∷ []) s gone)
+        | inr after ↦
+            let here : s ≡ number = omega (arith, after, less, long, at) in
+            absurd (gone (length eager) (omega arith) (omega (arith, length-append eager (number ∷ []))) (last-is eager number 0 (length eager) refl ∙ sym here))
+      ];
+    })
+    by_head false h = rw (h, append-nil eager) (record {
+      named = λ i d less. let named = e.named i d less in omega (arith, named, long);
+      rising = e.rising;
+      aside = λ s less gone. elim (cases_lt s (length keep)) [
+        | inl before ↦ idle_before s before ∙ e.aside s before gone
+        | inr after ↦
+            let here : s ≡ number = omega (arith, after, less, long, at) in
+            rw here h
+      ];
+    })
+
+pub rest-entered : (f : Form) (keep keep' : List Kept) (opens opens' cands cands' : List ℕ) → HasEntered f keep keep' opens opens' cands cands' → AreAtRest keep opens cands → AreAtRest keep' opens' cands'
+rest-entered f keep keep' opens opens' cands cands' h r = record {
+  opened = h.opened ∙ ap (λ (xs : List ℕ). xs ++ (h.kept.total ∷ [])) r.opened ∙ sym (ap (map (λ k. k.total)) h.keeps ∙ map-append (λ (k : Kept). k.total) keep (h.kept ∷ []));
+  passed = h.candidates ∙ ap (λ (xs : List ℕ). xs ++ (0 ∷ [])) r.passed ∙ sym (ap (map (λ k. 0)) h.keeps ∙ map-append (λ (k : Kept). 0) keep (h.kept ∷ []));
+}
+
+slots-push : (os : List (Option Form)) (xs : List Shape) (f : Form) (x : Shape) → AreSlots os xs → IsKeptAs f x → AreSlots (os ++ (Some f ∷ [])) (xs ++ (x ∷ []))
+slots-push [] [] f x a k = (k, tt)
+slots-push [] (y ∷ ys) f x a k = absurd (let e : true ≡ false = a in cc)
+slots-push (o ∷ os) [] f x a k = absurd (let e : true ≡ false = a in cc)
+slots-push (o ∷ os) (y ∷ ys) f x a k = (a.0, slots-push os ys f x a.1 k)
+
+pub slots-entered : (os : List (Option Form)) (f : Form) (keep keep' : List Kept) (opens opens' cands cands' : List ℕ) → HasEntered f keep keep' opens opens' cands cands' → AreSlots os (shapes_of keep) → AreSlots (os ++ (Some f ∷ [])) (shapes_of keep')
+slots-entered os f keep keep' opens opens' cands cands' h a =
+    rw (h.keeps, map-append kept_shape keep (h.kept ∷ [])) (slots-push os (shapes_of keep) f (kept_shape h.kept) a h.is)
+
+pub slots-length : (os : List (Option Form)) (xs : List Shape) → AreSlots os xs → length xs ≡ length os
+slots-length [] [] a = refl
+slots-length [] (y ∷ ys) a = absurd (let e : true ≡ false = a in cc)
+slots-length (o ∷ os) [] a = absurd (let e : true ≡ false = a in cc)
+slots-length (o ∷ os) (y ∷ ys) a = let rest = slots-length os ys a.1 in omega (arith, rest)
+
+-- the last form has left
+front-of : {X : Type 0} (xs ys : List X) (y : X) → xs ≡ ys ++ (y ∷ []) → take (length xs - 1) xs ≡ ys
+front-of xs ys y e = rw e (front ys y)
+  where
+    front : {X : Type 0} (zs : List X) (z : X) → take (length (zs ++ (z ∷ [])) - 1) (zs ++ (z ∷ [])) ≡ zs
+    front zs z = ap (λ n. take n (zs ++ (z ∷ []))) (count zs z) ∙ drop-end zs z
+      where
+        count : {X : Type 0} (ws : List X) (w : X) → length (ws ++ (w ∷ [])) - 1 ≡ length ws
+        count ws w = omega (arith, length-append ws (w ∷ []))
+
+        drop-end : {X : Type 0} (ws : List X) (w : X) → take (length ws) (ws ++ (w ∷ [])) ≡ ws
+        drop-end [] w = refl
+        drop-end (v ∷ ws) w = ap (λ us. v ∷ us) (drop-end ws w)
+
+pub rest-left : (f : Form) (keep keep' keep'' : List Kept) (opens opens' cands cands' opens1 opens2 cands1 cands2 : List ℕ) → HasEntered f keep keep' opens opens' cands cands' → AreAtRest keep' opens1 cands1 → keep'' ≡ take (length keep' - 1) keep' → opens2 ≡ take (length opens1 - 1) opens1 → cands2 ≡ take (length cands1 - 1) cands1 → (keep'' ≡ keep) × AreAtRest keep'' opens2 cands2
+rest-left f keep keep' keep'' opens opens' cands cands' opens1 opens2 cands1 cands2 h r k o c =
+    let back : keep'' ≡ keep = k ∙ front-of keep' keep h.kept h.keeps in
+    let opened1 : opens1 ≡ map (λ (x : Kept). x.total) keep ++ (h.kept.total ∷ []) = r.opened ∙ ap (map (λ x. x.total)) h.keeps ∙ map-append (λ (x : Kept). x.total) keep (h.kept ∷ []) in
+    let passed1 : cands1 ≡ map (λ (x : Kept). 0) keep ++ (0 ∷ []) = r.passed ∙ ap (map (λ x. 0)) h.keeps ∙ map-append (λ (x : Kept). 0) keep (h.kept ∷ []) in (
+      back,
+      record {
+        opened = o ∙ front-of opens1 (map (λ x. x.total) keep) h.kept.total opened1 ∙ sym (ap (map (λ x. x.total)) back);
+        passed = c ∙ front-of cands1 (map (λ x. 0) keep) 0 passed1 ∙ sym (ap (map (λ x. 0)) back);
+      },
+    )
+
+-- the kept forms and the live ones
+slots-forth : (os : List (Option Form)) (xs : List Shape) → AreSlots os xs → (x : Shape) → Contains xs x → ((f : Form) × Live os f × IsKeptAs f x) ⊎ ((x.terms ≡ []) × (x.degree ≡ 0))
+slots-forth [] [] a x (i, inside, is) = absurd (omega (arith, inside))
+slots-forth [] (y ∷ ys) a x c = absurd (let e : true ≡ false = a in cc)
+slots-forth (o ∷ os) [] a x c = absurd (let e : true ≡ false = a in cc)
+slots-forth (None ∷ os) (y ∷ ys) a x (zero, inside, is) = inr (ap (λ (s : Shape). s.terms) (sym is) ∙ a.0.0, ap (λ (s : Shape). s.degree) (sym is) ∙ a.0.1)
+slots-forth (Some f ∷ os) (y ∷ ys) a x (zero, inside, is) = inl (f, (0, omega arith, refl), subst (IsKeptAs f) is a.0)
+slots-forth (o ∷ os) (y ∷ ys) a x (suc i, inside, is) =
+    elim (slots-forth os ys a.1 x (i, omega (arith, inside), is)) [
+      | inr empty ↦ inr empty
+      | inl found ↦ inl (found.0, later found.0 found.1, found.2)
+    ]
+  where
+    later : (f : Form) → Live os f → Live (o ∷ os) f
+    later f (j, less, at) = (suc j, omega (arith, less), at)
+
+slots-back : (os : List (Option Form)) (xs : List Shape) → AreSlots os xs → (f : Form) → Live os f → (x : Shape) × Contains xs x × IsKeptAs f x
+slots-back [] xs a f (i, inside, is) = absurd (omega (arith, inside))
+slots-back (o ∷ os) [] a f c = absurd (let e : true ≡ false = a in cc)
+slots-back (o ∷ os) (y ∷ ys) a f (zero, inside, is) = (y, (0, omega arith, refl), mine o is a.0)
+  where
+    mine : (p : Option Form) → p ≡ Some f → IsSlot p y → IsKeptAs f y
+    mine p e s = subst (λ q. IsSlot q y) e s
+slots-back (o ∷ os) (y ∷ ys) a f (suc i, inside, is) =
+    let found = slots-back os ys a.1 f (i, omega (arith, inside), is) in
+    (found.0, later found.0 found.1, found.2)
+  where
+    later : (x : Shape) → Contains ys x → Contains (y ∷ ys) x
+    later x (j, less, at) = (suc j, omega (arith, less), at)
+
+pub slots-kept : (os : List (Option Form)) (xs : List Shape) → AreSlots os xs → AreKept (Live os) xs
+slots-kept os xs a = record { forth = slots-forth os xs a; back = slots-back os xs a }
+
+live-push : (os : List (Option Form)) (g f : Form) → Live (os ++ (Some g ∷ [])) f → With (Live os) g f
+live-push os g f (i, inside, is) =
+    elim (cases_lt i (length os)) [
+      | inl before ↦ inl (i, before, sym (get_or_append_left os (Some g ∷ []) (Some f) i before) ∙ is)
+      | inr after ↦
+          let same : Some g ≡ Some f = sym (last-is os (Some g) (Some f) i (omega (arith, after, inside, length-append os (Some g ∷ [])))) ∙ is in
+          inr (some-same f g (sym same))
+    ]
+  where
+    some-same : (x y : Form) → ◌≡◌ {A = Option Form} (Some x) (Some y) → x ≡ y
+    some-same x y e = cc (e)
+
+push-live : (os : List (Option Form)) (g f : Form) → With (Live os) g f → Live (os ++ (Some g ∷ [])) f
+push-live os g f (inl (i, inside, is)) = (i, omega (arith, inside, length-append os (Some g ∷ [])), get_or_append_left os (Some g ∷ []) (Some f) i inside ∙ is)
+push-live os g f (inr e) = (length os, omega (arith, length-append os (Some g ∷ [])), last-is os (Some g) (Some f) (length os) refl ∙ ap (λ x. Some x) (sym e))
+
+pub with-kept : (os : List (Option Form)) (g : Form) (xs : List Shape) → AreSlots (os ++ (Some g ∷ [])) xs → AreKept (With (Live os) g) xs
+with-kept os g xs a =
+    let k = slots-kept (os ++ (Some g ∷ [])) xs a in
+    record {
+      forth = λ x c. elim (k.forth x c) [
+        | inl found ↦ inl (found.0, live-push os g found.0 found.1, found.2)
+        | inr empty ↦ inr empty
+      ];
+      back = λ f w. k.back f (push-live os g f w);
+    }
+
+-- an empty form where one has left
+slots-set : (os : List (Option Form)) (xs : List Shape) (s : ℕ) (x : Shape) → IsSlot None x → AreSlots os xs → AreSlots (set os s None) (set xs s x)
+slots-set [] [] s x e a = a
+slots-set [] (y ∷ ys) s x e a = absurd (let f : true ≡ false = a in cc)
+slots-set (o ∷ os) [] s x e a = absurd (let f : true ≡ false = a in cc)
+slots-set (o ∷ os) (y ∷ ys) zero x e a = (e, a.1)
+slots-set (o ∷ os) (y ∷ ys) (suc s) x e a = (a.0, slots-set os ys s x e a.1)
+
+pub slots-vacated : (os : List (Option Form)) (keep keep' : List Kept) (s : ℕ) (k : Kept) → IsEmpty k → keep' ≡ set keep s k → AreSlots os (shapes_of keep) → AreSlots (set os s None) (shapes_of keep')
+slots-vacated os keep keep' s k e same a = rw (same, map-set kept_shape keep s k) (slots-set os (shapes_of keep) s (kept_shape k) (e.terms, e.degree) a)
+
+map-zero : (keep : List Kept) (s : ℕ) (k : Kept) → map {B = ℕ} (λ k. 0) (set keep s k) ≡ map (λ k. 0) keep
+map-zero [] s k = refl
+map-zero (x ∷ xs) zero k = refl
+map-zero (x ∷ xs) (suc s) k = ap (λ ys. 0 ∷ ys) (map-zero xs s k)
+
+pub rest-vacated : (keep keep' : List Kept) (s : ℕ) (k : Kept) (opens opens' cands cands' : List ℕ) → s < length keep → IsEmpty k → keep' ≡ set keep s k → opens' ≡ set opens s 0 → cands' ≡ cands → AreAtRest keep opens cands → AreAtRest keep' opens' cands'
+rest-vacated keep keep' s k opens opens' cands cands' inside e same o c r = record {
+  opened = o ∙ ap (λ (xs : List ℕ). set xs s 0) r.opened ∙ sym (ap (map (λ x. x.total)) same ∙ map-set (λ (x : Kept). x.total) keep s k ∙ ap (set (map (λ (x : Kept). x.total) keep) s) e.total);
+  passed = c ∙ r.passed ∙ sym (ap (map (λ x. 0)) same ∙ map-zero keep s k);
+}
+
+waits-set : (keep : List Kept) (s t : ℕ) (k : Kept) → k.eager ≡ false → waits keep t ≡ false → waits (set keep s k) t ≡ false
+waits-set [] s t k e w = w
+waits-set (x ∷ xs) zero zero k e w = e
+waits-set (x ∷ xs) zero (suc t) k e w = w
+waits-set (x ∷ xs) (suc s) zero k e w = w
+waits-set (x ∷ xs) (suc s) (suc t) k e w = waits-set xs s t k e w
+
+pub eager-vacated : (keep keep' : List Kept) (s : ℕ) (k : Kept) (eager : List ℕ) → IsEmpty k → keep' ≡ set keep s k → IsEager keep eager → IsEager keep' eager
+eager-vacated keep keep' s k eager e same g = record {
+  named = λ i d h. let named = g.named i d h in omega (arith, named, ap length same, length-set keep s k);
+  rising = g.rising;
+  aside = λ t less gone. ap (λ (xs : List Kept). waits xs t) same ∙ waits-set keep s t k e.eager (g.aside t (omega (arith, less, ap length same, length-set keep s k)) gone);
+}
+
+pub opposite-inside : (es : List Entry) (n : ℕ) → All (λ e. e.variable < n) es → All (λ e. e.variable < n) (map opposite es)
+opposite-inside es n all k d h =
+    let inside : k < length es = omega (arith, h, length-map es opposite) in
+    let e = element es k inside in
+    let is : get_or (map opposite es) k d ≡ opposite e.value = mapped opposite es k d e.value inside ∙ ap opposite (e.at e.value) in
+    let small : (get_or es k e.value).variable < n = all k e.value inside in
+    omega (arith, ap (λ (x : Entry). x.variable) is, ap (λ (x : Entry). x.variable) (e.at e.value), small)

@@ -1,0 +1,49 @@
+use Rattle.std.proofs.Common.{◌≡◌, [], get_or, true, false, refl, ◌∙◌, arith, length}
+use Rattle.pb_replay.specs.declared.numbered.NumberedLiteral.{NumberedLiteral}
+use Rattle.pb_replay.specs.Engine.Lists.{has, negation}
+use Rattle.pb_replay.specs.Engine.Counts.{none}
+use Rattle.pb_replay.proofs.Engine.Literals.{has-get}
+use Rattle.pb_replay.proofs.Engine.Assumed.{assumed-next, within-none}
+use Rattle.pb_replay.proofs.propagate.engine.assume.Goals as goal
+
+pub given-init : goal.given-init
+given-init c = record {
+  values = refl;
+  opens = refl;
+  candidates = refl;
+  next = refl;
+  longer = omega arith;
+  single = rw c.requires.empty none;
+  counted = c.requires.counted;
+  tidy = c.requires.tidy;
+  within = within-none c.args.run.now.assignment.list.items c.args.given.now c.requires.empty;
+  covers = within-none [] c.args.run.now.assignment.list.items refl;
+}
+
+pub returns-then-contains-clause-opposite : goal.returns-then-contains-clause-opposite
+returns-then-contains-clause-opposite c = λ found.
+    let d : NumberedLiteral = record { variable = 0; negated = false } in
+    let l = get_or c.args.given.now c.given.i d in
+    let on : has c.given.run.assignment.list.items (negation l) ≡ true = cc (c.contains.ensures, c.if-contains.true, c.negation.ensures) in
+    (l, has-get c.args.given.now c.given.i d c.given-test.true, c.given.invariant.within (negation l) on)
+
+pub given-preserved : goal.given-preserved
+given-preserved c =
+    let d : NumberedLiteral = record { variable = 0; negated = false } in
+    let l = get_or c.args.given.now c.given.i d in
+    let free : has c.given.run.assignment.list.items (negation l) ≡ false = cc (c.contains.ensures, c.if-contains.false, c.negation.ensures) in
+    let i = c.given.invariant in
+    let told = c.in_ok-try_put.ensures in
+    let a = assumed-next c.args.given.now c.given.run.assignment.list.items c.try_put.new.run.assignment.list.items c.given.i d c.given-test.true free told.adopted (record { within = i.within; covers = i.covers; single = i.single }) in
+    record {
+      values = told.values ∙ i.values;
+      opens = told.opens ∙ i.opens;
+      candidates = told.candidates ∙ i.candidates;
+      next = told.next ∙ i.next;
+      longer = omega (arith, i.longer, told.longer_work);
+      single = a.single;
+      counted = told.counted;
+      tidy = told.tidy (length c.args.store.now.kept.items) i.tidy;
+      within = a.within;
+      covers = a.covers;
+    }

@@ -1,0 +1,19 @@
+use Rattle.std.proofs.Common.{◌≡◌, ◌≤◌, [], length, take}
+use Rattle.pb_replay.specs.Engine.Lists.{IsWithin}
+use Rattle.pb_replay.specs.Engine.Counts.{IsCounted, IsTidy, AreSingle}
+use Rattle.pb_replay.specs.Engine.Fields.{shapes_of}
+use Rattle.pb_replay.proofs.propagate.engine.assume.Given as goal
+
+abbrev pub invariant-given : goal.invariant-given
+invariant-given l = record {
+  values : length l.run.assignment.values.items ≡ length l.initial.run.assignment.values.items;
+  opens : length l.run.opens.items ≡ length l.initial.run.opens.items;
+  candidates : l.run.candidates ≡ l.initial.run.candidates;
+  next : l.run.next ≡ l.initial.run.next;
+  longer : length l.initial.run.work.items ≤ length l.run.work.items;
+  single : AreSingle l.run.assignment.list.items;
+  counted : IsCounted (shapes_of l.store.kept.items) l.run.opens.items l.run.assignment.list.items [];
+  tidy : IsTidy (shapes_of l.store.kept.items) l.run.opens.items l.run.candidates.items l.run.assignment.list.items l.run.work.items l.run.next (length l.store.kept.items);
+  within : IsWithin l.run.assignment.list.items l.given;
+  covers : IsWithin (take l.i l.given) l.run.assignment.list.items;
+}

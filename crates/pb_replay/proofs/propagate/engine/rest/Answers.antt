@@ -1,0 +1,8 @@
+use Rattle.std.proofs.Common.{length, arith}
+use Rattle.pb_replay.proofs.Engine.Rests.{undone-rest}
+use Rattle.pb_replay.proofs.propagate.engine.rest.Goals as goal
+
+pub returns-clause-rest : goal.returns-clause-rest
+returns-clause-rest c =
+    let done = c.undo_forms.new.run in
+    undone-rest c.args.store.now.kept.items done.opens.items done.candidates.items done.work.items (length done.work.items) c.undo_forms.ensures.opens c.undo_forms.ensures.candidates (omega arith) c.undo_forms.ensures.undone

@@ -1,0 +1,20 @@
+use Rattle.pb_replay.specs.Engine.Rest.{opposite, derived}
+use Rattle.pb_replay.proofs.propagate.engine.settle.Goals as goal
+
+pub returns-then-branch-clause-refuted : goal.returns-then-branch-clause-refuted
+returns-then-branch-clause-refuted c = λ found.
+    let told = c.in_ok-assume.ensures.opposite c.if-branch.true in
+    opposite told.0 told.1 told.2
+
+pub returns-clause-refuted : goal.returns-clause-refuted
+returns-clause-refuted c = λ found.
+    let same = c.in_ok-assume.ensures.same c.if-branch.false in
+    derived (record { first = c.assume.new.run.assignment.list.items; within = same.0; covers = same.1; derived = c.in_ok-found.ensures.derived }) (c.in_ok-found.ensures.conflict found)
+
+pub returns-clause-ended : goal.returns-clause-ended
+returns-clause-ended c = λ found.
+    let same = c.in_ok-assume.ensures.same c.if-branch.false in
+    record {
+      derived = record { first = c.assume.new.run.assignment.list.items; within = same.0; covers = same.1; derived = c.in_ok-found.ensures.derived };
+      settled = c.in_ok-found.ensures.settled found;
+    }

@@ -1,0 +1,68 @@
+use Rattle.std.specs.Prelude.{All}
+use Rattle.std.proofs.Common.{Vec, Global, ◌<◌, [], get_or, length, refl, ap, sym, ◌∙◌, arith}
+use Rattle.std.proofs.lemmas.List.{length-map}
+use Rattle.pb_replay.specs.declared.propagate.term.Occurrence.{Occurrence}
+use Rattle.pb_replay.specs.Engine.Lists.{negation}
+use Rattle.pb_replay.specs.Engine.Counts.{place}
+use Rattle.pb_replay.specs.Engine.Fields.{shapes_of, entries_of, kept_shape}
+use Rattle.pb_replay.proofs.Engine.Runs.{Counted-put, Tidy-put}
+use Rattle.pb_replay.proofs.Engine.Puts.{Putting-start, Putting-fits_at, Putting-next_at, entries-at, place-read, place-inside}
+use Rattle.pb_replay.proofs.propagate.run.put.Goals as goal
+
+pub entries-init : goal.entries-init
+entries-init c =
+    let store = c.args.store.now in
+    let run = c.args.run.now in
+    record {
+      assignment = refl;
+      candidates = refl;
+      next = refl;
+      putting = Putting-start (shapes_of store.kept.items) (get_or (entries_of store.occurrences.items) (place (negation c.args.literal)) []) run.opens.items run.candidates.items c.put.new.self.list.items run.work.items run.next run.visits
+          (Counted-put (shapes_of store.kept.items) run.opens.items run.assignment.list.items c.put.new.self.list.items c.args.literal _ c.in_ok-put.ensures.ok c.requires.absent (λ s d inside. c.requires.store.whole.linked s d (negation c.args.literal) inside) c.requires.counted)
+          (c.requires.opens ∙ sym (length-map store.kept.items kept_shape));
+    }
+
+pub lower-requires-clause-fits : goal.lower-requires-clause-fits
+lower-requires-clause-fits c =
+    let store = c.args.store.now in
+    let run = c.args.run.now in
+    let same = entries-at store.occurrences.items (place (negation c.args.literal)) c.place_of.result c.index-entries.result.now (place-read store.occurrences.items store.variables c.args.literal c.place_of.result c.requires.inside (c.place_of.ensures.place ∙ ap place c.negation.ensures) c.requires.store.places) c.index-entries.ensures (c.place_of.ensures.place ∙ ap place c.negation.ensures) ∙ sym c.deref.ensures.value in
+    let named : All (λ (x : Occurrence). x.form < length (shapes_of store.kept.items)) (get_or (entries_of store.occurrences.items) (place (negation c.args.literal)) []) =
+    λ k d h. omega (arith, c.requires.store.named (place (negation c.args.literal)) k d h, length-map store.kept.items kept_shape) in
+    let inside : c.entries.j < length c.deref.result.now = omega (arith, c.entries-test.true, c.len-j-end.ensures, c.deref.ensures.len) in
+    Putting-fits_at (shapes_of store.kept.items) (get_or (entries_of store.occurrences.items) (place (negation c.args.literal)) []) c.deref.result.now run.opens.items run.candidates.items c.put.new.self.list.items run.work.items run.next run.visits c.entries.run.opens.items c.entries.run.work.items c.entries.run.visits c.entries.j c.visit-entry.result same c.visit-entry.ensures.item inside named c.entries.invariant.putting
+
+pub entries-preserved : goal.entries-preserved
+entries-preserved c =
+    let store = c.args.store.now in
+    let run = c.args.run.now in
+    record {
+      assignment = c.lower.ensures.assignment ∙ c.entries.invariant.assignment;
+      candidates = c.lower.ensures.candidates ∙ c.entries.invariant.candidates;
+      next = c.lower.ensures.next ∙ c.entries.invariant.next;
+      putting =
+          let same = entries-at store.occurrences.items (place (negation c.args.literal)) c.place_of.result c.index-entries.result.now (place-read store.occurrences.items store.variables c.args.literal c.place_of.result c.requires.inside (c.place_of.ensures.place ∙ ap place c.negation.ensures) c.requires.store.places) c.index-entries.ensures (c.place_of.ensures.place ∙ ap place c.negation.ensures) ∙ sym c.deref.ensures.value in
+          let named : All (λ (x : Occurrence). x.form < length (shapes_of store.kept.items)) (get_or (entries_of store.occurrences.items) (place (negation c.args.literal)) []) =
+          λ k d h. omega (arith, c.requires.store.named (place (negation c.args.literal)) k d h, length-map store.kept.items kept_shape) in
+          let inside : c.entries.j < length c.deref.result.now = omega (arith, c.entries-test.true, c.len-j-end.ensures, c.deref.ensures.len) in
+          Putting-next_at (shapes_of store.kept.items) (get_or (entries_of store.occurrences.items) (place (negation c.args.literal)) []) c.deref.result.now run.opens.items run.candidates.items c.put.new.self.list.items run.work.items run.next run.visits c.entries.run.opens.items c.entries.run.work.items c.entries.run.visits c.entries.j c.lower.new.run.opens.items c.lower.new.run.work.items c.lower.new.run.visits c.visit-entry.result same c.visit-entry.ensures.item inside named c.requires.next c.in_ok-lower.ensures.opens c.in_ok-lower.ensures.work (c.in_ok-lower.ensures.visits ∙ c.visit-entry.ensures.count) (omega (arith, c.in_ok-lower.ensures.visits, c.visit-entry.ensures.rising)) c.entries.invariant.putting;
+    }
+
+pub returns-clause-tidy : goal.returns-clause-tidy
+returns-clause-tidy c = λ busy t.
+    let run = c.args.run.now in
+    let after = c.entries.invariant.putting.tidy busy (Tidy-put (shapes_of c.args.store.now.kept.items) run.opens.items run.candidates.items run.assignment.list.items c.put.new.self.list.items run.work.items run.next busy c.args.literal c.in_ok-put.ensures.ok t) in
+    rw (c.entries.invariant.candidates, c.entries.invariant.assignment, c.entries.invariant.next) after
+
+pub place_of-requires : goal.place_of-requires
+place_of-requires c =
+    let store = c.args.store.now in
+    let inside = place-inside (negation c.args.literal) store.variables c.requires.inside in
+    let small = store.occurrences.ok.0 in
+    rw c.negation.ensures (omega (arith, inside, c.requires.store.places, length-map store.occurrences.items (λ (v : Vec Occurrence Global). v.items), small))
+
+pub index-entries-requires : goal.index-entries-requires
+index-entries-requires c =
+    let store = c.args.store.now in
+    let read = place-read store.occurrences.items store.variables c.args.literal c.place_of.result c.requires.inside (c.place_of.ensures.place ∙ ap place c.negation.ensures) c.requires.store.places in
+    omega (arith, read, store.occurrences.ok.0)

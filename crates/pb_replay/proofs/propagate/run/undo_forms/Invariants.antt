@@ -1,0 +1,14 @@
+use Rattle.std.proofs.Common.{◌≡◌, length}
+use Rattle.pb_replay.specs.Engine.Counts.{IsUndone}
+use Rattle.pb_replay.specs.Engine.Fields.{shapes_of}
+use Rattle.pb_replay.proofs.propagate.run.undo_forms.Given as goal
+
+abbrev pub invariant-forms : goal.invariant-forms
+invariant-forms l = record {
+  opens : length l.run.opens.items ≡ length l.store.kept.items;
+  candidates : length l.run.candidates.items ≡ length l.store.kept.items;
+  work : l.run.work ≡ l.initial.run.work;
+  visits : l.run.visits ≡ l.initial.run.visits;
+  assignment : l.run.assignment ≡ l.initial.run.assignment;
+  undone : IsUndone (shapes_of l.store.kept.items) l.run.opens.items l.run.candidates.items l.initial.run.work.items l.i;
+}

@@ -1,0 +1,8 @@
+-- The propagation engine.
+pub mod Lists
+pub mod Counts
+pub mod Links
+pub mod Fields
+pub mod Forms
+pub mod Live
+pub mod Rest

@@ -1,0 +1,95 @@
+use Rattle.std.specs.Prelude.{◌≡◌, ℕ, ◌+◌, ◌-◌, ◌*◌, ◌^◌, ◌<◌, ◌≤◌, ◌==◌, ◌||◌, ◌++◌, ◌∷◌, [], true, false, if◌then◌else◌, List, length, sum, sum_by, All, slice_index_or, slice_index}
+use Rattle.pb_replay.specs.declared.numbered.NumberedLiteral.{NumberedLiteral}
+use Rattle.pb_replay.specs.declared.propagate.term.Term.{Term}
+use Rattle.pb_replay.specs.declared.propagate.term.Occurrence.{Occurrence}
+use Rattle.pb_replay.specs.Engine.Lists.{Shape, negation, same, has, open_sum, size}
+
+-- the place of a literal's list among the occurrence lists
+abbrev pub place : NumberedLiteral → ℕ
+place l = 2 * l.variable + (if l.negated then 1 else 0)
+
+-- what an entry takes from a form's open sum
+unfoldable pub entry_weight : ℕ → Occurrence → ℕ
+entry_weight form e = if e.form == form then e.coefficient else 0
+
+abbrev pub weight_in : ℕ → List Occurrence → ℕ
+weight_in form entries = sum_by (entry_weight form) entries
+
+-- the coefficients on a literal
+unfoldable pub term_weight : NumberedLiteral → Term → ℕ
+term_weight l t = if same t.literal l then t.coefficient else 0
+
+abbrev pub weight_on : NumberedLiteral → List Term → ℕ
+weight_on l terms = sum_by (term_weight l) terms
+
+-- each literal's list has what the forms have on it
+abbrev pub AreLinked : List Shape → List (List Occurrence) → Type 0
+AreLinked forms lists = (s : ℕ) (d : Shape) (l : NumberedLiteral) → s < length forms → weight_in s (slice_index_or lists (place l) []) ≡ weight_on l (slice_index_or forms s d).terms
+
+-- each entry names a form
+abbrev pub NameForms : ℕ → List (List Occurrence) → Type 0
+NameForms count lists = (p : ℕ) → All (λ e. e.form < count) (slice_index_or lists p [])
+
+-- the coefficients fall
+abbrev pub AreFalling : List Term → Type 0
+AreFalling terms = (i j : ℕ) (d : Term) → i ≤ j → j < length terms → (slice_index_or terms j d).coefficient ≤ (slice_index_or terms i d).coefficient
+
+-- a form that need not be looked at: it is not falsified, and its candidate demands nothing
+pub record IsCalm (form : Shape) (opened candidate : ℕ) : Type 0 where
+  pub met : form.degree ≤ opened
+  pub waiting : (d : Term) → candidate < length form.terms → form.degree + (slice_index_or form.terms candidate d).coefficient ≤ opened
+
+-- the variable of the literal is done with
+abbrev pub IsDone : List NumberedLiteral → NumberedLiteral → Type 0
+IsDone list l = (has list l || has list (negation l)) ≡ true
+
+-- the terms before the candidate are done with
+abbrev pub ArePassed : List Term → ℕ → List NumberedLiteral → Type 0
+ArePassed terms candidate list = (k : ℕ) (d : Term) → k < candidate → k < length terms → IsDone list (slice_index_or terms k d).literal
+
+-- the form does not stand on the work list from a place on
+abbrev pub IsAbsent : List ℕ → ℕ → ℕ → Type 0
+IsAbsent work from s = (i : ℕ) → from ≤ i → i < length work → slice_index work i ≡ s → ⊥
+
+-- the open sums are those of the list, but for the entries that have not been taken from them yet
+pub record IsCounted (forms : List Shape) (opens : List ℕ) (list : List NumberedLiteral) (rest : List Occurrence) : Type 0 where
+  pub each : (s : ℕ) (d : Shape) → s < length forms → slice_index opens s ≡ open_sum list (slice_index_or forms s d).terms + weight_in s rest
+
+-- each form is calm but for the one that is looked at (none where `busy` is no form's number) and those that wait on the
+-- work list from `next` on; a form that does not stand on the work list is as it was made
+pub record IsTidy (forms : List Shape) (opens candidates : List ℕ) (list : List NumberedLiteral) (work : List ℕ) (next busy : ℕ) : Type 0 where
+  pub calm : (s : ℕ) (d : Shape) → s < length forms → (s ≡ busy → ⊥) → IsAbsent work next s → IsCalm (slice_index_or forms s d) (slice_index opens s) (slice_index candidates s)
+  pub passed : (s : ℕ) (d : Shape) → s < length forms → ArePassed (slice_index_or forms s d).terms (slice_index candidates s) list
+  pub bounded : (s : ℕ) (d : Shape) → s < length forms → slice_index candidates s ≤ length (slice_index_or forms s d).terms
+  pub clean : (s : ℕ) (d : Shape) → s < length forms → IsAbsent work 0 s → (slice_index opens s ≡ size (slice_index_or forms s d).terms) × (slice_index candidates s ≡ 0)
+  pub named : All (λ s. s < length forms) work
+
+-- the entries of the list's literals
+abbrev pub spent : List (List Occurrence) → List NumberedLiteral → ℕ
+spent lists list = sum_by (λ l. length (slice_index_or lists (place (negation l)) [])) list
+
+-- what a part of a propagation costs: each look is paid by an entry that was taken, a term that was passed, or is one of
+-- `looks`; each entry that was taken put a form on the work list
+pub record IsPaid (lists : List (List Occurrence)) (list0 list1 : List NumberedLiteral) (cands0 cands1 work0 work1 : List ℕ) (visits0 visits1 looks : ℕ) : Type 0 where
+  pub upper : visits1 + sum cands0 + spent lists list0 ≤ visits0 + looks + sum cands1 + spent lists list1
+  pub work : length work1 + spent lists list0 ≡ length work0 + spent lists list1
+  pub rising : visits0 ≤ visits1
+
+-- what trying a literal does to the list
+pub data Adopted (l : NumberedLiteral) (old : List NumberedLiteral) : List NumberedLiteral → Type 0 where
+  kept : IsDone old l → Adopted l old old
+  added : has old l ≡ false → has old (negation l) ≡ false → Adopted l old (old ++ (l ∷ []))
+
+-- the list has no more new literals than there were looks, unless the count has come to its end
+abbrev pub AreFound : ℕ → ℕ → ℕ → ℕ → Type 0
+AreFound length0 length1 visits0 visits1 = visits1 < 2 ^ 64 - 1 → length1 + visits0 ≤ length0 + visits1
+
+-- no literal stands on the list twice
+pub data AreSingle : List NumberedLiteral → Type 0 where
+  none : AreSingle []
+  more : {list : List NumberedLiteral} (l : NumberedLiteral) → AreSingle list → has list l ≡ false → AreSingle (list ++ (l ∷ []))
+
+-- the forms that do not stand on the work list from a place on are as they were made
+pub record IsUndone (forms : List Shape) (opens candidates work : List ℕ) (from : ℕ) : Type 0 where
+  pub clean : (s : ℕ) (d : Shape) → s < length forms → IsAbsent work from s → (slice_index opens s ≡ size (slice_index_or forms s d).terms) × (slice_index candidates s ≡ 0)
+  pub named : All (λ s. s < length forms) work

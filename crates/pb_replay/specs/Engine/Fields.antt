@@ -1,0 +1,41 @@
+-- The engine's fields as lists.
+use Rattle.std.specs.Prelude.{◌≡◌, ℕ, false, [], ◌∷◌, ◌++◌, List, map, Vec}
+use Rattle.std.specs.Global.{Global}
+use Rattle.pb_replay.specs.declared.propagate.term.Occurrence.{Occurrence}
+use Rattle.pb_replay.specs.declared.propagate.kept.Kept.{Kept}
+use Rattle.pb_replay.specs.declared.propagate.store.Store.{Store}
+use Rattle.pb_replay.specs.Engine.Lists.{Shape}
+use Rattle.pb_normal.specs.Form.{Form}
+use Rattle.pb_replay.specs.Engine.Forms.{IsKeptAs}
+use Rattle.pb_replay.specs.Engine.Links.{IsStored}
+
+abbrev pub kept_shape : Kept → Shape
+kept_shape k = record { terms = k.terms.items; degree = k.degree }
+
+abbrev pub shapes_of : List Kept → List Shape
+shapes_of kept = map kept_shape kept
+
+abbrev pub entries_of : List (Vec Occurrence Global) → List (List Occurrence)
+entries_of lists = map (λ v. v.items) lists
+
+abbrev pub spots_of : List (Vec ℕ Global) → List (List ℕ)
+spots_of spots = map (λ v. v.items) spots
+
+-- the store's parts belong together
+abbrev pub IsSound : Store → Type 0
+IsSound s = IsStored (shapes_of s.kept.items) (spots_of s.spots.items) (entries_of s.occurrences.items) s.variables
+
+-- a form stands behind the others, with its open sum and its candidate as at rest
+pub record HasEntered (f : Form) (keep keep' : List Kept) (opens opens' cands cands' : List ℕ) : Type 0 where
+  pub kept : Kept
+  pub is : IsKeptAs f (kept_shape kept)
+  pub keeps : keep' ≡ keep ++ (kept ∷ [])
+  pub opened : opens' ≡ opens ++ (kept.total ∷ [])
+  pub candidates : cands' ≡ cands ++ (0 ∷ [])
+
+-- a form that says nothing
+pub record IsEmpty (k : Kept) : Type 0 where
+  pub terms : k.terms.items ≡ []
+  pub degree : k.degree ≡ 0
+  pub total : k.total ≡ 0
+  pub eager : k.eager ≡ false

@@ -1,0 +1,34 @@
+-- The engine as its callers see it.
+use Rattle.std.specs.Prelude.{◌≡◌, ℕ, Bool, not, false, List, length, Option, Some, None, Contains, slice_index_or, if◌then◌else◌}
+use Rattle.pb_normal.specs.Form.{Form}
+use Rattle.pb_replay.specs.Propagation.{on}
+use Rattle.pb_replay.specs.declared.numbered.NumberedLiteral.{NumberedLiteral}
+
+-- the forms by number, the variables, the looks of the last test, and whether memory was refused in the middle of a call
+pub record Standing : Type 0 where
+  pub forms : List (Option Form)
+  pub variables : ℕ
+  pub visits : ℕ
+  pub spent : Bool
+
+-- the forms that have not left
+abbrev pub Live : List (Option Form) → Form → Type 0
+Live forms f = Contains forms (Some f)
+
+-- a value of a variable, as its literals have it
+abbrev pub value_says : Option Bool → Bool → Bool
+value_says None n = false
+value_says (Some m) n = if m then n else not n
+
+-- the list gives these values: the literal itself, `true` where it is negated
+abbrev pub Gives : List NumberedLiteral → List (Option Bool) → Type 0
+Gives list values = (v : ℕ) (n : Bool) → on list v n ≡ value_says (slice_index_or values v None) n
+
+-- how many terms a form has, and whether there is one
+abbrev pub terms_in : Option Form → ℕ
+terms_in None = 0
+terms_in (Some f) = length f.terms
+
+abbrev pub one_in : Option Form → ℕ
+one_in None = 0
+one_in (Some f) = 1

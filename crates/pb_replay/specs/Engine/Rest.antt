@@ -1,0 +1,73 @@
+-- The engine between two calls.
+use Rattle.std.specs.Prelude.{◌≡◌, ℕ, ◌+◌, ◌<◌, ◌≤◌, List, [], ◌∷◌, map, length, All, Contains, Option, Some, None, Bool, slice_get, true, false}
+use Rattle.pb_normal.specs.Form.{Form}
+use Rattle.pb_replay.specs.declared.propagate.kept.Kept.{Kept}
+use Rattle.pb_replay.specs.declared.propagate.store.Store.{Store}
+use Rattle.pb_replay.specs.declared.propagate.run.Run.{Run}
+use Rattle.pb_replay.specs.Engine.Forms.{IsKeptAs}
+use Rattle.pb_replay.specs.declared.numbered.NumberedLiteral.{NumberedLiteral}
+use Rattle.pb_replay.specs.Engine.Lists.{Shape, negation, has, IsWithin, Derives, Conflicts, IsSettled}
+use Rattle.pb_replay.specs.Engine.Counts.{IsAbsent}
+use Rattle.pb_replay.specs.Engine.Fields.{shapes_of, IsSound}
+
+-- a form as it is kept; where one has left stands an empty one
+abbrev pub IsSlot : Option Form → Shape → Type 0
+IsSlot None x = (x.terms ≡ []) × (x.degree ≡ 0)
+IsSlot (Some f) x = IsKeptAs f x
+
+abbrev pub AreSlots : List (Option Form) → List Shape → Type 0
+AreSlots [] [] = Unit {0}
+AreSlots [] (x ∷ xs) = true ≡ false
+AreSlots (o ∷ os) [] = true ≡ false
+AreSlots (o ∷ os) (x ∷ xs) = IsSlot o x × AreSlots os xs
+
+-- the numbers rise, from one on
+abbrev pub AreRising : ℕ → List ℕ → Type 0
+AreRising n [] = Unit {0}
+AreRising n (s ∷ ss) = (n ≤ s) × AreRising (s + 1) ss
+
+-- whether the form of a number may put a literal on the empty list
+abbrev pub kept_waits : Option Kept → Bool
+kept_waits None = false
+kept_waits (Some k) = k.eager
+
+abbrev pub waits : List Kept → ℕ → Bool
+waits keep s = kept_waits (slice_get keep s)
+
+-- each form that may put a literal on the empty list stands on the list
+pub record IsEager (keep : List Kept) (eager : List ℕ) : Type 0 where
+  pub named : All (λ s. s < length keep) eager
+  pub rising : AreRising 0 eager
+  pub aside : (s : ℕ) → s < length keep → IsAbsent eager 0 s → waits keep s ≡ false
+
+-- the open sums and candidates are those of the empty list
+pub record AreAtRest (keep : List Kept) (opens cands : List ℕ) : Type 0 where
+  pub opened : opens ≡ map (λ k. k.total) keep
+  pub passed : cands ≡ map (λ k. 0) keep
+
+pub record IsAtRest (store : Store) (run : Run) (waiting : List ℕ) (forms : List (Option Form)) : Type 0 where
+  pub sound : IsSound store
+  pub slots : AreSlots forms (shapes_of store.kept.items)
+  pub rest : AreAtRest store.kept.items run.opens.items run.candidates.items
+  pub values : length run.assignment.values.items ≡ store.variables
+  pub list : run.assignment.list.items ≡ []
+  pub work : run.work.items ≡ []
+  pub next : run.next ≡ 0
+  pub eager : IsEager store.kept.items waiting
+
+-- a derivation from the literals that are given, whatever their order
+pub record IsDerived (shapes : List Shape) (given list : List NumberedLiteral) : Type 0 where
+  pub first : List NumberedLiteral
+  pub within : IsWithin first given
+  pub covers : IsWithin given first
+  pub derived : Derives shapes first list
+
+-- a literal and its negation are given, or a derivation from what is given has a conflict
+pub data IsRefuted (shapes : List Shape) (given list : List NumberedLiteral) : Type 0 where
+  opposite : (l : NumberedLiteral) → has given l ≡ true → has given (negation l) ≡ true → IsRefuted shapes given list
+  derived : IsDerived shapes given list → Conflicts shapes list → IsRefuted shapes given list
+
+-- a derivation that cannot be made longer, without a conflict
+pub record IsEnded (shapes : List Shape) (given list : List NumberedLiteral) : Type 0 where
+  pub derived : IsDerived shapes given list
+  pub settled : (x : Shape) → Contains shapes x → IsSettled x list

@@ -1,0 +1,10 @@
+//! Unit propagation over live forms by occurrence lists, with counted looks.
+
+pub mod assignment;
+pub mod engine;
+pub mod kept;
+pub mod links;
+pub mod literal;
+pub mod run;
+pub mod store;
+pub mod term;

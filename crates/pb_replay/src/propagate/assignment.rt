@@ -1,0 +1,84 @@
+//! The list of literals.
+
+ghost use Rattle.std.specs.Prelude.{◌≡◌, ℕ, ◌+◌, ◌≤◌, ◌<◌, ◌++◌, ◌∷◌, [], Bool, None, true, false, length, sum_by, OnOk, OnErr, IfOk, slice_index_or};
+ghost use Rattle.pb_replay.specs.declared.numbered.NumberedLiteral.{NumberedLiteral};
+ghost use Rattle.pb_replay.specs.Engine.Lists.{has, says, vacancy, negation};
+
+use crate::numbered::NumberedLiteral;
+use std::alloc::{AllocError, Global};
+
+/// A list of literals, with the value that it gives each variable.
+#[derive(Drop)]
+pub struct Assignment {
+    // `Some(negated)` where the literal is on the list.
+    pub values: Vec<Option<bool>>,
+    pub list: Vec<NumberedLiteral>,
+    ghost agrees: { (l : NumberedLiteral) → has list.items l ≡ says values.items l },
+    ghost room: { length list.items + sum_by vacancy values.items ≡ length values.items },
+}
+
+// Takes the values of a list's literals away.
+fn forget(values: &mut Vec<Option<bool>>, list: &[NumberedLiteral])
+    requires agrees { (l : NumberedLiteral) → has list.now l ≡ says values.old.items l }
+    ensures values { length values.new.items ≡ length values.old.items }
+    ensures none { (k : ℕ) → slice_index_or values.new.items k None ≡ None }
+{
+    'list: for literal in list {
+        values[literal.variable] = None;
+    }
+}
+
+impl Assignment {
+    /// The empty list, over no variables.
+    pub fn new(alloc: Global) -> Assignment
+        ensures { (result.values.items ≡ []) × (result.list.items ≡ []) }
+    {
+        Assignment {
+            values: Vec::new(alloc),
+            list: Vec::new(alloc),
+        }
+    }
+
+    /// One more variable.
+    pub fn widen(&mut self) -> Result<(), AllocError>
+        ensures values { OnOk result (length self.new.values.items ≡ length self.old.values.items + 1) }
+        ensures list { self.new.list.items ≡ self.old.list.items }
+    {
+        self.values.push(None)?;
+        Ok(())
+    }
+
+    /// Takes all literals from the list.
+    pub fn clear(&mut self)
+        ensures values { length self.new.values.items ≡ length self.old.values.items }
+        ensures list { self.new.list.items ≡ [] }
+    {
+        forget(&mut self.values, self.list.as_slice());
+        self.list.clear();
+    }
+
+    /// Whether the literal is on the list.
+    pub fn contains(&self, literal: NumberedLiteral) -> bool
+        requires { literal.variable < length self.now.values.items }
+        ensures { result ≡ has self.now.list.items literal }
+    {
+        match self.values[literal.variable] {
+            Some(negated) => negated == literal.negated,
+            None => false,
+        }
+    }
+
+    /// Puts a literal on the list.
+    pub fn put(&mut self, literal: NumberedLiteral) -> Result<(), AllocError>
+        requires inside { literal.variable < length self.old.values.items }
+        requires absent { has self.old.list.items literal ≡ false }
+        requires not_falsified { has self.old.list.items (negation literal) ≡ false }
+        ensures values { length self.new.values.items ≡ length self.old.values.items }
+        ensures ok { OnOk result (self.new.list.items ≡ self.old.list.items ++ literal ∷ []) }
+        ensures err { OnErr result (self.new.list.items ≡ self.old.list.items) }
+    {
+        self.list.push(literal)?;
+        self.values[literal.variable] = Some(literal.negated);
+        Ok(())
+    }
+}

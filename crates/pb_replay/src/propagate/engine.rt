@@ -1,0 +1,315 @@
+//! The engine: live forms by number, and what propagation over them answers.
+
+ghost use Rattle.std.specs.Prelude.{◌≡◌, ℕ, List, Option, Some, None, ◌+◌, ◌*◌, ◌<◌, ◌≤◌, ◌++◌, ◌∷◌, [], ◌⊎◌, true, false, All, length, filter, slice_index_or, slice_get, slice_set, sum_by, OnOk, IfOk, IfSome, IfNone, map};
+ghost use Rattle.pb_normal.specs.Form.{Form};
+ghost use Rattle.pb_normal.specs.Rules.{negation_of};
+ghost use Rattle.pb_replay.specs.declared.numbered.NumberedLiteral.{NumberedLiteral};
+ghost use Rattle.pb_replay.specs.declared.propagate.kept.Kept.{Kept};
+ghost use Rattle.pb_replay.specs.Engine.Live.{Standing, Live, Gives, terms_in, one_in};
+ghost use Rattle.pb_replay.specs.Engine.Lists.{has, negation, IsWithin};
+ghost use Rattle.pb_replay.specs.Engine.Counts.{IsCounted, IsTidy, IsUndone, AreSingle};
+ghost use Rattle.pb_replay.specs.Engine.Fields.{shapes_of, IsSound};
+ghost use Rattle.pb_replay.specs.Propagation.{With, MeetsConflict, IsCompletion, IsRup};
+ghost use Rattle.pb_replay.specs.Engine.Rest.{AreAtRest, waits, IsRefuted, IsEnded};
+
+use crate::numbered::NumberedLiteral;
+use crate::propagate::assignment::Assignment;
+use crate::propagate::links::{enter, leave, vacate};
+use crate::propagate::run::{Run, propagate, try_put, undo_forms};
+use crate::propagate::store::Store;
+use pb_normal::{Normal, NormalFault};
+use std::alloc::{AllocError, Global};
+use std::marker::Model;
+
+/// Forms by number. Propagation over those that are live looks only at what it touches.
+#[derive(Drop)]
+pub struct Engine {
+    store: Store,
+    run: Run,
+    // The forms that may put a literal on the empty list, in order, and perhaps some that have left.
+    eager: Vec<usize>,
+    forms: Vec<Option<Normal>>,
+    // Set while a call runs: memory was refused in the middle of one.
+    spent: bool,
+}
+
+impl Model for Engine {
+    ghost use Rattle.pb_replay.specs.Engine.Live.{Standing};
+
+    ghost Value = { Standing };
+
+    ghost use Rattle.std.specs.Prelude.{◌≡◌, false};
+    ghost use Rattle.pb_replay.specs.Engine.Rest.{IsAtRest};
+
+    ghost view = { λ e. record { forms = e.forms.items; variables = e.store.variables; visits = e.run.visits; spent = e.spent } };
+
+    ghost invariant = { λ e. e.spent ≡ false → IsAtRest e.store e.run e.eager.items e.forms.items };
+}
+
+// Puts a form to work if it is eager.
+fn choose(store: &Store, form: usize, work: &mut Vec<usize>) -> Result<(), AllocError>
+    requires { form < length store.now.kept.items }
+    ensures { OnOk result (work.new.items ≡ work.old.items ++ filter (waits store.now.kept.items) (form ∷ [])) }
+{
+    if !store.kept[form].eager {
+        return Ok(());
+    }
+    work.push(form)?;
+    Ok(())
+}
+
+// Keeps of the forms in a list those that are eager, and puts them to work.
+fn gather(store: &Store, eager: &mut Vec<usize>, work: &mut Vec<usize>) -> Result<(), AllocError>
+    requires named { All (λ s. s < length store.now.kept.items) eager.old.items }
+    requires empty { work.old.items ≡ [] }
+    ensures eager { OnOk result (eager.new.items ≡ filter (waits store.now.kept.items) eager.old.items) }
+    ensures work { OnOk result (work.new.items ≡ eager.new.items) }
+{
+    'forms: for i in 0..eager.len() {
+        choose(store, eager[i], work)?;
+    }
+    eager.clear();
+    eager.extend_from_slice(work.as_slice())?;
+    Ok(())
+}
+
+// Puts the given literals on the list; whether two of them are opposite.
+fn assume(store: &Store, run: &mut Run, given: &[NumberedLiteral]) -> Result<bool, AllocError>
+    requires store { IsSound store.now }
+    requires inside { All (λ l. l.variable < store.now.variables) given.now }
+    requires values { length run.old.assignment.values.items ≡ store.now.variables }
+    requires opens { length run.old.opens.items ≡ length store.now.kept.items }
+    requires next { run.old.next ≤ length run.old.work.items }
+    requires empty { run.old.assignment.list.items ≡ [] }
+    requires counted { IsCounted (shapes_of store.now.kept.items) run.old.opens.items run.old.assignment.list.items [] }
+    requires tidy { IsTidy (shapes_of store.now.kept.items) run.old.opens.items run.old.candidates.items run.old.assignment.list.items run.old.work.items run.old.next (length store.now.kept.items) }
+    ensures values { OnOk result (length run.new.assignment.values.items ≡ length run.old.assignment.values.items) }
+    ensures opens { OnOk result (length run.new.opens.items ≡ length run.old.opens.items) }
+    ensures candidates { OnOk result (run.new.candidates ≡ run.old.candidates) }
+    ensures next { OnOk result (run.new.next ≡ run.old.next) }
+    ensures within { OnOk result (length run.old.work.items ≤ length run.new.work.items) }
+    ensures single { OnOk result (AreSingle run.new.assignment.list.items) }
+    ensures counted { OnOk result (IsCounted (shapes_of store.now.kept.items) run.new.opens.items run.new.assignment.list.items []) }
+    ensures tidy { OnOk result (IsTidy (shapes_of store.now.kept.items) run.new.opens.items run.new.candidates.items run.new.assignment.list.items run.new.work.items run.new.next (length store.now.kept.items)) }
+    ensures opposite { IfOk result (λ found. found ≡ true → (l : NumberedLiteral) × (has given.now l ≡ true) × (has given.now (negation l) ≡ true)) }
+    ensures same { IfOk result (λ found. found ≡ false → IsWithin run.new.assignment.list.items given.now × IsWithin given.now run.new.assignment.list.items) }
+{
+    'given: for i in 0..given.len() {
+        let literal = given[i];
+        if run.assignment.contains(literal.negation()) {
+            return Ok(true);
+        }
+        try_put(store, run, literal)?;
+    }
+    Ok(false)
+}
+
+// Propagates from the given literals; whether a conflict is met.
+fn settle(store: &Store, run: &mut Run, given: &[NumberedLiteral]) -> Result<bool, AllocError>
+    requires store { IsSound store.now }
+    requires inside { All (λ l. l.variable < store.now.variables) given.now }
+    requires values { length run.old.assignment.values.items ≡ store.now.variables }
+    requires opens { length run.old.opens.items ≡ length store.now.kept.items }
+    requires candidates { length run.old.candidates.items ≡ length store.now.kept.items }
+    requires next { run.old.next ≤ length run.old.work.items }
+    requires empty { run.old.assignment.list.items ≡ [] }
+    requires counted { IsCounted (shapes_of store.now.kept.items) run.old.opens.items run.old.assignment.list.items [] }
+    requires tidy { IsTidy (shapes_of store.now.kept.items) run.old.opens.items run.old.candidates.items run.old.assignment.list.items run.old.work.items run.old.next (length store.now.kept.items) }
+    ensures values { OnOk result (length run.new.assignment.values.items ≡ length run.old.assignment.values.items) }
+    ensures opens { OnOk result (length run.new.opens.items ≡ length store.now.kept.items) }
+    ensures candidates { OnOk result (length run.new.candidates.items ≡ length store.now.kept.items) }
+    ensures undone { OnOk result (IsUndone (shapes_of store.now.kept.items) run.new.opens.items run.new.candidates.items run.new.work.items 0) }
+    ensures refuted { IfOk result (λ found. found ≡ true → IsRefuted (shapes_of store.now.kept.items) given.now run.new.assignment.list.items) }
+    ensures ended { IfOk result (λ found. found ≡ false → IsEnded (shapes_of store.now.kept.items) given.now run.new.assignment.list.items) }
+{
+    if assume(store, run, given)? {
+        return Ok(true);
+    }
+    let found = propagate(store, run)?;
+    Ok(found)
+}
+
+// Makes all as it was before a propagation.
+fn rest(store: &Store, run: &mut Run)
+    requires opens { length run.old.opens.items ≡ length store.now.kept.items }
+    requires candidates { length run.old.candidates.items ≡ length store.now.kept.items }
+    requires undone { IsUndone (shapes_of store.now.kept.items) run.old.opens.items run.old.candidates.items run.old.work.items 0 }
+    ensures rest { AreAtRest store.now.kept.items run.new.opens.items run.new.candidates.items }
+    ensures values { length run.new.assignment.values.items ≡ length run.old.assignment.values.items }
+    ensures list { run.new.assignment.list.items ≡ [] }
+    ensures work { run.new.work.items ≡ [] }
+    ensures next { run.new.next ≡ 0 }
+    ensures visits { run.new.visits ≡ run.old.visits }
+{
+    undo_forms(store, run);
+    run.assignment.clear();
+    run.work.clear();
+    run.next = 0;
+}
+
+impl Engine {
+    /// No forms, over no variables.
+    pub fn new(alloc: Global) -> Engine
+        ensures forms { result.forms ≡ [] }
+        ensures variables { result.variables ≡ 0 }
+        ensures ready { result.spent ≡ false }
+    {
+        Engine {
+            store: Store {
+                kept: Vec::new(alloc),
+                spots: Vec::new(alloc),
+                occurrences: Vec::new(alloc),
+                variables: 0,
+            },
+            run: Run {
+                opens: Vec::new(alloc),
+                candidates: Vec::new(alloc),
+                assignment: Assignment::new(alloc),
+                work: Vec::new(alloc),
+                next: 0,
+                visits: 0,
+            },
+            eager: Vec::new(alloc),
+            forms: Vec::new(alloc),
+            spent: false,
+        }
+    }
+
+    /// One more variable.
+    pub fn widen(&mut self) -> Result<(), AllocError>
+        requires ready { self.old.spent ≡ false }
+        ensures forms { OnOk result (self.new.forms ≡ self.old.forms) }
+        ensures variables { OnOk result (self.new.variables ≡ self.old.variables + 1) }
+        ensures visits { OnOk result (self.new.visits ≡ self.old.visits) }
+        ensures ready { OnOk result (self.new.spent ≡ false) }
+    {
+        let alloc = *self.forms.allocator();
+        self.spent = true;
+        self.store.occurrences.push(Vec::new(alloc))?;
+        self.store.occurrences.push(Vec::new(alloc))?;
+        self.run.assignment.widen()?;
+        self.store.variables = self.store.occurrences.len() / 2;
+        self.spent = false;
+        Ok(())
+    }
+
+    /// One more form, behind the others.
+    pub fn insert(&mut self, form: Normal) -> Result<(), AllocError>
+        requires ready { self.old.spent ≡ false }
+        requires inside { All (λ t. t.variable < self.old.variables) form.terms }
+        ensures forms { OnOk result (self.new.forms ≡ self.old.forms ++ Some form ∷ []) }
+        ensures variables { OnOk result (self.new.variables ≡ self.old.variables) }
+        ensures visits { OnOk result (self.new.visits ≡ self.old.visits) }
+        ensures ready { OnOk result (self.new.spent ≡ false) }
+    {
+        self.spent = true;
+        let number = self.forms.len();
+        enter(&mut self.store, &mut self.run, &form)?;
+        choose(&self.store, number, &mut self.eager)?;
+        self.forms.push(Some(form))?;
+        self.spent = false;
+        Ok(())
+    }
+
+    /// Takes a form away. Its number stays free.
+    pub fn remove(&mut self, number: usize)
+        requires ready { self.old.spent ≡ false }
+        requires number { number < length self.old.forms }
+        ensures forms { self.new.forms ≡ slice_set self.old.forms number None }
+        ensures variables { self.new.variables ≡ self.old.variables }
+        ensures visits { self.new.visits ≡ self.old.visits }
+        ensures ready { self.new.spent ≡ false }
+    {
+        vacate(&mut self.store, &mut self.run, number);
+        self.forms[number] = None;
+    }
+
+    /// The form of a number.
+    pub fn form(&self, number: usize) -> Option<&Normal>
+        requires { number < length self.now.forms }
+        ensures some { IfSome result (λ f. slice_index_or self.now.forms number None ≡ Some f.now) }
+        ensures none { IfNone result (slice_index_or self.now.forms number None ≡ None) }
+    {
+        self.forms[number].as_ref()
+    }
+
+    /// How many numbers were given.
+    pub fn len(&self) -> usize
+        ensures { result ≡ length self.now.forms }
+    {
+        self.forms.len()
+    }
+
+    /// How often the last `rup` looked at a term or an entry of one.
+    pub fn visits(&self) -> u64
+        ensures { result ≡ self.now.visits }
+    {
+        self.run.visits
+    }
+
+    /// Whether propagation over the live forms and the negation of the goal meets a conflict, or the goal has degree 0.
+    pub fn rup(&mut self, goal: &Normal) -> Result<bool, AllocError>
+        requires ready { self.old.spent ≡ false }
+        requires inside { All (λ t. t.variable < self.old.variables) goal.now.terms }
+        ensures forms { OnOk result (self.new.forms ≡ self.old.forms) }
+        ensures variables { OnOk result (self.new.variables ≡ self.old.variables) }
+        ensures ready { OnOk result (self.new.spent ≡ false) }
+        ensures implied { IfOk result (λ found. found ≡ true → IsRup (Live self.old.forms) goal.now) }
+        ensures not_implied { IfOk result (λ found. found ≡ false → IsRup (Live self.old.forms) goal.now → ⊥) }
+
+        // How often the propagation looked, from above and from below.
+        ensures unasked { OnOk result (goal.now.degree ≡ 0 → self.new.visits ≡ 0) }
+        ensures most { OnOk result (self.new.visits ≤ 3 * (sum_by terms_in self.old.forms + length goal.now.terms) + (sum_by one_in self.old.forms + 1)) }
+        ensures conflict { IfOk result (λ found. found ≡ true → (goal.now.degree ≡ 0) ⊎ ((m : MeetsConflict (With (Live self.old.forms) (negation_of goal.now)) []) × (length m.list ≤ self.new.visits))) }
+        ensures completion { IfOk result (λ found. found ≡ false → (list : List NumberedLiteral) × IsCompletion (With (Live self.old.forms) (negation_of goal.now)) [] list × (length list ≤ self.new.visits)) }
+    {
+        self.run.visits = 0;
+        if goal.degree() == 0 {
+            return Ok(true);
+        }
+        self.spent = true;
+        let Ok(negation) = goal.negation() else {
+            return Err(AllocError);
+        };
+        let number = self.forms.len();
+        gather(&self.store, &mut self.eager, &mut self.run.work)?;
+        enter(&mut self.store, &mut self.run, &negation)?;
+        choose(&self.store, number, &mut self.run.work)?;
+        let found = propagate(&self.store, &mut self.run)?;
+        rest(&self.store, &mut self.run);
+        leave(&mut self.store, &mut self.run);
+        self.spent = false;
+        Ok(found)
+    }
+
+    /// The values of the completion of given literals over the live forms, or `None` where a conflict is met.
+    /// A value is `true` where the variable's negation is on the list.
+    pub fn complete(
+        &mut self,
+        given: &[NumberedLiteral],
+    ) -> Result<Option<Vec<Option<bool>>>, AllocError>
+        requires ready { self.old.spent ≡ false }
+        requires inside { All (λ l. l.variable < self.old.variables) given.now }
+        ensures forms { OnOk result (self.new.forms ≡ self.old.forms) }
+        ensures variables { OnOk result (self.new.variables ≡ self.old.variables) }
+        ensures visits { OnOk result (self.new.visits ≡ self.old.visits) }
+        ensures ready { OnOk result (self.new.spent ≡ false) }
+        ensures conflict { IfOk result (λ found. IfNone found (MeetsConflict (Live self.old.forms) given.now)) }
+        ensures no_conflict { IfOk result (λ found. IfSome found (λ values. MeetsConflict (Live self.old.forms) given.now → ⊥)) }
+        ensures completed { IfOk result (λ found. IfSome found (λ values. (list : List NumberedLiteral) × IsCompletion (Live self.old.forms) given.now list × Gives list values.items)) }
+    {
+        let visits = self.run.visits;
+        self.spent = true;
+        gather(&self.store, &mut self.eager, &mut self.run.work)?;
+        let found = settle(&self.store, &mut self.run, given)?;
+        let mut values = Vec::new(*self.forms.allocator());
+        values.extend_from_slice(self.run.assignment.values.as_slice())?;
+        rest(&self.store, &mut self.run);
+        self.run.visits = visits;
+        self.spent = false;
+        if found {
+            return Ok(None);
+        }
+        Ok(Some(values))
+    }
+}

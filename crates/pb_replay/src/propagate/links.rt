@@ -1,0 +1,223 @@
+//! Forms enter and leave.
+
+ghost use Rattle.std.specs.Prelude.{◌≡◌, ℕ, List, All, Some, ◌+◌, ◌-◌, ◌*◌, ◌<◌, ◌≤◌, ◌^◌, ◌++◌, ◌∷◌, [], false, true, length, map, take, sum_by, IfOk, OnOk, IsPermutation, slice_get, slice_index, slice_index_or, slice_set, swap_remove};
+ghost use Rattle.pb_replay.specs.declared.propagate.term.Occurrence.{Occurrence};
+ghost use Rattle.pb_replay.specs.declared.propagate.kept.Kept.{Kept};
+ghost use Rattle.pb_replay.specs.Engine.Lists.{Shape, AreInside};
+ghost use Rattle.pb_replay.specs.Engine.Counts.{AreFalling, IsCalm, place};
+ghost use Rattle.pb_replay.specs.Engine.Forms.{entry_of, IsKeptAs};
+ghost use Rattle.pb_replay.specs.Engine.Fields.{kept_shape, shapes_of, spots_of, entries_of, IsSound, HasEntered, IsEmpty};
+ghost use Rattle.pb_replay.specs.Engine.Links.{IsLinked, Moved, cut, terms_at};
+
+use crate::numbered::NumberedLiteral;
+use crate::propagate::kept::Kept;
+use crate::propagate::run::{Run, place_of};
+use crate::propagate::store::Store;
+use crate::propagate::term::{Occurrence, Term};
+use pb_normal::Normal;
+use std::alloc::{AllocError, Global};
+
+// The terms of a form in order of falling coefficient.
+fn sorted_terms(alloc: Global, form: &Normal) -> Result<Vec<Term>, AllocError>
+    ensures same { IfOk result (λ terms. IsPermutation (map entry_of terms.items) form.now.terms) }
+    ensures falling { IfOk result (λ terms. AreFalling terms.items) }
+{
+    let mut terms = Vec::new(alloc);
+    'terms: for i in 0..form.len() {
+        let (variable, negated, coefficient) = form.term(i);
+        terms.push(Term {
+            literal: NumberedLiteral { variable, negated },
+            coefficient: coefficient.unsigned_abs(),
+        })?;
+    }
+    terms.sort_unstable_by_key(|t| u128::MAX - t.coefficient);
+    Ok(terms)
+}
+
+// The sum of the coefficients.
+fn total_of(terms: &[Term]) -> u128
+    requires { sum_by (λ t. t.coefficient) terms.now < 2 ^ 128 }
+    ensures { result ≡ sum_by (λ t. t.coefficient) terms.now }
+{
+    let mut total = 0;
+    for t in terms {
+        total += t.coefficient;
+    }
+    total
+}
+
+// Whether a form may put a literal on the empty list, or is falsified there.
+fn is_eager(terms: &[Term], degree: u128, total: u128) -> bool
+    requires size { sum_by (λ t. t.coefficient) terms.now < 2 ^ 127 }
+    requires small { degree < 2 ^ 127 }
+    ensures calm { result ≡ false → IsCalm record { terms = terms.now; degree = degree } total 0 }
+    ensures busy { result ≡ true → 0 < degree + length terms.now }
+{
+    if total < degree {
+        return true;
+    }
+    if terms.len() == 0 {
+        return false;
+    }
+    total < degree + terms[0].coefficient
+}
+
+// A form as the engine keeps it.
+fn kept_of(alloc: Global, form: &Normal) -> Result<Kept, AllocError>
+    ensures { IfOk result (λ kept. IsKeptAs form.now (kept_shape kept)) }
+{
+    let terms = sorted_terms(alloc, form)?;
+    let degree = form.degree().unsigned_abs();
+    let total = total_of(terms.as_slice());
+    let eager = is_eager(terms.as_slice(), degree, total);
+    Ok(Kept {
+        terms,
+        degree,
+        total,
+        eager,
+    })
+}
+
+// Enters a form's terms in the lists of their literals, and tells where.
+fn link(
+    terms: &[Term],
+    form: usize,
+    lists: &mut Vec<Vec<Occurrence>>,
+    spots: &mut Vec<usize>,
+) -> Result<(), AllocError>
+    requires inside { All (λ t. place t.literal < length lists.old.items) terms.now }
+    requires empty { spots.old.items ≡ [] }
+    ensures sizes { length lists.new.items ≡ length lists.old.items }
+    ensures count { OnOk result (length spots.new.items ≡ length terms.now) }
+    ensures linked { OnOk result ((base : List Shape) (others : List (List ℕ)) → form < length base → terms_at base form ≡ terms.now → length others ≡ form → IsLinked (cut base form 0) (others ++ [] ∷ []) (entries_of lists.old.items) → IsLinked (cut base form (length terms.now)) (others ++ spots.new.items ∷ []) (entries_of lists.new.items)) }
+{
+    'terms: for i in 0..terms.len() {
+        let term = terms[i];
+        let place = place_of(term.literal);
+        let spot = lists[place].len();
+        spots.push(spot)?;
+        lists[place].push(Occurrence {
+            form,
+            index: i,
+            coefficient: term.coefficient,
+        })?;
+    }
+    Ok(())
+}
+
+// Takes an entry out of a list. The last entry of the list takes its place.
+fn take_out(
+    lists: &mut Vec<Vec<Occurrence>>,
+    spots: &mut Vec<Vec<usize>>,
+    place: usize,
+    spot: usize,
+)
+    requires place { place < length lists.old.items }
+    requires spot { spot < length (slice_index_or (entries_of lists.old.items) place []) }
+    requires named { (e : Occurrence) → slice_get (slice_index_or (entries_of lists.old.items) place []) (length (slice_index_or (entries_of lists.old.items) place []) - 1) ≡ Some e → (e.form < length spots.old.items) × (e.index < length (slice_index_or (spots_of spots.old.items) e.form [])) }
+    ensures sizes { length spots.new.items ≡ length spots.old.items }
+    ensures lists { (e : Occurrence) × (e ≡ slice_index_or (slice_index_or (entries_of lists.old.items) place []) spot e) × (entries_of lists.new.items ≡ slice_set (entries_of lists.old.items) place (swap_remove (slice_index_or (entries_of lists.old.items) place []) spot e)) }
+    ensures spots { Moved (slice_index_or (entries_of lists.old.items) place []) spot (spots_of spots.old.items) (spots_of spots.new.items) }
+{
+    lists[place].swap_remove(spot);
+    if spot >= lists[place].len() {
+        return;
+    }
+    let moved = lists[place][spot];
+    spots[moved.form][moved.index] = spot;
+}
+
+// Takes a form's entries out of the lists, the last term's first.
+fn unlink(store: &mut Store, form: usize)
+    requires sound { IsSound store.old }
+    requires form { form < length store.old.kept.items }
+    ensures kept { store.new.kept ≡ store.old.kept }
+    ensures variables { store.new.variables ≡ store.old.variables }
+    ensures lists { length store.new.occurrences.items ≡ length store.old.occurrences.items }
+    ensures rooms { (s : ℕ) → length (slice_index_or (spots_of store.new.spots.items) s []) ≡ length (slice_index_or (spots_of store.old.spots.items) s []) }
+    ensures linked { IsLinked (cut (shapes_of store.new.kept.items) form 0) (spots_of store.new.spots.items) (entries_of store.new.occurrences.items) }
+{
+    let mut left = store.kept[form].terms.len();
+    'terms: while left > 0 {
+        left -= 1;
+        let term = store.kept[form].terms[left];
+        let spot = store.spots[form][left];
+        let place = place_of(term.literal);
+        take_out(&mut store.occurrences, &mut store.spots, place, spot);
+    }
+}
+
+/// Enters a form behind the others.
+pub fn enter(store: &mut Store, run: &mut Run, form: &Normal) -> Result<(), AllocError>
+    requires sound { IsSound store.old }
+    requires inside { All (λ t. t.variable < store.old.variables) form.now.terms }
+    ensures sound { OnOk result (IsSound store.new) }
+    ensures entered { OnOk result (HasEntered form.now store.old.kept.items store.new.kept.items run.old.opens.items run.new.opens.items run.old.candidates.items run.new.candidates.items) }
+    ensures variables { store.new.variables ≡ store.old.variables }
+    ensures rest { (run.new.assignment ≡ run.old.assignment) × (run.new.work ≡ run.old.work) × (run.new.next ≡ run.old.next) × (run.new.visits ≡ run.old.visits) }
+{
+    let alloc = *store.kept.allocator();
+    let kept = kept_of(alloc, form)?;
+    let number = store.kept.len();
+    let mut spots = Vec::new(alloc);
+    link(
+        kept.terms.as_slice(),
+        number,
+        &mut store.occurrences,
+        &mut spots,
+    )?;
+    run.opens.push(kept.total)?;
+    run.candidates.push(0)?;
+    store.spots.push(spots)?;
+    store.kept.push(kept)?;
+    Ok(())
+}
+
+/// Takes the last form away.
+pub fn leave(store: &mut Store, run: &mut Run)
+    requires sound { IsSound store.old }
+    requires some { 0 < length store.old.kept.items }
+    ensures sound { IsSound store.new }
+    ensures kept { store.new.kept.items ≡ take (length store.old.kept.items - 1) store.old.kept.items }
+    ensures opens { run.new.opens.items ≡ take (length run.old.opens.items - 1) run.old.opens.items }
+    ensures candidates { run.new.candidates.items ≡ take (length run.old.candidates.items - 1) run.old.candidates.items }
+    ensures variables { store.new.variables ≡ store.old.variables }
+    ensures rest { (run.new.assignment ≡ run.old.assignment) × (run.new.work ≡ run.old.work) × (run.new.next ≡ run.old.next) × (run.new.visits ≡ run.old.visits) }
+{
+    let number = store.kept.len() - 1;
+    unlink(store, number);
+    store.kept.pop();
+    store.spots.pop();
+    run.opens.pop();
+    run.candidates.pop();
+}
+
+// A form that says nothing.
+fn empty_kept(alloc: Global) -> Kept
+    ensures { IsEmpty result }
+{
+    Kept {
+        terms: Vec::new(alloc),
+        degree: 0,
+        total: 0,
+        eager: false,
+    }
+}
+
+/// Takes a form away. An empty one stands in its place.
+pub fn vacate(store: &mut Store, run: &mut Run, form: usize)
+    requires sound { IsSound store.old }
+    requires form { form < length store.old.kept.items }
+    requires opens { length run.old.opens.items ≡ length store.old.kept.items }
+    ensures sound { IsSound store.new }
+    ensures kept { (k : Kept) × IsEmpty k × (store.new.kept.items ≡ slice_set store.old.kept.items form k) }
+    ensures opens { run.new.opens.items ≡ slice_set run.old.opens.items form 0 }
+    ensures variables { store.new.variables ≡ store.old.variables }
+    ensures rest { (run.new.candidates ≡ run.old.candidates) × (run.new.assignment ≡ run.old.assignment) × (run.new.work ≡ run.old.work) × (run.new.next ≡ run.old.next) × (run.new.visits ≡ run.old.visits) }
+{
+    let alloc = *store.kept.allocator();
+    unlink(store, form);
+    store.kept[form] = empty_kept(alloc);
+    store.spots[form] = Vec::new(alloc);
+    run.opens[form] = 0;
+}

@@ -1,0 +1,204 @@
+ghost use Rattle.std.specs.Prelude.{◌≡◌, ℕ, ◌≤◌, ◌+◌, ◌-◌, ◌*◌, ◌^◌, ◌<◌, ◌++◌, ◌∷◌, [], true, false, List, length, map, OnOk, IfOk, slice_index, slice_index_or, slice_set, sum, sum_by, Contains};
+ghost use Rattle.pb_replay.specs.declared.numbered.NumberedLiteral.{NumberedLiteral};
+ghost use Rattle.pb_replay.specs.Engine.Lists.{negation, has, Derives, Conflicts, Shape, IsSettled};
+ghost use Rattle.pb_replay.specs.Engine.Counts.{place, IsCounted, IsTidy, IsPaid, IsAbsent, Adopted, AreFound, AreSingle, IsUndone};
+ghost use Rattle.pb_replay.specs.Engine.Fields.{shapes_of, entries_of, IsSound};
+
+use crate::numbered::NumberedLiteral;
+use crate::propagate::assignment::Assignment;
+use crate::propagate::store::{Store, visit};
+use crate::propagate::term::Occurrence;
+use std::alloc::AllocError;
+
+/// A propagation under way.
+#[derive(Drop)]
+pub struct Run {
+    pub opens: Vec<u128>,
+    pub candidates: Vec<usize>,
+    pub assignment: Assignment,
+    pub work: Vec<usize>,
+    pub next: usize,
+    pub visits: u64,
+}
+
+/// Takes an entry from its form's open sum, and puts the form on the work list.
+fn lower(run: &mut Run, entry: Occurrence) -> Result<(), AllocError>
+    requires inside { entry.form < length run.old.opens.items }
+    requires fits { entry.coefficient ≤ slice_index run.old.opens.items entry.form }
+    ensures opens { OnOk result (run.new.opens.items ≡ slice_set run.old.opens.items entry.form (slice_index run.old.opens.items entry.form - entry.coefficient)) }
+    ensures work { OnOk result (run.new.work.items ≡ run.old.work.items ++ entry.form ∷ []) }
+    ensures candidates { run.new.candidates ≡ run.old.candidates }
+    ensures assignment { run.new.assignment ≡ run.old.assignment }
+    ensures next { run.new.next ≡ run.old.next }
+    ensures visits { run.new.visits ≡ run.old.visits }
+{
+    run.work.push(entry.form)?;
+    run.opens[entry.form] -= entry.coefficient;
+    Ok(())
+}
+
+/// The list of a literal's entries.
+pub fn place_of(literal: NumberedLiteral) -> usize
+    requires fits { place literal < 2 ^ 64 }
+    ensures place { result ≡ place literal }
+{
+    if literal.negated {
+        2 * literal.variable + 1
+    } else {
+        2 * literal.variable
+    }
+}
+
+/// Puts a literal on the list, and takes its entries from the open sums.
+pub fn put(store: &Store, run: &mut Run, literal: NumberedLiteral) -> Result<(), AllocError>
+    requires store { IsSound store.now }
+    requires inside { literal.variable < store.now.variables }
+    requires values { length run.old.assignment.values.items ≡ store.now.variables }
+    requires opens { length run.old.opens.items ≡ length store.now.kept.items }
+    requires next { run.old.next ≤ length run.old.work.items }
+    requires absent { has run.old.assignment.list.items literal ≡ false }
+    requires not_falsified { has run.old.assignment.list.items (negation literal) ≡ false }
+    requires counted { IsCounted (shapes_of store.now.kept.items) run.old.opens.items run.old.assignment.list.items [] }
+    ensures values { OnOk result (length run.new.assignment.values.items ≡ length run.old.assignment.values.items) }
+    ensures opens { OnOk result (length run.new.opens.items ≡ length run.old.opens.items) }
+    ensures next { OnOk result (run.new.next ≡ run.old.next) }
+    ensures candidates { OnOk result (run.new.candidates ≡ run.old.candidates) }
+    ensures list { OnOk result (run.new.assignment.list.items ≡ run.old.assignment.list.items ++ literal ∷ []) }
+    ensures counted { OnOk result (IsCounted (shapes_of store.now.kept.items) run.new.opens.items run.new.assignment.list.items []) }
+    ensures tidy { OnOk result ((busy : ℕ) → IsTidy (shapes_of store.now.kept.items) run.old.opens.items run.old.candidates.items run.old.assignment.list.items run.old.work.items run.old.next busy → IsTidy (shapes_of store.now.kept.items) run.new.opens.items run.new.candidates.items run.new.assignment.list.items run.new.work.items run.new.next busy) }
+    ensures paid { OnOk result (IsPaid (entries_of store.now.occurrences.items) run.old.assignment.list.items run.new.assignment.list.items run.old.candidates.items run.new.candidates.items run.old.work.items run.new.work.items run.old.visits run.new.visits 0) }
+    ensures kept_work { OnOk result ((s : ℕ) → IsAbsent run.new.work.items 0 s → IsAbsent run.old.work.items 0 s) }
+    ensures longer_work { OnOk result (length run.old.work.items ≤ length run.new.work.items) }
+{
+    run.assignment.put(literal)?;
+    let entries = &store.occurrences[place_of(literal.negation())];
+    'entries: for j in 0..entries.len() {
+        let entry = visit(entries, j, &mut run.visits);
+        lower(run, entry)?;
+    }
+    Ok(())
+}
+
+/// Puts a literal on the list where its variable has no value.
+pub fn try_put(store: &Store, run: &mut Run, literal: NumberedLiteral) -> Result<(), AllocError>
+    requires store { IsSound store.now }
+    requires inside { literal.variable < store.now.variables }
+    requires values { length run.old.assignment.values.items ≡ store.now.variables }
+    requires opens { length run.old.opens.items ≡ length store.now.kept.items }
+    requires next { run.old.next ≤ length run.old.work.items }
+    requires counted { IsCounted (shapes_of store.now.kept.items) run.old.opens.items run.old.assignment.list.items [] }
+    ensures values { OnOk result (length run.new.assignment.values.items ≡ length run.old.assignment.values.items) }
+    ensures opens { OnOk result (length run.new.opens.items ≡ length run.old.opens.items) }
+    ensures next { OnOk result (run.new.next ≡ run.old.next) }
+    ensures candidates { OnOk result (run.new.candidates ≡ run.old.candidates) }
+    ensures adopted { OnOk result (Adopted literal run.old.assignment.list.items run.new.assignment.list.items) }
+    ensures counted { OnOk result (IsCounted (shapes_of store.now.kept.items) run.new.opens.items run.new.assignment.list.items []) }
+    ensures tidy { OnOk result ((busy : ℕ) → IsTidy (shapes_of store.now.kept.items) run.old.opens.items run.old.candidates.items run.old.assignment.list.items run.old.work.items run.old.next busy → IsTidy (shapes_of store.now.kept.items) run.new.opens.items run.new.candidates.items run.new.assignment.list.items run.new.work.items run.new.next busy) }
+    ensures paid { OnOk result (IsPaid (entries_of store.now.occurrences.items) run.old.assignment.list.items run.new.assignment.list.items run.old.candidates.items run.new.candidates.items run.old.work.items run.new.work.items run.old.visits run.new.visits 0) }
+    ensures kept_work { OnOk result ((s : ℕ) → IsAbsent run.new.work.items 0 s → IsAbsent run.old.work.items 0 s) }
+    ensures longer_work { OnOk result (length run.old.work.items ≤ length run.new.work.items) }
+{
+    if run.assignment.contains(literal) {
+        return Ok(());
+    }
+    if run.assignment.contains(literal.negation()) {
+        return Ok(());
+    }
+    put(store, run, literal)?;
+    Ok(())
+}
+
+/// Looks at a form until its candidate demands nothing; whether it is falsified.
+fn look(store: &Store, run: &mut Run, form: usize) -> Result<bool, AllocError>
+    requires store { IsSound store.now }
+    requires form { form < length store.now.kept.items }
+    requires values { length run.old.assignment.values.items ≡ store.now.variables }
+    requires opens { length run.old.opens.items ≡ length store.now.kept.items }
+    requires candidates { length run.old.candidates.items ≡ length store.now.kept.items }
+    requires next { run.old.next ≤ length run.old.work.items }
+    requires counted { IsCounted (shapes_of store.now.kept.items) run.old.opens.items run.old.assignment.list.items [] }
+    requires tidy { IsTidy (shapes_of store.now.kept.items) run.old.opens.items run.old.candidates.items run.old.assignment.list.items run.old.work.items run.old.next form }
+    requires there { IsAbsent run.old.work.items 0 form → ⊥ }
+    ensures values { OnOk result (length run.new.assignment.values.items ≡ length run.old.assignment.values.items) }
+    ensures opens { OnOk result (length run.new.opens.items ≡ length run.old.opens.items) }
+    ensures candidates { OnOk result (length run.new.candidates.items ≡ length run.old.candidates.items) }
+    ensures next { OnOk result (run.new.next ≡ run.old.next) }
+    ensures within { OnOk result (run.new.next ≤ length run.new.work.items) }
+    ensures derived { OnOk result (Derives (shapes_of store.now.kept.items) run.old.assignment.list.items run.new.assignment.list.items) }
+    ensures counted { OnOk result (IsCounted (shapes_of store.now.kept.items) run.new.opens.items run.new.assignment.list.items []) }
+    ensures bounded { OnOk result (sum run.new.candidates.items ≤ sum_by (λ f. length f.terms) (shapes_of store.now.kept.items)) }
+    ensures undone { OnOk result (IsUndone (shapes_of store.now.kept.items) run.new.opens.items run.new.candidates.items run.new.work.items 0) }
+    ensures conflict { IfOk result (λ found. found ≡ true → Conflicts (shapes_of store.now.kept.items) run.new.assignment.list.items) }
+    ensures tidy { IfOk result (λ found. found ≡ false → IsTidy (shapes_of store.now.kept.items) run.new.opens.items run.new.candidates.items run.new.assignment.list.items run.new.work.items run.new.next (length store.now.kept.items)) }
+    ensures paid { OnOk result (IsPaid (entries_of store.now.occurrences.items) run.old.assignment.list.items run.new.assignment.list.items run.old.candidates.items run.new.candidates.items run.old.work.items run.new.work.items run.old.visits run.new.visits 1) }
+    ensures found { OnOk result (AreFound (length run.old.assignment.list.items) (length run.new.assignment.list.items) run.old.visits run.new.visits) }
+{
+    let kept = &store.kept[form];
+    'terms: loop {
+        let opened = run.opens[form];
+        if opened < kept.degree {
+            return Ok(true);
+        }
+        let candidate = run.candidates[form];
+        if candidate >= kept.terms.len() {
+            return Ok(false);
+        }
+        let term = visit(&kept.terms, candidate, &mut run.visits);
+        if kept.degree + term.coefficient <= opened {
+            return Ok(false);
+        }
+        try_put(store, run, term.literal)?;
+        run.candidates[form] = candidate + 1;
+    }
+}
+
+/// Looks at the forms of the work list until none is left; whether a conflict was met.
+pub fn propagate(store: &Store, run: &mut Run) -> Result<bool, AllocError>
+    requires store { IsSound store.now }
+    requires values { length run.old.assignment.values.items ≡ store.now.variables }
+    requires opens { length run.old.opens.items ≡ length store.now.kept.items }
+    requires candidates { length run.old.candidates.items ≡ length store.now.kept.items }
+    requires next { run.old.next ≤ length run.old.work.items }
+    requires single { AreSingle run.old.assignment.list.items }
+    requires counted { IsCounted (shapes_of store.now.kept.items) run.old.opens.items run.old.assignment.list.items [] }
+    requires tidy { IsTidy (shapes_of store.now.kept.items) run.old.opens.items run.old.candidates.items run.old.assignment.list.items run.old.work.items run.old.next (length store.now.kept.items) }
+    ensures values { OnOk result (length run.new.assignment.values.items ≡ length run.old.assignment.values.items) }
+    ensures opens { OnOk result (length run.new.opens.items ≡ length store.now.kept.items) }
+    ensures candidates { OnOk result (length run.new.candidates.items ≡ length store.now.kept.items) }
+    ensures derived { OnOk result (Derives (shapes_of store.now.kept.items) run.old.assignment.list.items run.new.assignment.list.items) }
+    ensures bounded { OnOk result (sum run.new.candidates.items ≤ sum_by (λ f. length f.terms) (shapes_of store.now.kept.items)) }
+    ensures undone { OnOk result (IsUndone (shapes_of store.now.kept.items) run.new.opens.items run.new.candidates.items run.new.work.items 0) }
+    ensures conflict { IfOk result (λ found. found ≡ true → Conflicts (shapes_of store.now.kept.items) run.new.assignment.list.items) }
+    ensures settled { IfOk result (λ found. found ≡ false → (f : Shape) → Contains (shapes_of store.now.kept.items) f → IsSettled f run.new.assignment.list.items) }
+    ensures upper { OnOk result (run.new.visits + sum run.old.candidates.items ≤ run.old.visits + (length run.old.work.items - run.old.next) + 2 * sum_by length (entries_of store.now.occurrences.items) + sum run.new.candidates.items) }
+    ensures found { OnOk result (AreFound (length run.old.assignment.list.items) (length run.new.assignment.list.items) run.old.visits run.new.visits) }
+{
+    'work: while run.next < run.work.len() {
+        let form = run.work[run.next];
+        run.next += 1;
+        if look(store, run, form)? {
+            return Ok(true);
+        }
+    }
+    Ok(false)
+}
+
+/// Makes the forms that were touched what they were before the propagation; no other form is looked at, and no memory is taken.
+pub fn undo_forms(store: &Store, run: &mut Run)
+    requires opens { length run.old.opens.items ≡ length store.now.kept.items }
+    requires candidates { length run.old.candidates.items ≡ length store.now.kept.items }
+    requires undone { IsUndone (shapes_of store.now.kept.items) run.old.opens.items run.old.candidates.items run.old.work.items 0 }
+    ensures opens { length run.new.opens.items ≡ length store.now.kept.items }
+    ensures candidates { length run.new.candidates.items ≡ length store.now.kept.items }
+    ensures work { run.new.work ≡ run.old.work }
+    ensures assignment { run.new.assignment ≡ run.old.assignment }
+    ensures visits { run.new.visits ≡ run.old.visits }
+    ensures undone { IsUndone (shapes_of store.now.kept.items) run.new.opens.items run.new.candidates.items run.new.work.items (length run.new.work.items) }
+{
+    'forms: for i in 0..run.work.len() {
+        let form = run.work[i];
+        let total = store.kept[form].total;
+        run.opens[form] = total;
+        run.candidates[form] = 0;
+    }
+}

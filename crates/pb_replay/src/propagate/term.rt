@@ -1,0 +1,20 @@
+//! Terms as the engine keeps them, and where they stand.
+
+ghost use Rattle.std.specs.Prelude.{◌≡◌};
+
+use crate::numbered::NumberedLiteral;
+
+/// A literal with its coefficient.
+#[derive(Clone, Copy, Debug, PartialEq, Eq)]
+pub struct Term {
+    pub literal: NumberedLiteral,
+    pub coefficient: u128,
+}
+
+/// A form in which a literal stands, the place of its term there, and its coefficient.
+#[derive(Clone, Copy, Debug, PartialEq, Eq)]
+pub struct Occurrence {
+    pub form: usize,
+    pub index: usize,
+    pub coefficient: u128,
+}
