@@ -1,7 +1,9 @@
 pub mod Appearing
 pub mod Balance
 pub mod Collecting
+pub mod Entries
 pub mod Faults
+pub mod Keeps
 pub mod Maps
 pub mod Measures
 pub mod Merging

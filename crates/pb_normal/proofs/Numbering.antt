@@ -1,8 +1,10 @@
 -- A number once given stays, and names appear one by one.
-use Rattle.std.proofs.Common.{◌≡◌, ℕ, zero, suc, ◌+◌, ◌<◌, Bool, true, false, not, ◌||◌, cond, List, [], ◌∷◌, ◌++◌, length, take, get_or, map, refl, sym, ◌∙◌, ap, arith, Option, Some, None, slice_get, Result, Ok, Err, OnErr}
+use Rattle.std.proofs.Common.{◌≡◌, ℕ, zero, suc, ◌+◌, ◌<◌, Bool, true, false, not, ◌||◌, cond, List, [], ◌∷◌, ◌++◌, length, take, get_or, map, refl, sym, ◌∙◌, ap, arith, Option, Some, None, slice_get, Result, Ok, Err, OnErr, nat_lt}
 use Rattle.std.specs.List.{list_any, position, position_or_len}
 use Rattle.std.specs.Str.{bytes_eq}
 use Rattle.std.proofs.lemmas.List.{map-append, take_more, take-map}
+use Rattle.std.proofs.lemmas.Bool.Decides.{nat_tests}
+use Rattle.pb_normal.proofs.Positions.{position_or_len-none}
 use Rattle.std.proofs.lemmas.Slice.Eq.{bytes_eq-Decides}
 use Rattle.std.proofs.lemmas.Option.{slice_get_within}
 use Rattle.pb_sums.specs.declared.values.Term.{Term}
@@ -162,9 +164,20 @@ AreDistinct-with names k d = by_test (has_name names k) refl
     by_test true t = d
     by_test false t = AreDistinct-push names k d t
 
+-- a position, in the words of names and numbers
+pub position-number : (names : List (List ℕ)) (q : List ℕ) → position (bytes_eq q) names ≡ cond (has_name names q) (let o : Option ℕ = Some (number_in names q) in o) None
+position-number names q = at (has_name names q) refl
+  where
+    at : (b : Bool) → has_name names q ≡ b → position (bytes_eq q) names ≡ cond b (let o : Option ℕ = Some (number_in names q) in o) None
+    at true e = let below : nat_lt (number_in names q) (length names) ≡ true = let lt = number_in-below names q e in grind (arith, nat_tests) in rw below refl
+    at false e = let none : number_in names q ≡ length names = position_or_len-none (bytes_eq q) names e in let past : nat_lt (number_in names q) (length names) ≡ false = grind (arith, nat_tests) in rw past refl
+
 pub found_at : (b : Bool) (m n : ℕ) → cond b (let o : Option ℕ = Some m in o) None ≡ Some n → m ≡ n
 found_at true m n e = cc
 found_at false m n e = absurd cc
+
+pub number_in-position : (names : List (List ℕ)) (q : List ℕ) (n : ℕ) → position (bytes_eq q) names ≡ Some n → n ≡ number_in names q
+number_in-position names q n e = sym (found_at _ _ n e)
 
 raw-with : (side : Side) (k : List ℕ) (ks : List (List ℕ)) (ts : List Term) → HasNames ks (names_of ts) → map (raw_of (with_name ks k)) (side_terms side ts) ≡ map (raw_of ks) (side_terms side ts)
 raw-with side k ks [] h = refl
@@ -181,10 +194,9 @@ pub record Numbering (side : Side) (old new : List (List ℕ)) (ts : List Term) 
   pub entries : out ≡ map (raw_of new) (side_terms side ts)
 
 -- one term more
-pub Numbering-push : (side : Side) (old ks new : List (List ℕ)) (ts : List Term) (t : Term) (out : List Entry) (n : ℕ) → Numbering side old ks ts out → new ≡ with_name ks t.literal.name → position (bytes_eq t.literal.name) new ≡ Some n → Numbering side old new (ts ++ t ∷ []) (out ++ entry_of n t.literal.negated (side_number side t.coefficient) ∷ [])
+pub Numbering-push : (side : Side) (old ks new : List (List ℕ)) (ts : List Term) (t : Term) (out : List Entry) (n : ℕ) → Numbering side old ks ts out → new ≡ with_name ks t.literal.name → n ≡ number_in new t.literal.name → Numbering side old new (ts ++ t ∷ []) (out ++ entry_of n t.literal.negated (side_number side t.coefficient) ∷ [])
 Numbering-push side old ks new ts t out n h e p =
-    let number : number_in new t.literal.name ≡ n = found_at _ _ n p in
-    let last = ap (λ m. entry_of m t.literal.negated (side_number side t.coefficient)) (sym number) in
+    let last = ap (λ m. entry_of m t.literal.negated (side_number side t.coefficient)) p in
     let before = h.entries ∙ sym (raw-with side t.literal.name ks ts h.named) ∙ ap (λ (us : List (List ℕ)). map (raw_of us) (side_terms side ts)) (sym e) in
     record {
       distinct = rw e (AreDistinct-with ks t.literal.name h.distinct);

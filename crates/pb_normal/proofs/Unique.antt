@@ -5,7 +5,7 @@ use Rattle.std.proofs.lemmas.Bool.{cases_order}
 use Rattle.std.proofs.lemmas.Int.{ints}
 use Rattle.pb_normal.specs.declared.entry.Entry.{Entry}
 use Rattle.pb_normal.specs.Rules.{IsSum}
-use Rattle.pb_normal.specs.Form.{Form, counted, total, negative, plain_of, negated_of, IsRising, low}
+use Rattle.pb_normal.specs.Form.{Form, counted, total, negative, plain_of, negated_of, IsRising, IsOrdered, coefficient, low}
 
 -- nothing counts on a variable below all others
 pub none_below : (e : Bool → Bool) (x n : ℕ) (ts : List Entry) → IsRising n ts → x < n → total (λ v m. eqb v x && e m) ts ≡ 0
@@ -32,7 +32,7 @@ same_head true false m n p q e = absurd (omega arith)
 same_head false true m n p q e = absurd (omega arith)
 same_head false false m n p q e = (refl, omega arith)
 
-same_entry : (v v' : ℕ) (b b' : Bool) (c c' : ℕ) → v ≡ v' → b ≡ b' → c ≡ c' → (let r : Entry = record { variable = v; negated = b; coefficient = c } in r) ≡ record { variable = v'; negated = b'; coefficient = c' }
+pub same_entry : (v v' : ℕ) (b b' : Bool) (c c' : ℕ) → v ≡ v' → b ≡ b' → c ≡ c' → (let r : Entry = record { variable = v; negated = b; coefficient = c } in r) ≡ record { variable = v'; negated = b'; coefficient = c' }
 same_entry v v' b b' c c' e f g = rw (e, f, g) refl
 
 -- both lists have the same coefficients
@@ -63,6 +63,10 @@ IsRising-same n (x ∷ xs) (y ∷ ys) h k e =
 
 pub same_form : (ts us : List Entry) (d e : ℕ) → ts ≡ us → d ≡ e → (let f : Form = record { terms = ts; degree = d } in f) ≡ record { terms = us; degree = e }
 same_form ts us d e p q = rw (p, q) refl
+
+-- two forms with the same coefficients and the same degree are one
+pub form-unique : (r s : Form) → IsOrdered r → IsOrdered s → ((x : ℕ) → coefficient r x ≡ coefficient s x) → r.degree ≡ s.degree → r ≡ s
+form-unique r s p q e d = same_form r.terms s.terms r.degree s.degree (IsRising-same 0 r.terms s.terms p q (λ z. omega (arith, ints, e z))) d
 
 -- two sums of the same forms are one
 pub IsSum-unique : (f g r s : Form) → IsSum f g r → IsSum f g s → r ≡ s

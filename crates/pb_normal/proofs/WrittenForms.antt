@@ -205,7 +205,7 @@ raw-append names more (t ∷ ts) h =
     let rest = raw-append names more ts h.1 in
     cc
 
-HasNames-append : (names more ns : List (List ℕ)) → HasNames names ns → HasNames (names ++ more) ns
+pub HasNames-append : (names more ns : List (List ℕ)) → HasNames names ns → HasNames (names ++ more) ns
 HasNames-append names more [] h = tt
 HasNames-append names more (n ∷ ns) h = (has_name-append names more n h.0, HasNames-append names more ns h.1)
 

@@ -1,5 +1,5 @@
 -- Forms: positive coefficients on literals, one literal for each variable, and a degree.
-use Rattle.std.specs.Prelude.{◌≡◌, ℕ, ◌+◌, ◌<◌, ◌≤◌, ◌^◌, ◌==◌, ℤ, pos, negsuc, ◌-ℤ◌, ◌≤ℤ◌, unsigned_abs, Bool, true, not, ◌&&◌, ◌↔◌, if◌then◌else◌, List, [], ◌∷◌, slice_get, Some}
+use Rattle.std.specs.Prelude.{◌≡◌, ℕ, ◌+◌, ◌<◌, ◌≤◌, ◌^◌, ◌==◌, ℤ, pos, negsuc, ◌-ℤ◌, ◌≤ℤ◌, unsigned_abs, Bool, true, not, ◌&&◌, ◌↔◌, if◌then◌else◌, List, [], ◌∷◌, slice_get, Some, All}
 use Rattle.pb_normal.specs.declared.entry.Entry.{Entry}
 
 -- an entry's coefficient, where its literal counts
@@ -59,6 +59,14 @@ bound f = pos f.degree -ℤ pos (low f)
 -- the coefficients of the true literals sum to the degree
 abbrev pub Holds : (ℕ → Bool) → Form → Type 0
 Holds a f = f.degree ≤ total (true_at a) f.terms
+
+-- all variables are in the set
+abbrev pub IsOver : (ℕ → Bool) → Form → Type 0
+IsOver p f = All (λ t. p t.variable ≡ true) f.terms
+
+-- the two assignments agree on all variables
+abbrev pub AgreeOn : (ℕ → Bool) → (ℕ → Bool) → Form → Type 0
+AgreeOn a b f = All (λ t. a t.variable ≡ b t.variable) f.terms
 
 -- r holds wherever f does
 abbrev pub Follows : Form → Form → Type 0

@@ -1,7 +1,7 @@
 //! Normal forms.
 
 ghost use Rattle.std.specs.Prelude.{◌≡◌, ◌<◌, ◌^◌, ◌↔◌, pos, IfOk, IfErr, length, IsTrue, All};
-ghost use Rattle.pb_normal.specs.Form.{IsNormal, ReadsTerm, total, each, Holds};
+ghost use Rattle.pb_normal.specs.Form.{IsNormal, ReadsTerm, total, each, size, Holds};
 ghost use Rattle.pb_normal.specs.Rules.{IsContradiction, assignment};
 
 use crate::entry::Entry;
@@ -46,6 +46,22 @@ impl Normal {
         (t.variable, t.negated, t.coefficient as i128)
     }
 
+    /// The terms, in the order of their variables.
+    pub fn entries(&self) -> &[Entry]
+        ensures entries { result.now ≡ self.now.terms }
+        ensures normal { IsNormal self.now }
+    {
+        self.terms.as_slice()
+    }
+
+    /// The sum of the coefficients.
+    pub fn size(&self) -> u128
+        ensures size { result ≡ size self.now }
+        ensures normal { IsNormal self.now }
+    {
+        size_of(self.terms.as_slice())
+    }
+
     /// The degree.
     pub fn degree(&self) -> i128
         ensures degree { result ≡ pos self.now.degree }
@@ -66,6 +82,13 @@ impl Normal {
             terms,
             degree: self.degree,
         })
+    }
+
+    /// Whether the two have the same terms and the same degree.
+    pub fn is_same(&self, other: &Normal) -> bool
+        ensures { IsTrue result ↔ (self.now ≡ other.now) }
+    {
+        self.degree == other.degree && self.terms.as_slice() == other.terms.as_slice()
     }
 
     /// Whether it holds at these values, one for each variable.

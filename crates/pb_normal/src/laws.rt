@@ -1,12 +1,12 @@
 //! Laws over the definitions alone. These functions do nothing: what they ensure are the laws.
 
-ghost use Rattle.std.specs.Prelude.{◌≡◌, ◌<◌, ◌≤◌, ◌↔◌, ℕ, ℤ, Bool, List, ◌++◌, All, length};
+ghost use Rattle.std.specs.Prelude.{◌≡◌, ◌<◌, ◌≤◌, ◌↔◌, ℕ, ℤ, Bool, List, ◌++◌, All, Some, length, nat_lt, slice_get, true};
 ghost use Rattle.pb_sums.specs.declared.values.Term.{Term};
 ghost use Rattle.pb_sums.specs.declared.values.Linear.{Linear};
 ghost use Rattle.pb_sums.specs.declared.values.Relation.TheVariants.{AtLeast, Equal};
 ghost use Rattle.pb_normal.specs.declared.side.Side.{Side};
-ghost use Rattle.pb_normal.specs.Form.{Form, Holds, Follows, FollowsBoth, IsOpposite};
-ghost use Rattle.pb_normal.specs.Names.{AreDistinct, HasNames, with_names};
+ghost use Rattle.pb_normal.specs.Form.{Form, Holds, Follows, FollowsBoth, IsOpposite, IsOrdered, IsOver, AgreeOn, coefficient, size, total};
+ghost use Rattle.pb_normal.specs.Names.{AreDistinct, HasNames, has_name, number_in, with_names};
 ghost use Rattle.pb_normal.specs.Rules.{IsSum, multiplied, divided, saturated, weakened, axiom_on, negation_of, IsContradiction};
 ghost use Rattle.pb_normal.specs.Written.{names_of, IsFormOf, IsSideOf, SameSolutions, SameAsForm, SameAsForms, linear_of};
 
@@ -23,8 +23,11 @@ pub fn rules_are_sound()
     ensures contradiction { (f : Form) (a : ℕ → Bool) → IsContradiction f → ¬ Holds a f }
 {}
 
-/// Two forms have one sum, and a written sum with a degree has one form.
+/// A form is known by its coefficients and its degree, two forms have one sum, and a written sum with a degree has one
+/// form.
 pub fn forms_are_unique()
+    ensures coefficients { (r s : Form) → IsOrdered r → IsOrdered s →
+        ((x : ℕ) → coefficient r x ≡ coefficient s x) → r.degree ≡ s.degree → r ≡ s }
     ensures sum { (f g r s : Form) → IsSum f g r → IsSum f g s → r ≡ s }
     ensures written { (names : List (List ℕ)) (ts : List Term) (d : ℤ) (r s : Form) →
         IsFormOf names ts d r → IsFormOf names ts d s → r ≡ s }
@@ -63,4 +66,36 @@ pub fn names_keep_their_numbers()
     ensures present { (names others : List (List ℕ)) → HasNames names others → with_names names others ≡ names }
     ensures in_turn { (names others further : List (List ℕ)) →
         with_names names (others ++ further) ≡ with_names (with_names names others) further }
+{}
+
+/// The result of a rule has no other variables than its operands have.
+pub fn rules_keep_variables()
+    ensures sum { (p : ℕ → Bool) (f g r : Form) → IsSum f g r → IsOver p f → IsOver p g → IsOver p r }
+    ensures product { (p : ℕ → Bool) (k : ℕ) (f : Form) → IsOver p f → IsOver p (multiplied k f) }
+    ensures quotient { (p : ℕ → Bool) (k : ℕ) (f : Form) → IsOver p f → IsOver p (divided k f) }
+    ensures saturation { (p : ℕ → Bool) (f : Form) → IsOver p f → IsOver p (saturated f) }
+    ensures weakening { (p : ℕ → Bool) (x : ℕ) (f : Form) → IsOver p f → IsOver p (weakened x f) }
+    ensures negation { (p : ℕ → Bool) (f : Form) → IsOver p f → IsOver p (negation_of f) }
+    ensures below { (n : ℕ) (f : Form) → IsOver (λ v. nat_lt v n) f ↔ All (λ t. t.variable < n) f.terms }
+{}
+
+/// Only the values of its variables matter to a form, and no choice of literals counts for more than all of them.
+pub fn forms_hold_by_their_variables()
+    ensures alike { (a b : ℕ → Bool) (f : Form) → AgreeOn a b f → Holds a f ↔ Holds b f }
+    ensures part { (p : ℕ → Bool → Bool) (f : Form) → total p f.terms ≤ size f }
+{}
+
+/// A name's number is its place, and among distinct names its only one. It stays when more names follow.
+pub fn numbers_are_places()
+    ensures found { (names : List (List ℕ)) (name : List ℕ) → has_name names name ≡ true →
+        slice_get names (number_in names name) ≡ Some name }
+    ensures below { (names : List (List ℕ)) (name : List ℕ) → has_name names name ≡ true →
+        number_in names name < length names }
+    ensures single { (names : List (List ℕ)) (x : ℕ) (name : List ℕ) → AreDistinct names →
+        slice_get names x ≡ Some name → number_in names name ≡ x }
+    ensures stays { (names more : List (List ℕ)) (name : List ℕ) → has_name names name ≡ true →
+        number_in (names ++ more) name ≡ number_in names name }
+    ensures remains { (names more : List (List ℕ)) (name : List ℕ) → has_name names name ≡ true →
+        has_name (names ++ more) name ≡ true }
+    ensures all_remain { (names more others : List (List ℕ)) → HasNames names others → HasNames (names ++ more) others }
 {}

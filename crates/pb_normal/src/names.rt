@@ -1,9 +1,8 @@
 //! Numbers for names.
 
-ghost use Rattle.std.specs.Prelude.{◌≡◌, ◌<◌, [], length, position, slice_get, Some, IfOk, IfSome, OnOk, OnErr};
+ghost use Rattle.std.specs.Prelude.{◌≡◌, ◌<◌, [], length, slice_get, Some, None, true, if◌then◌else◌, IfOk, IfSome, OnOk, OnErr};
 ghost use Rattle.std.specs.Option.{option_copied};
-ghost use Rattle.std.specs.Str.{bytes_eq};
-ghost use Rattle.pb_normal.specs.Names.{AreDistinct, with_name};
+ghost use Rattle.pb_normal.specs.Names.{AreDistinct, has_name, number_in, with_name};
 
 use indexmap::IndexSet;
 use std::alloc::{AllocError, Global};
@@ -56,7 +55,7 @@ impl Names {
 
     /// The number of a name, or `None` where it has none.
     pub fn number_of(&self, name: &str) -> Option<usize>
-        ensures number { result ≡ position (bytes_eq name.now) self.now }
+        ensures number { result ≡ (if has_name self.now name.now then Some (number_in self.now name.now) else None) }
         ensures named { IfSome result (λ n. slice_get self.now n ≡ Some name.now) }
     {
         self.set.get_index_of(name)
@@ -85,7 +84,8 @@ impl Names {
     /// Where memory was refused nothing has changed.
     pub fn number(&mut self, name: &str) -> Result<usize, AllocError>
         ensures names { OnOk result (self.new ≡ with_name self.old name.now) }
-        ensures number { IfOk result (λ n. position (bytes_eq name.now) self.new ≡ Some n) }
+        ensures number { IfOk result (λ n. n ≡ number_in self.new name.now) }
+        ensures has { OnOk result (has_name self.new name.now ≡ true) }
         ensures named { IfOk result (λ n. slice_get self.new n ≡ Some name.now) }
         ensures err { OnErr result (self.new ≡ self.old) }
         ensures distinct { AreDistinct self.new }

@@ -1,4 +1,4 @@
-use Rattle.pb_normal.proofs.Unique.{IsSum-unique}
+use Rattle.pb_normal.proofs.Unique.{IsSum-unique, form-unique}
 use Rattle.pb_normal.proofs.WrittenForms.{IsFormOf-unique}
 use Rattle.pb_normal.proofs.laws.forms_are_unique.Goals as goal
 
@@ -7,3 +7,6 @@ returns-clause-sum c = IsSum-unique
 
 pub returns-clause-written : goal.returns-clause-written
 returns-clause-written c = IsFormOf-unique
+
+pub returns-clause-coefficients : goal.returns-clause-coefficients
+returns-clause-coefficients c = form-unique

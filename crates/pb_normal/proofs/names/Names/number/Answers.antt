@@ -4,7 +4,7 @@ use Rattle.std.specs.List.{list_any}
 use Rattle.std.specs.String.{string_bytes, string_eq}
 use Rattle.std.proofs.lemmas.Slice.Eq.{bytes_eq-Decides}
 use Rattle.pb_normal.specs.Names.{has_name}
-use Rattle.pb_normal.proofs.Numbering.{AreDistinct-push}
+use Rattle.pb_normal.proofs.Numbering.{AreDistinct-push, number_in-position, with_name-has}
 use Rattle.pb_normal.proofs.Positions.{position-map, list_any-map, map-inserted, position-inserted, slice_get-position}
 use Rattle.pb_normal.proofs.names.Names.number.Goals as goal
 
@@ -14,10 +14,14 @@ returns-in-Some-clause-names c =
 
 pub returns-in-Some-clause-number : goal.returns-in-Some-clause-number
 returns-in-Some-clause-number c =
-    rw (← c.self.view_is) (position-map string_bytes (bytes_eq c.args.name.now) c.self.inside.set.keys ∙ sym c.in-Some.ensures.index)
+    rw (← c.self.view_is) (number_in-position (map string_bytes c.self.inside.set.keys) c.args.name.now _ (position-map string_bytes (bytes_eq c.args.name.now) c.self.inside.set.keys ∙ sym c.in-Some.ensures.index))
 
 pub returns-in-Some-clause-named : goal.returns-in-Some-clause-named
-returns-in-Some-clause-named c = slice_get-position _ _ _ (returns-in-Some-clause-number c)
+returns-in-Some-clause-named c =
+    rw (← c.self.view_is) (slice_get-position (map string_bytes c.self.inside.set.keys) c.args.name.now _ (position-map string_bytes (bytes_eq c.args.name.now) c.self.inside.set.keys ∙ sym c.in-Some.ensures.index))
+
+pub returns-in-Some-clause-has : goal.returns-in-Some-clause-has
+returns-in-Some-clause-has c = rw (← c.self.view_is, list_any-map, ← c.in-Some.ensures.found) refl
 
 -- the new key is compared as the name is
 same_test : (k : String Global) (name : List ℕ) → string_bytes k ≡ name → (x : String Global) → string_eq k x ≡ bytes_eq name (string_bytes x)
@@ -41,13 +45,27 @@ returns-clause-names c =
 pub returns-clause-number : goal.returns-clause-number
 returns-clause-number c =
     let name = c.args.name.now in
-    let none : list_any (bytes_eq name) (map string_bytes c.self.inside.set.keys) ≡ false = list_any-map string_bytes (bytes_eq name) c.self.inside.set.keys ∙ sym c.in_default.ensures.found in
-    let keys = map-inserted string_bytes (string_eq c.in_ok-owned.owned) (bytes_eq name) c.self.inside.set.keys c.in_ok-owned.owned (same_test c.in_ok-owned.owned _ c.in_ok-owned.ensures.ok) none in
-    let here : bytes_eq name (string_bytes c.in_ok-owned.owned) ≡ true = (bytes_eq-Decides name (string_bytes c.in_ok-owned.owned)).1 (sym c.in_ok-owned.ensures.ok) in
-    rw (c.in_ok-number.ensures.keys, c.in_ok-number.ensures.index, keys) (position-inserted string_bytes (string_eq c.in_ok-owned.owned) (bytes_eq name) c.self.inside.set.keys c.in_ok-owned.owned (same_test c.in_ok-owned.owned _ c.in_ok-owned.ensures.ok) none here)
+    let owned = c.in_ok-owned.owned in
+    let before = c.self.inside.set.keys in
+    let none : list_any (bytes_eq name) (map string_bytes before) ≡ false = list_any-map string_bytes (bytes_eq name) before ∙ sym c.in_default.ensures.found in
+    let keys = map-inserted string_bytes (string_eq owned) (bytes_eq name) before owned (same_test owned _ c.in_ok-owned.ensures.ok) none in
+    let here : bytes_eq name (string_bytes owned) ≡ true = (bytes_eq-Decides name (string_bytes owned)).1 (sym c.in_ok-owned.ensures.ok) in
+    let place = position-inserted string_bytes (string_eq owned) (bytes_eq name) before owned (same_test owned _ c.in_ok-owned.ensures.ok) none here in
+    rw (c.in_ok-number.ensures.keys, c.in_ok-number.ensures.index, keys) (number_in-position (map string_bytes before ++ string_bytes owned ∷ []) name _ place)
 
 pub returns-clause-named : goal.returns-clause-named
-returns-clause-named c = slice_get-position _ _ _ (returns-clause-number c)
+returns-clause-named c =
+    let name = c.args.name.now in
+    let owned = c.in_ok-owned.owned in
+    let before = c.self.inside.set.keys in
+    let none : list_any (bytes_eq name) (map string_bytes before) ≡ false = list_any-map string_bytes (bytes_eq name) before ∙ sym c.in_default.ensures.found in
+    let keys = map-inserted string_bytes (string_eq owned) (bytes_eq name) before owned (same_test owned _ c.in_ok-owned.ensures.ok) none in
+    let here : bytes_eq name (string_bytes owned) ≡ true = (bytes_eq-Decides name (string_bytes owned)).1 (sym c.in_ok-owned.ensures.ok) in
+    let place = position-inserted string_bytes (string_eq owned) (bytes_eq name) before owned (same_test owned _ c.in_ok-owned.ensures.ok) none here in
+    rw (c.in_ok-number.ensures.keys, c.in_ok-number.ensures.index, keys) (slice_get-position (map string_bytes before ++ string_bytes owned ∷ []) name _ place)
+
+pub returns-clause-has : goal.returns-clause-has
+returns-clause-has c = rw (returns-clause-names c) (with_name-has c.args.name.now _)
 
 pub returns-clause-distinct : goal.returns-clause-distinct
 returns-clause-distinct c = invariant_of-self-2 c

@@ -1,11 +1,16 @@
-use Rattle.std.proofs.Common.{sym, ◌∙◌}
+use Rattle.std.proofs.Common.{◌≡◌, ◌∙◌, sym, map}
+use Rattle.std.specs.List.{position}
 use Rattle.std.specs.Str.{bytes_eq}
 use Rattle.std.specs.String.{string_bytes}
+use Rattle.pb_normal.proofs.Numbering.{position-number}
 use Rattle.pb_normal.proofs.Positions.{position-map, named_at}
 use Rattle.pb_normal.proofs.names.Names.number_of.Goals as goal
 
+place : (c : goal.After-get_index_of) → c.get_index_of.result ≡ position (bytes_eq c.args.name.now) (map string_bytes c.self.inside.set.keys)
+place c = c.get_index_of.ensures.index ∙ sym (position-map string_bytes (bytes_eq c.args.name.now) c.self.inside.set.keys)
+
 pub returns-clause-number : goal.returns-clause-number
-returns-clause-number c = rw (← c.self.view_is) (c.get_index_of.ensures.index ∙ sym (position-map string_bytes (bytes_eq c.args.name.now) c.self.inside.set.keys))
+returns-clause-number c = rw (← c.self.view_is) (place c ∙ position-number (map string_bytes c.self.inside.set.keys) c.args.name.now)
 
 pub returns-clause-named : goal.returns-clause-named
-returns-clause-named c = named_at _ _ _ (returns-clause-number c)
+returns-clause-named c = rw (← c.self.view_is) (named_at (map string_bytes c.self.inside.set.keys) c.args.name.now c.get_index_of.result (place c))
