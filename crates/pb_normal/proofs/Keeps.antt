@@ -1,11 +1,10 @@
 -- The result of a rule has no other variables than its operands, and a form holds alike where its variables do.
-use Rattle.std.proofs.Common.{◌≡◌, ℕ, ◌+◌, ◌<◌, ◌≤◌, ◌↔◌, nat_lt, Bool, true, false, not, ◌&&◌, cond, eqb, List, [], ◌∷◌, All, map, filter, refl, sym, ◌∙◌, ap, arith, pos}
-use Rattle.std.specs.Prelude.{◌-ℤ◌, ◌+ℤ◌}
+use Rattle.std.proofs.Common.{◌≡◌, ℕ, ◌+◌, ◌<◌, ◌↔◌, nat_lt, Bool, true, false, not, ◌&&◌, cond, eqb, List, [], ◌∷◌, All, map, filter, refl, ap, arith}
 use Rattle.std.proofs.lemmas.Bool.Decides.{nat_tests}
 use Rattle.std.proofs.lemmas.Int.{ints}
 use Rattle.std.proofs.lemmas.List.Elements.{All-nil, All-cons, All-head, All-tail, All-map, All-filter}
 use Rattle.pb_normal.specs.declared.entry.Entry.{Entry}
-use Rattle.pb_normal.specs.Form.{Form, counted, total, coefficient, plain_of, negated_of, true_at, IsRising, IsOver, AgreeOn, Holds}
+use Rattle.pb_normal.specs.Form.{Form, counted, total, plain_of, negated_of, true_at, IsRising, IsOver, AgreeOn, Holds}
 use Rattle.pb_normal.specs.Rules.{IsSum, with_coefficient, opposite}
 use Rattle.pb_normal.proofs.Unique.{none_below}
 

@@ -1,6 +1,7 @@
 pub mod Appearing
 pub mod Balance
 pub mod Collecting
+pub mod Counts
 pub mod Entries
 pub mod Faults
 pub mod Keeps

@@ -1,5 +1,5 @@
 -- The rules of cutting planes on forms: the sum as a relation, all others as functions.
-use Rattle.std.specs.Prelude.{◌≡◌, ℕ, ◌+◌, ◌-◌, ◌*◌, ◌<◌, ◌==◌, nat_lt, pos, ◌+ℤ◌, Bool, not, false, ◌⊎◌, List, [], ◌∷◌, map, filter, min, get_or}
+use Rattle.std.specs.Prelude.{◌≡◌, ℕ, ◌+◌, ◌-◌, ◌*◌, ◌<◌, ◌==◌, nat_lt, pos, ◌+ℤ◌, Bool, not, false, ◌&&◌, ◌||◌, if◌then◌else◌, ◌⊎◌, List, [], ◌∷◌, map, filter, min, get_or}
 use Rattle.std.specs.Int.{div_ceil}
 use Rattle.pb_normal.specs.declared.entry.Entry.{Entry}
 use Rattle.pb_normal.specs.Form.{Form, total, size, low, bound, coefficient, at_least_0, IsOrdered}
@@ -73,3 +73,22 @@ SumMeasures f g s d = (r : Form) × IsSum f g r × (size r ≡ s) × (r.degree �
 -- a list of values as an assignment
 abbrev pub assignment : List Bool → ℕ → Bool
 assignment values v = get_or values v false
+
+-- that literal alone
+abbrev pub only : ℕ → Bool → ℕ → Bool → Bool
+only x n v m = (v == x) && (if n then m else not m)
+
+-- the literals of a list: a variable each, and whether it is negated
+abbrev pub among : List (ℕ × Bool) → ℕ → Bool → Bool
+among [] x n = false
+among (l ∷ ls) x n = only l.0 l.1 x n || among ls x n
+
+-- a literal with coefficient 1
+abbrev pub unit_of : (ℕ × Bool) → Entry
+unit_of l = record { variable = l.0; negated = l.1; coefficient = 1 }
+
+-- each literal of the list with coefficient 1, no other, and this degree
+pub record IsCountOf (literals : List (ℕ × Bool)) (degree : ℕ) (r : Form) : Type 0 where
+  pub ordered : IsOrdered r
+  pub coefficients : (x : ℕ) (n : Bool) → total (only x n) r.terms ≡ (if among literals x n then 1 else 0)
+  pub degree_is : r.degree ≡ degree

@@ -109,7 +109,7 @@ impl Normal {
     pub fn is_contradiction(&self) -> bool
         ensures { IsTrue result ↔ IsContradiction self.now }
     {
-        size_of(self.terms.as_slice()) < self.degree
+        self.size() < self.degree
     }
 }
 

@@ -7,6 +7,7 @@ mod fault;
 mod form;
 pub mod laws;
 mod linear;
+mod literals;
 mod merge;
 mod names;
 mod rules;

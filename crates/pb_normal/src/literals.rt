@@ -1,0 +1,59 @@
+//! Forms of literals that count alike.
+
+ghost use Rattle.std.specs.Prelude.{◌≡◌, ℕ, ◌<◌, ◌^◌, true, false, IfOk, IfErr, map};
+ghost use Rattle.pb_normal.specs.Form.{IsNormal};
+ghost use Rattle.pb_normal.specs.Rules.{IsCountOf, among, unit_of, with_coefficient};
+
+use crate::collect::collected;
+use crate::entry::Entry;
+use crate::fault::NormalFault;
+use crate::form::Normal;
+use std::alloc::{AllocError, Global};
+
+impl Normal {
+    /// The literals of a list, a variable each and whether it is negated, with coefficient 1 each however often it is
+    /// given, at least a degree. With degree 1 it is the clause of the literals.
+    pub fn from_literals(
+        alloc: Global,
+        literals: &[(usize, bool)],
+        degree: u128,
+    ) -> Result<Normal, NormalFault>
+        requires apart { (x : ℕ) → among literals.now x true ≡ true → among literals.now x false ≡ true → ⊥ }
+        requires small { degree < 2 ^ 127 }
+        ensures count { IfOk result (λ r. IsCountOf literals.now degree r) }
+        ensures normal { IfOk result (λ r. IsNormal r) }
+        ensures memory { IfErr result (λ e. e ≡ NormalFault.Memory) }
+    {
+        let raw = units(alloc, literals)?;
+        let (once, _) = collected(alloc, raw.as_slice())?;
+        let terms = counted_once(alloc, once.as_slice())?;
+        Ok(Normal { terms, degree })
+    }
+}
+
+// A term of coefficient 1 for each.
+fn units(alloc: Global, literals: &[(usize, bool)]) -> Result<Vec<Entry>, AllocError>
+    ensures { IfOk result (λ v. v.items ≡ map unit_of literals.now) }
+{
+    literals
+        .iter()
+        .map(|l| Entry {
+            variable: l.0,
+            negated: l.1,
+            coefficient: 1,
+        })
+        .collect(alloc)
+}
+
+// The terms with coefficient 1.
+fn counted_once(alloc: Global, terms: &[Entry]) -> Result<Vec<Entry>, AllocError>
+    ensures { IfOk result (λ v. v.items ≡ map (λ t. with_coefficient t 1) terms.now) }
+{
+    terms
+        .iter()
+        .map(|t| Entry {
+            coefficient: 1,
+            ..*t
+        })
+        .collect(alloc)
+}
