@@ -1,7 +1,18 @@
 //! Replay of proofs: propagation, the statements of a proof over an instance, and what their verdicts mean.
 #![tactic(auto)]
 
+mod fault;
+pub mod laws;
 mod numbered;
 mod propagate;
+mod replay;
+mod state;
+mod step;
+mod verdict;
 
+pub use fault::Fault;
 pub use numbered::NumberedLiteral;
+pub use replay::Replay;
+pub use state::phase::Phase;
+pub use state::solution::Logged;
+pub use verdict::Verdict;

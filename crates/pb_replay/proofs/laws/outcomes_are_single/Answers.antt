@@ -1,0 +1,12 @@
+use Rattle.pb_replay.proofs.lemmas.Single.{openings-single, outcomes-single}
+use Rattle.pb_replay.proofs.lemmas.Unvalued.{unvalued-old}
+use Rattle.pb_replay.proofs.laws.outcomes_are_single.Goals as goal
+
+pub returns-clause-openings : goal.returns-clause-openings
+returns-clause-openings c = openings-single
+
+pub returns-clause-outcomes : goal.returns-clause-outcomes
+returns-clause-outcomes c = outcomes-single
+
+pub returns-clause-unvalued : goal.returns-clause-unvalued
+returns-clause-unvalued c = unvalued-old

@@ -1,0 +1,91 @@
+-- The completion is one set
+use Rattle.std.proofs.Common.{◌≡◌, ℕ, Bool, true, false, not, List, ◌∷◌, refl, sym, arith, inl, inr}
+use Rattle.std.proofs.lemmas.Bool.{cases_Bool, or_cases, or_right, both_ways}
+use Rattle.pb_replay.specs.declared.numbered.NumberedLiteral.{NumberedLiteral}
+use Rattle.pb_normal.specs.Form.{Form}
+use Rattle.pb_replay.specs.Propagation.{only, on, opened, MayPut, Derivation, begin, put, HasConflict, broken, MeetsConflict, IsCompletion}
+use Rattle.pb_replay.proofs.lemmas.Propagating.{only-true, total-fits, total-within}
+
+-- each literal of the first list is on the second
+abbrev pub IsPart : List NumberedLiteral → List NumberedLiteral → Type 0
+IsPart a b = (v : ℕ) (n : Bool) → on a v n ≡ true → on b v n ≡ true
+
+not_true : (b : Bool) → (b ≡ true → ⊥) → not b ≡ true
+not_true true h = absurd (h refl)
+not_true false h = refl
+
+not_of : (b : Bool) → not b ≡ true → b ≡ true → ⊥
+not_of true h k = cc
+not_of false h k = cc
+
+pub opened-part : (a b : List NumberedLiteral) → IsPart a b → (v : ℕ) (n : Bool) → opened b v n ≡ true → opened a v n ≡ true
+opened-part a b w v n h = not_true (on a v (not n)) (λ e. not_of (on b v (not n)) h (w v (not n) e))
+
+at_literal : (list : List NumberedLiteral) (l : NumberedLiteral) (v : ℕ) (n : Bool) → v ≡ l.variable → n ≡ l.negated → (b : Bool) → on list l.variable (not l.negated) ≡ b → on list v (not n) ≡ b
+at_literal list l v n e f b h = rw (e, f) h
+
+-- a literal that may be put on a list is on each longer one, may be put on it, or that one has a conflict
+pub data Lasting (forms : Form → Type 0) (list : List NumberedLiteral) (l : NumberedLiteral) : Type 0 where
+  on_it : on list l.variable l.negated ≡ true → Lasting forms list l
+  still : MayPut forms list l → Lasting forms list l
+  conflicting : HasConflict forms list → Lasting forms list l
+
+pub lasting : (forms : Form → Type 0) (a b : List NumberedLiteral) (l : NumberedLiteral) → IsPart a b → MayPut forms a l → Lasting forms b l
+lasting forms a b l w m =
+    elim (cases_Bool (on b l.variable l.negated)) [
+      | inl here ↦ on_it here
+      | inr absent ↦
+          elim (cases_Bool (on b l.variable (not l.negated))) [
+            | inl falsified ↦
+                let lower = total-fits (opened b) (only l.variable l.negated) (opened a) (opened-part a b w)
+                (λ v n e. let same = only-true l.variable l.negated v n e in not_true (on a v (not n)) (λ k. both_ways _ (at_literal a l v n same.0 same.1 false m.not_falsified) k))
+                (λ v n p e. let same = only-true l.variable l.negated v n e in not_of (on b v (not n)) p (at_literal b l v n same.0 same.1 true falsified))
+                m.form.terms in
+                conflicting (broken m.form m.among (omega (arith, lower, m.forced)))
+            | inr free ↦
+                let low = total-within (opened b) (opened a) (opened-part a b w) m.form.terms in
+                still (record {
+                  absent = absent;
+                  not_falsified = free;
+                  form = m.form;
+                  among = m.among;
+                  stands = m.stands;
+                  forced = omega (arith, low, m.forced);
+                })
+          ]
+    ]
+
+pub put-part : (a b : List NumberedLiteral) (l : NumberedLiteral) → IsPart a b → on b l.variable l.negated ≡ true → IsPart (l ∷ a) b
+put-part a b l w here v n e =
+    elim (or_cases (only l.variable l.negated v n) (on a v n) e) [
+      | inl new ↦ let same = only-true l.variable l.negated v n new in rw (same.0, same.1) here
+      | inr old ↦ w v n old
+    ]
+
+pub derivation-keeps : (forms : Form → Type 0) (given list : List NumberedLiteral) → Derivation forms given list → IsPart given list
+derivation-keeps forms given _ begin v n h = h
+derivation-keeps forms given _ (put {list} l d m) v n h = or_right (only l.variable l.negated v n) (on list v n) (derivation-keeps forms given list d v n h)
+
+-- a closed list without a conflict has each derivation's literals
+pub derivation-part : (forms : Form → Type 0) (given closed : List NumberedLiteral) → IsPart given closed → ((l : NumberedLiteral) → MayPut forms closed l → ⊥) → (HasConflict forms closed → ⊥) → (list : List NumberedLiteral) → Derivation forms given list → IsPart list closed
+derivation-part forms given closed w c n _ begin = w
+derivation-part forms given closed w c n _ (put {list} l d m) =
+    let before = derivation-part forms given closed w c n list d in
+    elim (lasting forms list closed l before m) [
+      | on_it here ↦ put-part list closed l before here
+      | still more ↦ absurd (c l more)
+      | conflicting bad ↦ absurd (n bad)
+    ]
+
+completion-part : (forms : Form → Type 0) (given a b : List NumberedLiteral) → (MeetsConflict forms given → ⊥) → IsCompletion forms given a → IsCompletion forms given b → IsPart a b
+completion-part forms given a b free p q =
+    derivation-part forms given b (derivation-keeps forms given b q.derived) q.closed (λ bad. free (record { list = b; derived = q.derived; conflict = bad })) a p.derived
+
+same_Bool : (b c : Bool) → (b ≡ true → c ≡ true) → (c ≡ true → b ≡ true) → b ≡ c
+same_Bool true c f g = sym (f refl)
+same_Bool false true f g = g refl
+same_Bool false false f g = refl
+
+pub completion-one : (forms : Form → Type 0) (given a b : List NumberedLiteral) → (MeetsConflict forms given → ⊥) → IsCompletion forms given a → IsCompletion forms given b → (v : ℕ) (n : Bool) → on a v n ≡ on b v n
+completion-one forms given a b free p q v n =
+    same_Bool (on a v n) (on b v n) (completion-part forms given a b free p q v n) (completion-part forms given b a free q p v n)

@@ -1,0 +1,26 @@
+use Rattle.std.proofs.Common.{inl, inr}
+use Rattle.pb_replay.proofs.lemmas.Evaluation.{stands_first, word_takes, word_named, word_fails, stands_next, some_form, some_fault}
+use Rattle.pb_replay.proofs.step.pol.evaluated.Goals as goal
+
+pub loop-word-init : goal.loop-word-init
+loop-word-init c = rw c.new-stack.ensures.items (stands_first _ _ _ _ c.args.words.now c.requires.postfix c.requires.named)
+
+pub made-requires-clause-takes : goal.made-requires-clause-takes
+made-requires-clause-takes c = word_takes _ _ _ _ _ _ _ c.loop-word-test.true c.word-item.is _ c.loop-word.invariant
+
+pub made-requires-clause-named : goal.made-requires-clause-named
+made-requires-clause-named c = word_named _ _ _ _ _ _ _ c.loop-word-test.true c.word-item.is _ c.loop-word.invariant
+
+pub returns-in-Err-clause-err : goal.returns-in-Err-clause-err
+returns-in-Err-clause-err c =
+    elim c.in-Err.ensures.err [
+      | inl memory ↦ inl memory
+      | inr bad ↦ inr (some_fault _ _ _ _ _ c.requires.postfix (word_fails _ _ _ _ _ _ _ c.loop-word-test.true c.word-item.is _ c.loop-word.invariant _ bad))
+    ]
+
+pub loop-word-preserved : goal.loop-word-preserved
+loop-word-preserved c =
+    stands_next _ _ _ _ _ _ _ c.loop-word-test.true c.word-item.is _ c.loop-word.invariant c.in-Ok.form _ _ c.in-Ok.ensures.ok c.in-Ok.ensures.count c.in_default.ensures.ok
+
+pub returns-clause-ok : goal.returns-clause-ok
+returns-clause-ok c = some_form _ _ _ _ _ _ _ _ _ c.requires.postfix c.loop-word-test.false c.loop-word.invariant c.pop.ensures

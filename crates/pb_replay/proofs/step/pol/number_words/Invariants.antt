@@ -1,0 +1,8 @@
+use Rattle.std.proofs.Common.{◌≡◌, take}
+use Rattle.pb_normal.specs.Names.{with_names}
+use Rattle.pb_replay.specs.Statements.{word_names}
+use Rattle.pb_replay.proofs.step.pol.number_words.Given as goal
+
+-- the names of the words so far are numbered
+abbrev pub invariant-loop-word : goal.invariant-loop-word
+invariant-loop-word l = l.names ≡ with_names l.initial.names (word_names (take l.word-index l.words))

@@ -1,0 +1,91 @@
+-- The laws of replay, over the definitions alone
+use Rattle.std.specs.Prelude.{◌≡◌, ℕ, ◌≤◌, Bool, List, All, Contains, Some, Result, Ok, Err, ◌<◌, length, Option, IsSome}
+use Rattle.pb_opb.specs.declared.Instance.{Instance}
+use Rattle.pb_proof.specs.declared.Statement.{Statement}
+use Rattle.pb_proof.specs.Values.{IsStatementValue}
+use Rattle.pb_replay.specs.declared.fault.Fault.{Fault}
+use Rattle.pb_normal.specs.Form.{Form}
+use Rattle.pb_normal.specs.Names.{AreDistinct}
+use Rattle.pb_replay.specs.declared.fault.Fault.TheVariants.{NotTotal}
+use Rattle.pb_replay.specs.declared.numbered.NumberedLiteral.{NumberedLiteral}
+use Rattle.pb_replay.specs.declared.state.phase.Phase.{Phase}
+use Rattle.pb_replay.specs.declared.state.phase.Phase.TheVariants.{Ending, Done}
+use Rattle.pb_replay.specs.declared.verdict.Verdict.{Verdict}
+use Rattle.pb_replay.specs.Answer.{Answer}
+use Rattle.pb_replay.specs.Loading.{Problem, Opened, Solves}
+use Rattle.pb_replay.specs.Propagation.{on, Derivation, MeetsConflict, IsCompletion}
+use Rattle.pb_replay.specs.Replay.{State, first_state}
+use Rattle.pb_replay.specs.Statements.{Outcome, Accepts}
+use Rattle.pb_replay.specs.Meaning.{Means, MeansWritten, AccountedWritten, IsProblem, IsSound}
+
+-- what an instance opens as keeps the rules of a problem
+abbrev pub ProblemsAreProper : Type 0
+ProblemsAreProper = (limit : ℕ) (i : Instance) (v : Problem) → Opened limit i (Ok v) → IsProblem v
+
+-- the first state is sound, and each accepted statement keeps that
+abbrev pub FirstIsSound : Type 0
+FirstIsSound = (v : Problem) → IsProblem v → IsSound v (first_state v)
+
+abbrev pub StatementsAreSound : Type 0
+StatementsAreSound = (limit top : ℕ) (v : Problem) (s t : State) (st : Statement) →
+    IsProblem v → IsStatementValue limit top st → IsSound v s → Outcome limit top v s st (Ok t) → IsSound v t
+
+-- A verdict means of the instance as it is written what it means of its forms.
+abbrev pub MeaningsAgree : Type 0
+MeaningsAgree = (limit : ℕ) (i : Instance) (v : Problem) (w : Verdict) → Opened limit i (Ok v) → Means v w → MeansWritten i w
+
+-- What accepted statements conclude is true of the instance as it is written.
+abbrev pub VerdictsMean : Type 0
+VerdictsMean = (limit top : ℕ) (i : Instance) (v : Problem) (sts : List Statement) (t : State) (w : Verdict) →
+    Opened limit i (Ok v) → All (IsStatementValue limit top) sts → Accepts limit top v (first_state v) sts t → t.concluded ≡ Some w → MeansWritten i w
+
+-- In each state each solution of the instance, as it is written, is accounted for.
+abbrev pub SolutionsAreAccounted : Type 0
+SolutionsAreAccounted = (limit : ℕ) (i : Instance) (v : Problem) (s : State) → Opened limit i (Ok v) → IsSound v s →
+    (a : List ℕ → Bool) → Solves i a → AccountedWritten i v.names s a
+
+-- an answer has one value or fault at most
+abbrev pub IsSingle : {A : Type 0} → Answer A → Type 0
+IsSingle {A} m = (r s : Result A Fault) → m r → m s → r ≡ s
+
+abbrev pub OpeningsAreSingle : Type 0
+OpeningsAreSingle = (limit : ℕ) (i : Instance) → IsSingle (Opened limit i)
+
+abbrev pub OutcomesAreSingle : Type 0
+OutcomesAreSingle = (limit top : ℕ) (v : Problem) (s : State) (st : Statement) → IsSingle (Outcome limit top v s st)
+
+-- Larger limits accept what smaller ones accept, with the same state.
+abbrev pub OpensMore : Type 0
+OpensMore = (limit more : ℕ) (i : Instance) (v : Problem) → limit ≤ more → Opened limit i (Ok v) → Opened more i (Ok v)
+
+abbrev pub AcceptsMore : Type 0
+AcceptsMore = (limit top limit' top' : ℕ) (v : Problem) (s t : State) (st : Statement) → limit ≤ limit' → top ≤ top' →
+    Outcome limit top v s st (Ok t) → Outcome limit' top' v s st (Ok t)
+
+-- a set of forms that is a list of them
+abbrev pub InList : List Form → Form → Type 0
+InList fs f = Contains fs f
+
+-- Where one derivation meets a conflict each can be made longer until it meets one. Where none does the completion is
+-- one set of literals.
+abbrev pub OrderIsFree : Type 0
+OrderIsFree = (fs : List Form) (given list : List NumberedLiteral) →
+    MeetsConflict (InList fs) given → Derivation (InList fs) given list → MeetsConflict (InList fs) list
+
+abbrev pub CompletionIsOne : Type 0
+CompletionIsOne = (fs : List Form) (given a b : List NumberedLiteral) → (MeetsConflict (InList fs) given → ⊥) →
+    IsCompletion (InList fs) given a → IsCompletion (InList fs) given b → (x : ℕ) (negated : Bool) → on a x negated ≡ on b x negated
+
+-- A name that gets no value was there before the statement, as the statement's own names get one.
+abbrev pub UnvaluedAreOld : Type 0
+UnvaluedAreOld = (limit top : ℕ) (v : Problem) (s : State) (st : Statement) (n : ℕ) → AreDistinct s.names →
+    Outcome limit top v s st (Err (NotTotal n)) → n < length s.names
+
+-- once a proof has concluded there is a verdict
+abbrev pub HasClaim : Phase → Option Verdict → Type 0
+HasClaim Ending concluded = IsSome concluded
+HasClaim Done concluded = IsSome concluded
+HasClaim _ concluded = Unit {0}
+
+abbrev pub VerdictsAreThere : Type 0
+VerdictsAreThere = (limit top : ℕ) (v : Problem) (sts : List Statement) (t : State) → Accepts limit top v (first_state v) sts t → HasClaim t.next t.concluded

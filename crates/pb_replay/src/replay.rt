@@ -1,0 +1,147 @@
+//! The replay of a proof.
+
+ghost use Rattle.std.specs.Prelude.{◌≡◌, Ok, Err, None, Some, OnOk, IfOk, IfErr, IfSome, ◌⊎◌, length, slice_get};
+ghost use Rattle.std.specs.Option.{option_copied};
+ghost use Rattle.pb_text.specs.Limits.{largest, top_of};
+ghost use Rattle.pb_proof.specs.Values.{IsStatementValue};
+ghost use Rattle.pb_replay.specs.Loading.{Opened};
+ghost use Rattle.pb_replay.specs.Replay.{first_state};
+ghost use Rattle.pb_replay.specs.Meaning.{IsFront, Means};
+ghost use Rattle.pb_replay.specs.Running.{StepsAs, verdict_in, constraint_in};
+ghost use Rattle.pb_replay.specs.declared.fault.Fault.{Fault as AFault};
+
+use crate::fault::Fault;
+use crate::state::Running;
+use crate::state::load::open;
+use crate::state::phase::Phase;
+use crate::step::take;
+use crate::verdict::Verdict;
+use pb_normal::Normal;
+use pb_opb::Instance;
+use pb_proof::Statement;
+use pb_text::Limits;
+use std::alloc::Global;
+use std::marker::Model;
+
+/// A replay of a proof over an instance, statement by statement.
+#[derive(Drop)]
+pub struct Replay {
+    running: Running,
+    fault: Option<Fault>,
+}
+
+impl Model for Replay {
+    ghost use Rattle.std.specs.Prelude.{◌≡◌, None};
+    ghost use Rattle.pb_replay.specs.Running.{Replaying, IsReady, problem_of, state_of};
+
+    ghost Value = { Replaying };
+
+    ghost view = { λ r. record {
+      limits = r.running.limits;
+      problem = problem_of r.running;
+      state = state_of r.running;
+      fault = r.fault;
+      visits = r.running.visits;
+    } };
+
+    ghost invariant = { λ r. r.fault ≡ None → IsReady r.running };
+}
+
+impl Replay {
+    /// A replay that has taken no statement.
+    pub fn new(alloc: Global, instance: &Instance, limits: Limits) -> Result<Replay, Fault>
+        ensures opened { IfOk result (λ r. Opened (largest limits) instance.now (Ok r.problem)) }
+        ensures limits { IfOk result (λ r. r.limits ≡ limits) }
+        ensures first { IfOk result (λ r. r.state ≡ first_state r.problem) }
+        ensures running { IfOk result (λ r. r.fault ≡ None) }
+        ensures refused { IfErr result (λ e. (e ≡ Fault.Memory) ⊎ Opened (largest limits) instance.now (Err e)) }
+    {
+        match open(alloc, instance, limits) {
+            Ok(running) => Ok(Replay {
+                running,
+                fault: None,
+            }),
+            Err(fault) => Err(fault),
+        }
+    }
+
+    /// Takes the next statement. After a fault each call answers that fault.
+    pub fn step(&mut self, statement: &Statement) -> Result<(), Fault>
+        requires { IsStatementValue (largest self.old.limits) (top_of self.old.limits) statement.now }
+        ensures steps { self.old.fault ≡ None → StepsAs self.old statement.now result self.new }
+        ensures again { (fault : AFault) → self.old.fault ≡ Some fault → (result ≡ Err fault) × (self.new ≡ self.old) }
+        ensures limits { self.new.limits ≡ self.old.limits }
+        ensures problem { self.new.problem ≡ self.old.problem }
+        ensures names { IsFront self.old.state.names self.new.state.names }
+    {
+        if let Some(fault) = self.fault {
+            return Err(fault);
+        }
+        match take(&mut self.running, statement) {
+            Ok(()) => Ok(()),
+            Err(fault) => {
+                self.fault = Some(fault);
+                Err(fault)
+            }
+        }
+    }
+
+    /// What the proof has shown, once it has ended.
+    pub fn verdict(&self) -> Option<Verdict>
+        ensures verdict { result ≡ verdict_in self.now }
+        ensures means { IfSome result (λ w. Means self.now.problem w) }
+    {
+        if self.fault.is_some() {
+            return None;
+        }
+        match self.running.next {
+            Phase::Done => self.running.concluded,
+            _ => None,
+        }
+    }
+
+    /// The live constraint of an id. After a fault it means nothing.
+    pub fn constraint(&self, id: u64) -> Option<&Normal>
+        ensures { option_copied result ≡ constraint_in self.now.state.live id }
+    {
+        if id == 0 {
+            return None;
+        }
+        let at = (id - 1) as usize;
+        if at >= self.running.live.len() {
+            return None;
+        }
+        match &self.running.live[at] {
+            Some(form) => Some(form),
+            None => None,
+        }
+    }
+
+    /// The newest id, 0 where none was given. After a fault it means nothing.
+    pub fn newest(&self) -> u64
+        ensures { result ≡ length self.now.state.live }
+    {
+        self.running.live.len() as u64
+    }
+
+    /// The name with a number, also after a fault.
+    pub fn name_of(&self, number: usize) -> Option<&str>
+        ensures { option_copied result ≡ slice_get self.now.state.names number }
+    {
+        self.running.names.name_of(number)
+    }
+
+    /// How many times the last `rup` looked at a term or at its entry in a list of occurrences.
+    pub fn visits(&self) -> u64
+        ensures { result ≡ self.now.visits }
+    {
+        self.running.visits
+    }
+
+    /// The limits on numbers.
+    pub fn limits(&self) -> Limits
+        ensures { result ≡ self.now.limits }
+    {
+        self.running.limits
+    }
+}

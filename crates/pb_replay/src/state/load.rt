@@ -1,0 +1,175 @@
+//! An instance as forms.
+
+ghost use Rattle.std.specs.Prelude.{◌≡◌, ◌<◌, ◌≤◌, option_map, ◌++◌, ◌∷◌, [], List, OnOk, IfOk, IfErr, Err, Ok, All, Contains, ◌⊎◌};
+ghost use Rattle.pb_text.specs.Limits.{largest};
+ghost use Rattle.pb_sums.specs.declared.Linear.{Linear as Written};
+ghost use Rattle.pb_normal.specs.Form.{Form};
+ghost use Rattle.pb_normal.specs.Names.{AreDistinct, HasNames, with_names};
+ghost use Rattle.pb_normal.specs.Written.{names_of, magnitude};
+ghost use Rattle.pb_replay.specs.Loading.{AreFormsOf, Fits, Opened, constraint_names, objective_of, sides_in, with_sides};
+ghost use Rattle.pb_replay.specs.Running.{IsFirst, problem_of};
+
+use crate::fault::Fault;
+use crate::state::Running;
+use crate::state::phase::Phase;
+use pb_normal::{Names, Normal, NormalFault, Side};
+use pb_opb::Instance;
+use pb_sums::{Linear, Literal, Name, Relation, Term};
+use pb_text::{Limits, Sequence};
+use std::alloc::{AllocError, Global};
+
+/// Adds the form of one side of a constraint.
+fn load_side(
+    alloc: Global,
+    names: &mut Names,
+    constraint: &Linear,
+    side: Side,
+    limits: Limits,
+    forms: &mut Vec<Normal>,
+) -> Result<(), NormalFault>
+    ensures forms { OnOk result ((added : Form) × AreFormsOf names.new ((side, constraint.now) ∷ []) (added ∷ []) ×
+        (forms.new.items ≡ forms.old.items ++ added ∷ [])) }
+    ensures names { OnOk result (names.new ≡ with_names names.old (names_of constraint.now.terms)) }
+    ensures named { OnOk result (HasNames names.new (names_of constraint.now.terms)) }
+    ensures fits { OnOk result (Fits (largest limits) constraint.now) }
+    ensures overflow { result ≡ Err NormalFault.Overflow → ¬ Fits (largest limits) constraint.now }
+{
+    let form = Normal::from_linear(alloc, names, constraint, side, limits)?;
+    forms.push(form)?;
+    Ok(())
+}
+
+/// Adds the forms of a constraint.
+fn load(
+    alloc: Global,
+    names: &mut Names,
+    constraint: &Linear,
+    limits: Limits,
+    forms: &mut Vec<Normal>,
+) -> Result<(), NormalFault>
+    ensures forms { OnOk result ((added : List Form) ×
+        AreFormsOf names.new (with_sides constraint.now.relation constraint.now) added ×
+        (forms.new.items ≡ forms.old.items ++ added)) }
+    ensures names { OnOk result (names.new ≡ with_names names.old (names_of constraint.now.terms)) }
+    ensures fits { OnOk result (Fits (largest limits) constraint.now) }
+    ensures overflow { result ≡ Err NormalFault.Overflow → ¬ Fits (largest limits) constraint.now }
+{
+    load_side(alloc, names, constraint, Side::AtLeast, limits, forms)?;
+    match constraint.relation {
+        Relation::AtLeast => Ok(()),
+        Relation::Equal => load_side(alloc, names, constraint, Side::AtMost, limits, forms),
+    }
+}
+
+/// The forms of the constraints in turn.
+pub(crate) fn loaded(
+    alloc: Global,
+    names: &mut Names,
+    constraints: &[Linear],
+    limits: Limits,
+) -> Result<Vec<Normal>, NormalFault>
+    requires { AreDistinct names.old }
+    ensures forms { IfOk result (λ v. AreFormsOf names.new (sides_in constraints.now) v.items) }
+    ensures names { OnOk result (names.new ≡ with_names names.old (constraint_names constraints.now)) }
+    ensures fits { OnOk result (All (Fits (largest limits)) constraints.now) }
+    ensures overflow { result ≡ Err NormalFault.Overflow →
+        (c : Written) × Contains constraints.now c × ¬ Fits (largest limits) c }
+{
+    let mut forms = Vec::new(alloc);
+    for constraint in constraints {
+        load(alloc, names, constraint, limits, &mut forms)?;
+    }
+    Ok(forms)
+}
+
+/// Copies of the terms.
+pub(crate) fn copied_terms(alloc: Global, terms: &[Term]) -> Result<Vec<Term>, AllocError>
+    ensures { IfOk result (λ v. v.items ≡ terms.now) }
+{
+    let mut out = Vec::new(alloc);
+    for t in terms {
+        let name = Name::from_text(alloc, t.literal.name.as_str())?;
+        let literal = Literal {
+            name,
+            negated: t.literal.negated,
+        };
+        out.push(Term {
+            coefficient: t.coefficient,
+            literal,
+        })?;
+    }
+    Ok(out)
+}
+
+/// The objective's terms as a constraint, once their names have numbers.
+fn objective_of_terms(
+    alloc: Global,
+    names: &mut Names,
+    terms: &[Term],
+    limits: Limits,
+) -> Result<Linear, NormalFault>
+    ensures terms { IfOk result (λ linear. linear.terms ≡ terms.now) }
+    ensures names { OnOk result (names.new ≡ with_names names.old (names_of terms.now)) }
+    ensures fits { OnOk result (magnitude terms.now ≤ largest limits) }
+    ensures overflow { result ≡ Err NormalFault.Overflow → largest limits < magnitude terms.now }
+{
+    let linear = Linear {
+        terms: Sequence::from_vec(copied_terms(alloc, terms)?),
+        relation: Relation::AtLeast,
+        degree: 0,
+    };
+    let _ = Normal::from_linear(alloc, names, &linear, Side::AtLeast, limits)?;
+    Ok(linear)
+}
+
+/// The same where there is an objective.
+fn kept_objective(
+    alloc: Global,
+    names: &mut Names,
+    objective: &Option<Sequence<Term>>,
+    limits: Limits,
+) -> Result<Option<Linear>, NormalFault>
+    ensures terms { IfOk result (λ kept. option_map (λ c. c.terms) kept ≡ objective.now) }
+    ensures names { OnOk result (names.new ≡ with_names names.old (names_of (objective_of objective.now))) }
+    ensures fits { OnOk result (magnitude (objective_of objective.now) ≤ largest limits) }
+    ensures overflow { result ≡ Err NormalFault.Overflow → largest limits < magnitude (objective_of objective.now) }
+{
+    match objective {
+        None => Ok(None),
+        Some(terms) => {
+            let kept = objective_of_terms(alloc, names, terms.as_slice(), limits)?;
+            Ok(Some(kept))
+        }
+    }
+}
+
+/// What a replay of the instance begins with.
+pub(crate) fn open(alloc: Global, instance: &Instance, limits: Limits) -> Result<Running, Fault>
+    ensures ok { IfOk result (λ r. Opened (largest limits) instance.now (Ok (problem_of r))) }
+    ensures first { IfOk result (λ r. IsFirst limits r) }
+    ensures err { IfErr result (λ e. (e ≡ Fault.Memory) ⊎ Opened (largest limits) instance.now (Err e)) }
+{
+    let mut names = Names::new(alloc);
+    let objective = match kept_objective(alloc, &mut names, &instance.objective, limits) {
+        Ok(objective) => objective,
+        Err(fault) => return Err(Fault::from(fault)),
+    };
+    let forms = match loaded(alloc, &mut names, instance.constraints.as_slice(), limits) {
+        Ok(forms) => forms,
+        Err(fault) => return Err(Fault::from(fault)),
+    };
+    let own = names.len();
+    Ok(Running {
+        alloc,
+        limits,
+        names,
+        own,
+        loaded: forms,
+        objective,
+        live: Vec::new(alloc),
+        logged: Vec::new(alloc),
+        next: Phase::Beginning,
+        concluded: None,
+        visits: 0,
+    })
+}

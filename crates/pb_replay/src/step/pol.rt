@@ -1,0 +1,191 @@
+//! The words of `pol` on a stack of forms.
+
+ghost use Rattle.std.specs.Prelude.{◌≡◌, ◌<◌, ◌≤◌, ◌+◌, ◌-◌, ◌∷◌, ◌++◌, ◌⊎◌, [], pos, ◌≤ℤ◌, All, length, reverse, unsigned_abs, OnOk, OnErr, IfOk, IfErr, Ok, Err};
+ghost use Rattle.pb_text.specs.Limits.{largest, top_of};
+ghost use Rattle.pb_proof.specs.Postfix.{IsPostfix, words as words_of};
+ghost use Rattle.pb_proof.specs.Values.{IsStatementValue, IsWord};
+ghost use Rattle.pb_normal.specs.Names.{HasNames, with_names};
+ghost use Rattle.pb_normal.specs.Rules.{IsSum, multiplied};
+ghost use Rattle.pb_replay.specs.Answer.{some};
+ghost use Rattle.pb_replay.specs.Meaning.{IsFront};
+ghost use Rattle.pb_replay.specs.Replay.{TreeForm, limited};
+ghost use Rattle.pb_replay.specs.Running.{Keeps, Goes};
+ghost use Rattle.pb_replay.specs.Stack.{takes, Leaves, Word, Words};
+ghost use Rattle.pb_replay.specs.Statements.{word_names};
+
+use crate::fault::Fault;
+use crate::state::Running;
+use crate::state::find::{find, number_of};
+use crate::state::live::add;
+use pb_normal::{Names, Normal};
+use pb_proof::{PolWord, Statement};
+use pb_text::{Limits, Sequence};
+use std::alloc::{AllocError, Global};
+
+/// Takes the last form.
+fn pop(stack: &mut Vec<Normal>) -> Normal
+    requires { 0 < length stack.old.items }
+    ensures { stack.old.items ≡ stack.new.items ++ result ∷ [] }
+{
+    match stack.pop() {
+        Some(form) => form,
+        None => unreachable!(),
+    }
+}
+
+/// The sum of two forms.
+fn sum_of(left: &Normal, right: &Normal, limits: Limits) -> Result<Normal, Fault>
+    ensures ok { IfOk result (λ r. some (IsSum left.now right.now) (limited (largest limits)) (Ok r)) }
+    ensures err { IfErr result (λ e. (e ≡ Fault.Memory) ⊎ some (IsSum left.now right.now) (limited (largest limits)) (Err e)) }
+{
+    match left.add(right, limits) {
+        Ok(sum) => Ok(sum),
+        Err(fault) => Err(Fault::from(fault)),
+    }
+}
+
+/// A form times a factor.
+fn product_of(form: &Normal, factor: i128, limits: Limits) -> Result<Normal, Fault>
+    requires { pos 1 ≤ℤ factor }
+    ensures ok { IfOk result (λ r. limited (largest limits) (multiplied (unsigned_abs factor) form.now) (Ok r)) }
+    ensures err { IfErr result (λ e. (e ≡ Fault.Memory) ⊎ limited (largest limits) (multiplied (unsigned_abs factor) form.now) (Err e)) }
+{
+    match form.multiply(factor, limits) {
+        Ok(product) => Ok(product),
+        Err(fault) => Err(Fault::from(fault)),
+    }
+}
+
+/// Puts a form on the stack.
+fn push(stack: &mut Vec<Normal>, form: Normal) -> Result<(), Fault>
+    ensures ok { OnOk result (stack.new.items ≡ stack.old.items ++ form ∷ []) }
+    ensures err { IfErr result (λ e. e ≡ Fault.Memory) }
+{
+    match stack.push(form) {
+        Ok(()) => Ok(()),
+        Err(_) => Err(Fault::Memory),
+    }
+}
+
+/// The form that a word puts on the stack, for which it takes some.
+fn made(
+    alloc: Global,
+    names: &Names,
+    live: &[Option<Normal>],
+    word: &PolWord,
+    stack: &mut Vec<Normal>,
+    limits: Limits,
+) -> Result<Normal, Fault>
+    requires takes { takes word.now ≤ length stack.old.items }
+    requires named { HasNames names.now (word_names (word.now ∷ [])) }
+    requires value { IsWord (largest limits) (top_of limits) word.now }
+    ensures ok { IfOk result (λ r. Word (largest limits) names.now live.now word.now (reverse stack.old.items) (Ok (r ∷ reverse stack.new.items))) }
+    ensures count { OnOk result (length stack.new.items + takes word.now ≡ length stack.old.items) }
+    ensures err { IfErr result (λ e. (e ≡ Fault.Memory) ⊎ Word (largest limits) names.now live.now word.now (reverse stack.old.items) (Err e)) }
+{
+    match word {
+        PolWord::Id(id) => match find(live, *id) {
+            Some(form) => Ok(form.copy()?),
+            None => Err(Fault::NoSuchId(*id)),
+        },
+        PolWord::Axiom(literal) => {
+            let variable = number_of(names, literal.name.as_str());
+            Ok(Normal::axiom(alloc, variable, literal.negated)?)
+        }
+        PolWord::Add => {
+            let right = pop(stack);
+            let left = pop(stack);
+            sum_of(&left, &right, limits)
+        }
+        PolWord::Multiply(factor) => {
+            let form = pop(stack);
+            product_of(&form, *factor, limits)
+        }
+        PolWord::Divide(divisor) => {
+            let form = pop(stack);
+            Ok(form.divide(*divisor)?)
+        }
+        PolWord::Saturate => {
+            let form = pop(stack);
+            Ok(form.saturate()?)
+        }
+        PolWord::Weaken(name) => {
+            let form = pop(stack);
+            Ok(form.weaken(number_of(names, name.as_str()))?)
+        }
+    }
+}
+
+/// Numbers the name of a word, where it has one.
+fn number_word(names: &mut Names, word: &PolWord) -> Result<(), AllocError>
+    ensures names { OnOk result (names.new ≡ with_names names.old (word_names (word.now ∷ []))) }
+    ensures err { OnErr result (names.new ≡ names.old) }
+{
+    let name = match word {
+        PolWord::Axiom(literal) => &literal.name,
+        PolWord::Weaken(name) => name,
+        _ => return Ok(()),
+    };
+    let _ = names.number(name.as_str())?;
+    Ok(())
+}
+
+/// Numbers the names of the words in turn.
+fn number_words(names: &mut Names, words: &[PolWord]) -> Result<(), AllocError>
+    ensures names { OnOk result (names.new ≡ with_names names.old (word_names words.now)) }
+    ensures front { IsFront names.old names.new }
+{
+    for word in words {
+        number_word(names, word)?;
+    }
+    Ok(())
+}
+
+/// The form of the expression of these words, or its fault.
+fn evaluated(
+    alloc: Global,
+    names: &Names,
+    live: &[Option<Normal>],
+    words: &[PolWord],
+    limits: Limits,
+) -> Result<Normal, Fault>
+    requires postfix { IsPostfix words.now }
+    requires values { All (IsWord (largest limits) (top_of limits)) words.now }
+    requires named { HasNames names.now (word_names words.now) }
+    ensures ok { IfOk result (λ r. some (λ tree. words.now ≡ words_of tree) (TreeForm (largest limits) names.now live.now) (Ok r)) }
+    ensures err { IfErr result (λ e. (e ≡ Fault.Memory) ⊎ some (λ tree. words.now ≡ words_of tree) (TreeForm (largest limits) names.now live.now) (Err e)) }
+{
+    let mut stack = Vec::new(alloc);
+    for word in words {
+        let form = match made(alloc, names, live, word, &mut stack, limits) {
+            Ok(form) => form,
+            Err(fault) => return Err(fault),
+        };
+        if let Err(fault) = push(&mut stack, form) {
+            return Err(fault);
+        }
+    }
+    Ok(pop(&mut stack))
+}
+
+/// `pol`: the form of an expression is added.
+pub(crate) fn pol(running: &mut Running, words: &Sequence<PolWord>) -> Result<(), Fault>
+    requires { IsStatementValue (largest running.old.limits) (top_of running.old.limits) (Statement.Pol words.now) }
+    ensures goes { Goes running.old (Statement.Pol words.now) result running.new }
+    ensures kept { Keeps running.old running.new }
+{
+    if let Err(_) = number_words(&mut running.names, words.as_slice()) {
+        return Err(Fault::Memory);
+    }
+    let made = evaluated(
+        running.alloc,
+        &running.names,
+        running.live.as_slice(),
+        words.as_slice(),
+        running.limits,
+    );
+    match made {
+        Ok(form) => add(running, form),
+        Err(fault) => Err(fault),
+    }
+}
