@@ -1,5 +1,5 @@
 -- Where a whole read stands that could not keep an event.
-use Rattle.std.proofs.Common.{◌≡◌, ℕ, List, [], ◌++◌, Bool, true, false, None, sym, ap, ◌∙◌, append-nil}
+use Rattle.std.proofs.Common.{◌≡◌, ℕ, List, [], Bool, true, false, None, sym, ap, ◌∙◌, append-nil}
 use Rattle.pb_text.specs.Spelling.{Item, place_after}
 use Rattle.pb_text.specs.Reading.{Reads, Viable}
 use Rattle.pb_text.specs.Whole.{IsUnkept}
