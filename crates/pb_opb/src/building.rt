@@ -1,6 +1,6 @@
 //! Puts the statements of an instance together.
 
-ghost use Rattle.std.specs.Prelude.{◌≡◌, ◌+◌, OnOk};
+ghost use Rattle.std.specs.Prelude.{◌≡◌, ◌+◌, ◌-◌, ◌^◌, ◌≤◌, IfOk, OnErr};
 
 use crate::event::OpbEvent;
 use crate::instance::{Comment, Instance};
@@ -35,27 +35,23 @@ impl Building {
         }
     }
 
-    /// One more objective or constraint. More than `2^64 - 1` are in no memory.
-    fn end_one(&mut self) -> Result<(), AllocError>
-        ensures instance { self.new.instance ≡ self.old.instance }
-        ensures ended { OnOk result (self.new.ended ≡ self.old.ended + 1) }
+    /// How many objectives and constraints there are with one more. More than `2^64 - 1` are in no memory.
+    fn with_one(&self) -> Result<u64, AllocError>
+        ensures count { IfOk result (λ ended. ended ≡ self.now.ended + 1) }
+        ensures full { OnErr result (2 ^ 64 - 1 ≤ self.now.ended) }
     {
-        match self.ended.checked_add(1) {
-            Some(ended) => {
-                self.ended = ended;
-                Ok(())
-            }
-            None => Err(AllocError),
-        }
+        self.ended.checked_add(1).ok_or(AllocError)
     }
 }
 
 impl Gather for Building {
-    ghost use Rattle.pb_opb.specs.Building.{with, ended_with};
+    ghost use Rattle.pb_opb.specs.Building.{with, ended_with, asks};
 
     type Event = OpbEvent;
 
     ghost with = { λ b e. record { instance = with b.ended b.instance e; ended = ended_with b.ended e } };
+
+    ghost asks = { λ b e. asks b.ended e };
 
     fn add(&mut self, event: OpbEvent) -> Result<(), AllocError> {
         match event {
@@ -76,14 +72,18 @@ impl Gather for Building {
                 }
             }
             OpbEvent::Objective(terms) => {
+                let ended = self.with_one()?;
                 self.instance.objective = Some(terms);
-                self.end_one()
+                self.ended = ended;
+                Ok(())
             }
             OpbEvent::Constraint(linear) => {
+                let ended = self.with_one()?;
                 if self.instance.constraints.push(linear).is_err() {
                     return Err(AllocError);
                 }
-                self.end_one()
+                self.ended = ended;
+                Ok(())
             }
         }
     }

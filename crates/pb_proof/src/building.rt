@@ -32,11 +32,13 @@ impl Building {
 }
 
 impl Gather for Building {
-    ghost use Rattle.pb_proof.specs.Building.{with};
+    ghost use Rattle.pb_proof.specs.Building.{with, asks};
 
     type Event = Statement;
 
     ghost with = { λ b e. record { proof = with b.proof e } };
+
+    ghost asks = { λ b e. asks e };
 
     fn add(&mut self, statement: Statement) -> Result<(), AllocError> {
         match statement {
