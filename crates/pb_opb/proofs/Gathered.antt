@@ -1,13 +1,16 @@
 -- Statements that are put together one by one have the value that they say.
-use Rattle.std.proofs.Common.{◌≡◌, ℕ, Bool, List, [], ◌∷◌, ◌++◌, refl, sym, ap, ◌∙◌, append_assoc, append-nil}
+use Rattle.std.proofs.Common.{◌≡◌, ℕ, ◌+◌, List, [], ◌∷◌, ◌++◌, map, Bool, true, false, IsTrue, Option, None, Some, refl, sym, ap, ◌∙◌, subst, append_assoc, append-nil, arith}
+use Rattle.pb_text.specs.Reading.{Reads, Viable}
+use Rattle.pb_text.specs.declared.place.Place.{Place}
+use Rattle.pb_text.specs.declared.place.Why.{Why}
+use Rattle.pb_text.specs.declared.place.Why.TheVariants.{Memory}
 use Rattle.pb_text.specs.Spelling.{Item}
-use Rattle.pb_text.specs.Whole.{gathered, events_of, IsWhole, StopsAfter, Reading as reading, Keeping as keeping}
+use Rattle.pb_text.specs.Whole.{gathered, events_of, IsWhole, StopsAfter, IsAsking, Reading as reading, Keeping as keeping}
 use Rattle.pb_text.specs.declared.Spanned.{Spanned}
 use Rattle.pb_text.specs.declared.Stop.{Stop}
-use Rattle.pb_text.proofs.Unkept.{unkept_viable, unkept_place}
-use Rattle.pb_opb.specs.Building.{with, ended_with, nothing}
+use Rattle.pb_opb.specs.Building.{with, ended_with, asks, counted, MayKeep, nothing}
 use Rattle.pb_opb.specs.Values.{IsValueOf, last_or, variables_in, tails_in, objectives_in, constraints_in, comments_in, comment_at}
-use Rattle.pb_opb.specs.Whole.{IsRead, StopsIn, Reading, Keeping}
+use Rattle.pb_opb.specs.Whole.{IsRead, StopsIn, Reading, Keeping, WantsIn, Asking, Ending}
 use Rattle.pb_opb.specs.declared.building.Building.{Building}
 use Rattle.pb_opb.specs.declared.instance.Instance.{Instance}
 use Rattle.pb_opb.specs.declared.event.OpbEvent.{OpbEvent}
@@ -39,6 +42,20 @@ adds (Constraint linear ∷ events) b =
     let k = adds events (one_more b (Constraint linear)) in
     record { variables = k.variables; tail = k.tail; objective = k.objective; comments = k.comments; constraints = k.constraints ∙ append_assoc b.instance.constraints (linear ∷ []) (constraints_in events) }
 
+ended_after : (events : List OpbEvent) (b : Building) → (gathered one_more b events).ended ≡ b.ended + counted events
+ended_after [] b = omega arith
+ended_after (Header variables constraints tail ∷ events) b = ended_after events (one_more b (Header variables constraints tail))
+ended_after (Comment text ∷ events) b = ended_after events (one_more b (Comment text))
+ended_after (Objective terms ∷ events) b = let k = ended_after events (one_more b (Objective terms)) in omega (arith, k)
+ended_after (Constraint linear ∷ events) b = let k = ended_after events (one_more b (Constraint linear)) in omega (arith, k)
+
+-- what was read begins a spelling
+read_viable : {E : Type 0} (format : List (Item E) → Type 0) (longest : ℕ) (used : List ℕ) (marks : List (Spanned E)) (place : Place) (done : Bool)
+    → Reads format longest used used marks place done None → Viable format used
+read_viable format longest used marks place true r =
+    let s = r.answer.0 in (s.items, s.spelled, ([], s.used_are ∙ sym (append-nil used)))
+read_viable format longest used marks place false r = r.answer.0.viable
+
 value_of : (events : List OpbEvent) (b v : Building) → b.instance ≡ nothing → b.ended ≡ 0 → v ≡ gathered one_more b events → IsValueOf events v.instance
 value_of events b v i n e =
     let k = adds events (record { instance = nothing; ended = 0 }) in
@@ -62,7 +79,22 @@ module _ (format : List (Item OpbEvent) → Type 0) (longest : ℕ) (b : Buildin
     past = w.past_is;
   }
 
-  pub stops_in : (MayAsk : List ℕ → ℕ → Type 0) (asks : Building → OpbEvent → Bool) (seen : List ℕ) (s : Stop) → StopsAfter format longest one_more b MayAsk asks used seen s → StopsIn format longest used seen s
-  stops_in MayAsk asks seen s (reading marks r asking) = Reading marks r
-  stops_in MayAsk asks seen s (keeping u) =
-      Keeping (unkept_viable format longest one_more b MayAsk asks used s u) (unkept_place format longest one_more b MayAsk asks used s u)
+  abbrev keeps : Building → OpbEvent → Bool
+  keeps c e = asks c.ended e
+
+  pub stops_in : (may_ask : List ℕ → ℕ → Type 0) (seen : List ℕ) (s : Stop) → StopsAfter format longest one_more b may_ask keeps used seen s → StopsIn format longest used seen s
+  stops_in may_ask seen s (reading marks r a) = Reading marks r
+  stops_in may_ask seen s (keeping u) =
+      Keeping (read_viable format longest used (u.marks ++ u.last ∷ []) u.last.past u.done u.reads)
+      (u.stop_is ∙ ap (λ (q : Place). let t : Stop = record { place = q; why = Memory } in t) u.reads.place_is)
+
+  -- a stop for want of memory
+  pub wants_in : (may_ask : List ℕ → ℕ → Type 0) (seen : List ℕ) (s : Stop) → StopsAfter format longest one_more b may_ask keeps used seen s → s.why ≡ Memory
+      → WantsIn format longest may_ask MayKeep used seen s
+  wants_in may_ask seen s (reading marks r a) e =
+      let k = subst (λ (x : Why). IsAsking format longest one_more b may_ask used seen x) e a in
+      Asking marks r k.0 k.1 k.2 k.3
+  wants_in may_ask seen s (keeping u) e =
+      let events : List OpbEvent = map (λ m. m.event) u.marks in
+      let count : (gathered one_more b events).ended ≡ counted events = let k = ended_after events b in omega (arith, k, n) in
+      Ending u.marks u.last u.done u.reads (subst (λ (k : ℕ). IsTrue (asks k u.last.event)) count u.asking) (ap (λ (t : Stop). t.place) u.stop_is)

@@ -1,5 +1,5 @@
 -- An instance as its statements come.
-use Rattle.std.specs.Prelude.{ℕ, ◌+◌, ◌^◌, Bool, true, false, nat_le, [], ◌∷◌, ◌++◌, Some, None}
+use Rattle.std.specs.Prelude.{ℕ, ◌+◌, ◌-◌, ◌^◌, Bool, true, false, nat_le, IsTrue, List, [], ◌∷◌, ◌++◌, Some, None}
 use Rattle.pb_opb.specs.Values.{comment_at}
 use Rattle.pb_opb.specs.declared.event.OpbEvent.{OpbEvent}
 use Rattle.pb_opb.specs.declared.event.OpbEvent.TheVariants.{Header, Comment, Objective, Constraint}
@@ -19,12 +19,25 @@ ended_with n (Comment text) = n
 ended_with n (Objective terms) = n + 1
 ended_with n (Constraint linear) = n + 1
 
--- To keep the statement may ask for memory: more objectives and constraints than 2^64 - 1 are in none.
+-- Whether to keep a statement may ask for memory, where so many objectives and constraints came before. No memory holds
+-- more of them than a count has room for.
 abbrev pub asks : ℕ → OpbEvent → Bool
 asks n (Header variables constraints tail) = false
 asks n (Comment text) = true
-asks n (Objective terms) = nat_le (2 ^ 64) (n + 1)
+asks n (Objective terms) = nat_le (2 ^ 64 - 1) n
 asks n (Constraint linear) = true
+
+-- how many objectives and constraints there are among statements
+abbrev pub counted : List OpbEvent → ℕ
+counted [] = 0
+counted (Header variables constraints tail ∷ events) = counted events
+counted (Comment text ∷ events) = counted events
+counted (Objective terms ∷ events) = counted events + 1
+counted (Constraint linear ∷ events) = counted events + 1
+
+-- whether to keep a statement behind others may ask for memory
+abbrev pub MayKeep : List OpbEvent → OpbEvent → Type 0
+MayKeep events e = IsTrue (asks (counted events) e)
 
 -- before any statement
 abbrev pub nothing : Instance

@@ -1,6 +1,6 @@
 //! Puts the statements of an instance together.
 
-ghost use Rattle.std.specs.Prelude.{◌≡◌, ◌+◌, ◌^◌, ◌≤◌, IfOk, OnErr};
+ghost use Rattle.std.specs.Prelude.{◌≡◌, ◌+◌, ◌-◌, ◌^◌, ◌≤◌, IfOk, OnErr};
 
 use crate::event::OpbEvent;
 use crate::instance::{Comment, Instance};
@@ -34,16 +34,13 @@ impl Building {
             ended: 0,
         }
     }
-}
 
-/// One more objective or constraint. More than `2^64 - 1` are in no memory.
-fn one_more(count: u64) -> Result<u64, AllocError>
-    ensures ok { IfOk result (λ more. more ≡ count + 1) }
-    ensures full { OnErr result (2 ^ 64 ≤ count + 1) }
-{
-    match count.checked_add(1) {
-        Some(more) => Ok(more),
-        None => Err(AllocError),
+    /// How many objectives and constraints there are with one more. More than `2^64 - 1` are in no memory.
+    fn with_one(&self) -> Result<u64, AllocError>
+        ensures count { IfOk result (λ ended. ended ≡ self.now.ended + 1) }
+        ensures full { OnErr result (2 ^ 64 - 1 ≤ self.now.ended) }
+    {
+        self.ended.checked_add(1).ok_or(AllocError)
     }
 }
 
@@ -75,12 +72,13 @@ impl Gather for Building {
                 }
             }
             OpbEvent::Objective(terms) => {
-                self.ended = one_more(self.ended)?;
+                let ended = self.with_one()?;
                 self.instance.objective = Some(terms);
+                self.ended = ended;
                 Ok(())
             }
             OpbEvent::Constraint(linear) => {
-                let ended = one_more(self.ended)?;
+                let ended = self.with_one()?;
                 if self.instance.constraints.push(linear).is_err() {
                     return Err(AllocError);
                 }

@@ -1,5 +1,5 @@
 -- A proof as its statements come.
-use Rattle.std.specs.Prelude.{Bool, true, false, [], ◌∷◌, ◌++◌, None}
+use Rattle.std.specs.Prelude.{Bool, true, false, IsTrue, List, [], ◌∷◌, ◌++◌, None}
 use Rattle.pb_proof.specs.declared.conclusion.Conclusion.TheVariants.{NoClaim}
 use Rattle.pb_proof.specs.declared.proof.Proof.{Proof}
 use Rattle.pb_proof.specs.declared.statement.Statement.{Statement}
@@ -14,7 +14,7 @@ with v (Conclude conclusion) = record v { conclusion = conclusion }
 with v End = v
 with v step = record v { steps = v.steps ++ step ∷ [] }
 
--- to keep the statement may ask for memory
+-- Whether to keep a statement may ask for memory: only steps are kept one after another.
 abbrev pub asks : Statement → Bool
 asks Header = false
 asks (F count) = false
@@ -22,6 +22,10 @@ asks Output = false
 asks (Conclude conclusion) = false
 asks End = false
 asks step = true
+
+-- whether to keep a statement behind others may ask for memory
+abbrev pub MayKeep : List Statement → Statement → Type 0
+MayKeep statements s = IsTrue (asks s)
 
 -- before any statement
 abbrev pub nothing : Proof

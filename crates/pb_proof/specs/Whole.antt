@@ -1,5 +1,5 @@
 -- A whole read, where a relation says which value events have.
-use Rattle.std.specs.Prelude.{◌≡◌, ℕ, List, [], ◌++◌, false, Option, Some, Result, Ok, Err}
+use Rattle.std.specs.Prelude.{◌≡◌, ℕ, List, [], ◌∷◌, ◌++◌, map, Bool, false, Option, Some, None, Result, Ok, Err}
 use Rattle.pb_text.specs.Spelling.{Item, place_after}
 use Rattle.pb_text.specs.Reading.{Reads, IsSpelled, Viable}
 use Rattle.pb_text.specs.Pulling.{Took}
@@ -14,6 +14,20 @@ module _ {E : Type 0} (format : List (Item E) → Type 0) (longest : ℕ) where
   pub data StopsIn (used seen : List ℕ) (s : Stop) : Type 0 where
     Reading : (marks : List (Spanned E)) → Reads format longest (used ++ seen) used marks s.place false (Some s) → StopsIn used seen s
     Keeping : Viable format used → s ≡ record { place = place_after used; why = Memory } → StopsIn used seen s
+
+  -- Where memory may be asked for: at a byte behind others, and for a statement behind others.
+  module _ (MayAsk : List ℕ → ℕ → Type 0) (MayKeep : List E → E → Type 0) where
+    -- Where memory ran out: the next byte may ask for it, or to keep the statement that has just ended.
+    pub data WantsIn (used seen : List ℕ) (s : Stop) : Type 0 where
+      Asking : (marks : List (Spanned E)) → Reads format longest (used ++ seen) used marks s.place false (Some s) → (b : ℕ) (more : List ℕ) → seen ≡ b ∷ more
+          → MayAsk used b → WantsIn used seen s
+      Ending : (marks : List (Spanned E)) (last : Spanned E) (done : Bool) → Reads format longest used used (marks ++ last ∷ []) last.past done None
+          → MayKeep (map (λ m. m.event) marks) last.event → s.place ≡ last.past → WantsIn used seen s
+
+    -- what a stop for want of memory says of a source that had these bytes before and has those after
+    abbrev pub WantsMemory : {V : Type 0} → Option (List ℕ) → Result (Spanned V) Stop → Option (List ℕ) → Type 0
+    WantsMemory before (Ok m) after = Unit {0}
+    WantsMemory before (Err s) after = s.why ≡ Memory → (used : List ℕ) × (seen : List ℕ) × Took before used seen after × WantsIn used seen s
 
   module _ {V : Type 0} (IsValue : List E → V → Type 0) where
     -- The used bytes are a spelling, and the value is one of its events.

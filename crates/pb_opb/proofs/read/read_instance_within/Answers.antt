@@ -1,8 +1,8 @@
-use Rattle.pb_text.specs.Automaton.{Accepts}
+use Rattle.pb_text.specs.Automaton.{Accepts, MayAsk}
 use Rattle.pb_text.specs.Limits.{largest, top_of}
 use Rattle.pb_opb.specs.State.{opb, begin}
-use Rattle.pb_opb.proofs.Exactly.{read_exactly, stops_exactly}
-use Rattle.pb_opb.proofs.Gathered.{is_read, stops_in}
+use Rattle.pb_opb.proofs.Exactly.{read_exactly, stops_exactly, wants_exactly}
+use Rattle.pb_opb.proofs.Gathered.{is_read, stops_in, wants_in}
 use Rattle.pb_opb.proofs.read.read_instance_within.Goals as goal
 
 pub returns-in-Ok-clause-reads : goal.returns-in-Ok-clause-reads
@@ -14,5 +14,13 @@ returns-in-Ok-clause-reads g c =
 pub returns-in-Err-clause-reads : goal.returns-in-Err-clause-reads
 returns-in-Err-clause-reads g c =
     let r = rw c.new-machine.ensures.begins at c.in-Err.ensures.reads in
-    let stops = stops_in (Accepts opb (begin (largest c.args.limits) (top_of c.args.limits))) c.args.longest c.new.result c.new.ensures.instance c.new.ensures.ended r.0 _ _ r.1 c.in-Err.stop r.3 in
+    let start = begin (largest c.args.limits) (top_of c.args.limits) in
+    let stops = stops_in (Accepts opb start) c.args.longest c.new.result c.new.ensures.instance c.new.ensures.ended r.0 (MayAsk opb start) r.1 c.in-Err.stop r.3 in
     (r.0, r.1, r.2, stops_exactly (largest c.args.limits) (top_of c.args.limits) c.args.longest r.0 r.1 c.in-Err.stop stops)
+
+pub returns-in-Err-clause-memory : goal.returns-in-Err-clause-memory
+returns-in-Err-clause-memory g c = λ e.
+    let r = rw c.new-machine.ensures.begins at c.in-Err.ensures.reads in
+    let start = begin (largest c.args.limits) (top_of c.args.limits) in
+    let wants = wants_in (Accepts opb start) c.args.longest c.new.result c.new.ensures.instance c.new.ensures.ended r.0 (MayAsk opb start) r.1 c.in-Err.stop r.3 e in
+    (r.0, r.1, r.2, wants_exactly (largest c.args.limits) (top_of c.args.limits) c.args.longest (MayAsk opb start) r.0 r.1 c.in-Err.stop wants)

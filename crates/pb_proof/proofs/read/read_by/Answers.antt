@@ -1,6 +1,6 @@
-use Rattle.pb_text.specs.Automaton.{Accepts}
+use Rattle.pb_text.specs.Automaton.{Accepts, MayAsk}
 use Rattle.pb_text.specs.Limits.{largest, top_of}
-use Rattle.pb_proof.proofs.Gathered.{is_read, stops_in}
+use Rattle.pb_proof.proofs.Gathered.{is_read, stops_in, wants_in}
 use Rattle.pb_proof.proofs.read.read_by.Goals as goal
 
 pub returns-in-Ok-clause-reads : goal.returns-in-Ok-clause-reads
@@ -11,4 +11,9 @@ returns-in-Ok-clause-reads g c =
 pub returns-in-Err-clause-reads : goal.returns-in-Err-clause-reads
 returns-in-Err-clause-reads g c =
     let r = c.in-Err.ensures.reads in
-    (r.0, r.1, r.2, stops_in (largest c.args.limits) (top_of c.args.limits) c.args.longest (Accepts g.M.Machine.automaton c.args.machine) c.requires.accepts r.0 c.new.result _ _ r.1 c.in-Err.stop r.3)
+    (r.0, r.1, r.2, stops_in (largest c.args.limits) (top_of c.args.limits) c.args.longest (Accepts g.M.Machine.automaton c.args.machine) c.requires.accepts r.0 c.new.result (MayAsk g.M.Machine.automaton c.args.machine) r.1 c.in-Err.stop r.3)
+
+pub returns-in-Err-clause-memory : goal.returns-in-Err-clause-memory
+returns-in-Err-clause-memory g c = λ e.
+    let r = c.in-Err.ensures.reads in
+    (r.0, r.1, r.2, wants_in (largest c.args.limits) (top_of c.args.limits) c.args.longest (Accepts g.M.Machine.automaton c.args.machine) c.requires.accepts r.0 c.new.result (MayAsk g.M.Machine.automaton c.args.machine) r.1 c.in-Err.stop r.3 e)
