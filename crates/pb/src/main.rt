@@ -4,14 +4,22 @@
 ghost use Rattle.std.specs.Prelude.{IfOk};
 ghost use Rattle.pb_tool.specs.Words.{HasRanges};
 
+mod tied;
+
+use crate::tied::{Shared, Tied};
 use clap::error::ErrorKind;
+use pb_normal::HashKeys;
 use pb_text::Over;
 use pb_tool::{
-    Input, Job, ToolFault, WordsFault, limits_of, read_words, show, status, tidy, write_fault,
+    Input, Job, ToolFault, WordsFault, limits_of, read_words, show, status, tidy_with_hasher,
+    write_fault,
 };
 use std::alloc::Global;
+use std::cell::RefCell;
+use std::hash::RandomState;
 use std::io::{self, BufRead, BufReader, BufWriter, Read, Write};
 use std::process::ExitCode;
+use std::random::RandomSource;
 use std::rt::{Env, Files};
 use std::{env, fs};
 
@@ -31,7 +39,7 @@ fn main(rt: HostRuntime) -> ExitCode {
 /// Reads the words, does what they ask for and answers the exit status.
 fn run<R, E>(rt: &R, errors: &mut E) -> u8
 where
-    R: Env + Files + io::Input + Print + AllocGlobal,
+    R: Env + Files + io::Input + Print + RandomSource + AllocGlobal,
     E: Write,
 {
     match words_of(rt) {
@@ -102,7 +110,10 @@ fn answer_fault<E: Write>(fault: &ToolFault, errors: &mut E) -> u8 {
 }
 
 /// Opens the job's file, or takes standard input, and does the job over it.
-fn do_job<R: Files + io::Input + Print + AllocGlobal>(rt: &R, job: &Job) -> Result<(), ToolFault>
+fn do_job<R: Files + io::Input + Print + RandomSource + AllocGlobal>(
+    rt: &R,
+    job: &Job,
+) -> Result<(), ToolFault>
     requires { HasRanges job.now }
 {
     match file_of(job) {
@@ -123,31 +134,49 @@ fn file_of(job: &Job) -> Option<&str> {
     }
 }
 
-/// Does the job from a reader to standard output, both through a buffer. What was written before a
-/// fault goes out before its line.
-fn do_over<R: Print + AllocGlobal, I: Read + Drop>(
+/// Does the job from a reader to standard output, both through a buffer. What was written goes out before the reader
+/// is asked for more, and before the line of a fault.
+fn do_over<R: Print + RandomSource + AllocGlobal, I: Read + Drop>(
     rt: &R,
     job: &Job,
     input: I,
 ) -> Result<(), ToolFault>
     requires { HasRanges job.now }
 {
+    let Ok(out) = BufWriter::with_capacity(rt.alloc(), CAPACITY, io::writer(rt)) else {
+        return Err(ToolFault::Memory(Input::File));
+    };
+    let out = RefCell::new(out);
+    let input = Tied::new(input, &out);
     let Ok(input) = BufReader::with_capacity(rt.alloc(), CAPACITY, input) else {
         return Err(ToolFault::Memory(Input::File));
     };
-    let Ok(mut out) = BufWriter::with_capacity(rt.alloc(), CAPACITY, io::writer(rt)) else {
-        return Err(ToolFault::Memory(Input::File));
-    };
-    let done = run_job(rt.alloc(), job, Over::new(input), &mut out);
-    match out.flush() {
+    let done = run_job(
+        rt.alloc(),
+        keys_of(rt),
+        job,
+        Over::new(input),
+        &mut Shared::new(&out),
+    );
+    match out.into_inner().flush() {
         Ok(()) => done,
         Err(_) => Err(ToolFault::Write),
+    }
+}
+
+/// The keys by which names are hashed: random ones, as names come from strangers' files. Where the system gives none,
+/// which no file brings about, they are fixed.
+fn keys_of<R: RandomSource>(rt: &R) -> HashKeys {
+    match RandomState::new(rt) {
+        Ok(state) => HashKeys::Random(state),
+        Err(_) => HashKeys::Fixed,
     }
 }
 
 /// Does the job from a reader to a writer.
 fn run_job<I: BufRead + Drop, O: Write>(
     alloc: Global,
+    keys: HashKeys,
     job: &Job,
     mut input: Over<I>,
     out: &mut O,
@@ -164,8 +193,9 @@ fn run_job<I: BufRead + Drop, O: Write>(
             longest,
             bits,
             ..
-        } => tidy(
+        } => tidy_with_hasher(
             alloc,
+            keys,
             &mut input,
             *normal,
             &mut out,

@@ -4,6 +4,7 @@ ghost use Rattle.std.specs.Prelude.{◌≡◌, ◌<◌, [], length, slice_get, S
 ghost use Rattle.std.specs.Option.{option_copied};
 ghost use Rattle.pb_normal.specs.Names.{AreDistinct, has_name, number_in, with_name};
 
+use crate::hash_keys::HashKeys;
 use indexmap::IndexSet;
 use std::alloc::{AllocError, Global};
 use std::marker::Model;
@@ -11,7 +12,7 @@ use std::marker::Model;
 /// The names that have a number, in the order of their first appearance; the first has the number 0.
 #[derive(Drop)]
 pub struct Names {
-    set: IndexSet<String>,
+    set: IndexSet<String, HashKeys>,
     alloc: Global,
 }
 
@@ -28,12 +29,20 @@ impl Model for Names {
 }
 
 impl Names {
-    /// No names. It takes no memory.
+    /// No names. It takes no memory. The keys of its hasher are fixed: for names that strangers pick there is
+    /// `with_hasher`.
     pub fn new(alloc: Global) -> Names
         ensures { result ≡ [] }
     {
+        Names::with_hasher(alloc, HashKeys::Fixed)
+    }
+
+    /// No names, in a table that is hashed by these keys. It takes no memory.
+    pub fn with_hasher(alloc: Global, keys: HashKeys) -> Names
+        ensures { result ≡ [] }
+    {
         Names {
-            set: IndexSet::new(alloc),
+            set: IndexSet::with_hasher(alloc, keys),
             alloc,
         }
     }

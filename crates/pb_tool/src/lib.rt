@@ -18,5 +18,5 @@ pub use laws::{
 };
 pub use limiting::limits_of;
 pub use showing::show;
-pub use tidying::tidy;
+pub use tidying::{tidy, tidy_with_hasher};
 pub use words::{Job, WordsFault, read_words};

@@ -9,7 +9,7 @@ ghost use Rattle.pb_normal.specs.Written.{magnitude, names_of};
 ghost use Rattle.pb_tool.specs.Normalised.{AreLoaded, IsNormalised, Overflows, Passes, SomePasses};
 ghost use Rattle.pb_tool.specs.Normalised.{constraint_names, objective_names, sides_in, with_sides};
 
-use pb_normal::{Names, Normal, NormalFault, Side};
+use pb_normal::{HashKeys, Names, Normal, NormalFault, Side};
 use pb_opb::Instance;
 use pb_sums::{Linear, Relation, Term};
 use pb_text::{Bytes, Limits, Sequence};
@@ -48,13 +48,14 @@ fn passes(terms: &[Term], degree: i128, limit: u128) -> bool
 /// names first appear, in the objective and then in the constraints. It fails where memory runs out.
 pub(crate) fn normalised(
     alloc: Global,
+    keys: HashKeys,
     instance: Instance,
     limits: Limits,
 ) -> Result<Instance, AllocError>
     requires fits { ¬ Overflows (largest limits) instance }
     ensures { IfOk result (IsNormalised instance) }
 {
-    let mut names = numbered(alloc, &instance.objective)?;
+    let mut names = numbered(alloc, keys, &instance.objective)?;
     let constraints = loaded(alloc, &mut names, instance.constraints.as_slice(), limits)?;
     Ok(Instance {
         variables: instance.variables,
@@ -66,10 +67,14 @@ pub(crate) fn normalised(
 }
 
 /// The names of an objective, numbered by first appearance.
-fn numbered(alloc: Global, objective: &Option<Sequence<Term>>) -> Result<Names, AllocError>
+fn numbered(
+    alloc: Global,
+    keys: HashKeys,
+    objective: &Option<Sequence<Term>>,
+) -> Result<Names, AllocError>
     ensures { IfOk result (λ names. names ≡ with_names [] (objective_names objective.now)) }
 {
-    let mut names = Names::new(alloc);
+    let mut names = Names::with_hasher(alloc, keys);
     if let Some(terms) = objective {
         number_names(&mut names, terms.as_slice())?;
     }

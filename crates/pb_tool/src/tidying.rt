@@ -12,6 +12,7 @@ use crate::fault::{Input, ToolFault, refused};
 use crate::normalising::{normalised, overflows};
 use crate::opening::{Format, format_of, unread_file};
 use crate::proof_tidying::tidy_proof;
+use pb_normal::HashKeys;
 use pb_opb::{Instance, read_instance_within, write_instance};
 use pb_text::{BYTE_LIMIT, Failed, Limits, Sink, Source, Stop, rest_is_blank, write_bytes};
 use std::alloc::Global;
@@ -24,7 +25,8 @@ use std::alloc::Global;
 /// `=` as its two, with the variables and the objective of the instance and without its tail and comments. Then it
 /// writes nothing before each constraint was normalised, and answers `Overflow` where a constraint passes the limit.
 ///
-/// `longest` is the most bytes of a statement, where there is such a limit.
+/// `longest` is the most bytes of a statement, where there is such a limit. The names of an instance are hashed by fixed
+/// keys: for files that come from strangers there is `tidy_with_hasher`.
 pub fn tidy<S: Source, W: Sink>(
     alloc: Global,
     input: &mut S,
@@ -38,13 +40,31 @@ pub fn tidy<S: Source, W: Sink>(
     // `Read` comes only where the source failed.
     ensures faults { S.faults input.new ≡ faults_told result (S.faults input.old) }
 {
+    tidy_with_hasher(alloc, HashKeys::Fixed, input, normal, out, longest, limits)
+}
+
+/// The same, where the names of an instance are hashed by these keys.
+pub fn tidy_with_hasher<S: Source, W: Sink>(
+    alloc: Global,
+    keys: HashKeys,
+    input: &mut S,
+    normal: bool,
+    out: &mut W,
+    longest: Option<u64>,
+    limits: Limits,
+) -> Result<(), ToolFault>
+    requires { IfSome longest (λ n. 0 < n) }
+    ensures tidies { TidiesFile limits (unwrap_or longest (2 ^ 40)) W.contents W.faults normal (S.left input.old) out.old result (S.left input.new) out.new }
+    // `Read` comes only where the source failed.
+    ensures faults { S.faults input.new ≡ faults_told result (S.faults input.old) }
+{
     let longest = longest.unwrap_or(BYTE_LIMIT);
     if normal {
-        return tidy_instance(alloc, input, true, out, longest, limits);
+        return tidy_instance(alloc, keys, input, true, out, longest, limits);
     }
     match format_of(input) {
         Ok(Format::Proof) => tidy_proof(alloc, input, out, longest, limits),
-        Ok(Format::Instance) => tidy_instance(alloc, input, false, out, longest, limits),
+        Ok(Format::Instance) => tidy_instance(alloc, keys, input, false, out, longest, limits),
         Err(Failed) => Err(unread_file(alloc, limits)),
     }
 }
@@ -52,6 +72,7 @@ pub fn tidy<S: Source, W: Sink>(
 /// The same for an instance.
 fn tidy_instance<S: Source, W: Sink>(
     alloc: Global,
+    keys: HashKeys,
     input: &mut S,
     normal: bool,
     out: &mut W,
@@ -66,7 +87,7 @@ fn tidy_instance<S: Source, W: Sink>(
         Ok(instance) => instance,
         Err(stop) => return Err(refused(stop)),
     };
-    let written = match asked(alloc, instance, normal, limits) {
+    let written = match asked(alloc, keys, instance, normal, limits) {
         Ok(written) => written,
         Err(fault) => return Err(fault),
     };
@@ -101,6 +122,7 @@ fn read_file<S: Source>(
 /// The instance that is to be written: this one, or its normal form.
 fn asked(
     alloc: Global,
+    keys: HashKeys,
     instance: Instance,
     normal: bool,
     limits: Limits,
@@ -114,7 +136,7 @@ fn asked(
     if overflows(instance.constraints.as_slice(), limits) {
         return Err(ToolFault::Overflow(Input::File));
     }
-    match normalised(alloc, instance, limits) {
+    match normalised(alloc, keys, instance, limits) {
         Ok(form) => Ok(form),
         Err(_) => Err(ToolFault::Memory(Input::File)),
     }

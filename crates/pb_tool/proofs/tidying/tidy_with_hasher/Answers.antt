@@ -1,5 +1,5 @@
 use Rattle.pb_tool.proofs.Chosen.{some_of, tidies_instance, tidies_proof, tidies_unread}
-use Rattle.pb_tool.proofs.tidying.tidy.Goals as goal
+use Rattle.pb_tool.proofs.tidying.tidy_with_hasher.Goals as goal
 
 pub returns-in-Ok-Proof-clause-tidies : goal.returns-in-Ok-Proof-clause-tidies
 returns-in-Ok-Proof-clause-tidies g c =

@@ -1,0 +1,27 @@
+//! How the table of names hashes.
+
+use std::hash::{BuildHasher, DefaultHasher, RandomState};
+
+/// The keys by which names are hashed. No answer depends on them, but the time does that names take which collide.
+#[derive(Clone, Copy)]
+pub enum HashKeys {
+    /// Always the same ones: who picks the names can make them collide.
+    Fixed,
+    /// Random ones, for names that come from strangers.
+    Random(RandomState),
+}
+
+impl BuildHasher for HashKeys {
+    ghost use Rattle.pb_normal.specs.HashKeys.{hasher_by};
+
+    type Hasher = DefaultHasher;
+
+    ghost build_hasher = { hasher_by };
+
+    fn build_hasher(&self) -> DefaultHasher {
+        match self {
+            HashKeys::Fixed => DefaultHasher::new(),
+            HashKeys::Random(state) => state.build_hasher(),
+        }
+    }
+}
