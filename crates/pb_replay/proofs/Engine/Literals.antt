@@ -19,7 +19,13 @@ pub beq-refl : (a : Bool) → beq a a ≡ true
 beq-refl true = refl
 beq-refl false = refl
 
-not-not : (a : Bool) → not (not a) ≡ a
+pub beq-not : (a b : Bool) → beq (not a) b ≡ not (beq a b)
+beq-not true true = refl
+beq-not true false = refl
+beq-not false true = refl
+beq-not false false = refl
+
+pub not-not : (a : Bool) → not (not a) ≡ a
 not-not true = refl
 not-not false = refl
 

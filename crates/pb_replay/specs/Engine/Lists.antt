@@ -72,10 +72,10 @@ pub record Completes (forms : List Shape) (given list : List NumberedLiteral) : 
   pub within : IsWithin whole list
   pub covers : IsWithin list whole
 
--- whether a variable's value puts this literal on the list
+-- whether a variable's value is that of this literal
 abbrev pub holds : Option Bool → Bool → Bool
 holds None n = false
-holds (Some m) n = beq m n
+holds (Some m) n = beq (not m) n
 
 unfoldable pub says : List (Option Bool) → NumberedLiteral → Bool
 says values l = holds (slice_index_or values l.variable None) l.negated

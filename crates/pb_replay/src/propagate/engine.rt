@@ -283,7 +283,7 @@ impl Engine {
     }
 
     /// The values of the completion of given literals over the live forms, or `None` where a conflict is met.
-    /// A value is `true` where the variable's negation is on the list.
+    /// There is one for each variable: `Some(true)` where the variable is true, `None` where it is open.
     pub fn complete(
         &mut self,
         given: &[NumberedLiteral],
@@ -296,6 +296,7 @@ impl Engine {
         ensures ready { OnOk result (self.new.spent ≡ false) }
         ensures conflict { IfOk result (λ found. IfNone found (MeetsConflict (Live self.old.forms) given.now)) }
         ensures no_conflict { IfOk result (λ found. IfSome found (λ values. MeetsConflict (Live self.old.forms) given.now → ⊥)) }
+        ensures count { IfOk result (λ found. IfSome found (λ values. length values.items ≡ self.old.variables)) }
         ensures completed { IfOk result (λ found. IfSome found (λ values. (list : List NumberedLiteral) × IsCompletion (Live self.old.forms) given.now list × Gives list values.items)) }
     {
         let visits = self.run.visits;
