@@ -40,10 +40,10 @@ has_length : (text : List Letter) → text ≢ [] → 0 < length text
 has_length [] h = absurd (h refl)
 has_length (l ∷ text) h = omega arith
 
-not_ended : {E : Type 0} (rest : List (Item E) → Type 0) → IsResidual rest → (first : Option Place) (before : List ℕ) (later : List (Item E)) → rest later → ended_within (length before) (marks_since first before later) ≡ []
-not_ended rest state first before [] r = refl
-not_ended rest state first before (i ∷ items) r =
-    let some : 0 < length i.text = has_length i.text (state.texts i items r) in
+pub not_ended : {E : Type 0} (rest : List (Item E) → Type 0) → ((i : Item E) (later : List (Item E)) → rest (i ∷ later) → i.text ≢ []) → (first : Option Place) (before : List ℕ) (later : List (Item E)) → rest later → ended_within (length before) (marks_since first before later) ≡ []
+not_ended rest texts first before [] r = refl
+not_ended rest texts first before (i ∷ items) r =
+    let some : 0 < length i.text = has_length i.text (texts i items r) in
     let e : (place_after (before ++ (i.gap ++ bytes i.text))).offset ≡ length before + (length i.gap + length i.text) = past_text before i.gap i.text in
     let longer : length before < length (before ++ (i.gap ++ bytes i.text)) = omega (arith, length-append before (i.gap ++ bytes i.text), length-append i.gap (bytes i.text), length-bytes i.text) in
     go_first (length before) _ (marks_since None (before ++ (i.gap ++ bytes i.text)) items) (omega (arith, e))
@@ -65,7 +65,7 @@ module _ {E : Type 0} (format rest : List (Item E) → Type 0) (letters : List L
       let n : ℕ = length (bytes letters) in
       let here : EndBy n marks = subst (λ (k : ℕ). EndBy k marks) (sym (length-bytes letters)) follows.ended in
       ap (ended_within n) o.2.marks_are ∙ (filter-append (λ (m : Spanned E). nat_le m.past.offset n) marks (marks_since first (bytes letters) o.0)
-      ∙ (ap (λ (x : List (Spanned E)). ended_within n marks ++ x) (not_ended rest state first (bytes letters) o.0 o.1) ∙ (append-nil (ended_within n marks) ∙ ended_stay n marks here)))
+      ∙ (ap (λ (x : List (Spanned E)). ended_within n marks ++ x) (not_ended rest state.texts first (bytes letters) o.0 o.1) ∙ (append-nil (ended_within n marks) ∙ ended_stay n marks here)))
 
   spelled_is_done : (items : List (Item E)) → format items → bytes_of items ≡ bytes letters → rest []
   spelled_is_done items f e =

@@ -5,6 +5,7 @@ pub mod Begin
 pub mod Blanks
 pub mod Cutting
 pub mod Deterministic
+pub mod FixedMarks
 pub mod Follows
 pub mod Formats
 pub mod Languages
@@ -23,5 +24,6 @@ pub mod Steps
 pub mod Told
 pub mod NothingRead
 pub mod Toys
+pub mod Unkept
 pub mod Wholes
 pub mod Writing

@@ -189,7 +189,7 @@ module _ {S E : Type 0} (m : Automaton S E) where
     pub refuses : m.step old b ≡ Refuse → Refuses (Accepts m old) b
     refuses stops items h begins = refused_first stops items (first_of old items h) begins
 
-  has_text : (s at after : S) (text : List Letter) (e : E) → Reads m at text e after → text ≢ []
+  pub has_text : (s at after : S) (text : List Letter) (e : E) → Reads m at text e after → text ≢ []
   has_text s at after [] e r = absurd r
   has_text s at after (l ∷ text) e r = λ h. cc
 

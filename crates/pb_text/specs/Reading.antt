@@ -50,6 +50,12 @@ module _ {E : Type 0} (format : List (Item E) → Type 0) where
   AreSeen front marks =
       (items : List (Item E)) → format items → IsFront front (bytes_of items) → ended_within (length front) (marks_of items) ≡ marks
 
+  -- In any spelling that begins with a front, the marks that end within it are the same.
+  abbrev pub HasFixedMarks : Type 0
+  HasFixedMarks =
+      (front : List ℕ) (items items' : List (Item E)) → format items → format items' → IsFront front (bytes_of items) → IsFront front (bytes_of items')
+      → ended_within (length front) (marks_of items) ≡ ended_within (length front) (marks_of items')
+
   -- no front of the text is a spelling
   abbrev pub HasNoSpelling : List ℕ → Type 0
   HasNoSpelling text = (items : List (Item E)) → format items → IsFront (bytes_of items) text → ⊥

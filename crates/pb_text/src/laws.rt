@@ -1,8 +1,8 @@
-//! The theorem on feeders.
+//! The theorems on feeders and on marks.
 
 ghost use Rattle.std.specs.Prelude.{◌≡◌, ℕ, List, [], Bool, Result};
 ghost use Rattle.pb_text.specs.Automaton.{Accepts};
-ghost use Rattle.pb_text.specs.Reading.{Reads};
+ghost use Rattle.pb_text.specs.Reading.{Reads, HasFixedMarks};
 ghost use Rattle.pb_text.specs.Standing.{IsOpen, IsUnread};
 ghost use Rattle.pb_text.specs.Feeding.{StandsAt, Feeds, input_fed, marks_answered, place_of, halt_of, is_complete};
 ghost use Rattle.pb_text.specs.declared.feeder.Fed.{Fed};
@@ -25,4 +25,10 @@ pub fn any_cutting<M: Machine>()
         → IsUnread (halt_of before)
         → Feeds before feeds after
         → IsUnread (halt_of after) }
+{}
+
+/// In any text of a machine that begins with a front, the statements that end within it are the same, at the same
+/// places.
+pub fn fixed_marks<M: Machine>()
+    ensures { (start : M) → HasFixedMarks (Accepts M.automaton start) }
 {}
