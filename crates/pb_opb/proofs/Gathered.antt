@@ -1,7 +1,6 @@
 -- Statements that are put together one by one have the value that they say.
-use Rattle.std.proofs.Common.{◌≡◌, ℕ, ◌+◌, List, [], ◌∷◌, ◌++◌, map, Bool, true, false, IsTrue, Option, None, Some, refl, sym, ap, ◌∙◌, subst, append_assoc, append-nil, arith}
-use Rattle.pb_text.specs.Reading.{Reads, Viable}
-use Rattle.pb_text.specs.declared.place.Place.{Place}
+use Rattle.std.proofs.Common.{◌≡◌, ℕ, ◌+◌, List, [], ◌∷◌, ◌++◌, map, Bool, IsTrue, refl, sym, ap, ◌∙◌, subst, append_assoc, append-nil, arith}
+use Rattle.pb_text.proofs.Unkept.{unkept_viable, unkept_place}
 use Rattle.pb_text.specs.declared.place.Why.{Why}
 use Rattle.pb_text.specs.declared.place.Why.TheVariants.{Memory}
 use Rattle.pb_text.specs.Spelling.{Item}
@@ -49,13 +48,6 @@ ended_after (Comment text ∷ events) b = ended_after events (one_more b (Commen
 ended_after (Objective terms ∷ events) b = let k = ended_after events (one_more b (Objective terms)) in omega (arith, k)
 ended_after (Constraint linear ∷ events) b = let k = ended_after events (one_more b (Constraint linear)) in omega (arith, k)
 
--- what was read begins a spelling
-read_viable : {E : Type 0} (format : List (Item E) → Type 0) (longest : ℕ) (used : List ℕ) (marks : List (Spanned E)) (place : Place) (done : Bool)
-    → Reads format longest used used marks place done None → Viable format used
-read_viable format longest used marks place true r =
-    let s = r.answer.0 in (s.items, s.spelled, ([], s.used_are ∙ sym (append-nil used)))
-read_viable format longest used marks place false r = r.answer.0.viable
-
 value_of : (events : List OpbEvent) (b v : Building) → b.instance ≡ nothing → b.ended ≡ 0 → v ≡ gathered one_more b events → IsValueOf events v.instance
 value_of events b v i n e =
     let k = adds events (record { instance = nothing; ended = 0 }) in
@@ -85,8 +77,7 @@ module _ (format : List (Item OpbEvent) → Type 0) (longest : ℕ) (b : Buildin
   pub stops_in : (may_ask : List ℕ → ℕ → Type 0) (seen : List ℕ) (s : Stop) → StopsAfter format longest one_more b may_ask keeps used seen s → StopsIn format longest used seen s
   stops_in may_ask seen s (reading marks r a) = Reading marks r
   stops_in may_ask seen s (keeping u) =
-      Keeping (read_viable format longest used (u.marks ++ u.last ∷ []) u.last.past u.done u.reads)
-      (u.stop_is ∙ ap (λ (q : Place). let t : Stop = record { place = q; why = Memory } in t) u.reads.place_is)
+      Keeping (unkept_viable format longest one_more b may_ask keeps used s u) (unkept_place format longest one_more b may_ask keeps used s u)
 
   -- a stop for want of memory
   pub wants_in : (may_ask : List ℕ → ℕ → Type 0) (seen : List ℕ) (s : Stop) → StopsAfter format longest one_more b may_ask keeps used seen s → s.why ≡ Memory

@@ -1,6 +1,6 @@
 //! The laws of instances and their texts.
 
-ghost use Rattle.pb_opb.specs.Formats.{ReadsInstances, OneInstance, NoFront, LargerLimits};
+ghost use Rattle.pb_opb.specs.Formats.{ReadsInstances, OneInstance, FixedMarks, NoFront, LargerLimits};
 ghost use Rattle.pb_opb.specs.Statements.{CanonicalInstance, InstanceValues, ReadsBack};
 
 /// A new machine accepts exactly the instances.
@@ -11,6 +11,12 @@ pub fn instances_are_exact()
 /// A text spells one instance.
 pub fn one_instance()
     ensures { OneInstance }
+{}
+
+/// In all instances whose texts begin with the same bytes, the statements that end within these are the same, at the
+/// same places.
+pub fn fixed_marks()
+    ensures { FixedMarks }
 {}
 
 /// No instance is a front of another.

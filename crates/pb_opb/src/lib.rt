@@ -15,8 +15,8 @@ mod write;
 pub use event::OpbEvent;
 pub use instance::{Comment, Instance};
 pub use laws::{
-    canonical_instance_spells, instances_are_exact, instances_are_values, larger_limits, no_front,
-    one_instance, written_instance_reads_back,
+    canonical_instance_spells, fixed_marks, instances_are_exact, instances_are_values,
+    larger_limits, no_front, one_instance, written_instance_reads_back,
 };
 pub use machine::OpbMachine;
 pub use read::{read_instance, read_instance_within};

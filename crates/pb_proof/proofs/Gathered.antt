@@ -1,7 +1,6 @@
 -- Statements of a proof that are put together one by one are that proof.
-use Rattle.std.proofs.Common.{◌≡◌, ◌↔◌, ℕ, List, [], ◌∷◌, ◌++◌, map, Bool, true, false, Option, None, Some, refl, sym, ap, ◌∙◌, subst, append_assoc, append-nil, All}
-use Rattle.pb_text.specs.Reading.{Reads, Viable}
-use Rattle.pb_text.specs.declared.place.Place.{Place}
+use Rattle.std.proofs.Common.{◌≡◌, ◌↔◌, ℕ, List, [], ◌∷◌, ◌++◌, map, Bool, None, refl, sym, ap, ◌∙◌, subst, append_assoc, append-nil, All}
+use Rattle.pb_text.proofs.Unkept.{unkept_viable, unkept_place}
 use Rattle.pb_text.specs.declared.place.Why.{Why}
 use Rattle.pb_text.specs.declared.place.Why.TheVariants.{Memory}
 use Rattle.std.proofs.lemmas.List.Elements.{All-head, All-tail}
@@ -55,13 +54,6 @@ gathered_is : (events : List Statement) (b c : Building) (v : Proof) → b.proof
 gathered_is events b c v n e h k =
     ap (λ (x : Building). x.proof) e ∙ (proof_of events b ∙ (ap (λ (x : Proof). gathered with x events) n ∙ (ap (gathered with nothing) k ∙ proof_gathered v h)))
 
--- what was read begins a spelling
-read_viable : {E : Type 0} (format : List (Item E) → Type 0) (longest : ℕ) (used : List ℕ) (marks : List (Spanned E)) (place : Place) (done : Bool)
-    → Reads format longest used used marks place done None → Viable format used
-read_viable format longest used marks place true r =
-    let s = r.answer.0 in (s.items, s.spelled, ([], s.used_are ∙ sym (append-nil used)))
-read_viable format longest used marks place false r = r.answer.0.viable
-
 module _ (limit top longest : ℕ) (accepted : List (Item Statement) → Type 0) (same : (items : List (Item Statement)) → accepted items ↔ IsProof limit top items) (used : List ℕ) where
   only : (items : List (Item Statement)) → accepted items → IsProof limit top items
   only items h = (same items).0 h
@@ -88,8 +80,8 @@ module _ (limit top longest : ℕ) (accepted : List (Item Statement) → Type 0)
   pub stops_in : (b : Building) (may_ask : List ℕ → ℕ → Type 0) (seen : List ℕ) (s : Stop) → StopsAfter accepted longest one_more b may_ask keeps used seen s → StopsIn (IsProof limit top) longest used seen s
   stops_in b may_ask seen s (reading marks r a) = Reading marks (formats.reads accepted (IsProof limit top) only each longest _ used marks s.place _ _ r)
   stops_in b may_ask seen s (keeping u) =
-      Keeping (formats.viable accepted (IsProof limit top) only each longest used (read_viable accepted longest used (u.marks ++ u.last ∷ []) u.last.past u.done u.reads))
-      (u.stop_is ∙ ap (λ (q : Place). let t : Stop = record { place = q; why = Memory } in t) u.reads.place_is)
+      Keeping (formats.viable accepted (IsProof limit top) only each longest used (unkept_viable accepted longest one_more b may_ask keeps used s u))
+      (unkept_place accepted longest one_more b may_ask keeps used s u)
 
   -- a stop for want of memory
   pub wants_in : (b : Building) (may_ask : List ℕ → ℕ → Type 0) (seen : List ℕ) (s : Stop) → StopsAfter accepted longest one_more b may_ask keeps used seen s → s.why ≡ Memory

@@ -1,6 +1,7 @@
 -- The laws of the format of proofs.
 use Rattle.std.specs.Prelude.{◌≡◌, ℕ, ◌≤◌, List, [], ◌++◌, ◌↔◌}
 use Rattle.pb_text.specs.Automaton.{Accepts}
+use Rattle.pb_text.specs.Reading.{HasFixedMarks}
 use Rattle.pb_text.specs.Spelling.{Item, bytes_of}
 use Rattle.pb_proof.specs.Proofs.{IsProof}
 use Rattle.pb_proof.specs.State.{proofs, begin}
@@ -14,6 +15,10 @@ ReadsProofs = (limit top : ℕ) (items : List (Item Statement)) → Accepts proo
 abbrev pub OneProof : Type 0
 OneProof = (limit top : ℕ) (items items' : List (Item Statement)) →
     IsProof limit top items → IsProof limit top items' → bytes_of items ≡ bytes_of items' → items ≡ items'
+
+-- In all spellings that begin with a front, the marks that end within it are the same.
+abbrev pub FixedMarks : Type 0
+FixedMarks = (limit top : ℕ) → HasFixedMarks (IsProof limit top)
 
 -- No proof is a front of another.
 abbrev pub NoFront : Type 0

@@ -1,6 +1,6 @@
 //! The laws of proofs and their texts.
 
-ghost use Rattle.pb_proof.specs.Formats.{ReadsProofs, OneProof, NoFront, LargerLimits};
+ghost use Rattle.pb_proof.specs.Formats.{ReadsProofs, OneProof, FixedMarks, NoFront, LargerLimits};
 
 /// A new machine accepts exactly the proofs.
 pub fn proofs_are_exact()
@@ -10,6 +10,12 @@ pub fn proofs_are_exact()
 /// A text spells one proof.
 pub fn one_proof()
     ensures { OneProof }
+{}
+
+/// In all proofs whose texts begin with the same bytes, the statements that end within these are the same, at the same
+/// places.
+pub fn fixed_marks()
+    ensures { FixedMarks }
 {}
 
 /// No proof is a front of another.

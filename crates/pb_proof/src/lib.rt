@@ -37,7 +37,7 @@ mod word;
 mod write;
 
 pub use conclusion::{Bound, Conclusion};
-pub use laws::{larger_limits, no_front, one_proof, proofs_are_exact};
+pub use laws::{fixed_marks, larger_limits, no_front, one_proof, proofs_are_exact};
 pub use laws_of_values::{
     canonical_proof_spells, one_value, postfix_words, proofs_are_values, reads_are_of_proofs,
     written_proof_reads_back,
