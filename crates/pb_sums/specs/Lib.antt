@@ -1,4 +1,5 @@
 pub mod Sums
+pub mod Kept
 pub mod Machine
 pub mod Prefix
 pub mod State
