@@ -1,3 +1,4 @@
+pub mod Asked
 mod LetterKinds
 mod Fronts
 mod Sound

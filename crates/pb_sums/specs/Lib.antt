@@ -1,3 +1,4 @@
+pub mod Asking
 pub mod Sums
 pub mod Kept
 pub mod Machine

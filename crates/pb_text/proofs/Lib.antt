@@ -1,3 +1,4 @@
+pub mod Asked
 mod Powers
 pub mod Admitted
 pub mod Answer

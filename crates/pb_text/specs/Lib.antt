@@ -1,3 +1,4 @@
+pub mod Asking
 pub mod Automaton
 pub mod Blank
 pub mod Classes

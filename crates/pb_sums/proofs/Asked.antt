@@ -1,0 +1,260 @@
+-- Where a machine of sums asks, the next byte is one of a name, or ends a literal.
+use Rattle.std.proofs.Common.{◌≡◌, ℕ, ◌+◌, ◌-◌, ◌*◌, Bool, true, false, cond, ◌||◌, ◌&&◌, List, [], ◌∷◌, ◌++◌, refl, sym, ap, subst, ◌∙◌, append_assoc, append-nil, inl, inr}
+use Rattle.std.proofs.lemmas.Bool.{false≢true}
+use Rattle.std.specs.Prelude.{IsTrue, ℤ, Option, Some, None, nat_le, nat_eq}
+use Rattle.pb_text.specs.Automaton.{Next, Go, End, Refuse}
+use Rattle.pb_text.specs.Classes.{is_digit, is_letter, is_name_byte}
+use Rattle.pb_text.specs.Languages.{Each}
+use Rattle.pb_text.specs.Spelling.{Letter, bytes}
+use Rattle.pb_text.proofs.Asked.{Walks}
+use Rattle.pb_text.proofs.Languages.{each-append}
+use Rattle.pb_text.proofs.Lists.{bytes-append}
+use Rattle.pb_sums.specs.Asking.{EndsIn, IsNameFront, InName, EndsLiteral, AsksLiteral}
+use Rattle.pb_sums.specs.Machine.{Work, act, plan, digits, number, behind, kind, kind_of_numeral, kind_of_plain, symbol, letter_at, is_numeric, flushed, adds, is_more, fresh}
+use Rattle.pb_sums.specs.State.{SumState, sums, first, over, asks}
+use Rattle.pb_sums.specs.Sums.{IsName, is_space, allows, reads_sums}
+use Rattle.pb_sums.specs.declared.grammar.Spaces.{Spaces}
+use Rattle.pb_sums.specs.declared.grammar.Part.{Part}
+use Rattle.pb_sums.specs.declared.values.Relation.{Relation}
+use Rattle.pb_sums.specs.declared.values.Relation.TheVariants.{AtLeast, Equal}
+use Rattle.pb_sums.specs.declared.values.SumEvent.{SumEvent}
+use Rattle.pb_sums.specs.declared.values.Term.{Term}
+use Rattle.pb_sums.specs.declared.phase.Kind.{Kind}
+use Rattle.pb_sums.specs.declared.phase.Kind.TheVariants.{Space, Digit, Start, Inner, Tilde, Plus, Minus, Greater, Equals, Semicolon, Other}
+use Rattle.pb_sums.specs.declared.phase.Phase.{Phase}
+use Rattle.pb_sums.specs.declared.phase.Phase as phase
+use Rattle.pb_sums.specs.declared.phase.Move.{Move}
+use Rattle.pb_sums.specs.declared.phase.Move.TheVariants.{To, Begin, Add, EndSum, EndLinear, Stop}
+use Rattle.pb_sums.proofs.Fronts.{IsFirst, name-append, first-append}
+
+abbrev IsNameByte : ℕ → Type 0
+IsNameByte e = IsTrue (is_name_byte e)
+
+chosen : {A : Type 0} (P : A → Type 0) (b : Bool) (x y : A) → (b ≡ true → P x) → (b ≡ false → P y) → P (cond b x y)
+chosen P true x y f g = f refl
+chosen P false x y f g = g refl
+
+-- a name in hand, and a byte more
+pub name_further : (name : List ℕ) (b : ℕ) → IsName name → IsTrue (is_name_byte b) → IsNameFront (name ++ b ∷ [])
+name_further [] b h k = absurd h
+name_further (x ∷ []) b h k = absurd h
+name_further (x ∷ y ∷ bs) b h k = (h.0, each-append IsNameByte (y ∷ bs) b h.1 k)
+
+pub first_further : (name : List ℕ) (b : ℕ) → IsFirst name → IsTrue (is_name_byte b) → IsNameFront (name ++ b ∷ [])
+first_further [] b h k = absurd h
+first_further (x ∷ []) b h k = (h, (k, tt))
+first_further (x ∷ y ∷ bs) b h k = absurd h
+
+pub ends_more : (text name : List ℕ) (b : ℕ) → EndsIn text name → EndsIn (text ++ b ∷ []) (name ++ b ∷ [])
+ends_more text name b (before, e) = (before, ap (λ (x : List ℕ). x ++ b ∷ []) e ∙ append_assoc before name (b ∷ []))
+
+pub ends_nothing : (text : List ℕ) → EndsIn text []
+ends_nothing text = (text, sym (append-nil text))
+
+pub ends_one : (text : List ℕ) (b : ℕ) → EndsIn (text ++ b ∷ []) (b ∷ [])
+ends_one text b = (text, refl)
+
+pub ends_behind : (before text end : List ℕ) → EndsIn text end → EndsIn (before ++ text) end
+ends_behind before text end (front, e) = (before ++ front, ap (λ (x : List ℕ). before ++ x) e ∙ sym (append_assoc before front end))
+
+-- what asks in a text asks behind other bytes
+pub asks_behind : (before text : List ℕ) (b : ℕ) → AsksLiteral text b → AsksLiteral (before ++ text) b
+asks_behind before text b (inl (name, e, h)) = inl (name, ends_behind before text name e, h)
+asks_behind before text b (inr (name, e, h, k)) = inr (name, ends_behind before text name e, h, k)
+
+-- behind a whole name
+pub at_name : (text name : List ℕ) (b : ℕ) → EndsIn text name → IsName name → AsksLiteral text b
+at_name text name b e h = by_test (is_name_byte b) refl
+  where
+    by_test : (x : Bool) → is_name_byte b ≡ x → AsksLiteral text b
+    by_test true t = inl (name, e, name_further name b h t)
+    by_test false t = inr (name, e, h, t)
+
+-- what a kind says of its byte
+abbrev Means : Kind → ℕ → Type 0
+Means (Start c) b = (c ≡ b) × IsTrue (is_letter c)
+Means (Inner c) b = (c ≡ b) × IsTrue (is_name_byte c)
+Means _ b = Unit {0}
+
+symbol_means : (b : ℕ) → Means (symbol b) b
+symbol_means b =
+    let P : Kind → Type 0 = λ k. Means k b in
+    chosen P (nat_eq b 126) _ _ (λ _. tt) (λ _.
+    chosen P (nat_eq b 43) _ _ (λ _. tt) (λ _.
+    chosen P (nat_eq b 45) _ _ (λ _. tt) (λ _.
+    chosen P (nat_eq b 62) _ _ (λ _. tt) (λ _.
+    chosen P (nat_eq b 61) _ _ (λ _. tt) (λ _.
+    chosen P (nat_eq b 59) _ _ (λ _. tt) (λ _. tt))))))
+
+means : (spaces : Spaces) (l : Letter) → Means (kind spaces l) l.byte
+means spaces l =
+    let P : Kind → Type 0 = λ k. Means k l.byte in
+    chosen P l.numeral _ _
+    (λ _. chosen P (is_digit l.byte) _ _ (λ _. tt) (λ _. tt))
+    (λ _. chosen P (is_space spaces l.byte) _ _ (λ _. tt) (λ _.
+    chosen P (is_letter l.byte) _ _ (λ e. (refl, e)) (λ _.
+    chosen P (is_name_byte l.byte) _ _ (λ e. (refl, e)) (λ _. symbol_means l.byte))))
+
+letter_name : (b : ℕ) → IsTrue (is_letter b) → IsTrue (is_name_byte b)
+letter_name b e = rw e refl
+
+-- a name is in hand
+abbrev is_naming : Phase → Bool
+is_naming (phase.TheVariants.First z negated) = true
+is_naming (phase.TheVariants.More z negated) = true
+is_naming _ = false
+
+-- A name begins with a letter, goes on with its bytes, and is in hand only then.
+abbrev Fits : Phase → ℕ → Move → Type 0
+Fits p b (To q) = is_naming q ≡ false
+Fits p b (Begin (phase.TheVariants.First z negated) c) = (c ≡ b) × IsTrue (is_letter c)
+Fits p b (Begin q c) = ⊥
+Fits p b (Add (phase.TheVariants.More z negated) c) = (c ≡ b) × IsTrue (is_name_byte c) × (is_naming p ≡ true)
+Fits p b (Add q c) = ⊥
+Fits p b _ = Unit {0}
+
+module _ (want : Part) (limit b : ℕ) where
+  digits_fit : (p : Phase) (role : Option Relation) (negative : Bool) (n d : ℕ) → Fits p b (digits limit role negative n d)
+  digits_fit p role negative n d = chosen (Fits p b) (nat_le (10 * n + d) limit) _ _ (λ _. refl) (λ _. tt)
+
+  number_fits : (p : Phase) (role : Option Relation) (k : Kind) → Fits p b (number limit role k)
+  number_fits p role Plus = refl
+  number_fits p role Minus = refl
+  number_fits p role (Digit d) = digits_fit p role false 0 d
+  number_fits p role _ = tt
+
+  behind_fits : (p : Phase) (k : Kind) → Fits p b (behind want k)
+  behind_fits p Greater = chosen (Fits p b) (allows want AtLeast) _ _ (λ _. refl) (λ _. tt)
+  behind_fits p Equals = chosen (Fits p b) (allows want Equal) _ _ (λ _. refl) (λ _. tt)
+  behind_fits p Semicolon = chosen (Fits p b) (reads_sums want) _ _ (λ _. tt) (λ _. tt)
+  behind_fits p _ = tt
+
+  plan_fits : (p : Phase) (k : Kind) → Means k b → Fits p b (plan want limit p k)
+  plan_fits phase.TheVariants.Start Space m = chosen (Fits phase.TheVariants.Start b) (reads_sums want) _ _ (λ _. refl) (λ _. tt)
+  plan_fits phase.TheVariants.Start Plus m = refl
+  plan_fits phase.TheVariants.Start Minus m = refl
+  plan_fits phase.TheVariants.Start (Digit d) m = digits_fit phase.TheVariants.Start None false 0 d
+  plan_fits phase.TheVariants.Start k m = behind_fits phase.TheVariants.Start k
+  plan_fits (phase.TheVariants.Signed role negative) (Digit d) m = digits_fit (phase.TheVariants.Signed role negative) role negative 0 d
+  plan_fits (phase.TheVariants.Digits role negative n) (Digit d) m = digits_fit (phase.TheVariants.Digits role negative n) role negative n d
+  plan_fits (phase.TheVariants.Digits None negative n) Space m = refl
+  plan_fits (phase.TheVariants.Digits None negative n) k m = tt
+  plan_fits (phase.TheVariants.Digits (Some r) negative n) Space m = refl
+  plan_fits (phase.TheVariants.Digits (Some r) negative n) k m = tt
+  plan_fits (phase.TheVariants.Gap z) Space m = refl
+  plan_fits (phase.TheVariants.Gap z) Tilde m = refl
+  plan_fits (phase.TheVariants.Gap z) (Start c) m = m
+  plan_fits (phase.TheVariants.Tilde z) (Start c) m = m
+  plan_fits (phase.TheVariants.First z negated) (Start c) m = (m.0, letter_name c m.1, refl)
+  plan_fits (phase.TheVariants.First z negated) (Inner c) m = (m.0, m.1, refl)
+  plan_fits (phase.TheVariants.More z negated) (Start c) m = (m.0, letter_name c m.1, refl)
+  plan_fits (phase.TheVariants.More z negated) (Inner c) m = (m.0, m.1, refl)
+  plan_fits (phase.TheVariants.More z negated) Space m = refl
+  plan_fits (phase.TheVariants.More z negated) k m = behind_fits (phase.TheVariants.More z negated) k
+  plan_fits phase.TheVariants.Between Space m = refl
+  plan_fits phase.TheVariants.Between Plus m = refl
+  plan_fits phase.TheVariants.Between Minus m = refl
+  plan_fits phase.TheVariants.Between (Digit d) m = digits_fit phase.TheVariants.Between None false 0 d
+  plan_fits phase.TheVariants.Between k m = behind_fits phase.TheVariants.Between k
+  plan_fits phase.TheVariants.Greater Equals m = refl
+  plan_fits (phase.TheVariants.Operator r) Space m = refl
+  plan_fits (phase.TheVariants.Operator r) k m = number_fits (phase.TheVariants.Operator r) (Some r) k
+  plan_fits (phase.TheVariants.Tail r z) Space m = refl
+  plan_fits phase.TheVariants.Empty Space m = refl
+  plan_fits _ _ m = tt
+
+-- the text ends in the name in hand
+abbrev Holds : Phase → List ℕ → List ℕ → Type 0
+Holds (phase.TheVariants.First z negated) name text = EndsIn text name × IsFirst name
+Holds (phase.TheVariants.More z negated) name text = EndsIn text name × IsName name
+Holds _ name text = Unit {0}
+
+held_no_name : (q : Phase) (name text : List ℕ) → is_naming q ≡ false → Holds q name text
+held_no_name (phase.TheVariants.First z negated) name text h = absurd (false≢true (sym h))
+held_no_name (phase.TheVariants.More z negated) name text h = absurd (false≢true (sym h))
+held_no_name _ name text h = tt
+
+name_grown : (p : Phase) (name text : List ℕ) (b : ℕ) → is_naming p ≡ true → Holds p name text → IsTrue (is_name_byte b) → EndsIn (text ++ b ∷ []) (name ++ b ∷ []) × IsName (name ++ b ∷ [])
+name_grown (phase.TheVariants.First z negated) name text b h (e, f) k = (ends_more text name b e, first-append name b f k)
+name_grown (phase.TheVariants.More z negated) name text b h (e, f) k = (ends_more text name b e, name-append name b f k)
+name_grown _ name text b h k l = absurd (false≢true h)
+
+name_front : (p : Phase) (name text : List ℕ) (b : ℕ) → is_naming p ≡ true → Holds p name text → IsTrue (is_name_byte b) → InName text b
+name_front (phase.TheVariants.First z negated) name text b h (e, f) k = (name, e, first_further name b f k)
+name_front (phase.TheVariants.More z negated) name text b h (e, f) k = (name, e, name_further name b f k)
+name_front _ name text b h k l = absurd (false≢true h)
+
+abbrev Known : SumState → List ℕ → Type 0
+Known s text = Holds s.work.phase s.work.name text
+
+abbrev Stays : Next SumState SumEvent → List ℕ → Type 0
+Stays (Go s) text = Known s text
+Stays (End e s) text = Unit {0}
+Stays Refuse text = Unit {0}
+
+acts : (s : SumState) (text : List ℕ) (b : ℕ) (m : Move) → Fits s.work.phase b m → Known s text → Stays (over s (act (flushed s.work.phase s.work.terms s.work.name) s.work.terms s.work.name m)) (text ++ b ∷ [])
+acts s text b (To q) h k = held_no_name q [] (text ++ b ∷ []) h
+acts s text b (Begin (phase.TheVariants.First z negated) c) h k = subst (λ (x : ℕ). EndsIn (text ++ b ∷ []) (x ∷ []) × IsTrue (is_letter x)) (sym h.0) (ends_one text b, subst (λ (x : ℕ). IsTrue (is_letter x)) h.0 h.1)
+acts s text b (Begin q c) h k = absurd h
+acts s text b (Add (phase.TheVariants.More z negated) c) h k =
+    subst (λ (x : ℕ). EndsIn (text ++ b ∷ []) (s.work.name ++ x ∷ []) × IsName (s.work.name ++ x ∷ [])) (sym h.0)
+    (name_grown s.work.phase s.work.name text b h.2 k (subst (λ (x : ℕ). IsTrue (is_name_byte x)) h.0 h.1))
+acts s text b (Add q c) h k = absurd h
+acts s text b EndSum h k = tt
+acts s text b (EndLinear r z) h k = tt
+acts s text b Stop h k = tt
+
+fits : (s : SumState) (b : ℕ) → Fits s.work.phase b (plan s.part s.limit s.work.phase (kind s.spaces (letter_at (is_numeric s.work.phase) b)))
+fits s b = plan_fits s.part s.limit b s.work.phase (kind s.spaces (letter_at (is_numeric s.work.phase) b)) (means s.spaces (letter_at (is_numeric s.work.phase) b))
+
+stepped : (s next : SumState) (b : ℕ) (text : List ℕ) → Known s text → sums.step s b ≡ Go next → Known next (text ++ b ∷ [])
+stepped s next b text k e =
+    subst (λ (x : Next SumState SumEvent). Stays x (text ++ b ∷ [])) e
+    (acts s text b (plan s.part s.limit s.work.phase (kind s.spaces (letter_at (is_numeric s.work.phase) b))) (fits s b) k)
+
+walked : (t : List Letter) (s next : SumState) (text : List ℕ) → Known s text → Walks sums s t next → Known next (text ++ bytes t)
+walked [] s next text k w = subst (λ (x : List ℕ). Known next x) (sym (append-nil text)) (subst (λ (x : SumState). Known x text) (sym w) k)
+walked (l ∷ t) s next text k (mid, g, o, n, w) =
+    subst (λ (x : List ℕ). Known next x) (append_assoc text (l.byte ∷ []) (bytes t)) (walked t mid next (text ++ l.byte ∷ []) (stepped s mid l.byte text k g) w)
+
+by_move : (p : Phase) (name text : List ℕ) (b : ℕ) (m : Move) → Fits p b m → adds m ≡ true → Holds p name text → InName text b
+by_move p name text b (Begin (phase.TheVariants.First z negated) c) h e k = ([], ends_nothing text, (subst (λ (x : ℕ). IsTrue (is_letter x)) h.0 h.1, tt))
+by_move p name text b (Begin q c) h e k = absurd h
+by_move p name text b (Add (phase.TheVariants.More z negated) c) h e k = name_front p name text b h.2 k (subst (λ (x : ℕ). IsTrue (is_name_byte x)) h.0 h.1)
+by_move p name text b (Add q c) h e k = absurd h
+by_move p name text b (To q) h e k = absurd (false≢true e)
+by_move p name text b EndSum h e k = absurd (false≢true e)
+by_move p name text b (EndLinear r z) h e k = absurd (false≢true e)
+by_move p name text b Stop h e k = absurd (false≢true e)
+
+-- the machine adds to a name, or a whole name is in hand
+by_either : (p : Phase) (name text : List ℕ) (b : ℕ) (m : Move) → Fits p b m → (adds m || is_more p) ≡ true → Holds p name text → AsksLiteral text b
+by_either p name text b m f h k = by_adds (adds m) refl h
+  where
+    more : (q : Phase) → is_more q ≡ true → Holds q name text → AsksLiteral text b
+    more (phase.TheVariants.More z negated) e (x, y) = at_name text name b x y
+    more _ e x = absurd (false≢true e)
+
+    by_adds : (x : Bool) → adds m ≡ x → (x || is_more p) ≡ true → AsksLiteral text b
+    by_adds true e g = inl (by_move p name text b m f e k)
+    by_adds false e g = more p g k
+
+-- Before a text it asks for nothing.
+begins_plain : (want : Part) (limit : ℕ) (k : Kind) → adds (plan want limit phase.TheVariants.Start k) ≡ false
+begins_plain want limit Space = chosen (λ m. adds m ≡ false) (reads_sums want) _ _ (λ _. refl) (λ _. refl)
+begins_plain want limit Plus = refl
+begins_plain want limit Minus = refl
+begins_plain want limit (Digit d) = chosen (λ m. adds m ≡ false) (nat_le (10 * 0 + d) limit) _ _ (λ _. refl) (λ _. refl)
+begins_plain want limit Greater = chosen (λ m. adds m ≡ false) (allows want AtLeast) _ _ (λ _. refl) (λ _. refl)
+begins_plain want limit Equals = chosen (λ m. adds m ≡ false) (allows want Equal) _ _ (λ _. refl) (λ _. refl)
+begins_plain want limit Semicolon = chosen (λ m. adds m ≡ false) (reads_sums want) _ _ (λ _. refl) (λ _. refl)
+begins_plain want limit _ = refl
+
+pub first_asks_nothing : (spaces : Spaces) (part : Part) (limit b : ℕ) → asks (first spaces part limit) b ≡ false
+first_asks_nothing spaces part limit b = rw (begins_plain part limit (kind spaces (letter_at true b))) refl
+
+-- Behind a part of a text that is read, where the machine asks.
+pub sums_asked : (spaces : Spaces) (part : Part) (limit : ℕ) (t : List Letter) (s : SumState) (b : ℕ) → Walks sums (first spaces part limit) t s → asks s b ≡ true → AsksLiteral (bytes t) b
+sums_asked spaces part limit t s b w h =
+    by_either s.work.phase s.work.name (bytes t) b (plan s.part s.limit s.work.phase (kind s.spaces (letter_at (is_numeric s.work.phase) b))) (fits s b) h
+    (walked t (first spaces part limit) s [] tt w)
