@@ -1,7 +1,7 @@
 //! The command `pb`: its words, its files and its answer.
 #![tactic(auto)]
 
-ghost use Rattle.std.specs.Prelude.{IfOk};
+ghost use Rattle.std.specs.Prelude.{IfOk, IfSome, ◌<◌};
 ghost use Rattle.pb_tool.specs.Words.{HasRanges};
 
 mod tied;
@@ -9,7 +9,7 @@ mod tied;
 use crate::tied::{Shared, Tied};
 use clap::error::ErrorKind;
 use pb_normal::HashKeys;
-use pb_text::Over;
+use pb_text::{Limits, Over};
 use pb_tool::{
     Input, Job, ToolFault, WordsFault, limits_of, read_words, show, status, tidy_with_hasher,
     write_fault,
@@ -17,7 +17,7 @@ use pb_tool::{
 use std::alloc::Global;
 use std::cell::RefCell;
 use std::hash::RandomState;
-use std::io::{self, BufRead, BufReader, BufWriter, Read, Write};
+use std::io::{self, BufReader, BufWriter, Read, Write};
 use std::process::ExitCode;
 use std::random::RandomSource;
 use std::rt::{Env, Files};
@@ -134,8 +134,7 @@ fn file_of(job: &Job) -> Option<&str> {
     }
 }
 
-/// Does the job from a reader to standard output, both through a buffer. What was written goes out before the reader
-/// is asked for more, and before the line of a fault.
+/// Does the job from a reader to standard output.
 fn do_over<R: Print + RandomSource + AllocGlobal, I: Read + Drop>(
     rt: &R,
     job: &Job,
@@ -143,22 +142,74 @@ fn do_over<R: Print + RandomSource + AllocGlobal, I: Read + Drop>(
 ) -> Result<(), ToolFault>
     requires { HasRanges job.now }
 {
-    let Ok(out) = BufWriter::with_capacity(rt.alloc(), CAPACITY, io::writer(rt)) else {
+    match job {
+        Job::Show { longest, bits, .. } => show_over(rt, input, *longest, limits_of(*bits)),
+        Job::Tidy {
+            normal,
+            longest,
+            bits,
+            ..
+        } => tidy_over(rt, input, *normal, *longest, limits_of(*bits)),
+    }
+}
+
+/// Shows what a reader has. What was written goes out before the reader is asked for more.
+fn show_over<R: Print + AllocGlobal, I: Read + Drop>(
+    rt: &R,
+    input: I,
+    longest: Option<u64>,
+    limits: Limits,
+) -> Result<(), ToolFault>
+    requires { IfSome longest (λ n. 0 < n) }
+{
+    let out = match BufWriter::with_capacity(rt.alloc(), CAPACITY, io::writer(rt)) {
+        Ok(out) => RefCell::new(out),
+        Err(_) => return Err(ToolFault::Memory(Input::File)),
+    };
+    let Ok(input) = BufReader::with_capacity(rt.alloc(), CAPACITY, Tied::new(input, &out)) else {
         return Err(ToolFault::Memory(Input::File));
     };
-    let out = RefCell::new(out);
-    let input = Tied::new(input, &out);
+    let done = show(
+        rt.alloc(),
+        &mut Over::new(input),
+        &mut Over::new(Shared::new(&out)),
+        longest,
+        limits,
+    );
+    flushed(done, &mut out.into_inner())
+}
+
+/// Tidies what a reader has.
+fn tidy_over<R: Print + RandomSource + AllocGlobal, I: Read + Drop>(
+    rt: &R,
+    input: I,
+    normal: bool,
+    longest: Option<u64>,
+    limits: Limits,
+) -> Result<(), ToolFault>
+    requires { IfSome longest (λ n. 0 < n) }
+{
+    let Ok(mut out) = BufWriter::with_capacity(rt.alloc(), CAPACITY, io::writer(rt)) else {
+        return Err(ToolFault::Memory(Input::File));
+    };
     let Ok(input) = BufReader::with_capacity(rt.alloc(), CAPACITY, input) else {
         return Err(ToolFault::Memory(Input::File));
     };
-    let done = run_job(
+    let done = tidy_with_hasher(
         rt.alloc(),
         keys_of(rt),
-        job,
-        Over::new(input),
-        &mut Shared::new(&out),
+        &mut Over::new(input),
+        normal,
+        &mut Over::new(&mut out),
+        longest,
+        limits,
     );
-    match out.into_inner().flush() {
+    flushed(done, &mut out)
+}
+
+/// Lets go out what was written before a fault, and then answers the fault.
+fn flushed<O: Write>(done: Result<(), ToolFault>, out: &mut O) -> Result<(), ToolFault> {
+    match out.flush() {
         Ok(()) => done,
         Err(_) => Err(ToolFault::Write),
     }
@@ -170,37 +221,5 @@ fn keys_of<R: RandomSource>(rt: &R) -> HashKeys {
     match RandomState::new(rt) {
         Ok(state) => HashKeys::Random(state),
         Err(_) => HashKeys::Fixed,
-    }
-}
-
-/// Does the job from a reader to a writer.
-fn run_job<I: BufRead + Drop, O: Write>(
-    alloc: Global,
-    keys: HashKeys,
-    job: &Job,
-    mut input: Over<I>,
-    out: &mut O,
-) -> Result<(), ToolFault>
-    requires { HasRanges job.now }
-{
-    let mut out = Over::new(out);
-    match job {
-        Job::Show { longest, bits, .. } => {
-            show(alloc, &mut input, &mut out, *longest, limits_of(*bits))
-        }
-        Job::Tidy {
-            normal,
-            longest,
-            bits,
-            ..
-        } => tidy_with_hasher(
-            alloc,
-            keys,
-            &mut input,
-            *normal,
-            &mut out,
-            *longest,
-            limits_of(*bits),
-        ),
     }
 }
