@@ -1,5 +1,6 @@
 pub mod Building
 pub mod Canonical
+pub mod Fields
 pub mod Formats
 pub mod Instances
 pub mod Led

@@ -3,6 +3,7 @@
 
 mod building;
 mod event;
+mod fields;
 mod instance;
 mod laws;
 mod machine;
@@ -13,6 +14,7 @@ mod rules;
 mod write;
 
 pub use event::OpbEvent;
+pub use fields::keeps_its_state;
 pub use instance::{Comment, Instance};
 pub use laws::{
     canonical_instance_spells, fixed_marks, instances_are_exact, instances_are_values,
