@@ -100,7 +100,7 @@ module _ (limit top : ℕ) where
     entry_after may n text P (Constraint c) h = (false, n, h.1, (h.0, refl))
 
     -- nothing follows the last constraint
-    nothing_read : (may : Bool) (gap : List ℕ) (text : List Letter) (e : OpbEvent) (at after : OpbState) → Skips opb (at_idle may zero) gap at
+    pub nothing_read : (may : Bool) (gap : List ℕ) (text : List Letter) (e : OpbEvent) (at after : OpbState) → Skips opb (at_idle may zero) gap at
         → Reads opb at text e after → ⊥
     nothing_read may [] [] e at after h r = r
     nothing_read may [] (l ∷ []) e at after h (r, n) = refuse-end e after (sym (ap (λ s. opb.step s l.byte) h) ∙ r)

@@ -28,18 +28,18 @@ use Rattle.pb_opb.proofs.ByteCases.{never, chosen, both, as_unmarked}
 use Rattle.pb_opb.proofs.Fronts.{bytes_grown, word_grown, word_whole, line_grown}
 use Rattle.pb_opb.proofs.Objectives.{MinFront, objective_of}
 use Rattle.pb_opb.proofs.Stands.{idle}
-use Rattle.pb_opb.proofs.Walking.{Walks, walks_more, ends_walk, On, told}
+use Rattle.pb_opb.proofs.Walking.{Walks, walks_more, ends_walk, On, Keeps, told}
 
 abbrev IsWhite : ℕ → Type 0
 IsWhite b = IsTrue (is_white b)
 
 -- what has been read of a sum
-abbrev SumFront : ℕ → SumState → Language
+abbrev pub SumFront : ℕ → SumState → Language
 SumFront limit inner = λ p. Walks sums (objectives limit) p inner
 
 module _ (limit top v n : ℕ) (may : Bool) where
   -- What has been read, by phase.
-  abbrev front : OpbState → Phase → Language
+  abbrev pub front : OpbState → Phase → Language
   front s (phase.TheVariants.Between m) = λ p. (m ≡ may) × (p ≡ []) × (s.text ≡ []) × (s.inner ≡ linears s.limit)
   front s (phase.TheVariants.Comment m) = λ p. (m ≡ may) × IsInLine s.text × (Byte 42 ⋅ Bytes s.text) p
   front s (phase.TheVariants.Min k) = λ p. (may ≡ true) × (k < length min_word) × Bytes (take k min_word) p
@@ -48,10 +48,10 @@ module _ (limit top v n : ℕ) (may : Bool) where
   front s phase.TheVariants.Constraint = λ p. Walks sums (linears s.limit) p s.inner
   front s _ = λ p. ⊥
 
-  abbrev Known : OpbState → Type 0
+  abbrev pub Known : OpbState → Type 0
   Known s = (s.limit ≡ limit) × (s.top ≡ top) × (s.variables ≡ v) × (s.owed ≡ suc n)
 
-  abbrev Front : OpbState → Language
+  abbrev pub Front : OpbState → Language
   Front s = λ p. Known s × front s s.phase p
 
   -- a statement and what follows it
@@ -176,6 +176,9 @@ module _ (limit top v n : ℕ) (may : Bool) where
     sound phase.TheVariants.Constraint e h = in_constraint h (sums.step s.inner l.byte) refl
     sound _ e h = absurd h
 
+  pub keeps : Keeps opb Front IsStatement
+  keeps s l p f = sound s l p f.0 s.phase refl f.1
+
   pub entry_only : (t : List Letter) (e : OpbEvent) (new : OpbState) → Reads opb (idle limit top v may (suc n)) t e new → IsStatement e new t
   entry_only t e new r =
-      told opb Front IsStatement (λ s l p f. sound s l p f.0 s.phase refl f.1) t (idle limit top v may (suc n)) [] e new r ((refl, refl, refl, refl), (refl, refl, refl, refl))
+      told opb Front IsStatement keeps t (idle limit top v may (suc n)) [] e new r ((refl, refl, refl, refl), (refl, refl, refl, refl))

@@ -1,6 +1,7 @@
 -- What the machine reads, said of instances.
 use Rattle.std.proofs.Common.{ℕ, List, Bool, Option}
-use Rattle.pb_text.specs.Automaton.{Accepts}
+use Rattle.pb_text.specs.Asking.{AsksOnly}
+use Rattle.pb_text.specs.Automaton.{Accepts, MayAsk}
 use Rattle.pb_text.specs.Spelling.{Item}
 use Rattle.pb_text.specs.Reading.{Reads}
 use Rattle.pb_text.specs.declared.Place.{Place}
@@ -10,10 +11,12 @@ use Rattle.pb_text.proofs.Formats as formats
 use Rattle.pb_opb.specs.Instances.{IsInstance}
 use Rattle.pb_opb.specs.State.{opb, begin}
 use Rattle.pb_opb.specs.Values.{IsValueOf}
+use Rattle.pb_opb.specs.Asking.{Asks}
 use Rattle.pb_opb.specs.Building.{MayKeep}
 use Rattle.pb_opb.specs.Whole.{IsRead, StopsIn, Reading, Keeping, WantsIn, Asking, Ending}
 use Rattle.pb_opb.specs.declared.instance.Instance.{Instance}
 use Rattle.pb_opb.specs.declared.event.OpbEvent.{OpbEvent}
+use Rattle.pb_opb.proofs.Asked.{asks_only}
 use Rattle.pb_opb.proofs.Bodies.{instance_only, instance_each}
 
 module _ (limit top longest : ℕ) where
@@ -39,7 +42,8 @@ module _ (limit top longest : ℕ) where
   stops_exactly used seen s (Reading marks h) = Reading marks (formats.reads accepted spelled (instance_only limit top) (instance_each limit top) longest _ used marks s.place _ _ h)
   stops_exactly used seen s (Keeping v e) = Keeping (formats.viable accepted spelled (instance_only limit top) (instance_each limit top) longest used v) e
 
-  pub wants_exactly : (may_ask : List ℕ → ℕ → Type 0) (used seen : List ℕ) (s : Stop) → WantsIn accepted longest may_ask MayKeep used seen s → WantsIn spelled longest may_ask MayKeep used seen s
-  wants_exactly may_ask used seen s (Asking marks h b more e a) =
-      Asking marks (reads_exactly _ used marks s.place _ _ h) b more e a
-  wants_exactly may_ask used seen s (Ending marks last done h k e) = Ending marks last done (reads_exactly used used _ last.past done _ h) k e
+  pub wants_exactly : (used seen : List ℕ) (s : Stop) → WantsIn accepted longest (MayAsk opb (begin limit top)) MayKeep used seen s
+      → WantsIn spelled longest (AsksOnly spelled (Asks top)) MayKeep used seen s
+  wants_exactly used seen s (Asking marks h b more e a) =
+      Asking marks (reads_exactly _ used marks s.place _ _ h) b more e (asks_only limit top used b a)
+  wants_exactly used seen s (Ending marks last done h k e) = Ending marks last done (reads_exactly used used _ last.past done _ h) k e

@@ -24,21 +24,21 @@ use Rattle.pb_opb.specs.declared.phase.Move.TheVariants.{To}
 use Rattle.pb_opb.proofs.ByteCases.{chosen, both, as_unmarked, as_digit}
 use Rattle.pb_opb.proofs.Fronts.{bytes_grown, word_grown, word_whole, tail_grown}
 use Rattle.pb_opb.proofs.Stands.{idle}
-use Rattle.pb_opb.proofs.Walking.{On, told}
+use Rattle.pb_opb.proofs.Walking.{On, Keeps, told}
 
 abbrev IsBlank : ℕ → Type 0
 IsBlank b = IsTrue (is_blank b)
 
 -- what stands before a field's word, and with its count
-abbrev Whole : ℕ → Field → ℕ → Language → Language
+abbrev pub Whole : ℕ → Field → ℕ → Language → Language
 Whole top f n P = P ⋅ Bytes (word_of f) ⋅ Blanks0 ⋅ Count top n
 
-abbrev Before : ℕ → ℕ → Field → Language
+abbrev pub Before : ℕ → ℕ → Field → Language
 Before top v Variables = Byte 42 ⋅ Blanks0
 Before top v Constraints = Whole top Variables v (Byte 42 ⋅ Blanks0) ⋅ Blanks1
 
 -- What has been read, by phase.
-abbrev front : OpbState → Phase → Language
+abbrev pub front : OpbState → Phase → Language
 front s phase.TheVariants.Start = λ p. p ≡ []
 front s (phase.TheVariants.BeforeWord f) = Before s.top s.variables f
 front s (phase.TheVariants.Word f k) = λ p. (k < length (word_of f)) × (Before s.top s.variables f ⋅ Bytes (take k (word_of f))) p
@@ -65,13 +65,13 @@ counted : (top n : ℕ) (P : Language) (p : List Letter) → n ≤ top → (P �
 counted top n P p l h = behind_it P (Digits n) (Count top n) p (λ q r. (l, r)) h
 
 module _ (limit top : ℕ) where
-  abbrev Known : OpbState → Type 0
+  abbrev pub Known : OpbState → Type 0
   Known s = (s.limit ≡ limit) × (s.top ≡ top)
 
-  abbrev Front : OpbState → Language
+  abbrev pub Front : OpbState → Language
   Front s = λ p. Known s × front s s.phase p
 
-  abbrev Told : OpbEvent → OpbState → Language
+  abbrev pub Told : OpbEvent → OpbState → Language
   Told (Header v n tail) after = λ p. Known after × IsTail tail × SpellsHeader after.top v n tail p × (after ≡ idle after.limit after.top v true n)
   Told _ after = λ p. ⊥
 
@@ -200,6 +200,9 @@ module _ (limit top : ℕ) where
     sound phase.TheVariants.Tail e h = in_tail e h.0 h.1 h.2
     sound _ e h = absurd h
 
+  pub keeps : Keeps opb Front Told
+  keeps s l p f = sound s l p f.0 s.phase refl f.1
+
   -- a header and what follows it
   abbrev pub IsHeader : OpbEvent → OpbState → Language
   IsHeader (Header v n tail) after = λ t. IsTail tail × SpellsHeader top v n tail t × (after ≡ idle limit top v true n)
@@ -215,4 +218,4 @@ module _ (limit top : ℕ) where
 
   pub header_only : (t : List Letter) (e : OpbEvent) (after : OpbState) → Reads opb (begin limit top) t e after → IsHeader e after t
   header_only t e after r =
-      to_limits t e after (told opb Front Told (λ s l p f. sound s l p f.0 s.phase refl f.1) t (begin limit top) [] e after r ((refl, refl), refl))
+      to_limits t e after (told opb Front Told keeps t (begin limit top) [] e after r ((refl, refl), refl))

@@ -1,3 +1,4 @@
+mod Asked
 mod ByteCases
 mod EntryFront
 mod EntryWalk

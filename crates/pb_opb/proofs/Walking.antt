@@ -3,6 +3,8 @@ use Rattle.std.proofs.Common.{◌≡◌, List, [], ◌∷◌, ◌++◌, true, fa
 use Rattle.pb_text.specs.Automaton.{Automaton, Next, Go, End, Refuse, Reads}
 use Rattle.pb_text.specs.Languages.{Language, ◌⋅◌}
 use Rattle.pb_text.specs.Spelling.{Letter}
+use Rattle.pb_text.proofs.Asked as asked
+use Rattle.std.proofs.lemmas.List.{append-nil}
 
 module _ {S E : Type 0} (m : Automaton S E) where
   -- the letters lead from old to new, and none of them ends a statement
@@ -10,6 +12,15 @@ module _ {S E : Type 0} (m : Automaton S E) where
   Walks old [] new = new ≡ old
   Walks old (l ∷ text) new =
       (mid : S) × (m.step old l.byte ≡ Go mid) × (m.begun mid ≡ true) × (l.numeral ≡ m.in_number mid) × Walks mid text new
+
+  -- the walks of one definition are those of the other
+  pub walks_from : (t : List Letter) (s new : S) → asked.Walks m s t new → Walks s t new
+  walks_from [] s new w = w
+  walks_from (l ∷ t) s new (mid, g, i, n, w) = (mid, g, i, n, walks_from t mid new w)
+
+  pub walks_into : (t : List Letter) (s new : S) → Walks s t new → asked.Walks m s t new
+  walks_into [] s new w = w
+  walks_into (l ∷ t) s new (mid, g, i, n, w) = (mid, g, i, n, walks_into t mid new w)
 
   pub walks_then : (a b : List Letter) (s mid new : S) → Walks s a mid → Walks mid b new → Walks s (a ++ b) new
   walks_then [] b s mid new e h = subst (λ x. Walks x b new) e h
@@ -65,3 +76,10 @@ module _ {S E : Type 0} (m : Automaton S E) where
       where
         append : (u : List Letter) → (p ++ l ∷ []) ++ u ≡ p ++ l ∷ u
         append u = append_assoc p (l ∷ []) u
+
+    -- what is known on the way
+    pub fronts : Keeps → (t : List Letter) (s : S) (p : List Letter) (new : S) → Walks s t new → Front s p → Front new (p ++ t)
+    fronts k [] s p new w f = subst (λ (x : List Letter). Front new x) (sym (append-nil p)) (subst (λ (x : S). Front x p) (sym w) f)
+    fronts k (l ∷ t) s p new (mid, h, b, n, w) f =
+        let on : On (Go mid) l (p ++ l ∷ []) = subst (λ x. On x l (p ++ l ∷ [])) h (k s l p f) in
+        subst (λ (x : List Letter). Front new x) (append_assoc p (l ∷ []) t) (fronts k t mid (p ++ l ∷ []) new w (on b n))

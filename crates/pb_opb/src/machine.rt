@@ -57,12 +57,14 @@ impl Model for OpbMachine {
 
 impl OpbMachine {
     ghost use Rattle.std.specs.Prelude.{ℕ, List, Bool, Option, ◌↔◌};
-    ghost use Rattle.pb_text.specs.Automaton.{Accepts};
+    ghost use Rattle.pb_text.specs.Asking.{AsksOnly};
+    ghost use Rattle.pb_text.specs.Automaton.{Accepts, MayAsk};
     ghost use Rattle.pb_text.specs.Reading.{Reads};
     ghost use Rattle.pb_text.specs.declared.Place.{Place};
     ghost use Rattle.pb_text.specs.declared.Spanned.{Spanned};
     ghost use Rattle.pb_text.specs.declared.Stop.{Stop};
     ghost use Rattle.pb_text.specs.Spelling.{Item};
+    ghost use Rattle.pb_opb.specs.Asking.{Asks};
     ghost use Rattle.pb_opb.specs.Instances.{IsInstance};
     ghost use Rattle.pb_opb.specs.State.{opb, begin};
 
@@ -73,6 +75,8 @@ impl OpbMachine {
         ensures reads { (longest : ℕ) (input used : List ℕ) (marks : List (Spanned OpbEvent)) (place : Place) (done : Bool) (stop : Option Stop)
             → Reads (Accepts opb result) longest input used marks place done stop
             → Reads (IsInstance (largest limits) (top_of limits)) longest input used marks place done stop }
+        // It asks for memory only at a byte of a tail or a comment, at one of a name, and at one that ends a literal.
+        ensures asks { (used : List ℕ) (b : ℕ) → MayAsk opb result used b → AsksOnly (IsInstance (largest limits) (top_of limits)) (Asks (top_of limits)) used b }
         ensures begins { result ≡ begin (largest limits) (top_of limits) }
         ensures between { opb.begun result ≡ false }
     {

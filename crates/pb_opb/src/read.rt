@@ -1,13 +1,13 @@
 //! Reads a whole instance.
 
 ghost use Rattle.std.specs.Prelude.{◌≡◌, ◌<◌, None, IfOk};
-ghost use Rattle.pb_text.specs.Automaton.{MayAsk};
+ghost use Rattle.pb_text.specs.Asking.{AsksOnly};
 ghost use Rattle.pb_text.specs.Blank.{IsInReach};
 ghost use Rattle.pb_text.specs.Limits.{largest, top_of};
 ghost use Rattle.pb_text.specs.Pulling.{faults_after};
+ghost use Rattle.pb_opb.specs.Asking.{Asks};
 ghost use Rattle.pb_opb.specs.Building.{MayKeep};
 ghost use Rattle.pb_opb.specs.Instances.{IsInstance};
-ghost use Rattle.pb_opb.specs.State.{opb, begin};
 ghost use Rattle.pb_opb.specs.Values.{IsValueOf};
 ghost use Rattle.pb_opb.specs.Whole.{ReadsValue, WantsMemory};
 
@@ -29,8 +29,9 @@ pub fn read_instance<S: Source>(
     limits: Limits,
 ) -> Result<Spanned<Instance>, Stop>
     ensures reads { ReadsValue (IsInstance (largest limits) (top_of limits)) BYTE_LIMIT IsValueOf (S.left input.old) result (S.left input.new) }
-    // Memory runs out only where the machine asks for some, or behind a statement that is to be kept.
-    ensures memory { WantsMemory (IsInstance (largest limits) (top_of limits)) BYTE_LIMIT (MayAsk opb (begin (largest limits) (top_of limits))) MayKeep (S.left input.old) result (S.left input.new) }
+    // Memory runs out only at a byte of a tail, a comment or a name, at one that ends a literal, and behind a statement
+    // that is to be kept.
+    ensures memory { WantsMemory (IsInstance (largest limits) (top_of limits)) BYTE_LIMIT (AsksOnly (IsInstance (largest limits) (top_of limits)) (Asks (top_of limits))) MayKeep (S.left input.old) result (S.left input.new) }
     ensures past { IfOk result (λ m. IsInReach m.past) }
     // `Read` comes only where the source failed.
     ensures faults { S.faults input.new ≡ faults_after None result (S.faults input.old) }
@@ -48,8 +49,9 @@ pub fn read_instance_within<S: Source>(
 ) -> Result<Spanned<Instance>, Stop>
     requires { 0 < longest }
     ensures reads { ReadsValue (IsInstance (largest limits) (top_of limits)) longest IsValueOf (S.left input.old) result (S.left input.new) }
-    // Memory runs out only where the machine asks for some, or behind a statement that is to be kept.
-    ensures memory { WantsMemory (IsInstance (largest limits) (top_of limits)) longest (MayAsk opb (begin (largest limits) (top_of limits))) MayKeep (S.left input.old) result (S.left input.new) }
+    // Memory runs out only at a byte of a tail, a comment or a name, at one that ends a literal, and behind a statement
+    // that is to be kept.
+    ensures memory { WantsMemory (IsInstance (largest limits) (top_of limits)) longest (AsksOnly (IsInstance (largest limits) (top_of limits)) (Asks (top_of limits))) MayKeep (S.left input.old) result (S.left input.new) }
     ensures past { IfOk result (λ m. IsInReach m.past) }
     // `Read` comes only where the source failed.
     ensures faults { S.faults input.new ≡ faults_after None result (S.faults input.old) }

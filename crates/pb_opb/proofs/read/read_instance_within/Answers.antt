@@ -23,4 +23,4 @@ returns-in-Err-clause-memory g c = λ e.
     let r = rw c.new-machine.ensures.begins at c.in-Err.ensures.reads in
     let start = begin (largest c.args.limits) (top_of c.args.limits) in
     let wants = wants_in (Accepts opb start) c.args.longest c.new.result c.new.ensures.instance c.new.ensures.ended r.0 (MayAsk opb start) r.1 c.in-Err.stop r.3 e in
-    (r.0, r.1, r.2, wants_exactly (largest c.args.limits) (top_of c.args.limits) c.args.longest (MayAsk opb start) r.0 r.1 c.in-Err.stop wants)
+    (r.0, r.1, r.2, wants_exactly (largest c.args.limits) (top_of c.args.limits) c.args.longest r.0 r.1 c.in-Err.stop wants)

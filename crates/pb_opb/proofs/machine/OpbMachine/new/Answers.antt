@@ -1,4 +1,5 @@
 use Rattle.pb_text.specs.Limits.{largest, top_of}
+use Rattle.pb_opb.proofs.Asked.{asks_only}
 use Rattle.pb_opb.proofs.Bodies.{reads_instances}
 use Rattle.pb_opb.proofs.Exactly.{reads_exactly}
 use Rattle.pb_opb.proofs.machine.OpbMachine.new.Goals as goal
@@ -8,3 +9,6 @@ returns-clause-accepts c = rw (c.new.ensures, c.new-2.ensures.begins) (reads_ins
 
 pub returns-clause-reads : goal.returns-clause-reads
 returns-clause-reads c = rw (c.new.ensures, c.new-2.ensures.begins) (reads_exactly (largest c.args.limits) (top_of c.args.limits))
+
+pub returns-clause-asks : goal.returns-clause-asks
+returns-clause-asks c = rw (c.new.ensures, c.new-2.ensures.begins) (asks_only (largest c.args.limits) (top_of c.args.limits))
