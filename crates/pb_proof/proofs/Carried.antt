@@ -3,6 +3,7 @@ use Rattle.std.proofs.Common.{◌≡◌, ℕ, true, List, [], ◌∷◌, refl, s
 use Rattle.pb_text.specs.Automaton.{Automaton, Next, Go, End, Refuse, Skips, Reads, Accepts, Admits, IsState}
 use Rattle.pb_text.specs.Spelling.{Letter, Item, letters_of, bytes, plain}
 use Rattle.pb_proof.specs.Inner.{carried}
+use Rattle.pb_proof.proofs.Walking.{Walks}
 
 module _ {S E R F : Type 0} (m : Automaton S E) (n : Automaton R F) (into : S → R) (event : E → F) where
   -- What the one does in a state the other does in the state that stands for it.
@@ -86,3 +87,10 @@ module _ {S E R F : Type 0} (m : Automaton S E) (n : Automaton R F) (into : S �
     -- each byte that is taken begins the text, or is behind its beginning
     pub begins_in : ((s next : S) (b : ℕ) → m.step s b ≡ Go next → m.begun next ≡ true) → (s : S) (r : R) (b : ℕ) → n.step (into s) b ≡ Go r → n.begun r ≡ true
     begins_in f s r b e = let (next, g, same) = went_out s b r e in ap n.begun same ∙ (h.begun next ∙ f s next b g)
+
+    pub walks_out : (t : List Letter) (s : S) (r : R) → Walks n (into s) t r → (next : S) × (r ≡ into next) × Walks m s t next
+    walks_out [] s r w = (s, w, refl)
+    walks_out (l ∷ t) s r (mid, g, i, z, w) =
+        let (next, j, same) = went_out s l.byte mid g in
+        let (last, is, k) = walks_out t next r (subst (λ x. Walks n x t r) same w) in
+        (last, is, (next, j, sym (h.begun next) ∙ (ap n.begun (sym same) ∙ i), z ∙ (ap n.in_number same ∙ h.in_number next), k))

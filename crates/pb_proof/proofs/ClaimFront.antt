@@ -37,17 +37,17 @@ use Rattle.pb_proof.proofs.ClaimSteps.{goes}
 use Rattle.pb_proof.proofs.ClaimTexts.{word_grown, word_whole, Claimed, LowerRead, Lead, IdLead, Colon, BeforeIdRead, id_shown, bounds_body, claim_line, showing_line}
 use Rattle.pb_proof.proofs.LineEnds.{Gapped, Closing, blank_more, blank_closing, semicolon_behind_blanks, line_behind_blanks, line_closing}
 use Rattle.pb_proof.proofs.LiteralsTheorems.{literals_reads, literals_of_one}
-use Rattle.pb_proof.proofs.Walking.{Walks, walks_more, ends_walk, On, told}
+use Rattle.pb_proof.proofs.Walking.{Walks, walks_more, ends_walk, On, Keeps, told}
 
 abbrev IsBlank : ℕ → Type 0
 IsBlank b = IsTrue (is_blank b)
 
 -- what the machine of literals has read
-abbrev Walked : LiteralsState → Language
+abbrev pub Walked : LiteralsState → Language
 Walked inner = λ p. Walks literals_automaton (literals_first true) p inner
 
 -- What has been read, by phase.
-abbrev front : ℕ → ℕ → LiteralsState → Phase → Language
+abbrev pub front : ℕ → ℕ → LiteralsState → Phase → Language
 front limit top inner phase.Start = λ p. p ≡ []
 front limit top inner phase.Before = Blanks1
 front limit top inner (phase.Word w k) = Blanks1 ⋅ Bytes (take k (word_of w))
@@ -66,10 +66,10 @@ front limit top inner (phase.IdDigits x negative n) = BeforeIdRead limit top x �
 front limit top inner (phase.Shown x) = Colon limit top (Claimed limit top (claim.Shows x)) ⋅ Walked inner
 front limit top inner phase.Done = λ p. ⊥
 
-abbrev Front : ClaimState → Language
+abbrev pub Front : ClaimState → Language
 Front s = front s.limit s.top s.inner s.phase
 
-abbrev Told : Conclusion → ClaimState → Language
+abbrev pub Told : Conclusion → ClaimState → Language
 Told e after = SpellsClaim after.limit after.top e
 
 positive : (n : ℕ) → nat_eq n 0 ≡ false → 0 < n
@@ -306,7 +306,7 @@ module _ (s : ClaimState) (l : Letter) (p : List Letter) where
   sound phase.Done at f h = absurd h
 
 -- with what is known of the phase
-abbrev Known : ClaimState → Language
+abbrev pub Known : ClaimState → Language
 Known s = λ p. PhaseFits s.limit s.top s.phase × Front s p
 
 known : (s : ClaimState) (l : Letter) (p : List Letter) → PhaseFits s.limit s.top s.phase → (n : Next ClaimState Conclusion) → claim_automaton.step s l.byte ≡ n
@@ -315,8 +315,9 @@ known s l p h (Go next) e f = λ b n. ((goes s next l.byte e).fits h, f b n)
 known s l p h (End c next) e f = f
 known s l p h Refuse e f = tt
 
+pub keeps : Keeps claim_automaton Known Told
+keeps s l p f = known s l (p ++ l ∷ []) f.0 (claim_automaton.step s l.byte) refl (sound s l p s.phase refl f.0 f.1)
+
 pub claim_told : (limit top : ℕ) (t : List Letter) (e : Conclusion) (after : ClaimState) → Reads claim_automaton (claim_first limit top) t e after → SpellsClaim after.limit after.top e t
 claim_told limit top t e after r =
-    told claim_automaton Known Told
-    (λ s l p f. known s l (p ++ l ∷ []) f.0 (claim_automaton.step s l.byte) refl (sound s l p s.phase refl f.0 f.1))
-    t (claim_first limit top) [] e after r (tt, refl)
+    told claim_automaton Known Told keeps t (claim_first limit top) [] e after r (tt, refl)

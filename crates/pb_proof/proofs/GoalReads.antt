@@ -26,20 +26,20 @@ use Rattle.pb_proof.specs.declared.goal_phase.GoalMove.{GoalMove}
 use Rattle.pb_proof.specs.declared.goal_phase.GoalMove.TheVariants.{Give}
 use Rattle.pb_proof.proofs.Choices.{never, chosen, blank_each, fails}
 use Rattle.pb_proof.proofs.LineEnds.{as_unmarked, TakesBlanks, blanks1_lead, Feeds, feed_reads}
-use Rattle.pb_proof.proofs.Walking.{Walks, walks_then, walks_more, ends_walk, reads_behind, On, told}
+use Rattle.pb_proof.proofs.Walking.{Walks, walks_then, walks_more, ends_walk, reads_behind, On, Keeps, told}
 
 abbrev IsBlank : ℕ → Type 0
 IsBlank b = IsTrue (is_blank b)
 
 module _ (limit top : ℕ) where
-  abbrev SumFront : SumState → Language
+  abbrev pub SumFront : SumState → Language
   SumFront inner = λ p. Walks sums (goals limit) p inner
 
-  abbrev Whole : Linear → GoalState → Language
+  abbrev pub Whole : Linear → GoalState → Language
   Whole c after = λ t. SpellsGoal limit top c t × (after ≡ goal_last limit)
 
   -- What has been read, by phase.
-  abbrev front : GoalState → GoalPhase → Language
+  abbrev pub front : GoalState → GoalPhase → Language
   front s Start = λ p. (p ≡ []) × (s.inner ≡ goals limit) × (s.linear ≡ None)
   front s Gap = λ p. Blanks1 p × (s.inner ≡ goals limit) × (s.linear ≡ None)
   front s Inside = λ p. (s.linear ≡ None) × (Blanks1 ⋅ SumFront s.inner) p
@@ -47,7 +47,7 @@ module _ (limit top : ℕ) where
       × ((c : Linear) × (s.linear ≡ Some c) × (c.relation ≡ AtLeast) × (Blanks1 ⋅ SpellsLinear Blank limit c ⋅ Blanks0) p)
   front s Done = λ p. ⊥
 
-  abbrev Front : GoalState → Language
+  abbrev pub Front : GoalState → Language
   Front s = front s s.phase
 
   module _ (s : GoalState) (l : Letter) (p : List Letter) where
@@ -113,9 +113,12 @@ module _ (limit top : ℕ) where
     sound Tail h = in_tail h.0 h.1.0 h.1.1 h.1.2 h.1.3
     sound Done h = absurd h
 
+  pub keeps : Keeps goal_automaton Front Whole
+  keeps s l p f = sound s l p s.phase f
+
   pub goal_only : (t : List Letter) (c : Linear) (after : GoalState) → Reads goal_automaton (goal_first limit) t c after → SpellsGoal limit top c t × (after ≡ goal_last limit)
   goal_only t c after r =
-      told goal_automaton Front Whole (λ s l p f. sound s l p s.phase f) t (goal_first limit) [] c after r (refl, refl, refl)
+      told goal_automaton Front Whole keeps t (goal_first limit) [] c after r (refl, refl, refl)
 
   -- The other way: each part of a text leads on.
   abbrev in_phase : GoalPhase → GoalState

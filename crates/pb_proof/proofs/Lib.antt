@@ -23,6 +23,7 @@ mod IdsPushes
 pub mod IdsSound
 pub mod IdsTheorems
 mod InnerLaws
+mod LineAsks
 pub mod LineEnds
 pub mod LineSpelled
 pub mod LineTexts
@@ -35,6 +36,7 @@ mod Living
 pub mod MarkMeanings
 pub mod OneLine
 mod PolAlive
+mod PolAsks
 mod PolComplete
 mod PolCovers
 mod PolFronts

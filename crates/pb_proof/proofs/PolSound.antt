@@ -375,7 +375,7 @@ module _ (limit top : ℕ) (ws : List PolWord) (d : ℕ) (name : List ℕ) (l : 
   sound ph kind.Feed e t = feeds (close limit top d ph) e (closes limit top ws d name ph p t)
   sound ph k e t = reads ph k e t
 
-keeps : Keeps pol_automaton Front Whole
+pub keeps : Keeps pol_automaton Front Whole
 keeps s l p h = sound s.limit s.top s.work.words s.work.depth s.work.name l p s.work.phase (kind_of l.byte) (kind_says l.byte) h
 
 -- What is read is a line of words.

@@ -32,7 +32,7 @@ use Rattle.pb_proof.proofs.Choices.{never, chosen, both}
 use Rattle.pb_proof.proofs.InnerLaws.{inner_only, inner_begins, inner_fresh}
 use Rattle.pb_proof.proofs.LineEnds.{as_unmarked, Gapped, Closing as Closed, blank_more, semicolon_behind_blanks, blank_closing, line_behind_blanks, line_closing, feed_behind_blanks}
 use Rattle.pb_proof.proofs.Spaced.{Spaced, one_met, spaced_more, spaced_blank, FrontWords, front_only}
-use Rattle.pb_proof.proofs.Walking.{Walks, walks_more, ends_walk, On, told}
+use Rattle.pb_proof.proofs.Walking.{Walks, walks_more, ends_walk, On, Keeps, told}
 
 -- the stage of the words that a statement begins with, and of what stands behind them
 abbrev pub stage_front : Front → Stage
@@ -78,7 +78,7 @@ further k size h e = grind (arith, nat_tests)
 
 module _ (limit top : ℕ) (here : Stage) where
   -- What has been read, by phase.
-  abbrev front_of : ProofState → Phase → Language
+  abbrev pub front_of : ProofState → Phase → Language
   front_of s (phase.Between at) = λ p. (at ≡ here) × (p ≡ []) × (s.inner ≡ None)
   front_of s (phase.Comment at) = λ p. ⊥
   front_of s (phase.Spelling f k) = λ p. (stage_front f ≡ here) × (0 < k) × (k < length (words_of f)) × Spaced (take k (words_of f)) p × (s.inner ≡ None)
@@ -88,10 +88,10 @@ module _ (limit top : ℕ) (here : Stage) where
   front_of s (phase.OutputEnd false) = λ p. (Steps ≡ here) × Closed (FrontWords front.Output) p × (s.inner ≡ None)
   front_of s (phase.Inside r) = λ p. (stage_rest r ≡ here) × ((i : Inner) × (s.inner ≡ Some i) × (Before r ⋅ (λ q. Walks inners (inner_first limit top r) q i)) p)
 
-  abbrev Known : ProofState → Type 0
+  abbrev pub Known : ProofState → Type 0
   Known s = (s.limit ≡ limit) × (s.top ≡ top)
 
-  abbrev Read : ProofState → Language
+  abbrev pub Read : ProofState → Language
   Read s = λ p. Known s × front_of s s.phase p
 
   -- a statement of the stage, and what follows it
@@ -285,6 +285,9 @@ module _ (limit top : ℕ) (here : Stage) where
     sound (phase.OutputEnd may) h = output_ends may h
     sound (phase.Inside r) h = inside r h.0 h.1.0 h.1.1 h.1.2
 
+  pub keeps : Keeps proofs Read IsStatement
+  keeps s l p f = sound s l p f.0 s.phase f.1
+
   pub statement_only : (t : List Letter) (e : Statement) (after : ProofState) → Reads proofs (idle limit top here) t e after → IsStatement e after t
   statement_only t e after r =
-      told proofs Read IsStatement (λ s l p f. sound s l p f.0 s.phase f.1) t (idle limit top here) [] e after r ((refl, refl), (refl, refl, refl))
+      told proofs Read IsStatement keeps t (idle limit top here) [] e after r ((refl, refl), (refl, refl, refl))

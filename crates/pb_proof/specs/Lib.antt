@@ -1,3 +1,4 @@
+pub mod Asking
 pub mod Building
 pub mod Canonical
 pub mod Claim
