@@ -1,6 +1,7 @@
 -- The solutions of a normal form, of which an instance has one.
-use Rattle.std.proofs.Common.{◌≡◌, ◌↔◌, ℕ, Bool, List, [], ◌∷◌, ◌++◌, map, refl, sym, ◌∙◌, ap}
+use Rattle.std.proofs.Common.{◌≡◌, ◌↔◌, ℕ, ℤ, Bool, List, [], ◌∷◌, ◌++◌, map, refl, sym, ◌∙◌, ap}
 use Rattle.std.specs.List.{AllByRecursion}
+use Rattle.pb_sums.specs.declared.Term.{Term}
 use Rattle.pb_sums.specs.declared.Linear.{Linear}
 use Rattle.pb_sums.specs.declared.Relation.{Relation}
 use Rattle.pb_sums.specs.declared.Relation.TheVariants.{AtLeast, Equal}
@@ -8,10 +9,8 @@ use Rattle.pb_opb.specs.declared.Instance.{Instance}
 use Rattle.pb_normal.specs.declared.Side.{Side}
 use Rattle.pb_normal.specs.declared.Side.TheVariants.{AtLeast as least, AtMost as most}
 use Rattle.pb_normal.specs.Form.{Form}
-use Rattle.pb_normal.specs.Names.{AreDistinct, HasNames}
-use Rattle.pb_normal.specs.Written.{names_of, linear_of, HoldsWritten}
-use Rattle.pb_normal.proofs.Appearing.{named, distinct}
-use Rattle.pb_normal.proofs.WrittenForms.{IsFormOf-unique, SameAsForm-from, SameAsForms-from, SameAsForm-linear_of, SameSolutions-side}
+use Rattle.pb_normal.specs.Names.{AreDistinct, HasNames, with_names}
+use Rattle.pb_normal.specs.Written.{names_of, linear_of, HoldsWritten, IsFormOf, IsSideOf, SameAsForm, SameAsForms}
 use Rattle.pb_tool.specs.Normalised.{AreFormsOf, AreLoaded, IsNormalised, Solves, constraint_names, names_in, objective_names, sides_in, with_sides}
 use Rattle.pb_tool.proofs.Loads.{names_split}
 
@@ -19,61 +18,72 @@ use Rattle.pb_tool.proofs.Loads.{names_split}
 abbrev AllHold : (List ℕ → Bool) → List Linear → Type 0
 AllHold a = AllByRecursion (HoldsWritten a)
 
--- the forms of one constraint, and then the others
-one_more : (names : List (List ℕ)) (a : List ℕ → Bool) (relation : Relation) (c : Linear) (sides : List (Side × Linear)) (forms : List Form) (P : Type 0) → c.relation ≡ relation → AreDistinct names
-    → HasNames names (names_of c.terms) → ((fs : List Form) → AreFormsOf names sides fs → P ↔ AllHold a (map (linear_of names) fs)) → AreFormsOf names (with_sides relation c ++ sides) forms
-    → (HoldsWritten a c × P) ↔ AllHold a (map (linear_of names) forms)
-one_more names a AtLeast c sides [] P e d h rest f = absurd f
-one_more names a AtLeast c sides (r ∷ forms) P e d h rest f =
-    let same = SameAsForm-from names c r e (SameSolutions-side names least c r d h f.0) a in
-    let written = SameAsForm-linear_of names r a in
-    let others = rest forms f.1 in
-    (λ w. (written.1 (same.0 w.0), others.0 w.1), λ w. (same.1 (written.0 w.0), others.1 w.1))
-one_more names a Equal c sides [] P e d h rest f = absurd f
-one_more names a Equal c sides (r ∷ []) P e d h rest f = absurd f.1
-one_more names a Equal c sides (r ∷ s ∷ forms) P e d h rest f =
-    let same = SameAsForms-from names c r s e (SameSolutions-side names least c r d h f.0) (SameSolutions-side names most c s d h f.1.0) a in
-    let first = SameAsForm-linear_of names r a in
-    let second = SameAsForm-linear_of names s a in
-    let others = rest forms f.1.1 in (
-      λ w. let both = same.0 w.0 in (first.1 both.0, (second.1 both.1, others.0 w.1)),
-      λ w. (same.1 (first.0 w.0, second.0 w.1.0), others.1 w.1.1),
-    )
+-- What laws say of names, and of the forms of a constraint.
+module _
+    (named : (names others : List (List ℕ)) → HasNames (with_names names others) others)
+    (distinct : (names others : List (List ℕ)) → AreDistinct names → AreDistinct (with_names names others))
+    (at_least : (names : List (List ℕ)) (linear : Linear) (r : Form) → AreDistinct names → HasNames names (names_of linear.terms) → IsSideOf names least linear r → linear.relation ≡ AtLeast
+    → SameAsForm names linear r)
+    (equal : (names : List (List ℕ)) (linear : Linear) (r s : Form) → AreDistinct names → HasNames names (names_of linear.terms) → IsSideOf names least linear r → IsSideOf names most linear s → linear.relation ≡ Equal
+    → SameAsForms names linear r s)
+    (written_out : (names : List (List ℕ)) (f : Form) → SameAsForm names (linear_of names f) f) where
+  -- the forms of one constraint, and then the others
+  one_more : (names : List (List ℕ)) (a : List ℕ → Bool) (relation : Relation) (c : Linear) (sides : List (Side × Linear)) (forms : List Form) (P : Type 0) → c.relation ≡ relation → AreDistinct names
+      → HasNames names (names_of c.terms) → ((fs : List Form) → AreFormsOf names sides fs → P ↔ AllHold a (map (linear_of names) fs)) → AreFormsOf names (with_sides relation c ++ sides) forms
+      → (HoldsWritten a c × P) ↔ AllHold a (map (linear_of names) forms)
+  one_more names a AtLeast c sides [] P e d h rest f = absurd f
+  one_more names a AtLeast c sides (r ∷ forms) P e d h rest f =
+      let same = at_least names c r d h f.0 e a in
+      let written = written_out names r a in
+      let others = rest forms f.1 in
+      (λ w. (written.1 (same.0 w.0), others.0 w.1), λ w. (same.1 (written.0 w.0), others.1 w.1))
+  one_more names a Equal c sides [] P e d h rest f = absurd f
+  one_more names a Equal c sides (r ∷ []) P e d h rest f = absurd f.1
+  one_more names a Equal c sides (r ∷ s ∷ forms) P e d h rest f =
+      let same = equal names c r s d h f.0 f.1.0 e a in
+      let first = written_out names r a in
+      let second = written_out names s a in
+      let others = rest forms f.1.1 in (
+        λ w. let both = same.0 w.0 in (first.1 both.0, (second.1 both.1, others.0 w.1)),
+        λ w. (same.1 (first.0 w.0, second.0 w.1.0), others.1 w.1.1),
+      )
 
-all_same : (names : List (List ℕ)) (a : List ℕ → Bool) (cs : List Linear) (forms : List Form) → AreDistinct names → HasNames names (constraint_names cs) → AreFormsOf names (sides_in cs) forms
-    → AllHold a cs ↔ AllHold a (map (linear_of names) forms)
-all_same names a [] [] d h f = (λ w. w, λ w. w)
-all_same names a [] (r ∷ forms) d h f = absurd f
-all_same names a (c ∷ cs) forms d h f =
-    let parts = names_split names (names_of c.terms) (constraint_names cs) h in
-    one_more names a c.relation c (sides_in cs) forms (AllHold a cs) refl d parts.0 (λ fs g. all_same names a cs fs d parts.1 g) f
+  all_same : (names : List (List ℕ)) (a : List ℕ → Bool) (cs : List Linear) (forms : List Form) → AreDistinct names → HasNames names (constraint_names cs) → AreFormsOf names (sides_in cs) forms
+      → AllHold a cs ↔ AllHold a (map (linear_of names) forms)
+  all_same names a [] [] d h f = (λ w. w, λ w. w)
+  all_same names a [] (r ∷ forms) d h f = absurd f
+  all_same names a (c ∷ cs) forms d h f =
+      let parts = names_split names (names_of c.terms) (constraint_names cs) h in
+      one_more names a c.relation c (sides_in cs) forms (AllHold a cs) refl d parts.0 (λ fs g. all_same names a cs fs d parts.1 g) f
 
-pub same_solutions : (v w : Instance) → IsNormalised v w → (a : List ℕ → Bool) → Solves a v ↔ Solves a w
-same_solutions v w n a =
-    let (forms, f, e) = n.constraints in
-    let has = names_split (names_in v) (objective_names v.objective) (constraint_names v.constraints) (named [] (objective_names v.objective ++ constraint_names v.constraints)) in
-    let apart : AreDistinct (names_in v) = distinct [] (objective_names v.objective ++ constraint_names v.constraints) tt in
-    rw e (all_same (names_in v) a v.constraints forms apart has.1 f)
+  pub same_solutions : (v w : Instance) → IsNormalised v w → (a : List ℕ → Bool) → Solves a v ↔ Solves a w
+  same_solutions v w n a =
+      let (forms, f, e) = n.constraints in
+      let has = names_split (names_in v) (objective_names v.objective) (constraint_names v.constraints) (named [] (objective_names v.objective ++ constraint_names v.constraints)) in
+      let apart : AreDistinct (names_in v) = distinct [] (objective_names v.objective ++ constraint_names v.constraints) tt in
+      rw e (all_same (names_in v) a v.constraints forms apart has.1 f)
 
-same_forms : (names : List (List ℕ)) (sides : List (Side × Linear)) (fs gs : List Form) → AreFormsOf names sides fs → AreFormsOf names sides gs → fs ≡ gs
-same_forms names [] [] [] h k = refl
-same_forms names [] [] (g ∷ gs) h k = absurd k
-same_forms names [] (f ∷ fs) gs h k = absurd h
-same_forms names (s ∷ sides) [] gs h k = absurd h
-same_forms names (s ∷ sides) (f ∷ fs) [] h k = absurd k
-same_forms names (s ∷ sides) (f ∷ fs) (g ∷ gs) h k =
-    let first : f ≡ g = IsFormOf-unique names _ _ f g h.0 k.0 in
-    let rest : fs ≡ gs = same_forms names sides fs gs h.1 k.1 in
-    cc
+-- What a law says of the forms of a written sum.
+module _ (unique : (names : List (List ℕ)) (ts : List Term) (d : ℤ) (r s : Form) → IsFormOf names ts d r → IsFormOf names ts d s → r ≡ s) where
+  same_forms : (names : List (List ℕ)) (sides : List (Side × Linear)) (fs gs : List Form) → AreFormsOf names sides fs → AreFormsOf names sides gs → fs ≡ gs
+  same_forms names [] [] [] h k = refl
+  same_forms names [] [] (g ∷ gs) h k = absurd k
+  same_forms names [] (f ∷ fs) gs h k = absurd h
+  same_forms names (s ∷ sides) [] gs h k = absurd h
+  same_forms names (s ∷ sides) (f ∷ fs) [] h k = absurd k
+  same_forms names (s ∷ sides) (f ∷ fs) (g ∷ gs) h k =
+      let first : f ≡ g = unique names _ _ f g h.0 k.0 in
+      let rest : fs ≡ gs = same_forms names sides fs gs h.1 k.1 in
+      cc
 
-same_loaded : (names : List (List ℕ)) (sides : List (Side × Linear)) (ls ms : List Linear) → AreLoaded names sides ls → AreLoaded names sides ms → ls ≡ ms
-same_loaded names sides ls ms (fs, f, e) (gs, g, k) = e ∙ ap (map (linear_of names)) (same_forms names sides fs gs f g) ∙ sym k
+  same_loaded : (names : List (List ℕ)) (sides : List (Side × Linear)) (ls ms : List Linear) → AreLoaded names sides ls → AreLoaded names sides ms → ls ≡ ms
+  same_loaded names sides ls ms (fs, f, e) (gs, g, k) = e ∙ ap (map (linear_of names)) (same_forms names sides fs gs f g) ∙ sym k
 
-pub one_form : (v w u : Instance) → IsNormalised v w → IsNormalised v u → w ≡ u
-one_form v w u h k =
-    let variables : w.variables ≡ u.variables = h.variables ∙ sym k.variables in
-    let tail : w.tail ≡ u.tail = h.tail ∙ sym k.tail in
-    let objective : w.objective ≡ u.objective = h.objective ∙ sym k.objective in
-    let comments : w.comments ≡ u.comments = h.comments ∙ sym k.comments in
-    let constraints : w.constraints ≡ u.constraints = same_loaded (names_in v) (sides_in v.constraints) w.constraints u.constraints h.constraints k.constraints in
-    λ i. record { variables = variables i; tail = tail i; objective = objective i; comments = comments i; constraints = constraints i }
+  pub one_form : (v w u : Instance) → IsNormalised v w → IsNormalised v u → w ≡ u
+  one_form v w u h k =
+      let variables : w.variables ≡ u.variables = h.variables ∙ sym k.variables in
+      let tail : w.tail ≡ u.tail = h.tail ∙ sym k.tail in
+      let objective : w.objective ≡ u.objective = h.objective ∙ sym k.objective in
+      let comments : w.comments ≡ u.comments = h.comments ∙ sym k.comments in
+      let constraints : w.constraints ≡ u.constraints = same_loaded (names_in v) (sides_in v.constraints) w.constraints u.constraints h.constraints k.constraints in
+      λ i. record { variables = variables i; tail = tail i; objective = objective i; comments = comments i; constraints = constraints i }

@@ -9,12 +9,17 @@ ghost use Rattle.pb_tool.specs.Staying.{IsTakenForProof, ProofHasNoFault, ProofS
 /// The normal form of an instance has exactly its solutions.
 pub fn normal_forms_keep_solutions()
     ensures { (v w : Instance) → IsNormalised v w → (a : List ℕ → Bool) → Solves a v ↔ Solves a w }
-{}
+{
+    pb_normal::laws::names_keep_their_numbers();
+    pb_normal::laws::written_forms_are_exact();
+}
 
 /// An instance has one normal form.
 pub fn one_normal_form()
     ensures { (v w u : Instance) → IsNormalised v w → IsNormalised v u → w ≡ u }
-{}
+{
+    pb_normal::laws::forms_are_unique();
+}
 
 /// What `tidy` writes of an instance stays as it is: `tidy` takes it for an instance and reads it as that instance alone,
 /// so it writes the same; and with no limit on statements it refuses it only where the source fails, memory runs out, or

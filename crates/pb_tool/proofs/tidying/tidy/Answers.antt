@@ -1,0 +1,4 @@
+use Rattle.pb_tool.proofs.tidying.tidy.Goals as goal
+
+pub returns-clause-tidies : goal.returns-clause-tidies
+returns-clause-tidies g c = c.tidy_with_hasher.ensures.tidies
