@@ -14,6 +14,7 @@ pub mod Values
 pub mod Derivations
 pub mod Sources
 pub mod Crosses
+pub mod Ends
 pub mod Sorted
 pub mod Gets
 pub mod Links

@@ -12,7 +12,7 @@ use Rattle.pb_replay.proofs.Engine.Runs.{Counted-fits, Counted-lower, Tidy-lower
 -- the first j entries were taken from the open sums
 pub record IsPutting (forms : List Shape) (es : List Occurrence) (opens0 cands : List ℕ) (list : List NumberedLiteral) (work0 : List ℕ) (next visits0 : ℕ) (opens work : List ℕ) (visits j : ℕ) : Type 0 where
   pub counted : IsCounted forms opens list (drop j es)
-  pub tidy : (busy : ℕ) → IsTidy forms opens0 cands list work0 next busy → IsTidy forms opens cands list work next busy
+  pub tidy : (aside : List ℕ) (busy : ℕ) → IsTidy aside forms opens0 cands list work0 next busy → IsTidy aside forms opens cands list work next busy
   pub longer : (s : ℕ) → IsAbsent work 0 s → IsAbsent work0 0 s
   pub sizes : length opens ≡ length forms
   pub grown : length work ≡ length work0 + j
@@ -22,7 +22,7 @@ pub record IsPutting (forms : List Shape) (es : List Occurrence) (opens0 cands :
 pub Putting-start : (forms : List Shape) (es : List Occurrence) (opens cands : List ℕ) (list : List NumberedLiteral) (work : List ℕ) (next visits : ℕ) → IsCounted forms opens list es → length opens ≡ length forms → IsPutting forms es opens cands list work next visits opens work visits 0
 Putting-start forms es opens cands list work next visits c s = record {
   counted = c;
-  tidy = λ busy t. t;
+  tidy = λ aside busy t. t;
   longer = λ s gone. gone;
   sizes = s;
   grown = omega arith;
@@ -40,7 +40,7 @@ Putting-next forms es opens0 cands list work0 next visits0 opens work visits j o
     let room : e.form < length opens = omega (arith, named, p.sizes) in
     record {
       counted = Counted-lower forms opens opens' list e (drop (j + 1) es) is room (subst (IsCounted forms opens list) (drop_more es j d inside) p.counted);
-      tidy = λ busy t. Tidy-lower forms opens opens' cands list work work' next busy e.form (get_or opens e.form 0 - e.coefficient) is longer named (omega (arith, p.grown, within)) (p.tidy busy t);
+      tidy = λ aside busy t. Tidy-lower aside forms opens opens' cands list work work' next busy e.form (get_or opens e.form 0 - e.coefficient) is longer named (omega (arith, p.grown, within)) (p.tidy aside busy t);
       longer = λ s gone. p.longer s (absent-push work e.form 0 s (let from = rw longer at gone in from));
       sizes = ap length is ∙ length-set opens e.form (get_or opens e.form 0 - e.coefficient) ∙ p.sizes;
       grown = omega (arith, ap length longer, length-append work (e.form ∷ []), p.grown);
