@@ -1,6 +1,11 @@
 -- A reader that is looked at is a source that is.
-use Rattle.std.proofs.Common.{ℕ, zero, suc, List, Option, Some, None, Ok, refl, arith}
+use Rattle.std.proofs.Common.{◌≡◌, ℕ, zero, suc, List, Bool, Option, Some, None, Result, Ok, Err, refl, arith}
 use Rattle.std.specs.Io.KnownBytes.{Keeps}
+use Rattle.pb_text.specs.Pulling.{Took}
+use Rattle.pb_text.specs.Spelling.{Item}
+use Rattle.pb_text.specs.Whole.{ReadsWhole}
+use Rattle.pb_text.specs.declared.place.Spanned.{Spanned}
+use Rattle.pb_text.specs.declared.place.Stop.{Stop}
 use Rattle.pb_text.specs.Source.{StartWith, HaveEnded, Peeks}
 use Rattle.pb_text.specs.declared.over.Over.{Over}
 use Rattle.pb_text.specs.Over.{told, LetsOne, Shows}
@@ -43,8 +48,24 @@ shows_failed rest now limit shown h = told_kept rest now limit shown h
 
 -- what was shown is a look at a source
 pub peeks : {T : Type 0} (remaining : T → Option (List ℕ)) (limit : T → Option ℕ) (old : Over T) (inner : T) (shown : Option ℕ) → Shows (remaining old.inner) (Ok shown) (remaining inner) (limit inner)
-    → Peeks (λ o. told (remaining o.inner) (limit o.inner) o.shown) (λ o. o.shown) (λ o. o.failures) old (Ok shown) (record { inner = inner; shown = shown; failures = old.failures })
+    → Peeks (λ o. told (remaining o.inner) (limit o.inner) o.shown) (λ o. o.shown) (λ o. o.history.bytes) (λ o. o.failures) old (Ok shown) (record { inner = inner; shown = shown; failures = old.failures; history = old.history })
 peeks remaining limit old inner None h =
-    let e = shows_end (remaining old.inner) (remaining inner) (limit old.inner) (limit inner) old.shown h in (e.0, e.1, refl)
+    let e = shows_end (remaining old.inner) (remaining inner) (limit old.inner) (limit inner) old.shown h in (e.0, e.1, refl, refl)
 peeks remaining limit old inner (Some b) h =
-    let e = shows_begins (remaining old.inner) (remaining inner) (limit old.inner) (limit inner) old.shown b h in (e.0, e.1, refl, refl)
+    let e = shows_begins (remaining old.inner) (remaining inner) (limit old.inner) (limit inner) old.shown b h in (e.0, e.1, refl, refl, refl)
+
+told_some : (left : Option (List ℕ)) (limit shown : Option ℕ) (rest : List ℕ) → told left limit shown ≡ Some rest → left ≡ Some rest
+told_some left limit None rest h = h
+told_some left None (Some b) rest h = h
+told_some left (Some zero) (Some b) rest h = cc
+told_some left (Some (suc n)) (Some b) rest h = h
+
+-- what is left to a reader is what is left to the source over it
+took_told : (before left : Option (List ℕ)) (limit shown : Option ℕ) (used seen : List ℕ) → Took before used seen (told left limit shown) → Took before used seen left
+took_told None left limit shown used seen h = tt
+took_told (Some bytes) left limit shown used seen h = (h.0, told_some left limit shown seen h.1)
+
+pub reads_told : {V E : Type 0} (format : List (Item E) → Type 0) (longest : ℕ) (with : V → E → V) (empty : V) (MayAsk : List ℕ → ℕ → Type 0) (asks : V → E → Bool) (before : Option (List ℕ)) (result : Result (Spanned V) Stop) (left : Option (List ℕ)) (limit shown : Option ℕ)
+    → ReadsWhole format longest with empty MayAsk asks before result (told left limit shown) → ReadsWhole format longest with empty MayAsk asks before result left
+reads_told format longest with empty MayAsk asks before (Ok m) left limit shown r = (r.0, r.1, took_told before left limit shown r.0 r.1 r.2, r.3)
+reads_told format longest with empty MayAsk asks before (Err e) left limit shown r = (r.0, r.1, took_told before left limit shown r.0 r.1 r.2, r.3)

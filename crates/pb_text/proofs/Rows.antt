@@ -24,8 +24,8 @@ took_join (Some all) b c x y s t h k =
     let now : Took (Some s) y t c = subst (λ (z : Option (List ℕ)). Took z y t c) h.1 k in
     (h.0 ∙ ap (λ (z : List ℕ). x ++ z) now.0 ∙ sym (append_assoc x y t), now.1)
 
-module _ {M E : Type 0} {g : Ghosts M E} (longest : ℕ) (start : M) (before now after : Option (List ℕ)) (marks : List (Spanned E)) (old new : Feeder M E g) (h : HasPulled longest start before marks old now) where
-  module _ (result : Result (Option (Spanned E)) Stop) (p : Pulls longest start h.used marks old now result new after) where
+module _ {M E : Type 0} {g : Ghosts M E} {given given' : List ℕ} (longest : ℕ) (start : M) (before now after : Option (List ℕ)) (marks : List (Spanned E)) (old new : Feeder M E g) (h : HasPulled longest start before marks old now) where
+  module _ (result : Result (Option (Spanned E)) Stop) (p : Pulls longest start h.used marks old now result new after given given') where
     abbrev all : List ℕ
     all = h.used ++ p.taken
 
@@ -41,7 +41,7 @@ module _ {M E : Type 0} {g : Ghosts M E} (longest : ℕ) (start : M) (before now
         same_front (bytes s.letters) all s.left left (sym s.input_is ∙ e)
         (sym (place_after-offset (bytes s.letters)) ∙ (sym (ap (λ (q : Place). q.offset) s.place_is) ∙ offset_is))
 
-  row_event : (m : Spanned E) (p : Pulls longest start h.used marks old now (Ok (Some m)) new after) → new.stop ≡ None → m.past ≡ new.place → PullsOn longest start before marks (Ok (Some m)) new after
+  row_event : (m : Spanned E) (p : Pulls longest start h.used marks old now (Ok (Some m)) new after given given') → new.stop ≡ None → m.past ≡ new.place → PullsOn longest start before marks (Ok (Some m)) new after
   row_event m p running past =
       let s = p.stands.1 in
       let used = letters_are (Ok (Some m)) p (h.used ++ p.taken) [] (marks ++ m ∷ []) s (sym (append-nil (h.used ++ p.taken))) in
@@ -53,7 +53,7 @@ module _ {M E : Type 0} {g : Ghosts M E} (longest : ℕ) (start : M) (before now
         record { used = h.used ++ p.taken; seen = p.seen; took = took (Ok (Some m)) p; done = is_complete new; reads = r' },
       )
 
-  row_done : (p : Pulls longest start h.used marks old now (Ok None) new after) → new.stop ≡ None → is_complete new ≡ true → PullsOn longest start before marks (Ok None) new after
+  row_done : (p : Pulls longest start h.used marks old now (Ok None) new after given given') → new.stop ≡ None → is_complete new ≡ true → PullsOn longest start before marks (Ok None) new after
   row_done p running done =
       let s : Stands g.automaton longest start (h.used ++ (p.taken ++ p.seen)) marks new.machine new.place new.first new.stop = rw append-nil at p.stands.1 in
       let used = letters_are (Ok None) p (h.used ++ (p.taken ++ p.seen)) p.seen marks s (sym (append_assoc h.used p.taken p.seen)) in
@@ -63,7 +63,7 @@ module _ {M E : Type 0} {g : Ghosts M E} (longest : ℕ) (start : M) (before now
       (subst (λ (o : Option Stop). Reads (Accepts g.automaton start) longest (h.used ++ (p.taken ++ p.seen)) (bytes s.letters) marks new.place true o) running r) in
       record { used = h.used ++ p.taken; seen = p.seen; took = took (Ok None) p; reads = r' }
 
-  row_stopped : (stop : Stop) (p : Pulls longest start h.used marks old now (Err stop) new after) → new.stop ≡ Some stop → PullsOn longest start before marks (Err stop) new after
+  row_stopped : (stop : Stop) (p : Pulls longest start h.used marks old now (Err stop) new after given given') → new.stop ≡ Some stop → PullsOn longest start before marks (Err stop) new after
   row_stopped stop p halts =
       let s : Stands g.automaton longest start (h.used ++ (p.taken ++ p.seen)) marks new.machine new.place new.first new.stop = rw append-nil at p.stands.1 in
       let used = letters_are (Err stop) p (h.used ++ (p.taken ++ p.seen)) p.seen marks s (sym (append_assoc h.used p.taken p.seen)) in
@@ -75,7 +75,7 @@ module _ {M E : Type 0} {g : Ghosts M E} (longest : ℕ) (start : M) (before now
       record { used = h.used ++ p.taken; seen = p.seen; took = took (Err stop) p; reads = r' }
 
   -- what one pull more answers
-  pub row : (result : Result (Option (Spanned E)) Stop) → Pulls longest start h.used marks old now result new after → new.stop ≡ stop_of result → (result ≡ Ok None → is_complete new ≡ true)
+  pub row : (result : Result (Option (Spanned E)) Stop) → Pulls longest start h.used marks old now result new after given given' → new.stop ≡ stop_of result → (result ≡ Ok None → is_complete new ≡ true)
       → ((m : Spanned E) → result ≡ Ok (Some m) → m.past ≡ new.place) → PullsOn longest start before marks result new after
   row (Ok (Some m)) p stop last past = row_event m p stop (past m refl)
   row (Ok None) p stop last past = row_done p stop (last refl)

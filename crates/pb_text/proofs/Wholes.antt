@@ -9,7 +9,7 @@ use Rattle.pb_text.specs.Limit.{end_of}
 use Rattle.pb_text.specs.Standing.{Stands, Waits, Halts}
 use Rattle.pb_text.specs.Feeding.{StandsAt, is_complete}
 use Rattle.pb_text.specs.Pulling.{Pulls, Took}
-use Rattle.pb_text.specs.Whole.{gathered, events_of, IsAsking, Reading, Keeping, ReadsWhole}
+use Rattle.pb_text.specs.Whole.{gathered, events_of, IsAsking, IsWhole, StopsAfter, Reading, Keeping}
 use Rattle.pb_text.specs.declared.place.Place.{Place}
 use Rattle.pb_text.specs.declared.place.Spanned.{Spanned}
 use Rattle.pb_text.specs.declared.place.Stop.{Stop}
@@ -54,18 +54,25 @@ pub gathered_more : {V E : Type 0} (with : V → E → V) (empty value next : V)
 gathered_more with empty value next [] m e h = h ∙ ap (λ (v : _). with v m.event) e
 gathered_more with empty value next (n ∷ marks) m e h = gathered_more with (with empty n.event) value next marks m e h
 
+-- the bytes that a whole read used, of the source's and of those that its calls have given
+abbrev pub Used : Option (List ℕ) → Option (List ℕ) → List ℕ → List ℕ → (List ℕ → List ℕ → Type 0) → Type 0
+Used before after given given' Rest = (used : List ℕ) × (seen : List ℕ) × Took before used seen after × (given' ≡ given ++ used) × Rest used seen
+
+given_both : (first given last taken more : List ℕ) → given ≡ first ++ taken → last ≡ given ++ more → last ≡ first ++ (taken ++ more)
+given_both first given last taken more h k = k ∙ (ap (λ (x : List ℕ). x ++ more) h ∙ append_assoc first taken more)
+
 module _ {M E : Type 0} {g : Ghosts M E} (longest : ℕ) (start : M) (marks : List (Spanned E)) (old new : Feeder M E g) (before now after : Option (List ℕ)) (taken : List ℕ) (lost : Lost before taken now) (offset_is : old.place.offset ≡ length taken) where
-  module _ (result : Result (Option (Spanned E)) Stop) (p : Pulls longest start taken marks old now result new after) where
+  module _ {given given' : List ℕ} (result : Result (Option (Spanned E)) Stop) (p : Pulls longest start taken marks old now result new after given given') where
     letters_are : (input : List ℕ) → (s : Stands g.automaton longest start input marks new.machine new.place new.first new.stop) → (left : List ℕ) → input ≡ (taken ++ p.taken) ++ left → bytes s.letters ≡ taken ++ p.taken
     letters_are input s left e =
         same_front (bytes s.letters) (taken ++ p.taken) s.left left (sym s.input_is ∙ e)
         (sym (place_after-offset (bytes s.letters)) ∙ (sym (ap (λ (q : Place). q.offset) s.place_is) ∙ omega (arith, p.offset_is, length-append taken p.taken)))
 
-  module _ {V : Type 0} (with : V → E → V) (asks : V → E → Bool) (empty value : V) (value_is : value ≡ gathered with empty (map (λ m. m.event) marks)) where
-    pub whole_done : (p : Pulls longest start taken marks old now (Ok None) new after) → new.stop ≡ None → is_complete new ≡ true
-        → ReadsWhole (Accepts g.automaton start) longest with empty (MayAsk g.automaton start) asks before (Ok (record { event = value; first = record { line = 1; column = 1; offset = 0 }; past = new.place })) after
+  module _ {V : Type 0} (with : V → E → V) (empty value : V) (value_is : value ≡ gathered with empty (map (λ m. m.event) marks)) where
+    pub whole_done : (first given given' : List ℕ) → given ≡ first ++ taken → (p : Pulls longest start taken marks old now (Ok None) new after given given') → new.stop ≡ None → is_complete new ≡ true
+        → Used before after first given' (λ used seen. IsWhole (Accepts g.automaton start) longest with empty used (record { event = value; first = record { line = 1; column = 1; offset = 0 }; past = new.place }))
     unfolding place_after
-    whole_done p running done =
+    whole_done first given given' are p running done =
         let s : Stands g.automaton longest start (taken ++ (p.taken ++ p.seen)) marks new.machine new.place new.first new.stop = rw append-nil at p.stands.1 in
         let used : bytes s.letters ≡ taken ++ p.taken = letters_are (Ok None) p (taken ++ (p.taken ++ p.seen)) s p.seen (sym (append_assoc taken p.taken p.seen)) in
         let r = stands_reads g.automaton longest start (taken ++ (p.taken ++ p.seen)) marks new.machine new.place new.first new.stop s true (sym done) in
@@ -74,6 +81,7 @@ module _ {M E : Type 0} {g : Ghosts M E} (longest : ℕ) (start : M) (marks : Li
           taken ++ p.taken,
           p.seen,
           took_all before now after taken p.taken p.seen lost p.took,
+          given_both first given given' taken p.taken are p.given_are,
           record {
             marks = marks;
             spelled = spelled';
@@ -93,9 +101,9 @@ module _ {M E : Type 0} {g : Ghosts M E} (longest : ℕ) (start : M) (marks : Li
   asking may_ask state end letters used seen left Read e may h with empty = tt
   asking may_ask state end letters used seen left Memory e may h with empty = (h.0, h.1, sym e ∙ h.2, may h.0 h.4)
 
-  pub whole_stopped : {V : Type 0} (with : V → E → V) (empty : V) (asks : V → E → Bool) (stop : Stop) (p : Pulls longest start taken marks old now (Err stop) new after) → new.stop ≡ Some stop
-      → ReadsWhole (Accepts g.automaton start) longest with empty (MayAsk g.automaton start) asks before (Err stop) after
-  whole_stopped with empty asks stop p halts =
+  pub whole_stopped : {V : Type 0} (with : V → E → V) (empty : V) (asks : V → E → Bool) (stop : Stop) (first given given' : List ℕ) → given ≡ first ++ taken → (p : Pulls longest start taken marks old now (Err stop) new after given given') → new.stop ≡ Some stop
+      → Used before after first given' (λ used seen. StopsAfter (Accepts g.automaton start) longest with empty (MayAsk g.automaton start) asks used seen stop)
+  whole_stopped with empty asks stop first given given' are p halts =
       let s : Stands g.automaton longest start (taken ++ (p.taken ++ p.seen)) marks new.machine new.place new.first new.stop = rw append-nil at p.stands.1 in
       let used : bytes s.letters ≡ taken ++ p.taken = letters_are (Err stop) p (taken ++ (p.taken ++ p.seen)) s p.seen (sym (append_assoc taken p.taken p.seen)) in
       let w = halted g.automaton new.machine (end_of longest new.first) s.letters s.left new.place new.stop stop halts s.waits in
@@ -107,18 +115,18 @@ module _ {M E : Type 0} {g : Ghosts M E} (longest : ℕ) (start : M) (marks : Li
       let may : (b : ℕ) → IsTrue (g.automaton.asks new.machine b) → MayAsk g.automaton start (taken ++ p.taken) b =
       (λ b h. (new.machine, subst (λ (x : List ℕ). Leads g.automaton start x new.machine) used s.leads, h)) in
       let a = asking (MayAsk g.automaton start) new.machine (end_of longest new.first) s.letters (taken ++ p.taken) p.seen s.left stop.why left may w.2 with empty in
-      (taken ++ p.taken, p.seen, took_all before now after taken p.taken p.seen lost p.took, Reading marks r' a)
+      (taken ++ p.taken, p.seen, took_all before now after taken p.taken p.seen lost p.took, given_both first given given' taken p.taken are p.given_are, Reading marks r' a)
 
   -- after an event
-  pub whole_event : (m : Spanned E) (p : Pulls longest start taken marks old now (Ok (Some m)) new after)
-      → Lost before (taken ++ p.taken) after × (new.place.offset ≡ length (taken ++ p.taken)) × StandsAt longest start (taken ++ p.taken) (marks ++ m ∷ []) new
-  whole_event m p = (lost_all before after (taken ++ p.taken) p.seen (took_all before now after taken p.taken p.seen lost p.took), omega (arith, p.offset_is, length-append taken p.taken), p.stands)
+  pub whole_event : (m : Spanned E) (first given given' : List ℕ) → given ≡ first ++ taken → (p : Pulls longest start taken marks old now (Ok (Some m)) new after given given')
+      → Lost before (taken ++ p.taken) after × (new.place.offset ≡ length (taken ++ p.taken)) × StandsAt longest start (taken ++ p.taken) (marks ++ m ∷ []) new × (given' ≡ first ++ (taken ++ p.taken))
+  whole_event m first given given' are p = (lost_all before after (taken ++ p.taken) p.seen (took_all before now after taken p.taken p.seen lost p.took), omega (arith, p.offset_is, length-append taken p.taken), p.stands, given_both first given given' taken p.taken are p.given_are)
 
   -- where an event could not be kept
-  pub whole_unkept : {V : Type 0} (with : V → E → V) (empty : V) (asks : V → E → Bool) (m : Spanned E) (p : Pulls longest start taken marks old now (Ok (Some m)) new after) → new.stop ≡ None → m.past ≡ new.place
+  pub whole_unkept : {V : Type 0} (with : V → E → V) (empty : V) (asks : V → E → Bool) (m : Spanned E) (first given given' : List ℕ) → given ≡ first ++ taken → (p : Pulls longest start taken marks old now (Ok (Some m)) new after given given') → new.stop ≡ None → m.past ≡ new.place
       → IsTrue (asks (gathered with empty (map (λ n. n.event) marks)) m.event)
-      → ReadsWhole (Accepts g.automaton start) longest with empty (MayAsk g.automaton start) asks before (Err (record { place = new.place; why = Memory })) after
-  whole_unkept with empty asks m p running past h =
+      → Used before after first given' (λ used seen. StopsAfter (Accepts g.automaton start) longest with empty (MayAsk g.automaton start) asks used seen (record { place = new.place; why = Memory }))
+  whole_unkept with empty asks m first given given' are p running past h =
       let s = p.stands.1 in
       let used : bytes s.letters ≡ taken ++ p.taken = same_front (bytes s.letters) (taken ++ p.taken) s.left [] (sym s.input_is ∙ sym (append-nil (taken ++ p.taken)))
       (sym (place_after-offset (bytes s.letters)) ∙ (sym (ap (λ (q : Place). q.offset) s.place_is) ∙ omega (arith, p.offset_is, length-append taken p.taken))) in
@@ -129,6 +137,7 @@ module _ {M E : Type 0} {g : Ghosts M E} (longest : ℕ) (start : M) (marks : Li
         taken ++ p.taken,
         p.seen,
         took_all before now after taken p.taken p.seen lost p.took,
+        given_both first given given' taken p.taken are p.given_are,
         Keeping (record {
           marks = marks;
           last = m;

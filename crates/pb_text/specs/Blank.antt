@@ -1,5 +1,5 @@
 -- White space and comments.
-use Rattle.std.specs.Prelude.{◌≡◌, ◌≢◌, ℕ, ◌+◌, ◌<◌, ◌≤◌, List, [], ◌∷◌, length, take, reverse, slice_index, Bool, false, not, ◌&&◌, ◌||◌, nat_eq, IsTrue, Option, Result, Ok, Err}
+use Rattle.std.specs.Prelude.{◌≡◌, ◌≢◌, ℕ, ◌+◌, ◌<◌, ◌≤◌, List, [], ◌∷◌, ◌++◌, length, take, reverse, slice_index, Bool, false, not, ◌&&◌, ◌||◌, nat_eq, IsTrue, Option, Result, Ok, Err}
 use Rattle.pb_text.specs.Classes.{is_white}
 use Rattle.pb_text.specs.Spelling.{place_next}
 use Rattle.pb_text.specs.Reading.{byte_limit}
@@ -52,3 +52,9 @@ ReadsBlank place before (Ok u) after =
     (used : List ℕ) × Took before used [] after × IsBlank used × (place.offset + length used ≤ byte_limit)
 ReadsBlank place before (Err s) after =
     (used : List ℕ) × (seen : List ℕ) × Took before used seen after × IsBlank used × (s.place ≡ place_from place used) × IsStray place used seen s.why
+
+-- The same of the bytes that the source's calls have given, before and after.
+abbrev pub GivesBlank : Place → List ℕ → Result Unit Stop → List ℕ → Type 0
+GivesBlank place before (Ok u) after = (used : List ℕ) × (after ≡ before ++ used) × IsBlank used × (place.offset + length used ≤ byte_limit)
+GivesBlank place before (Err s) after =
+    (used : List ℕ) × (seen : List ℕ) × (after ≡ before ++ used) × IsBlank used × (s.place ≡ place_from place used) × IsStray place used seen s.why

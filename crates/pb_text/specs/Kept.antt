@@ -1,5 +1,5 @@
 -- What a source or sink over a reader or a writer keeps.
-use Rattle.std.specs.Prelude.{ℕ, Option}
+use Rattle.std.specs.Prelude.{ℕ, List, Option}
 use Rattle.pb_text.specs.declared.over.Over.{Over}
 
 abbrev pub inner_of : {T : Type 0} → Over T → T
@@ -8,6 +8,10 @@ inner_of o = o.inner
 -- how often it has failed
 abbrev pub failures_of : {T : Type 0} → Over T → ℕ
 failures_of o = o.failures
+
+-- the bytes that its calls have given
+abbrev pub history_of : {T : Type 0} → Over T → List ℕ
+history_of o = o.history.bytes
 
 -- the byte that was shown and not taken
 abbrev pub shown_of : {T : Type 0} → Over T → Option ℕ

@@ -6,9 +6,11 @@ use Rattle.pb_text.specs.declared.place.Spanned.{Spanned}
 use Rattle.pb_text.specs.declared.feeder.Feeder.{Feeder}
 use Rattle.pb_text.specs.declared.machine.Machine.{Ghosts}
 
--- The feeder was given these bytes, which the source has lost, and none of them ends a statement.
-pub record Pours {M E : Type 0} {g : Ghosts M E} (old : Feeder M E g) (before : Option (List ℕ)) (new : Feeder M E g) (after : Option (List ℕ)) : Type 0 where
+-- The feeder was given these bytes, which the source has lost and its calls have given, and none of them ends a
+-- statement.
+pub record Pours {M E : Type 0} {g : Ghosts M E} (old : Feeder M E g) (before : Option (List ℕ)) (given : List ℕ) (new : Feeder M E g) (after : Option (List ℕ)) (given' : List ℕ) : Type 0 where
   pub taken : List ℕ
   pub lost : Lost before taken after
+  pub given_are : given' ≡ given ++ taken
   pub offset_is : (place_of new).offset ≡ (place_of old).offset + length taken
   pub stands : (longest : ℕ) (start : M) (input : List ℕ) (marks : List (Spanned E)) → StandsAt longest start input marks old → StandsAt longest start (input ++ taken) marks new

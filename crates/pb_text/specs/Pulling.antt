@@ -25,11 +25,12 @@ abbrev pub Took : Option (List ℕ) → List ℕ → List ℕ → Option (List �
 Took None taken seen left = Unit {0}
 Took (Some bytes) taken seen left = (bytes ≡ taken ++ seen) × (left ≡ Some seen)
 
--- The pull took these bytes of the source's, and the feeder stands to the input with them.
-pub record Pulls {M E : Type 0} {g : Ghosts M E} (longest : ℕ) (start : M) (input : List ℕ) (marks : List (Spanned E)) (old : Feeder M E g) (before : Option (List ℕ)) (result : Result (Option (Spanned E)) Stop) (new : Feeder M E g) (after : Option (List ℕ)) : Type 0 where
+-- The pull took these bytes of the source's, which its calls have given, and the feeder stands to the input with them.
+pub record Pulls {M E : Type 0} {g : Ghosts M E} (longest : ℕ) (start : M) (input : List ℕ) (marks : List (Spanned E)) (old : Feeder M E g) (before : Option (List ℕ)) (result : Result (Option (Spanned E)) Stop) (new : Feeder M E g) (after : Option (List ℕ)) (given given' : List ℕ) : Type 0 where
   pub taken : List ℕ
   pub seen : List ℕ
   pub took : Took before taken seen after
+  pub given_are : given' ≡ given ++ taken
   pub offset_is : new.place.offset ≡ old.place.offset + length taken
   pub stands : StandsAt longest start (input ++ input_pulled result taken seen) (marks ++ marks_pulled result) new
 

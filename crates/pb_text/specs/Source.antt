@@ -14,22 +14,22 @@ abbrev pub HaveEnded : Option (List ℕ) → Type 0
 HaveEnded None = Unit {0}
 HaveEnded (Some bytes) = bytes ≡ []
 
-module _ {S : Type 0} (left : S → Option (List ℕ)) (shown : S → Option ℕ) (faults : S → ℕ) where
-  -- a look at the next byte, which takes none
-  abbrev pub Peeks : S → Result (Option ℕ) Failed → S → Type 0
-  Peeks old (Ok (Some b)) new = StartWith (left old) b × Keeps (left old) (left new) × (shown new ≡ Some b) × (faults new ≡ faults old)
-  Peeks old (Ok None) new = HaveEnded (left old) × Keeps (left old) (left new) × (faults new ≡ faults old)
-  Peeks old (Err e) new = Keeps (left old) (left new) × (faults new ≡ one_more (faults old))
-
 -- the first byte goes
 abbrev pub LosesFirst : Option (List ℕ) → Option (List ℕ) → Type 0
 LosesFirst None new = Unit {0}
 LosesFirst (Some []) new = Unit {0}
 LosesFirst (Some (b ∷ rest)) new = new ≡ Some rest
 
-module _ {S : Type 0} (left : S → Option (List ℕ)) (faults : S → ℕ) where
+module _ {S : Type 0} (left : S → Option (List ℕ)) (shown : S → Option ℕ) (history : S → List ℕ) (faults : S → ℕ) where
+  -- a look at the next byte, which takes none
+  abbrev pub Peeks : S → Result (Option ℕ) Failed → S → Type 0
+  Peeks old (Ok (Some b)) new = StartWith (left old) b × Keeps (left old) (left new) × (shown new ≡ Some b) × (faults new ≡ faults old) × (history new ≡ history old)
+  Peeks old (Ok None) new = HaveEnded (left old) × Keeps (left old) (left new) × (faults new ≡ faults old) × (history new ≡ history old)
+  Peeks old (Err e) new = Keeps (left old) (left new) × (faults new ≡ one_more (faults old)) × (history new ≡ history old)
+
+  -- the byte that was shown goes, and its calls have given that one too
   abbrev pub Skips : S → S → Type 0
-  Skips old new = LosesFirst (left old) (left new) × (faults new ≡ faults old)
+  Skips old new = LosesFirst (left old) (left new) × (faults new ≡ faults old) × ((b : ℕ) → shown old ≡ Some b → history new ≡ history old ++ b ∷ [])
 
 -- a source has lost the bytes that were taken, where it tells them
 abbrev pub Lost : Option (List ℕ) → List ℕ → Option (List ℕ) → Type 0

@@ -55,3 +55,8 @@ module _ {V E : Type 0} (format : List (Item E) → Type 0) (longest : ℕ) (wit
       abbrev pub ReadsWhole : Option (List ℕ) → Result (Spanned V) Stop → Option (List ℕ) → Type 0
       ReadsWhole before (Ok m) after = (used : List ℕ) × (seen : List ℕ) × Took before used seen after × IsWhole used m
       ReadsWhole before (Err s) after = (used : List ℕ) × (seen : List ℕ) × Took before used seen after × StopsAfter used seen s
+
+      -- The same of the bytes that the source's calls have given, before and after.
+      abbrev pub ReadsGiven : List ℕ → Result (Spanned V) Stop → List ℕ → Type 0
+      ReadsGiven before (Ok m) after = (used : List ℕ) × (after ≡ before ++ used) × IsWhole used m
+      ReadsGiven before (Err s) after = (used : List ℕ) × (seen : List ℕ) × (after ≡ before ++ used) × StopsAfter used seen s

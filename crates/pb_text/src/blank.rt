@@ -1,7 +1,7 @@
 //! The rest of an input, which must be white space and comments.
 
 ghost use Rattle.std.specs.Prelude.{◌≡◌, ◌+◌, ◌^◌, ◌≤◌, ◌&&◌, ◌||◌, not, nat_eq, None};
-ghost use Rattle.pb_text.specs.Blank.{ReadsBlank};
+ghost use Rattle.pb_text.specs.Blank.{ReadsBlank, GivesBlank};
 ghost use Rattle.pb_text.specs.Classes.{is_white};
 ghost use Rattle.pb_text.specs.Pulling.{faults_after};
 
@@ -17,6 +17,8 @@ pub fn rest_is_blank<S: Source>(source: &mut S, place: Place) -> Result<(), Stop
     requires line { place.line ≤ 2 ^ 40 + 1 }
     requires column { place.column ≤ 2 ^ 40 + 1 }
     ensures blank { ReadsBlank place (S.left source.old) result (S.left source.new) }
+    // Of any source, a file too: the rest is what its calls have given since.
+    ensures given { GivesBlank place (S.history source.old) result (S.history source.new) }
     // `Read` comes only where the source failed.
     ensures faults { S.faults source.new ≡ faults_after None result (S.faults source.old) }
 {

@@ -5,6 +5,7 @@ mod blank;
 pub mod doubles;
 mod failing;
 mod feeder;
+mod history;
 pub mod laws;
 mod limits;
 mod machine;

@@ -1,12 +1,13 @@
 //! A source over any buffered reader, and a sink over any writer.
 
-ghost use Rattle.std.specs.Prelude.{◌≡◌, None, false};
+ghost use Rattle.std.specs.Prelude.{◌≡◌, [], None, false};
 ghost use Rattle.pb_text.specs.Automaton.{IsState};
 ghost use Rattle.pb_text.specs.Feeding.{state_of, halt_of, is_complete};
 ghost use Rattle.pb_text.specs.Over.{Shows, told};
 ghost use Rattle.pb_text.specs.Pouring.{Pours};
 
 use crate::feeder::Feeder;
+use crate::history::History;
 use crate::machine::Machine;
 use crate::sink::Sink;
 use crate::source::{Failed, Source};
@@ -19,20 +20,23 @@ pub struct Over<T> {
     inner: T,
     shown: Option<u8>,
     failures: u64,
+    history: History,
 }
 
 impl<T> Over<T> {
-    ghost use Rattle.pb_text.specs.Kept.{inner_of, failures_of, shown_of};
+    ghost use Rattle.pb_text.specs.Kept.{inner_of, failures_of, history_of, shown_of};
 
     pub fn new(inner: T) -> Self
         ensures inner { inner_of result ≡ inner }
         ensures failures { failures_of result ≡ 0 }
         ensures shown { shown_of result ≡ None }
+        ensures history { history_of result ≡ [] }
     {
         Over {
             inner,
             shown: None,
             failures: 0,
+            history: History::new(),
         }
     }
 
@@ -48,6 +52,8 @@ impl<T: BufRead> Source for Over<T> {
     ghost left = { λ o. told (T.remaining o.inner) (T.consumable_len o.inner) o.shown };
 
     ghost shown = { λ o. o.shown };
+
+    ghost history = { λ o. o.history.bytes };
 
     ghost faults = { λ o. o.failures };
 
@@ -66,13 +72,16 @@ impl<T: BufRead> Source for Over<T> {
     }
 
     fn skip(&mut self) {
+        if let Some(byte) = self.shown {
+            self.history.note(&[byte]);
+        }
         self.shown = None;
         self.inner.consume(1);
     }
 
     fn pour<M: Machine>(&mut self, feeder: &mut Feeder<M>) -> Result<(), Failed> {
         self.shown = None;
-        match pour_from(&mut self.inner, feeder) {
+        match pour_from(&mut self.inner, &mut self.history, feeder) {
             Ok(()) => Ok(()),
             Err(Failed) => {
                 self.failures = self.failures.saturating_add(1);
@@ -117,11 +126,15 @@ fn next_of<T: BufRead>(reader: &mut T) -> Result<Option<u8>, Failed>
 }
 
 /// Feeds what a reader has at hand to a feeder as long as the statement goes on that has begun, and takes that.
-fn pour_from<T: BufRead, M: Machine>(reader: &mut T, feeder: &mut Feeder<M>) -> Result<(), Failed>
+fn pour_from<T: BufRead, M: Machine>(
+    reader: &mut T,
+    history: &mut History,
+    feeder: &mut Feeder<M>,
+) -> Result<(), Failed>
     requires unfinished { is_complete feeder.old ≡ false }
     requires running { halt_of feeder.old ≡ None }
     requires state { IsState M.automaton (state_of feeder.old) }
-    ensures pours { Pours feeder.old (T.remaining reader.old) feeder.new (T.remaining reader.new) }
+    ensures pours { Pours feeder.old (T.remaining reader.old) history.old.bytes feeder.new (T.remaining reader.new) history.new.bytes }
     ensures unfinished { is_complete feeder.new ≡ false }
     ensures running { halt_of feeder.new ≡ None }
     ensures state { IsState M.automaton (state_of feeder.new) }
@@ -129,6 +142,7 @@ fn pour_from<T: BufRead, M: Machine>(reader: &mut T, feeder: &mut Feeder<M>) -> 
     match reader.fill_buf() {
         Ok(bytes) => {
             let used = feeder.run(bytes);
+            history.note(&bytes[..used]);
             reader.consume(used);
             Ok(())
         }

@@ -23,7 +23,7 @@ pub fn pull<S: Source, M: Machine>(
     ensures pulls { (longest : ℕ) (start : M) (input : List ℕ) (marks : List (Spanned M.Event))
         → IsOpen (halt_of feeder.old)
         → StandsAt longest start input marks feeder.old
-        → Pulls longest start input marks feeder.old (S.left source.old) result feeder.new (S.left source.new) }
+        → Pulls longest start input marks feeder.old (S.left source.old) result feeder.new (S.left source.new) (S.history source.old) (S.history source.new) }
     // Pulls in a row are a read of what they have taken.
     ensures row { (longest : ℕ) (start : M) (before : Option (List ℕ)) (marks : List (Spanned M.Event))
         → HasPulled longest start before marks feeder.old (S.left source.old)

@@ -22,17 +22,20 @@ pub trait Source {
     /// The byte that a `peek` has shown and no `skip` has taken.
     ghost shown: { Self → Option ℕ };
 
+    /// The bytes that it has given: those that were taken of what its calls have shown.
+    ghost history: { Self → List ℕ };
+
     /// How often it has failed.
     ghost faults: { Self → ℕ };
 
     /// The next byte, or `None` at the end.
     fn peek(&mut self) -> Result<Option<u8>, Failed>
-        ensures { Peeks left shown faults self.old result self.new };
+        ensures { Peeks left shown history faults self.old result self.new };
 
     /// Takes the byte that the last call, a `peek`, has shown.
     fn skip(&mut self)
         requires { (b : ℕ) × (shown self.old ≡ Some b) }
-        ensures { Skips left faults self.old self.new };
+        ensures { Skips left shown history faults self.old self.new };
 
     /// Feeds bytes at hand to a feeder as long as the statement goes on that has begun, and takes those. It may take
     /// none, as it does where it is not written otherwise.
@@ -40,7 +43,7 @@ pub trait Source {
         requires unfinished { is_complete feeder.old ≡ false }
         requires running { halt_of feeder.old ≡ None }
         requires state { IsState M.automaton (state_of feeder.old) }
-        ensures pours { Pours feeder.old (left self.old) feeder.new (left self.new) }
+        ensures pours { Pours feeder.old (left self.old) (history self.old) feeder.new (left self.new) (history self.new) }
         ensures unfinished { is_complete feeder.new ≡ false }
         ensures running { halt_of feeder.new ≡ None }
         ensures state { IsState M.automaton (state_of feeder.new) }

@@ -4,7 +4,7 @@ ghost use Rattle.std.specs.Prelude.{Bool, true, false, ◌≡◌, ◌<◌, None,
 ghost use Rattle.pb_text.specs.Automaton.{Accepts, MayAsk};
 ghost use Rattle.pb_text.specs.Blank.{IsInReach};
 ghost use Rattle.pb_text.specs.Pulling.{faults_after};
-ghost use Rattle.pb_text.specs.Whole.{ReadsWhole};
+ghost use Rattle.pb_text.specs.Whole.{ReadsWhole, ReadsGiven};
 
 use crate::feeder::Feeder;
 use crate::machine::Machine;
@@ -44,6 +44,8 @@ pub fn read_whole<S: Source, M: Machine + Drop, G: Gather<Event = M::Event> + Dr
     requires between { M.automaton.begun machine ≡ false }
     requires some { 0 < longest }
     ensures reads { ReadsWhole (Accepts M.automaton machine) longest G.with empty (MayAsk M.automaton machine) G.asks (S.left source.old) result (S.left source.new) }
+    // Of any source, a file too: what was read is a spelling of the bytes that its calls have given.
+    ensures given { ReadsGiven (Accepts M.automaton machine) longest G.with empty (MayAsk M.automaton machine) G.asks (S.history source.old) result (S.history source.new) }
     ensures past { IfOk result (λ m. IsInReach m.past) }
     // `Read` comes only where the source failed.
     ensures faults { S.faults source.new ≡ faults_after None result (S.faults source.old) }

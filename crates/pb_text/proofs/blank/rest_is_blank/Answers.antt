@@ -3,7 +3,7 @@ use Rattle.pb_text.specs.Classes.{is_white}
 use Rattle.pb_text.specs.Spelling.{place_next}
 use Rattle.pb_text.specs.Blank.{passes, in_comment}
 use Rattle.pb_text.specs.declared.place.Place.{Place}
-use Rattle.pb_text.proofs.Pulled.{lost_byte, seen_byte}
+use Rattle.pb_text.proofs.Pulled.{lost_byte, given_byte, seen_byte}
 use Rattle.pb_text.proofs.Blanks.{IsBlank-snoc, in_comment-snoc, place_from-snoc, next_within}
 use Rattle.pb_text.proofs.blank.rest_is_blank.Goals as goal
 
@@ -44,5 +44,31 @@ loop-byte-preserved g c =
         c.after-at.ensures ∙ (ap (λ (q : Place). place_next q b) i.3 ∙ sym (place_from-snoc c.args.place i.0 b)),
         omega (arith, n.3, i.4, length-append i.0 (b ∷ [])),
         c.stays_in_comment-in_comment.ensures ∙ (ap (λ (x : Bool). not (nat_eq b 10) && (nat_eq b 42 || x)) i.5 ∙ sym (in_comment-snoc i.0 b)),
+        given_byte (g.S.Source.history c.args.source.now) i.0 (g.S.Source.history c.loop-byte.source) (g.S.Source.history c.peek.new.self) (g.S.Source.history c.skip.new.self) b i.6 p.4 (c.skip.ensures.2 b p.2),
       );
     }
+
+pub returns-then-at-eq-BYTE_LIMIT-clause-given : goal.returns-then-at-eq-BYTE_LIMIT-clause-given
+returns-then-at-eq-BYTE_LIMIT-clause-given g c =
+    let i = c.loop-byte.invariant.blank in
+    let p = rw (c.in-Ok-Some.is, c.in-Ok-Some.field-0-is) at c.peek.ensures in
+    (i.0, c.in-Ok-Some.byte ∷ [], p.4 ∙ i.6, i.2, i.3, ((λ e. cc), omega (arith, i.4, c.if-at-eq-BYTE_LIMIT.true)))
+
+pub returns-then-not-passes-clause-given : goal.returns-then-not-passes-clause-given
+returns-then-not-passes-clause-given g c =
+    let i = c.loop-byte.invariant.blank in
+    let p = rw (c.in-Ok-Some.is, c.in-Ok-Some.field-0-is) at c.peek.ensures in
+    let b : ℕ = c.in-Ok-Some.byte in
+    (i.0, b ∷ [], p.4 ∙ i.6, i.2, i.3, ([], refl, sym (at_comment i.0 b c.loop-byte.in_comment c.passes.result i.5 c.passes.ensures) ∙ c.if-not-passes.true, omega (arith, i.4, c.loop-byte.invariant.within, c.if-at-eq-BYTE_LIMIT.false)))
+
+pub returns-in-Ok-None-clause-given : goal.returns-in-Ok-None-clause-given
+returns-in-Ok-None-clause-given g c =
+    let i = c.loop-byte.invariant.blank in
+    let p = rw (c.in-Ok-None.is, c.in-Ok-None.field-0-is) at c.peek.ensures in
+    (i.0, p.3 ∙ i.6, i.2, omega (arith, i.4, c.loop-byte.invariant.within))
+
+pub returns-in-Err-clause-given : goal.returns-in-Err-clause-given
+returns-in-Err-clause-given g c =
+    let i = c.loop-byte.invariant.blank in
+    let p = rw c.in-Err.is at c.peek.ensures in
+    (i.0, [], p.2 ∙ i.6, i.2, i.3, tt)

@@ -1,4 +1,4 @@
-use Rattle.std.proofs.Common.{◌≡◌, ◌+◌, ◌-◌, ◌^◌, ◌≤◌, ℕ, List, length}
+use Rattle.std.proofs.Common.{◌≡◌, ◌+◌, ◌-◌, ◌^◌, ◌≤◌, ℕ, List, ◌++◌, length}
 use Rattle.pb_text.specs.Blank.{IsBlank, in_comment, place_from}
 use Rattle.pb_text.specs.Source.{Lost}
 use Rattle.pb_text.proofs.blank.rest_is_blank.Given as goal
@@ -10,7 +10,8 @@ invariant-loop-byte g l = record {
   line : l.at.line ≤ l.at.offset + (2 ^ 40 + 1);
   column : l.at.column ≤ l.at.offset + (2 ^ 40 + 1);
   faults : g.S.Source.faults l.source ≡ g.S.Source.faults l.fn.source;
-  blank : (used : List ℕ) × Lost (g.S.Source.left l.fn.source) used (g.S.Source.left l.source) × IsBlank used × (l.at ≡ place_from l.fn.place used) × (l.at.offset ≡ l.fn.place.offset + length used) × (l.in_comment ≡ in_comment used);
+  blank : (used : List ℕ) × Lost (g.S.Source.left l.fn.source) used (g.S.Source.left l.source) × IsBlank used × (l.at ≡ place_from l.fn.place used) × (l.at.offset ≡ l.fn.place.offset + length used) × (l.in_comment ≡ in_comment used)
+      × (g.S.Source.history l.source ≡ g.S.Source.history l.fn.source ++ used);
 }
 
 abbrev pub decreases-loop-byte : goal.decreases-loop-byte

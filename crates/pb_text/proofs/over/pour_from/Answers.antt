@@ -1,4 +1,4 @@
-use Rattle.std.proofs.Common.{[], take, subst, arith, append-nil, length-take-le}
+use Rattle.std.proofs.Common.{[], take, subst, sym, arith, append-nil, length-take-le}
 use Rattle.std.specs.Io.BufRead.{FillKeeps}
 use Rattle.std.proofs.BufReadLemmas.{Consumes_shown}
 use Rattle.pb_text.proofs.Pulled.{lost_kept, lost_consumed}
@@ -15,6 +15,7 @@ returns-in-Ok-clause-pours g c =
     let moved = Consumes_shown _ _ _ _ shown used.result used.ensures.bound c.in-Ok.ensures.front c.in-Ok.ensures.end filled.0 filled.1 c.consume.ensures.bytes in
     record {
       taken = take used.result shown;
+      given_are = c.note.ensures;
       lost = lost_consumed before after (take used.result shown) moved.0;
       offset_is = omega (arith, used.ensures.offset, length-take-le used.result shown used.ensures.bound);
       stands = used.ensures.stands;
@@ -25,6 +26,7 @@ returns-in-Err-clause-pours g c =
     let rested = c.fill_buf.follows.lender-at-none in
     record {
       taken = [];
+      given_are = sym (append-nil c.args.history.now.bytes);
       lost = lost_kept (g.T.Read.remaining c.args.reader.now) (g.T.Read.remaining rested) c.fill_buf.follows.holds-at-none.0;
       offset_is = omega arith;
       stands = λ longest start input marks s. rw append-nil s;

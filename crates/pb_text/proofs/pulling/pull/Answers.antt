@@ -5,7 +5,7 @@ use Rattle.pb_text.specs.declared.place.Place.{Place}
 use Rattle.pb_text.specs.declared.place.Stop.{Stop}
 use Rattle.pb_text.specs.Feeding.{StandsAt}
 use Rattle.pb_text.proofs.Begin.{stands_more, stands_ended, stands_failed}
-use Rattle.pb_text.proofs.Pulled.{given_more, lost_nothing, lost_byte, seen_byte, seen_end, seen_rest, seen_after, faults_with_other}
+use Rattle.pb_text.proofs.Pulled.{given_more, lost_nothing, lost_byte, given_byte, seen_byte, seen_end, seen_rest, seen_after, faults_with_other}
 use Rattle.pb_text.proofs.Rows.{row}
 use Rattle.pb_text.proofs.pulling.pull.Goals as goal
 
@@ -31,6 +31,7 @@ returns-in-Some-clause-pulls g c longest start input marks counts s =
       taken = [];
       seen = seen.0;
       took = seen.1;
+      given_are = sym (append-nil (g.S.Source.history c.args.source.now));
       offset_is = omega arith;
       stands = (s.0, rw append-nil (stands_more g.M.Machine.automaton longest start f.machine input marks f.place f.first seen.0 f.stop counts (λ e. cc) s.1));
     }
@@ -45,6 +46,7 @@ returns-then-is_done-clause-pulls g c longest start input marks counts s =
       taken = [];
       seen = seen.0;
       took = seen.1;
+      given_are = sym (append-nil (g.S.Source.history c.args.source.now));
       offset_is = omega arith;
       stands = (s.0, rw append-nil (stands_more g.M.Machine.automaton longest start f.machine input marks f.place f.first seen.0 f.stop counts (λ e. done) s.1));
     }
@@ -56,12 +58,12 @@ loop-feeder-init g c = record {
   state = c.is_done.ensures.state;
   onward = omega arith;
   faults = refl;
-  stands = λ longest start input marks s. ([], lost_nothing (g.S.Source.left c.args.source.now), omega arith, rw append-nil s);
+  stands = λ longest start input marks s. ([], lost_nothing (g.S.Source.left c.args.source.now), omega arith, rw append-nil s, sym (append-nil (g.S.Source.history c.args.source.now)));
 }
 
 pub returns-then-is_err-clause-pulls : goal.returns-then-is_err-clause-pulls
 returns-then-is_err-clause-pulls g c longest start input marks counts s =
-    let i = given_more longest start input marks c.args.feeder.now c.loop-feeder.feeder c.pour.new.feeder (g.S.Source.left c.args.source.now) (g.S.Source.left c.loop-feeder.source) (g.S.Source.left c.pour.new.self) (c.loop-feeder.invariant.stands longest start input marks s) c.pour.ensures.pours in
+    let i = given_more longest start input marks c.args.feeder.now c.loop-feeder.feeder c.pour.new.feeder (g.S.Source.left c.args.source.now) (g.S.Source.left c.loop-feeder.source) (g.S.Source.left c.pour.new.self) (g.S.Source.history c.args.source.now) (g.S.Source.history c.loop-feeder.source) (g.S.Source.history c.pour.new.self) (c.loop-feeder.invariant.stands longest start input marks s) c.pour.ensures.pours in
     let f = c.pour.new.feeder in
     let k : Stands g.M.Machine.automaton longest start (input ++ i.0) marks f.machine f.place f.first None =
     subst (λ (o : Option Stop). Stands g.M.Machine.automaton longest start (input ++ i.0) marks f.machine f.place f.first o) c.pour.ensures.running i.3.1 in
@@ -71,13 +73,14 @@ returns-then-is_err-clause-pulls g c longest start input marks counts s =
       taken = i.0;
       seen = seen.0;
       took = seen.1;
+      given_are = i.4;
       offset_is = ap (λ (q : Place). q.offset) c.halt.ensures.place ∙ i.2;
       stands = (c.halt.ensures.longest ∙ i.3.0, rw (append-nil, ← append_assoc input i.0 seen.0, c.halt.ensures.stop, c.halt.ensures.result, c.halt.ensures.machine, c.halt.ensures.place, c.halt.ensures.first) e);
     }
 
 pub returns-in-Ok-None-clause-pulls : goal.returns-in-Ok-None-clause-pulls
 returns-in-Ok-None-clause-pulls g c longest start input marks counts s =
-    let i = given_more longest start input marks c.args.feeder.now c.loop-feeder.feeder c.pour.new.feeder (g.S.Source.left c.args.source.now) (g.S.Source.left c.loop-feeder.source) (g.S.Source.left c.pour.new.self) (c.loop-feeder.invariant.stands longest start input marks s) c.pour.ensures.pours in
+    let i = given_more longest start input marks c.args.feeder.now c.loop-feeder.feeder c.pour.new.feeder (g.S.Source.left c.args.source.now) (g.S.Source.left c.loop-feeder.source) (g.S.Source.left c.pour.new.self) (g.S.Source.history c.args.source.now) (g.S.Source.history c.loop-feeder.source) (g.S.Source.history c.pour.new.self) (c.loop-feeder.invariant.stands longest start input marks s) c.pour.ensures.pours in
     let f = c.pour.new.feeder in
     let p = rw (c.in-Ok-None.is, c.in-Ok-None.field-0-is) at c.peek.ensures in
     let k : Stands g.M.Machine.automaton longest start (input ++ i.0) marks f.machine f.place f.first None =
@@ -87,13 +90,14 @@ returns-in-Ok-None-clause-pulls g c longest start input marks counts s =
       taken = i.0;
       seen = [];
       took = seen_end (g.S.Source.left c.args.source.now) i.0 (g.S.Source.left c.pour.new.self) (g.S.Source.left c.peek.new.self) i.1 p.0 p.1;
+      given_are = p.3 ∙ i.4;
       offset_is = ap (λ (q : Place). q.offset) c.halt-in-Ok-None.ensures.place ∙ i.2;
       stands = (c.halt-in-Ok-None.ensures.longest ∙ i.3.0, rw (append-nil, append-nil, c.halt-in-Ok-None.ensures.stop, c.halt-in-Ok-None.ensures.result, c.halt-in-Ok-None.ensures.machine, c.halt-in-Ok-None.ensures.place, c.halt-in-Ok-None.ensures.first) e);
     }
 
 pub returns-in-Err-clause-pulls : goal.returns-in-Err-clause-pulls
 returns-in-Err-clause-pulls g c longest start input marks counts s =
-    let i = given_more longest start input marks c.args.feeder.now c.loop-feeder.feeder c.pour.new.feeder (g.S.Source.left c.args.source.now) (g.S.Source.left c.loop-feeder.source) (g.S.Source.left c.pour.new.self) (c.loop-feeder.invariant.stands longest start input marks s) c.pour.ensures.pours in
+    let i = given_more longest start input marks c.args.feeder.now c.loop-feeder.feeder c.pour.new.feeder (g.S.Source.left c.args.source.now) (g.S.Source.left c.loop-feeder.source) (g.S.Source.left c.pour.new.self) (g.S.Source.history c.args.source.now) (g.S.Source.history c.loop-feeder.source) (g.S.Source.history c.pour.new.self) (c.loop-feeder.invariant.stands longest start input marks s) c.pour.ensures.pours in
     let f = c.pour.new.feeder in
     let p = rw c.in-Err.is at c.peek.ensures in
     let k : Stands g.M.Machine.automaton longest start (input ++ i.0) marks f.machine f.place f.first None =
@@ -104,6 +108,7 @@ returns-in-Err-clause-pulls g c longest start input marks counts s =
       taken = i.0;
       seen = seen.0;
       took = seen.1;
+      given_are = p.2 ∙ i.4;
       offset_is = ap (λ (q : Place). q.offset) c.halt-in-Err.ensures.place ∙ i.2;
       stands = (c.halt-in-Err.ensures.longest ∙ i.3.0, rw (append-nil, ← append_assoc input i.0 seen.0, c.halt-in-Err.ensures.stop, c.halt-in-Err.ensures.result, c.halt-in-Err.ensures.machine, c.halt-in-Err.ensures.place, c.halt-in-Err.ensures.first) e);
     }
@@ -120,13 +125,14 @@ loop-feeder-preserved g c =
       onward = further c.args.feeder.now.place.offset c.loop-feeder.feeder.place.offset c.pour.new.feeder.place.offset c.take.new.self.place.offset (length c.pour.ensures.pours.taken) c.loop-feeder.invariant.onward c.pour.ensures.pours.offset_is t.offset;
       faults = c.skip.ensures.1 ∙ (p.3 ∙ (no_fault c.pour.result (g.S.Source.faults c.pour.new.self ≡ g.S.Source.faults c.loop-feeder.source) c.pour.ensures.ok (sym c.is_err.ensures.value ∙ c.if-is_err.false) ∙ c.loop-feeder.invariant.faults));
       stands = λ longest start input marks s.
-          let i = given_more longest start input marks c.args.feeder.now c.loop-feeder.feeder c.pour.new.feeder (g.S.Source.left c.args.source.now) (g.S.Source.left c.loop-feeder.source) (g.S.Source.left c.pour.new.self) (c.loop-feeder.invariant.stands longest start input marks s) c.pour.ensures.pours in
+          let i = given_more longest start input marks c.args.feeder.now c.loop-feeder.feeder c.pour.new.feeder (g.S.Source.left c.args.source.now) (g.S.Source.left c.loop-feeder.source) (g.S.Source.left c.pour.new.self) (g.S.Source.history c.args.source.now) (g.S.Source.history c.loop-feeder.source) (g.S.Source.history c.pour.new.self) (c.loop-feeder.invariant.stands longest start input marks s) c.pour.ensures.pours in
           let k = t.stands longest start (input ++ i.0) marks i.3 in
           let m : StandsAt longest start (input ++ (i.0 ++ b ∷ [])) marks c.take.new.self = rw (← append_assoc input i.0 (b ∷ [])) (rw append-nil at k) in (
             i.0 ++ b ∷ [],
             lost_byte (g.S.Source.left c.args.source.now) i.0 (g.S.Source.left c.pour.new.self) (g.S.Source.left c.peek.new.self) (g.S.Source.left c.skip.new.self) b i.1 p.0 p.1 c.skip.ensures.0,
             one_more c.args.feeder.now.place.offset c.pour.new.feeder.place.offset c.take.new.self.place.offset i.0 b i.2 t.offset,
             m,
+            given_byte (g.S.Source.history c.args.source.now) i.0 (g.S.Source.history c.pour.new.self) (g.S.Source.history c.peek.new.self) (g.S.Source.history c.skip.new.self) b i.4 p.4 (c.skip.ensures.2 b p.2),
           );
     }
 
@@ -135,7 +141,7 @@ returns-in-Ok-Some-take-clause-pulls g c longest start input marks counts s =
     let t = rw (c.in-Ok-Some-take.is, c.in-Ok-Some-take.field-0-is) at c.take.ensures in
     let p = rw (c.in-Ok-Some.is, c.in-Ok-Some.field-0-is) at c.peek.ensures in
     let b : ℕ = c.in-Ok-Some.byte in
-    let i = given_more longest start input marks c.args.feeder.now c.loop-feeder.feeder c.pour.new.feeder (g.S.Source.left c.args.source.now) (g.S.Source.left c.loop-feeder.source) (g.S.Source.left c.pour.new.self) (c.loop-feeder.invariant.stands longest start input marks s) c.pour.ensures.pours in
+    let i = given_more longest start input marks c.args.feeder.now c.loop-feeder.feeder c.pour.new.feeder (g.S.Source.left c.args.source.now) (g.S.Source.left c.loop-feeder.source) (g.S.Source.left c.pour.new.self) (g.S.Source.history c.args.source.now) (g.S.Source.history c.loop-feeder.source) (g.S.Source.history c.pour.new.self) (c.loop-feeder.invariant.stands longest start input marks s) c.pour.ensures.pours in
     let k = t.stands longest start (input ++ i.0) marks i.3 in
     let last = g.S.Source.left c.skip-in-Ok-Some-take.new.self in
     let lost = lost_byte (g.S.Source.left c.args.source.now) i.0 (g.S.Source.left c.pour.new.self) (g.S.Source.left c.peek.new.self) last b i.1 p.0 p.1 c.skip-in-Ok-Some-take.ensures.0 in
@@ -144,6 +150,7 @@ returns-in-Ok-Some-take-clause-pulls g c longest start input marks counts s =
       taken = i.0 ++ b ∷ [];
       seen = seen.0;
       took = seen.1;
+      given_are = given_byte (g.S.Source.history c.args.source.now) i.0 (g.S.Source.history c.pour.new.self) (g.S.Source.history c.peek.new.self) (g.S.Source.history c.skip-in-Ok-Some-take.new.self) b i.4 p.4 (c.skip-in-Ok-Some-take.ensures.2 b p.2);
       offset_is = one_more c.args.feeder.now.place.offset c.pour.new.feeder.place.offset c.take.new.self.place.offset i.0 b i.2 t.offset;
       stands = rw (← append_assoc input i.0 (b ∷ [])) k;
     }
@@ -154,7 +161,7 @@ returns-in-Err-take-clause-pulls g c longest start input marks counts s =
     let p = rw (c.in-Ok-Some.is, c.in-Ok-Some.field-0-is) at c.peek.ensures in
     let b : ℕ = c.in-Ok-Some.byte in
     let n = c.take.new.self in
-    let i = given_more longest start input marks c.args.feeder.now c.loop-feeder.feeder c.pour.new.feeder (g.S.Source.left c.args.source.now) (g.S.Source.left c.loop-feeder.source) (g.S.Source.left c.pour.new.self) (c.loop-feeder.invariant.stands longest start input marks s) c.pour.ensures.pours in
+    let i = given_more longest start input marks c.args.feeder.now c.loop-feeder.feeder c.pour.new.feeder (g.S.Source.left c.args.source.now) (g.S.Source.left c.loop-feeder.source) (g.S.Source.left c.pour.new.self) (g.S.Source.history c.args.source.now) (g.S.Source.history c.loop-feeder.source) (g.S.Source.history c.pour.new.self) (c.loop-feeder.invariant.stands longest start input marks s) c.pour.ensures.pours in
     let k = t.stands longest start (input ++ i.0) marks i.3 in
     let seen = seen_byte (g.S.Source.left c.args.source.now) i.0 (g.S.Source.left c.pour.new.self) (g.S.Source.left c.peek.new.self) b i.1 p.0 p.1 in
     let m = stands_more g.M.Machine.automaton longest start n.machine ((input ++ i.0) ++ b ∷ []) (marks ++ []) n.place n.first seen.0 n.stop t.counted (λ e. cc t.stop) k.1 in
@@ -163,6 +170,7 @@ returns-in-Err-take-clause-pulls g c longest start input marks counts s =
       taken = i.0;
       seen = b ∷ seen.0;
       took = seen.1;
+      given_are = p.4 ∙ i.4;
       offset_is = t.still ∙ i.2;
       stands = (k.0, subst (λ (x : List ℕ). Stands g.M.Machine.automaton longest start x (marks ++ []) n.machine n.place n.first n.stop) same m);
     }

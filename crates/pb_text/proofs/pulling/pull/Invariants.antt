@@ -14,7 +14,7 @@ invariant-loop-feeder g l = record {
   onward : l.fn.feeder.place.offset ≤ l.feeder.place.offset;
   faults : g.S.Source.faults l.source ≡ g.S.Source.faults l.fn.source;
   stands : (longest : ℕ) (start : _) (input : List ℕ) (marks : List (Spanned _)) → StandsAt longest start input marks l.fn.feeder
-      → Given longest start input marks l.fn.feeder (g.S.Source.left l.fn.source) l.feeder (g.S.Source.left l.source);
+      → Given longest start input marks l.fn.feeder (g.S.Source.left l.fn.source) l.feeder (g.S.Source.left l.source) (g.S.Source.history l.fn.source) (g.S.Source.history l.source);
 }
 
 abbrev pub decreases-loop-feeder : goal.decreases-loop-feeder

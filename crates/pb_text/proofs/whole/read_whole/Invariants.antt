@@ -1,4 +1,4 @@
-use Rattle.std.proofs.Common.{◌≡◌, ◌+◌, ◌-◌, ◌^◌, ℕ, List, None, map, length}
+use Rattle.std.proofs.Common.{◌≡◌, ◌+◌, ◌-◌, ◌^◌, ℕ, List, ◌++◌, None, map, length}
 use Rattle.pb_text.specs.declared.place.Spanned.{Spanned}
 use Rattle.pb_text.specs.Feeding.{StandsAt}
 use Rattle.pb_text.specs.Whole.{gathered}
@@ -11,7 +11,8 @@ invariant-loop-spanned g l = record {
   running : l.feeder.stop ≡ None;
   faults : g.S.Source.faults l.source ≡ g.S.Source.faults l.fn.source;
   stands : (taken : List ℕ) × (marks : List (Spanned _)) × Lost (g.S.Source.left l.fn.source) taken (g.S.Source.left l.source) × (l.feeder.place.offset ≡ length taken)
-      × (l.value ≡ gathered g.G.Gather.with l.fn.empty (map (λ m. m.event) marks)) × StandsAt l.fn.longest l.fn.machine taken marks l.feeder;
+      × (l.value ≡ gathered g.G.Gather.with l.fn.empty (map (λ m. m.event) marks)) × StandsAt l.fn.longest l.fn.machine taken marks l.feeder
+      × (g.S.Source.history l.source ≡ g.S.Source.history l.fn.source ++ taken);
 }
 
 abbrev pub decreases-loop-spanned : goal.decreases-loop-spanned

@@ -1,10 +1,11 @@
-use Rattle.std.proofs.Common.{[], arith, append-nil}
+use Rattle.std.proofs.Common.{[], sym, arith, append-nil}
 use Rattle.pb_text.proofs.Pulled.{lost_nothing}
 use Rattle.pb_text.proofs.source.Source.pour.Goals as goal
 
 pub returns-clause-pours : goal.returns-clause-pours
 returns-clause-pours g c = record {
   taken = [];
+  given_are = sym (append-nil (g.Self.Source.history c.args.self.now));
   lost = lost_nothing (g.Self.Source.left c.args.self.now);
   offset_is = omega arith;
   stands = λ longest start input marks s. rw append-nil s;

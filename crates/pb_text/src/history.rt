@@ -1,0 +1,33 @@
+//! A list of bytes that only clauses read.
+
+ghost use Rattle.std.specs.Prelude.{◌≡◌, ℕ, List, [], ◌++◌};
+ghost use Rattle.std.specs.Borrow.{ftrue};
+
+use std::marker::{Model, PhantomData};
+
+/// Bytes that were taken. It takes no memory, and its methods do nothing when they run.
+#[derive(Drop)]
+pub struct History {
+    marker: PhantomData<u8>,
+    pub ghost bytes: { List ℕ },
+}
+
+impl Model for History {
+    ghost also_owns = { λ _. ftrue };
+}
+
+impl History {
+    /// No bytes.
+    pub(crate) fn new() -> History
+        ensures { result.bytes ≡ [] }
+    {
+        History {
+            marker: PhantomData,
+        }
+    }
+
+    /// These bytes more.
+    pub(crate) fn note(&mut self, _bytes: &[u8])
+        ensures { self.new.bytes ≡ self.old.bytes ++ _bytes.now }
+    {}
+}
