@@ -1,6 +1,7 @@
 pub mod Asking
 pub mod Building
 pub mod Canonical
+pub mod Fields
 pub mod Formats
 pub mod Instances
 pub mod Led

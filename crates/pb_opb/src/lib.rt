@@ -3,6 +3,7 @@
 
 mod building;
 mod event;
+mod fields;
 mod instance;
 mod laws;
 mod machine;
@@ -17,6 +18,7 @@ mod tests;
 mod write;
 
 pub use event::OpbEvent;
+pub use fields::keeps_its_state;
 pub use instance::{Comment, Instance};
 pub use laws::{
     canonical_instance_spells, fixed_marks, instances_are_exact, instances_are_values,

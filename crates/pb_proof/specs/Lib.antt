@@ -6,6 +6,7 @@ pub mod ClaimState
 pub mod Count
 pub mod Ended
 pub mod Finished
+pub mod Fields
 pub mod Formats
 pub mod Goal
 pub mod Ids

@@ -11,6 +11,7 @@ mod classes;
 mod conclusion;
 mod count;
 mod count_phase;
+mod fields;
 mod goal;
 mod goal_phase;
 mod ids;
@@ -47,6 +48,7 @@ mod word;
 mod write;
 
 pub use conclusion::{Bound, Conclusion};
+pub use fields::keeps_its_state;
 pub use laws::{fixed_marks, larger_limits, no_front, one_proof, proofs_are_exact};
 pub use laws_of_values::{
     canonical_proof_spells, one_value, postfix_words, proofs_are_values, reads_are_of_proofs,

@@ -1,5 +1,6 @@
 pub mod Asking
 pub mod Sums
+pub mod Kept
 pub mod Machine
 pub mod Prefix
 pub mod State

@@ -1,5 +1,6 @@
 //! The laws of the grammar and of the machine.
 
+ghost use Rattle.pb_sums.specs.Kept.{KeepsItsState};
 ghost use Rattle.pb_sums.specs.Statements.{ReadsGrammar, EndsLast, EachReads, EachIsState, OneValue, NoFront, LargerLimits, CanonicalLinear, CanonicalSum, CanonicalBytes};
 
 /// A new machine reads exactly the grammar, and each state that has not ended reads something.
@@ -30,4 +31,9 @@ pub fn canonical_spells()
     ensures linear { CanonicalLinear }
     ensures sum { CanonicalSum }
     ensures bytes { CanonicalBytes }
+{}
+
+/// A machine keeps nothing beside its state and its allocator.
+pub fn keeps_its_state()
+    ensures { KeepsItsState }
 {}

@@ -41,12 +41,9 @@ impl Model for SumMachine {
 
     ghost Value = { SumState };
 
-    ghost view = { λ m. record {
-      spaces = m.spaces;
-      part = m.part;
-      limit = m.limit;
-      work = record { terms = m.terms; name = m.name; phase = m.phase };
-    } };
+    ghost use Rattle.pb_sums.specs.Kept.{state_of};
+
+    ghost view = { state_of };
 
     ghost invariant = { λ m. (m.limit < 2 ^ 127) × IsInOrder m.limit (record { terms = m.terms; name = m.name; phase = m.phase }) };
 }

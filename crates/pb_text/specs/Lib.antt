@@ -9,6 +9,7 @@ pub mod Limit
 pub mod Limits
 pub mod Numbers
 pub mod Over
+pub mod Parts
 pub mod Pouring
 pub mod Pulling
 pub mod Reading

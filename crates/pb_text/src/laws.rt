@@ -2,6 +2,7 @@
 
 ghost use Rattle.std.specs.Prelude.{◌≡◌, ℕ, List, [], Bool, Result};
 ghost use Rattle.pb_text.specs.Automaton.{Accepts};
+ghost use Rattle.pb_text.specs.Parts.{KeepsItsParts};
 ghost use Rattle.pb_text.specs.Reading.{Reads, HasFixedMarks};
 ghost use Rattle.pb_text.specs.Standing.{IsOpen, IsUnread};
 ghost use Rattle.pb_text.specs.Feeding.{StandsAt, Feeds, input_fed, marks_answered, place_of, halt_of, is_complete};
@@ -31,4 +32,10 @@ pub fn any_cutting<M: Machine>()
 /// places.
 pub fn fixed_marks<M: Machine>()
     ensures { (start : M) → HasFixedMarks (Accepts M.automaton start) }
+{}
+
+/// A feeder keeps nothing beside its machine, the places of the next byte and of the statement that has begun, its
+/// limit and its stop.
+pub fn keeps_its_parts<M: Machine>()
+    ensures { KeepsItsParts M M.Event M.Machine }
 {}

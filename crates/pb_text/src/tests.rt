@@ -8,7 +8,7 @@ use crate::{
     Failed, Feeder, Gather, Limits, Over, Place, Source, Stop, Why, pull, read_whole,
     rest_is_blank, unread, write_bytes,
 };
-use std::alloc::AllocError;
+use std::alloc::{AllocError, Global};
 use std::test::Fail;
 
 fn place(line: u64, column: u64, offset: u64) -> Place
@@ -127,7 +127,27 @@ fn a_reader_that_fails_stops_after_the_last_byte_taken(rt: HostRuntime) {
         let want = stop(place(1, taken + 1, taken), Why::Read);
         assert!(rt; matches!(&last, Err(s) if *s == want), "at call {calls}");
         assert_eq!(rt; source.failures(), 1);
-        assert_eq!(rt; source.into_inner().left.len() as u64, 6 - taken);
+        let reader = source.into_inner();
+        assert_eq!(rt; reader.left.len() as u64, 6 - taken);
+        assert_eq!(rt; reader.calls, calls);
+    }
+}
+
+#[test]
+fn the_end_and_a_zero_byte_are_no_failures(rt: HostRuntime) {
+    for (text, why) in [
+        (b"7; 4".as_slice(), Why::Ended),
+        (b"7; 4\0".as_slice(), Why::Byte(0)),
+        (b"7; \0".as_slice(), Why::Byte(0)),
+    ] {
+        for most in [1, 9] {
+            let mut source = Over::new(FaultyReader {
+                most,
+                ..FaultyReader::new(text)
+            });
+            assert!(rt; matches!(pull_all(&mut source), Err(stop) if stop.why == why));
+            assert_eq!(rt; source.failures(), 0);
+        }
     }
 }
 
@@ -190,6 +210,14 @@ fn the_rest_is_too_long_at_the_limit(rt: HostRuntime) {
     );
 }
 
+fn long_text(alloc: Global) -> Result<Vec<u8>, AllocError> {
+    let mut text = Vec::new(alloc);
+    for _ in 0..1u32 << 17 {
+        text.push(b'a')?;
+    }
+    Ok(text)
+}
+
 #[test]
 fn writes_all_or_a_front(rt: HostRuntime) -> Result<(), Fail> {
     for most in [1, 2, 9] {
@@ -200,6 +228,12 @@ fn writes_all_or_a_front(rt: HostRuntime) -> Result<(), Fail> {
         assert!(rt; write_bytes(b"abcd", &mut out) == Ok(()));
         assert!(rt; out.into_inner().taken.as_slice() == b"abcd".as_slice());
     }
+    let mut out = Over::new(FaultyWriter::new(Vec::new(rt.alloc())));
+    let long = long_text(rt.alloc())?;
+    assert!(rt; write_bytes(long.as_slice(), &mut out) == Ok(()));
+    let writer = out.into_inner();
+    assert_eq!(rt; writer.taken.len(), 1 << 17);
+    assert_eq!(rt; writer.calls, 1);
     for (most, fails_at, left) in [(1, Some(3), 2), (2, Some(1), 0), (0, None, 0)] {
         let mut out = Over::new(FaultyWriter {
             most,

@@ -1,0 +1,61 @@
+-- What the machines of proofs keep.
+use Rattle.std.specs.Prelude.{◌≡◌}
+use Rattle.pb_text.specs.Limits.{largest, top_of}
+use Rattle.pb_proof.specs.Count.{CountState}
+use Rattle.pb_proof.specs.Ids.{IdsState}
+use Rattle.pb_proof.specs.Literals.{LiteralsState}
+use Rattle.pb_proof.specs.Goal.{GoalState}
+use Rattle.pb_proof.specs.ClaimState.{ClaimState}
+use Rattle.pb_proof.specs.PolState.{PolState}
+use Rattle.pb_proof.specs.State.{ProofState}
+use Rattle.pb_proof.specs.declared.count.CountMachine.TheInside.{Inside as CountFields}
+use Rattle.pb_proof.specs.declared.ids.IdsMachine.TheInside.{Inside as IdsFields}
+use Rattle.pb_proof.specs.declared.literals.LiteralsMachine.TheInside.{Inside as LiteralsFields}
+use Rattle.pb_proof.specs.declared.goal.GoalMachine.TheInside.{Inside as GoalFields}
+use Rattle.pb_proof.specs.declared.claim.ClaimMachine.TheInside.{Inside as ClaimFields}
+use Rattle.pb_proof.specs.declared.pol.PolMachine.TheInside.{Inside as PolFields}
+use Rattle.pb_proof.specs.declared.machine.ProofMachine.TheInside.{Inside as ProofFields}
+
+-- the states that their fields are
+abbrev pub count_state : CountFields → CountState
+count_state m = record { top = m.top; phase = m.phase }
+
+abbrev pub ids_state : IdsFields → IdsState
+ids_state m = record { top = m.top; ids = m.ids; phase = m.phase }
+
+abbrev pub literals_state : LiteralsFields → LiteralsState
+literals_state m = record { joined = m.joined; literals = m.literals; name = m.name; phase = m.phase }
+
+abbrev pub goal_state : GoalFields → GoalState
+goal_state m = record { phase = m.phase; inner = m.inner; linear = m.linear }
+
+abbrev pub claim_state : ClaimFields → ClaimState
+claim_state m = record { limit = largest m.limits; top = top_of m.limits; phase = m.phase; inner = m.inner }
+
+abbrev pub pol_state : PolFields → PolState
+pol_state m = record { limit = m.limit; top = m.top; work = record { words = m.words.items; depth = m.depth; name = m.name; phase = m.phase } }
+
+abbrev pub proof_state : ProofFields → ProofState
+proof_state m = record { limit = largest m.limits; top = top_of m.limits; phase = m.phase; inner = m.inner }
+
+-- Each keeps nothing beside its state, and the allocator, the limits and the vector of words where it has them.
+abbrev pub CountKeeps : Type 0
+CountKeeps = (a b : CountFields) → count_state a ≡ count_state b → a ≡ b
+
+abbrev pub IdsKeeps : Type 0
+IdsKeeps = (a b : IdsFields) → a.alloc ≡ b.alloc → ids_state a ≡ ids_state b → a ≡ b
+
+abbrev pub LiteralsKeeps : Type 0
+LiteralsKeeps = (a b : LiteralsFields) → a.alloc ≡ b.alloc → literals_state a ≡ literals_state b → a ≡ b
+
+abbrev pub GoalKeeps : Type 0
+GoalKeeps = (a b : GoalFields) → goal_state a ≡ goal_state b → a ≡ b
+
+abbrev pub ClaimKeeps : Type 0
+ClaimKeeps = (a b : ClaimFields) → a.alloc ≡ b.alloc → a.limits ≡ b.limits → claim_state a ≡ claim_state b → a ≡ b
+
+abbrev pub PolKeeps : Type 0
+PolKeeps = (a b : PolFields) → a.alloc ≡ b.alloc → a.words ≡ b.words → pol_state a ≡ pol_state b → a ≡ b
+
+abbrev pub ProofKeeps : Type 0
+ProofKeeps = (a b : ProofFields) → a.alloc ≡ b.alloc → a.limits ≡ b.limits → proof_state a ≡ proof_state b → a ≡ b
