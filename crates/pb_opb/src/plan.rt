@@ -9,7 +9,7 @@ ghost use Rattle.pb_opb.specs.Order.{PhaseFits, MoveFits};
 use crate::phase::{Field, Move, Phase};
 
 /// Space, tab or carriage return.
-fn is_blank(byte: u8) -> bool
+pub fn is_blank(byte: u8) -> bool
     ensures { result ≡ is_blank byte }
 {
     byte == b' ' || byte == b'\t' || byte == b'\r'

@@ -7,15 +7,9 @@ ghost use Rattle.pb_opb.specs.Instances.{IsTail, IsInLine};
 ghost use Rattle.pb_opb.specs.Values.{IsObjective, AreLinears, AreComments, IsInstanceValue};
 
 use crate::instance::{Comment, Instance};
+use crate::plan::is_blank;
 use pb_sums::{Linear, Term, linear_is_value, sum_is_value};
 use pb_text::{Limits, Sequence};
-
-/// Whether a byte is a space, a tab or a carriage return.
-fn is_blank(byte: u8) -> bool
-    ensures { result ≡ is_blank byte }
-{
-    byte == b' ' || byte == b'\t' || byte == b'\r'
-}
 
 /// Whether there is no line feed.
 fn is_in_line(bytes: &[u8]) -> bool

@@ -84,11 +84,11 @@ module _ (limit top longest : ℕ) (accepted : List (Item Statement) → Type 0)
       (unkept_place accepted longest one_more b may_ask keeps used s u)
 
   -- a stop for want of memory
-  pub wants_in : (b : Building) (may_ask : List ℕ → ℕ → Type 0) (seen : List ℕ) (s : Stop) → StopsAfter accepted longest one_more b may_ask keeps used seen s → s.why ≡ Memory
-      → WantsIn (IsProof limit top) longest may_ask MayKeep used seen s
-  wants_in b may_ask seen s (reading marks r a) e =
+  pub wants_in : (b : Building) (may_ask may_ask' : List ℕ → ℕ → Type 0) → ((c : ℕ) → may_ask used c → may_ask' used c) → (seen : List ℕ) (s : Stop)
+      → StopsAfter accepted longest one_more b may_ask keeps used seen s → s.why ≡ Memory → WantsIn (IsProof limit top) longest may_ask' MayKeep used seen s
+  wants_in b may_ask may_ask' to seen s (reading marks r a) e =
       let k = subst (λ (x : Why). IsAsking accepted longest one_more b may_ask used seen x) e a in
-      Asking marks (formats.reads accepted (IsProof limit top) only each longest _ used marks s.place _ _ r) k.0 k.1 k.2 k.3
-  wants_in b may_ask seen s (keeping u) e =
+      Asking marks (formats.reads accepted (IsProof limit top) only each longest _ used marks s.place _ _ r) k.0 k.1 k.2 (to k.0 k.3)
+  wants_in b may_ask may_ask' to seen s (keeping u) e =
       Ending u.marks u.last u.done (formats.reads accepted (IsProof limit top) only each longest used used (u.marks ++ u.last ∷ []) u.last.past u.done None u.reads)
       u.asking (ap (λ (t : Stop). t.place) u.stop_is)

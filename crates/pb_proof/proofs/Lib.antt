@@ -1,5 +1,6 @@
 mod Carried
 mod Choices
+mod ClaimAsks
 pub mod ClaimBytes
 pub mod ClaimEach
 pub mod ClaimFront
@@ -52,6 +53,7 @@ mod PolUnits
 mod PolWalks
 mod PostfixLaws
 mod ProofAlive
+mod ProofAsks
 mod ProofComplete
 mod ProofExact
 mod ProofGaps

@@ -6,6 +6,7 @@ ghost use Rattle.pb_text.specs.Limits.{largest};
 ghost use Rattle.pb_sums.specs.State.{units};
 ghost use Rattle.pb_proof.specs.Goal.{goal_plan, goal_done, linear_of, units_in};
 
+use crate::classes::is_blank;
 use crate::goal_phase::{GoalMove, GoalPhase};
 use pb_sums::{Linear, Part, Relation, Spaces, SumEvent, SumMachine, Term};
 use pb_text::{Limits, Machine, Push};
@@ -29,13 +30,6 @@ impl Model for GoalMachine {
     ghost view = { λ m. record { phase = m.phase; inner = m.inner; linear = m.linear } };
 
     ghost invariant = { λ m. IsGoalInOrder (record { phase = m.phase; inner = m.inner; linear = m.linear }) };
-}
-
-/// Space, tab or carriage return.
-fn is_blank(byte: u8) -> bool
-    ensures { result ≡ is_blank byte }
-{
-    byte == b' ' || byte == b'\t' || byte == b'\r'
 }
 
 /// What a machine does with a byte.

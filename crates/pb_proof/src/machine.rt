@@ -51,12 +51,14 @@ fn replace(inner: &mut Option<Inner>, next: Option<Inner>)
 
 impl ProofMachine {
     ghost use Rattle.std.specs.Prelude.{ℕ, List, Bool, ◌↔◌};
-    ghost use Rattle.pb_text.specs.Automaton.{Accepts};
+    ghost use Rattle.pb_text.specs.Asking.{AsksOnly};
+    ghost use Rattle.pb_text.specs.Automaton.{Accepts, MayAsk};
     ghost use Rattle.pb_text.specs.Reading.{Reads};
     ghost use Rattle.pb_text.specs.declared.Place.{Place};
     ghost use Rattle.pb_text.specs.declared.Spanned.{Spanned};
     ghost use Rattle.pb_text.specs.declared.Stop.{Stop};
     ghost use Rattle.pb_text.specs.Spelling.{Item};
+    ghost use Rattle.pb_proof.specs.Asking.{Asks};
     ghost use Rattle.pb_proof.specs.Proofs.{IsProof};
     ghost use Rattle.pb_proof.specs.State.{proofs, begin};
 
@@ -67,6 +69,9 @@ impl ProofMachine {
         ensures reads { (longest : ℕ) (input used : List ℕ) (marks : List (Spanned Statement)) (place : Place) (done : Bool) (stop : Option Stop)
             → Reads (Accepts proofs result) longest input used marks place done stop
             → Reads (IsProof (largest limits) (top_of limits)) longest input used marks place done stop }
+        // It asks for memory only at a byte of a name or of an operator of `pol`, and at one that ends a literal, an id or a
+        // word of `pol`.
+        ensures asks { (used : List ℕ) (b : ℕ) → MayAsk proofs result used b → AsksOnly (IsProof (largest limits) (top_of limits)) Asks used b }
         ensures begins { result ≡ begin (largest limits) (top_of limits) }
         ensures between { proofs.begun result ≡ false }
     {

@@ -5,14 +5,8 @@ ghost use Rattle.pb_text.specs.Classes.{is_blank, is_white};
 ghost use Rattle.pb_proof.specs.Machine.{words_of, behind, meets, spell, step_front, enter, pass, between, plan};
 ghost use Rattle.pb_proof.specs.State.{is_within, is_complete, is_done, stage_behind, PhaseFits};
 
+use crate::classes::is_blank;
 use crate::phase::{Front, Move, Phase, Rest, Stage};
-
-/// Space, tab or carriage return.
-fn is_blank(byte: u8) -> bool
-    ensures { result ≡ is_blank byte }
-{
-    byte == b' ' || byte == b'\t' || byte == b'\r'
-}
 
 /// A blank or a line feed.
 fn is_white(byte: u8) -> bool

@@ -1,14 +1,15 @@
 //! Reads a whole proof.
 
-ghost use Rattle.std.specs.Prelude.{false, ◌≡◌, ◌<◌, ◌↔◌, List, None, IfOk};
+ghost use Rattle.std.specs.Prelude.{false, ◌≡◌, ◌<◌, ◌↔◌, ℕ, List, None, IfOk};
+ghost use Rattle.pb_text.specs.Asking.{AsksOnly};
 ghost use Rattle.pb_text.specs.Automaton.{Accepts, MayAsk};
 ghost use Rattle.pb_text.specs.Blank.{IsInReach};
 ghost use Rattle.pb_text.specs.Limits.{largest, top_of};
 ghost use Rattle.pb_text.specs.Pulling.{faults_after};
 ghost use Rattle.pb_text.specs.Spelling.{Item};
+ghost use Rattle.pb_proof.specs.Asking.{Asks};
 ghost use Rattle.pb_proof.specs.Building.{MayKeep};
 ghost use Rattle.pb_proof.specs.Proofs.{IsProof, IsProofOf};
-ghost use Rattle.pb_proof.specs.State.{proofs, begin};
 ghost use Rattle.pb_proof.specs.Whole.{ReadsValue, WantsMemory};
 
 use crate::building::Building;
@@ -30,8 +31,9 @@ pub fn read_proof<S: Source>(
     limits: Limits,
 ) -> Result<Spanned<Proof>, Stop>
     ensures reads { ReadsValue (IsProof (largest limits) (top_of limits)) BYTE_LIMIT IsProofOf (S.left input.old) result (S.left input.new) }
-    // Memory runs out only where the machine asks for some, or behind a step, which is to be kept.
-    ensures memory { WantsMemory (IsProof (largest limits) (top_of limits)) BYTE_LIMIT (MayAsk proofs (begin (largest limits) (top_of limits))) MayKeep (S.left input.old) result (S.left input.new) }
+    // Memory runs out only at a byte of a name or of an operator of `pol`, at one that ends a literal, an id or a word of
+    // `pol`, and behind a step, which is to be kept.
+    ensures memory { WantsMemory (IsProof (largest limits) (top_of limits)) BYTE_LIMIT (AsksOnly (IsProof (largest limits) (top_of limits)) Asks) MayKeep (S.left input.old) result (S.left input.new) }
     ensures past { IfOk result (λ m. IsInReach m.past) }
     // `Read` comes only where the source failed.
     ensures faults { S.faults input.new ≡ faults_after None result (S.faults input.old) }
@@ -49,8 +51,9 @@ pub fn read_proof_within<S: Source>(
 ) -> Result<Spanned<Proof>, Stop>
     requires { 0 < longest }
     ensures reads { ReadsValue (IsProof (largest limits) (top_of limits)) longest IsProofOf (S.left input.old) result (S.left input.new) }
-    // Memory runs out only where the machine asks for some, or behind a step, which is to be kept.
-    ensures memory { WantsMemory (IsProof (largest limits) (top_of limits)) longest (MayAsk proofs (begin (largest limits) (top_of limits))) MayKeep (S.left input.old) result (S.left input.new) }
+    // Memory runs out only at a byte of a name or of an operator of `pol`, at one that ends a literal, an id or a word of
+    // `pol`, and behind a step, which is to be kept.
+    ensures memory { WantsMemory (IsProof (largest limits) (top_of limits)) longest (AsksOnly (IsProof (largest limits) (top_of limits)) Asks) MayKeep (S.left input.old) result (S.left input.new) }
     ensures past { IfOk result (λ m. IsInReach m.past) }
     // `Read` comes only where the source failed.
     ensures faults { S.faults input.new ≡ faults_after None result (S.faults input.old) }
@@ -68,10 +71,11 @@ fn read_by<S: Source, M: Machine<Event = Statement> + Drop>(
     limits: Limits,
 ) -> Result<Spanned<Proof>, Stop>
     requires accepts { (items : List (Item Statement)) → Accepts M.automaton machine items ↔ IsProof (largest limits) (top_of limits) items }
+    requires asks { (used : List ℕ) (b : ℕ) → MayAsk M.automaton machine used b → AsksOnly (IsProof (largest limits) (top_of limits)) Asks used b }
     requires between { M.automaton.begun machine ≡ false }
     requires some { 0 < longest }
     ensures reads { ReadsValue (IsProof (largest limits) (top_of limits)) longest IsProofOf (S.left input.old) result (S.left input.new) }
-    ensures memory { WantsMemory (IsProof (largest limits) (top_of limits)) longest (MayAsk M.automaton machine) MayKeep (S.left input.old) result (S.left input.new) }
+    ensures memory { WantsMemory (IsProof (largest limits) (top_of limits)) longest (AsksOnly (IsProof (largest limits) (top_of limits)) Asks) MayKeep (S.left input.old) result (S.left input.new) }
     ensures past { IfOk result (λ m. IsInReach m.past) }
     ensures faults { S.faults input.new ≡ faults_after None result (S.faults input.old) }
 {

@@ -1,5 +1,8 @@
+use Rattle.pb_text.specs.Asking.{AsksOnly}
 use Rattle.pb_text.specs.Automaton.{Accepts, MayAsk}
 use Rattle.pb_text.specs.Limits.{largest, top_of}
+use Rattle.pb_proof.specs.Asking.{Asks}
+use Rattle.pb_proof.specs.Proofs.{IsProof}
 use Rattle.pb_proof.proofs.Gathered.{is_read, stops_in, wants_in}
 use Rattle.pb_proof.proofs.read.read_by.Goals as goal
 
@@ -16,4 +19,4 @@ returns-in-Err-clause-reads g c =
 pub returns-in-Err-clause-memory : goal.returns-in-Err-clause-memory
 returns-in-Err-clause-memory g c = λ e.
     let r = c.in-Err.ensures.reads in
-    (r.0, r.1, r.2, wants_in (largest c.args.limits) (top_of c.args.limits) c.args.longest (Accepts g.M.Machine.automaton c.args.machine) c.requires.accepts r.0 c.new.result (MayAsk g.M.Machine.automaton c.args.machine) r.1 c.in-Err.stop r.3 e)
+    (r.0, r.1, r.2, wants_in (largest c.args.limits) (top_of c.args.limits) c.args.longest (Accepts g.M.Machine.automaton c.args.machine) c.requires.accepts r.0 c.new.result (MayAsk g.M.Machine.automaton c.args.machine) (AsksOnly (IsProof (largest c.args.limits) (top_of c.args.limits)) Asks) (λ b h. c.requires.asks r.0 b h) r.1 c.in-Err.stop r.3 e)

@@ -3,6 +3,7 @@ use Rattle.pb_text.specs.Automaton.{Accepts}
 use Rattle.pb_text.proofs.Formats as formats
 use Rattle.pb_proof.specs.Proofs.{IsProof}
 use Rattle.pb_proof.specs.State.{proofs, begin}
+use Rattle.pb_proof.proofs.ProofAsks.{asks_only}
 use Rattle.pb_proof.proofs.ProofExact.{reads_proofs}
 use Rattle.pb_proof.proofs.machine.ProofMachine.new.Goals as goal
 
@@ -14,3 +15,6 @@ returns-clause-reads c =
     let l = largest c.args.limits in
     let t = top_of c.args.limits in
     λ longest. formats.reads (Accepts proofs (begin l t)) (IsProof l t) (λ items h. (reads_proofs l t items).0 h) (λ items h. (reads_proofs l t items).1 h) longest
+
+pub returns-clause-asks : goal.returns-clause-asks
+returns-clause-asks c = asks_only (largest c.args.limits) (top_of c.args.limits)
