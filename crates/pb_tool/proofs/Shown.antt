@@ -11,7 +11,8 @@ use Rattle.pb_text.specs.declared.Spanned.{Spanned}
 use Rattle.pb_text.specs.declared.Stop.{Stop}
 use Rattle.pb_text.specs.declared.Feeder.{Feeder}
 use Rattle.pb_text.specs.declared.Machine.{Ghosts}
-use Rattle.pb_tool.specs.Showing.{shown_line, shown, IsSpelling, IsRefusedAfter, InText, InRest, Shows}
+use Rattle.pb_text.specs.Writing.{Wrote}
+use Rattle.pb_tool.specs.Showing.{shown_line, shown, EndsAt, IsSpelling, IsRefusedAfter, InText, InRest, Shows}
 use Rattle.pb_tool.specs.declared.fault.ToolFault.{ToolFault}
 use Rattle.pb_tool.specs.declared.fault.ToolFault.TheVariants.{Text, Open, Overflow, Memory, Write}
 use Rattle.pb_tool.specs.declared.fault.Input.TheVariants.{File, Instance, Proof}
@@ -64,6 +65,19 @@ module _ {E : Type 0} (format : List (Item E) → Type 0) (longest : ℕ) where
   pub stray : (before mid after : Option (List ℕ)) (marks : List (Spanned E)) (place : Place) (s : Stop) → TookAll format longest before mid marks place true None → ReadsBlank place mid (Err s) after → IsRefusedAfter format longest before after marks s
   stray before mid after marks place s t r =
       InRest t.used t.seen mid t.took t.reads.answer.0 (subst (λ (p : Place). ReadsBlank p mid (Err s) after) t.reads.place_is r)
+
+  -- what was shown of a spelling, and then the rest
+  module _ (text : E → List ℕ) {W : Type 0} (contents : W → Option (List ℕ)) (faults : W → ℕ) where
+    pub shows_end : (before mid after : Option (List ℕ)) (marks : List (Spanned E)) (place : Place) (old new : W) (result : Result Unit ToolFault) → TookAll format longest before mid marks place true None
+        → EndsAt place mid result after → Wrote contents faults old (shown text marks) new → Shows format longest text contents faults before old result after new
+    shows_end before mid after marks place old new (Ok u) t e w = (marks, spelling before mid after marks place t e, w)
+    shows_end before mid after marks place old new (Err (Text File s)) t e w = (marks, stray before mid after marks place s t e, w)
+    shows_end before mid after marks place old new (Err (Text Instance s)) t e w = e
+    shows_end before mid after marks place old new (Err (Text Proof s)) t e w = e
+    shows_end before mid after marks place old new (Err (Open i)) t e w = e
+    shows_end before mid after marks place old new (Err (Overflow i)) t e w = e
+    shows_end before mid after marks place old new (Err (Memory i)) t e w = e
+    shows_end before mid after marks place old new (Err Write) t e w = absurd e
 
 -- what is shown of a read under a format, where a read under it is one under another
 module _ {E : Type 0} (one other : List (Item E) → Type 0) (longest : ℕ)

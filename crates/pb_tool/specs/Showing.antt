@@ -6,6 +6,7 @@ use Rattle.pb_text.specs.Reading.{IsSpelled, byte_limit}
 use Rattle.pb_text.specs.Rows.{TookAll, TookSoFar}
 use Rattle.pb_text.specs.Spelling.{Item, place_after}
 use Rattle.pb_text.specs.Writing.{Wrote, Broke}
+use Rattle.pb_text.specs.declared.Place.{Place}
 use Rattle.pb_text.specs.declared.Spanned.{Spanned}
 use Rattle.pb_text.specs.declared.Stop.{Stop}
 use Rattle.pb_tool.specs.declared.fault.ToolFault.{ToolFault}
@@ -21,6 +22,12 @@ module _ {E : Type 0} (text : E → List ℕ) where
   abbrev pub shown : List (Spanned E) → List ℕ
   shown [] = []
   shown (m ∷ marks) = shown_line m ++ shown marks
+
+-- The rest of an input was blank, or else why it was not, or was not read to its end.
+abbrev pub EndsAt : Place → Option (List ℕ) → Result Unit ToolFault → Option (List ℕ) → Type 0
+EndsAt place before (Ok u) after = ReadsBlank place before (Ok u) after
+EndsAt place before (Err (Text File s)) after = ReadsBlank place before (Err s) after
+EndsAt place before (Err _) after = ⊥
 
 module _ {E : Type 0} (format : List (Item E) → Type 0) (longest : ℕ) where
   -- The input was a spelling with these marks and a blank rest, and ended there.

@@ -16,7 +16,7 @@ use pb_text::{Failed, Limits, Source, unread};
 use std::alloc::Global;
 
 /// A format that files have.
-#[derive(Clone, Copy, Debug, PartialEq, Eq)]
+#[derive(Clone, Copy)]
 pub(crate) enum Format {
     Instance,
     Proof,

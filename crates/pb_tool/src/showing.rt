@@ -2,12 +2,13 @@
 
 ghost use Rattle.std.specs.Prelude.{◌≡◌, ◌<◌, ◌^◌, false, unwrap_or, IfSome};
 ghost use Rattle.pb_text.specs.Automaton.{Accepts};
+ghost use Rattle.pb_text.specs.Blank.{IsInReach};
 ghost use Rattle.pb_text.specs.Writing.{Writes};
 ghost use Rattle.pb_opb.specs.Canonical.{event_bytes};
 ghost use Rattle.pb_proof.specs.Canonical.{statement_bytes};
 ghost use Rattle.pb_tool.specs.Faults.{faults_told};
 ghost use Rattle.pb_tool.specs.Files.{IsVeri, ShowsFile};
-ghost use Rattle.pb_tool.specs.Showing.{shown_line, Shows};
+ghost use Rattle.pb_tool.specs.Showing.{shown_line, EndsAt, Shows};
 ghost use Rattle.pb_tool.specs.Tidying.{IsOpb};
 
 use crate::fault::{ToolFault, refused};
@@ -17,7 +18,7 @@ use pb_opb::OpbMachine;
 use pb_proof::ProofMachine;
 use pb_sums::write_place;
 use pb_text::{
-    BYTE_LIMIT, Failed, Feeder, Limits, Machine, Sink, Source, Spanned, pull, rest_is_blank,
+    BYTE_LIMIT, Failed, Feeder, Limits, Machine, Place, Sink, Source, Spanned, pull, rest_is_blank,
     write_bytes,
 };
 use std::alloc::Global;
@@ -101,7 +102,16 @@ fn show_each<S: Source, W: Sink, E: Statement + Drop, M: Machine<Event = E> + Dr
             Err(stop) => return Err(refused(stop)),
         }
     }
-    match rest_is_blank(input, feeder.place()) {
+    end_of(input, feeder.place())
+}
+
+/// Reads the rest of an input, in which only white space and comments may stand.
+fn end_of<S: Source>(input: &mut S, place: Place) -> Result<(), ToolFault>
+    requires { IsInReach place }
+    ensures ends { EndsAt place (S.left input.old) result (S.left input.new) }
+    ensures faults { S.faults input.new ≡ faults_told result (S.faults input.old) }
+{
+    match rest_is_blank(input, place) {
         Ok(()) => Ok(()),
         Err(stop) => Err(refused(stop)),
     }

@@ -1,11 +1,10 @@
-use Rattle.std.proofs.Common.{ℕ, ◌+◌, ◌-◌, ◌^◌, ◌<◌, ◌≤◌, [], ◌∷◌, ◌++◌, Ok, Err, ap, ◌∙◌, arith, refl, subst}
+use Rattle.std.proofs.Common.{ℕ, ◌+◌, ◌-◌, ◌^◌, ◌<◌, ◌≤◌, [], ◌∷◌, ◌++◌, ap, ◌∙◌, arith, refl, subst}
 use Rattle.pb_text.specs.Automaton.{Accepts}
-use Rattle.pb_text.specs.Blank.{ReadsBlank}
 use Rattle.pb_text.specs.declared.Place.{Place}
 use Rattle.pb_text.proofs.Parts.{part_wrote}
 use Rattle.pb_text.proofs.Writing.{writes_nothing}
-use Rattle.pb_tool.specs.Showing.{InText}
-use Rattle.pb_tool.proofs.Shown.{first_pull, shown_more, so_far_within, spelling, stray}
+use Rattle.pb_tool.specs.Showing.{EndsAt, InText}
+use Rattle.pb_tool.proofs.Shown.{first_pull, shown_more, shows_end, so_far_within}
 use Rattle.pb_tool.proofs.showing.show_each.Goals as goal
 
 pub loop-read-init : goal.loop-read-init
@@ -52,19 +51,10 @@ returns-in-Err-clause-shows g c =
     let t = rw c.in-Err.is at c.pull.ensures in
     rw c.refused.ensures (marks, InText (t.row c.args.longest c.args.machine (g.S.Source.left c.args.input.now) marks pulled), wrote)
 
-pub returns-in-Ok-rest_is_blank-clause-shows : goal.returns-in-Ok-rest_is_blank-clause-shows
-returns-in-Ok-rest_is_blank-clause-shows g c =
-    let (marks, pulled, wrote) = c.loop-read.invariant.shown in
-    let t = rw (c.in-Ok-None.is, c.in-Ok-None.field-0-is) at c.pull.ensures in
-    let all = t.row c.args.longest c.args.machine (g.S.Source.left c.args.input.now) marks pulled in
-    let blank = subst (λ (p : Place). ReadsBlank p (g.S.Source.left c.pull.new.source) (Ok tt) (g.S.Source.left c.rest_is_blank.new.source)) c.place.ensures.place c.in-Ok-rest_is_blank.ensures.blank in
-    (marks, spelling (Accepts g.M.Machine.automaton c.args.machine) c.args.longest (g.S.Source.left c.args.input.now) (g.S.Source.left c.pull.new.source) (g.S.Source.left c.rest_is_blank.new.source) marks _ all blank, wrote)
-
 pub returns-clause-shows : goal.returns-clause-shows
 returns-clause-shows g c =
     let (marks, pulled, wrote) = c.loop-read.invariant.shown in
     let t = rw (c.in-Ok-None.is, c.in-Ok-None.field-0-is) at c.pull.ensures in
     let all = t.row c.args.longest c.args.machine (g.S.Source.left c.args.input.now) marks pulled in
-    let s = c.in-Err-rest_is_blank.stop in
-    let blank = subst (λ (p : Place). ReadsBlank p (g.S.Source.left c.pull.new.source) (Err s) (g.S.Source.left c.rest_is_blank.new.source)) c.place.ensures.place c.in-Err-rest_is_blank.ensures.blank in
-    rw c.refused-in-Err-rest_is_blank.ensures (marks, stray (Accepts g.M.Machine.automaton c.args.machine) c.args.longest (g.S.Source.left c.args.input.now) (g.S.Source.left c.pull.new.source) (g.S.Source.left c.rest_is_blank.new.source) marks _ s all blank, wrote)
+    let ends = subst (λ (p : Place). EndsAt p (g.S.Source.left c.pull.new.source) c.end_of.result (g.S.Source.left c.end_of.new.input)) c.place.ensures.place c.end_of.ensures.ends in
+    shows_end (Accepts g.M.Machine.automaton c.args.machine) c.args.longest g.E.Statement.text g.W.Sink.contents g.W.Sink.faults (g.S.Source.left c.args.input.now) (g.S.Source.left c.pull.new.source) (g.S.Source.left c.end_of.new.input) marks _ _ _ c.end_of.result all ends wrote

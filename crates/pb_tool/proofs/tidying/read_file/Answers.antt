@@ -1,4 +1,5 @@
-use Rattle.std.proofs.Common.{[], refl, ap, ◌∙◌, ◌≤◌, ◌++◌, length, length-append, arith}
+use Rattle.std.proofs.Common.{ℕ, [], refl, ap, ◌∙◌, ◌≤◌, ◌++◌, length, length-append, arith}
+use Rattle.pb_text.specs.Pulling.{faults_with}
 use Rattle.pb_text.specs.Reading.{byte_limit}
 use Rattle.pb_text.specs.declared.Place.{Place}
 use Rattle.pb_tool.specs.Tidying.IsRefused.{InRest}
@@ -17,3 +18,6 @@ returns-in-Ok-rest_is_blank-clause-file g c =
 pub returns-in-Err-rest_is_blank-clause-refused : goal.returns-in-Err-rest_is_blank-clause-refused
 returns-in-Err-rest_is_blank-clause-refused g c =
     InRest c.in-Ok.read (g.S.Source.left c.read_instance_within.new.input) c.in-Ok.ensures.reads c.in-Err-rest_is_blank.ensures.blank
+
+pub returns-in-Err-rest_is_blank-clause-faults : goal.returns-in-Err-rest_is_blank-clause-faults
+returns-in-Err-rest_is_blank-clause-faults g c = c.in-Err-rest_is_blank.ensures.faults ∙ ap (λ (n : ℕ). faults_with c.in-Err-rest_is_blank.stop.why n) c.in-Ok.ensures.faults
