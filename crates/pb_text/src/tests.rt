@@ -5,7 +5,7 @@ ghost use Rattle.std.specs.Prelude.{◌≡◌};
 use crate::doubles::{FaultyReader, FaultyWriter};
 use crate::toy::Toy;
 use crate::{
-    Failed, Feeder, Gather, Limits, Over, Place, Source, Stop, Why, pull, read_whole,
+    Failed, Feeder, Gather, Limits, Over, Place, Source, Stop, Why, pull, read_from, read_whole,
     rest_is_blank, unread, write_bytes,
 };
 use std::alloc::{AllocError, Global};
@@ -191,6 +191,14 @@ fn reads_a_whole_text_and_its_blank_rest(rt: HostRuntime) {
     assert!(rt; read_sum(b"7; 42; \n x", 2) == Err(stop(place(2, 2, 9), Why::Byte(b'x'))));
     assert!(rt; read_sum(b"7; 42;*\nx", 2) == Err(stop(place(2, 1, 8), Why::Byte(b'x'))));
     assert!(rt; read_sum(b"7; 42", 2) == Err(stop(place(1, 6, 5), Why::Ended)));
+}
+
+#[test]
+fn gives_the_reader_back_behind_what_it_read(rt: HostRuntime) {
+    let empty = Sum { total: 0, room: 2 };
+    let (read, left) = read_from(b"7; 42;rest".as_slice(), Toy::new(2), 9, empty);
+    assert!(rt; matches!(&read, Ok(whole) if whole.event.total == 49));
+    assert!(rt; left == b"rest".as_slice());
 }
 
 #[test]
