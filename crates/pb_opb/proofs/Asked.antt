@@ -1,17 +1,16 @@
 -- Where a machine of instances asks, the next byte stands at a place of its statement that asks.
-use Rattle.std.proofs.Common.{◌≡◌, ℕ, zero, suc, ◌+◌, ◌-◌, ◌*◌, ◌<◌, ◌≤◌, Bool, true, false, cond, ◌&&◌, List, [], ◌∷◌, ◌++◌, length, take, refl, sym, ap, ap₂, subst, ◌∙◌, ◌⊎◌, inl, inr, append-nil}
+use Rattle.std.proofs.Common.{◌≡◌, ℕ, zero, suc, ◌+◌, ◌-◌, ◌*◌, ◌≤◌, Bool, true, false, cond, ◌&&◌, List, [], ◌∷◌, ◌++◌, length, refl, sym, ap, ap₂, subst, ◌∙◌, ◌⊎◌, inl, inr, append-nil}
 use Rattle.std.proofs.lemmas.Bool.{false≢true}
 use Rattle.std.specs.Prelude.{IsTrue, nat_eq, nat_le, slice_index}
-use Rattle.pb_text.specs.Automaton.{Automaton, Next, Go, End, Refuse, Reads, MayAsk}
+use Rattle.pb_text.specs.Automaton.{Next, Go, End, Refuse, Reads, MayAsk}
 use Rattle.pb_text.specs.Asking.{AsksOnly}
 use Rattle.pb_text.specs.Classes.{is_blank, is_white, is_digit}
-use Rattle.pb_text.specs.Languages.{Language, ◌⋅◌, Byte, Bytes, Blanks0}
+use Rattle.pb_text.specs.Languages.{◌⋅◌, Byte, Bytes, Blanks0}
 use Rattle.pb_text.specs.Numbers.{Digits}
-use Rattle.pb_text.specs.Spelling.{Letter, Item, plain, bytes}
+use Rattle.pb_text.specs.Spelling.{Letter, bytes}
 use Rattle.pb_text.proofs.Asked as asked
 use Rattle.pb_text.proofs.Languages.{bytes-plain}
 use Rattle.pb_text.proofs.Lists.{bytes-append}
-use Rattle.pb_sums.specs.Asking.{AsksLiteral}
 use Rattle.pb_sums.specs.State.{SumState, sums}
 use Rattle.pb_sums.specs.Sums.{Spells}
 use Rattle.pb_sums.specs.declared.grammar.Part as part
@@ -21,10 +20,10 @@ use Rattle.pb_sums.specs.declared.values.SumEvent as sum
 use Rattle.pb_sums.proofs.Asked.{sums_asked, first_asks_nothing}
 use Rattle.pb_sums.proofs.Links.{reads_grammar}
 use Rattle.pb_sums.proofs.States.{goes-midway}
-use Rattle.pb_opb.specs.Asking.{SpellsCounts, MinLead, Asks}
+use Rattle.pb_opb.specs.Asking.{MinLead, Asks}
 use Rattle.pb_opb.specs.Instances.{constraint_word, min_word, IsTail, IsInLine, IsInstance}
-use Rattle.pb_opb.specs.Machine.{word_of, plan, count, spell}
-use Rattle.pb_opb.specs.State.{OpbState, opb, begin, act, asks, over, giving, statement_of, linears, objectives, phase_owing}
+use Rattle.pb_opb.specs.Machine.{word_of, plan, count}
+use Rattle.pb_opb.specs.State.{OpbState, opb, begin, act, asks, over, giving, statement_of, linears, objectives}
 use Rattle.pb_opb.specs.declared.event.OpbEvent.{OpbEvent}
 use Rattle.pb_opb.specs.declared.event.OpbEvent.TheVariants.{Header, Comment, Objective, Constraint}
 use Rattle.pb_opb.specs.declared.phase.Field.{Field}
@@ -32,7 +31,7 @@ use Rattle.pb_opb.specs.declared.phase.Field.TheVariants.{Variables, Constraints
 use Rattle.pb_opb.specs.declared.phase.Phase.{Phase}
 use Rattle.pb_opb.specs.declared.phase.Phase as phase
 use Rattle.pb_opb.specs.declared.phase.Move.{Move}
-use Rattle.pb_opb.specs.declared.phase.Move.TheVariants.{To, Keep, EndComment, Give, Stop}
+use Rattle.pb_opb.specs.declared.phase.Move.TheVariants.{Keep, EndComment}
 use Rattle.pb_opb.proofs.Bodies.{nothing_read, instance_each}
 use Rattle.pb_opb.proofs.ByteCases.{never, chosen}
 use Rattle.pb_opb.proofs.EntryFront as entry

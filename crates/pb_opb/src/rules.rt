@@ -1,7 +1,6 @@
 //! The rules that an instance meets.
 
 ghost use Rattle.std.specs.Prelude.{◌≡◌, ◌<◌, ◌≤◌, ◌↔◌, IsTrue, length};
-ghost use Rattle.pb_text.specs.Classes.{is_blank};
 ghost use Rattle.pb_text.specs.Limits.{largest, top_of};
 ghost use Rattle.pb_opb.specs.Instances.{IsTail, IsInLine};
 ghost use Rattle.pb_opb.specs.Values.{IsObjective, AreLinears, AreComments, IsInstanceValue};

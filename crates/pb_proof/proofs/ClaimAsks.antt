@@ -1,17 +1,16 @@
 -- Where the machine of claims asks.
-use Rattle.std.proofs.Common.{◌≡◌, ℕ, ◌+◌, ◌-◌, ◌*◌, Bool, true, false, cond, ◌&&◌, List, [], ◌∷◌, ◌++◌, length, refl, sym, ap, subst, ◌∙◌, append_assoc, Option, Some, None}
+use Rattle.std.proofs.Common.{◌≡◌, ℕ, ◌+◌, ◌-◌, ◌*◌, Bool, true, false, ◌&&◌, List, [], ◌∷◌, ◌++◌, refl, sym, ap, subst, ◌∙◌, append_assoc, Some, None}
 use Rattle.std.proofs.lemmas.Bool.{false≢true}
 use Rattle.std.specs.Prelude.{ℤ, nat_eq, nat_le, slice_index}
 use Rattle.pb_text.specs.Automaton.{Next, Go, End, Refuse, Reads}
 use Rattle.pb_text.specs.Classes.{is_blank, is_digit}
-use Rattle.pb_text.specs.Languages.{Language, ◌⋅◌, Byte, Blanks0}
 use Rattle.pb_text.specs.Spelling.{Letter, bytes}
 use Rattle.pb_text.proofs.Lists.{bytes-append}
 use Rattle.pb_sums.specs.declared.Literal.{Literal}
 use Rattle.pb_proof.specs.Asking.{AsksShown, AsksClaim}
 use Rattle.pb_proof.specs.Claim.{word_of, behind_word, behind_bound, spell, first_word, digits, begin_bound, colon, behind, between, after_bound, id_digits, after_id, plan}
-use Rattle.pb_proof.specs.ClaimState.{ClaimState, claim_automaton, claim_first, claim_last, showing_value, act, over, giving, asks}
-use Rattle.pb_proof.specs.Literals.{LiteralsState, literals_automaton, literals_first}
+use Rattle.pb_proof.specs.ClaimState.{ClaimState, claim_automaton, claim_first, showing_value, act, over, giving, asks}
+use Rattle.pb_proof.specs.Literals.{LiteralsState, literals_automaton}
 use Rattle.pb_proof.specs.Lines.{inf_word}
 use Rattle.pb_proof.specs.declared.conclusion.Bound.{Bound}
 use Rattle.pb_proof.specs.declared.conclusion.Bound.TheVariants.{Infinite}
@@ -27,10 +26,8 @@ use Rattle.pb_proof.specs.declared.claim_phase.Claim.TheVariants as claim
 use Rattle.pb_proof.specs.declared.claim_phase.Phase.{Phase}
 use Rattle.pb_proof.specs.declared.claim_phase.Phase.TheVariants as phase
 use Rattle.pb_proof.specs.declared.claim_phase.Move.{Move}
-use Rattle.pb_proof.specs.declared.claim_phase.Move.TheVariants.{To, Finish, Give, Stop}
 use Rattle.pb_proof.proofs.Choices.{chosen}
 use Rattle.pb_proof.proofs.ClaimFront as claims
-use Rattle.pb_proof.proofs.ClaimTexts.{Colon, Claimed}
 use Rattle.pb_proof.proofs.LineAsks.{literals_asked}
 use Rattle.pb_proof.proofs.Walking.{Walks, fronts}
 

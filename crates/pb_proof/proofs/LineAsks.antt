@@ -1,21 +1,21 @@
 -- Where the machines of ids, literals and linear texts ask.
-use Rattle.std.proofs.Common.{◌≡◌, ℕ, ◌+◌, ◌-◌, ◌*◌, ◌<◌, Bool, true, false, cond, ◌||◌, ◌&&◌, List, [], ◌∷◌, ◌++◌, map, refl, sym, ap, subst, ◌∙◌, append_assoc, inl, inr, arith, Option, Some, None}
+use Rattle.std.proofs.Common.{◌≡◌, ℕ, ◌+◌, ◌-◌, ◌*◌, ◌<◌, Bool, true, false, cond, ◌||◌, List, [], ◌∷◌, ◌++◌, map, refl, sym, ap, subst, ◌∙◌, inl, arith}
 use Rattle.std.proofs.lemmas.Bool.{false≢true}
 use Rattle.std.proofs.lemmas.Bool.Decides.{nat_tests}
 use Rattle.std.specs.Prelude.{IsTrue, ℤ, nat_eq, nat_le}
 use Rattle.pb_text.specs.Classes.{is_blank, is_digit, is_letter, is_name_byte}
 use Rattle.pb_text.specs.Languages.{digit, Language, ◌⋅◌, Bytes, Each}
-use Rattle.pb_text.specs.Numbers.{signed, Digits as DigitsOf}
-use Rattle.pb_text.specs.Spelling.{Letter, bytes, plain}
+use Rattle.pb_text.specs.Numbers.{Digits as DigitsOf}
+use Rattle.pb_text.specs.Spelling.{Letter, bytes}
 use Rattle.pb_text.proofs.Languages.{bytes-plain}
 use Rattle.pb_text.proofs.Lists.{bytes-append}
-use Rattle.pb_sums.specs.Asking.{EndsIn, IsNameFront, InName, EndsLiteral, AsksLiteral}
+use Rattle.pb_sums.specs.Asking.{EndsIn, IsNameFront, AsksLiteral}
 use Rattle.pb_sums.specs.State.{SumState, sums}
-use Rattle.pb_sums.specs.Sums.{IsName, literal_bytes, SpellsLiteral}
+use Rattle.pb_sums.specs.Sums.{literal_bytes}
 use Rattle.pb_sums.specs.declared.Literal.{Literal}
 use Rattle.pb_sums.specs.declared.Part as part
 use Rattle.pb_sums.specs.declared.Spaces.TheVariants.{Blank as BlankSpaces}
-use Rattle.pb_sums.proofs.Asked.{ends_nothing, ends_behind, asks_behind, at_name, name_further, sums_asked, first_asks_nothing}
+use Rattle.pb_sums.proofs.Asked.{ends_nothing, ends_behind, asks_behind, at_name, sums_asked, first_asks_nothing}
 use Rattle.pb_proof.specs.Asking.{EndsNumber}
 use Rattle.pb_proof.specs.Goal.{GoalState, goal_automaton, goal_first, goals, goal_asks, goal_plan}
 use Rattle.pb_proof.specs.Ids.{IdsState, ids_automaton, ids_first, plan, digits, before, behind, keeps}
@@ -24,22 +24,18 @@ use Rattle.pb_proof.specs.Literals as literals
 use Rattle.pb_proof.specs.Marks.{number_mark, name_mark}
 use Rattle.pb_proof.specs.declared.goal_phase.GoalPhase.{GoalPhase}
 use Rattle.pb_proof.specs.declared.goal_phase.GoalPhase.TheVariants as goal
-use Rattle.pb_proof.specs.declared.goal_phase.GoalMove.{GoalMove}
-use Rattle.pb_proof.specs.declared.goal_phase.GoalMove.TheVariants as move
 use Rattle.pb_proof.specs.declared.ids_phase.IdsPhase.{IdsPhase}
 use Rattle.pb_proof.specs.declared.ids_phase.IdsPhase.TheVariants.{Start, Gap, Between, Minus, Digits, Closing, Done}
-use Rattle.pb_proof.specs.declared.ids_phase.IdsMove.{IdsMove}
 use Rattle.pb_proof.specs.declared.literals_phase.LiteralsPhase.{LiteralsPhase}
 use Rattle.pb_proof.specs.declared.literals_phase.LiteralsPhase.TheVariants as at
-use Rattle.pb_proof.specs.declared.literals_phase.LiteralsMove.{LiteralsMove}
 use Rattle.pb_proof.specs.declared.mark.NumberMark.{NumberMark}
 use Rattle.pb_proof.specs.declared.mark.NumberMark.TheVariants as number
 use Rattle.pb_proof.specs.declared.mark.NameMark.{NameMark}
 use Rattle.pb_proof.specs.declared.mark.NameMark.TheVariants as name
-use Rattle.pb_proof.proofs.Choices.{never, chosen}
+use Rattle.pb_proof.proofs.Choices.{chosen}
 use Rattle.pb_proof.proofs.GoalReads as reads
 use Rattle.pb_proof.proofs.IdsSound as ids
-use Rattle.pb_proof.proofs.LiteralNames.{IsFirst, FirstOf, LiteralOf}
+use Rattle.pb_proof.proofs.LiteralNames.{IsFirst}
 use Rattle.pb_proof.proofs.LiteralsSound as sound
 use Rattle.pb_proof.proofs.MarkMeanings.{NameMeans, name_means}
 use Rattle.pb_proof.proofs.Walking.{Walks, fronts, walks_into}

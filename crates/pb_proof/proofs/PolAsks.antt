@@ -1,23 +1,21 @@
 -- Where the machine of postfix words asks.
-use Rattle.std.proofs.Common.{◌≡◌, ℕ, ◌+◌, ◌-◌, ◌*◌, ◌<◌, ◌≤◌, Bool, true, false, cond, ◌||◌, ◌&&◌, List, [], ◌∷◌, ◌++◌, refl, sym, ap, subst, ◌∙◌, inl, inr, arith, Option, Some, None}
+use Rattle.std.proofs.Common.{◌≡◌, ℕ, ◌+◌, ◌-◌, ◌*◌, Bool, true, false, cond, ◌&&◌, List, [], ◌∷◌, ◌++◌, refl, ap, subst, ◌∙◌, inl, inr, arith, Some, None}
 use Rattle.std.proofs.lemmas.Bool.{false≢true}
 use Rattle.std.proofs.lemmas.Bool.Decides.{nat_tests}
 use Rattle.std.specs.Prelude.{IsTrue, nat_eq, nat_le}
 use Rattle.pb_text.specs.Classes.{is_blank, is_digit, is_letter, is_name_byte}
-use Rattle.pb_text.specs.Languages.{Language, ◌⋅◌, Byte, Bytes, Blanks1}
+use Rattle.pb_text.specs.Languages.{Language, ◌⋅◌, Blanks1}
 use Rattle.pb_text.specs.Spelling.{Letter, bytes}
-use Rattle.pb_sums.specs.Asking.{EndsIn, IsNameFront, AsksLiteral}
-use Rattle.pb_sums.specs.Sums.{IsName}
+use Rattle.pb_sums.specs.Asking.{EndsIn, IsNameFront}
 use Rattle.pb_sums.proofs.Asked.{ends_nothing, at_name, name_further}
-use Rattle.pb_proof.specs.Asking.{EndsNumber, AsksWord}
-use Rattle.pb_proof.specs.Pol.{plan, read, next, next_word, next_large, star, late, blank, semicolon, feed, close, close_number, held_number, close_lone, number, signed, role_of, bound, kind_of, is_letter_kind, is_name_kind, may_be_name, counted, adds, wants, Closing}
+use Rattle.pb_proof.specs.Asking.{AsksWord}
+use Rattle.pb_proof.specs.Pol.{plan, read, next, next_word, next_large, star, late, blank, semicolon, feed, close, number, signed, role_of, bound, kind_of, is_letter_kind, is_name_kind, may_be_name, counted, adds, wants, Closing}
 use Rattle.pb_proof.specs.PolState.{PolState, pol_automaton, pol_first}
 use Rattle.pb_proof.specs.declared.word.PolWord.{PolWord}
 use Rattle.pb_proof.specs.declared.pol_phase.Kind.{Kind}
 use Rattle.pb_proof.specs.declared.pol_phase.Kind.TheVariants as kind
 use Rattle.pb_proof.specs.declared.pol_phase.Held.{Held}
 use Rattle.pb_proof.specs.declared.pol_phase.Held.TheVariants as held
-use Rattle.pb_proof.specs.declared.pol_phase.Role.{Role}
 use Rattle.pb_proof.specs.declared.pol_phase.Role.TheVariants as role
 use Rattle.pb_proof.specs.declared.pol_phase.Phase.{Phase}
 use Rattle.pb_proof.specs.declared.pol_phase.Phase.TheVariants as phase
@@ -27,7 +25,7 @@ use Rattle.pb_proof.specs.declared.pol_phase.Move.{Move}
 use Rattle.pb_proof.specs.declared.pol_phase.Move.TheVariants as move
 use Rattle.pb_proof.proofs.Choices.{chosen, both}
 use Rattle.pb_proof.proofs.LineAsks.{number_end, literal_end}
-use Rattle.pb_proof.proofs.PolFronts.{IsFirst, FirstOf, LiteralOf, Settled, Before, IsRole, front, Front, Whole}
+use Rattle.pb_proof.proofs.PolFronts.{IsFirst, FirstOf, LiteralOf, Settled, Before, front, Front, Whole}
 use Rattle.pb_proof.proofs.PolKinds.{Says, kind_says, letter_kind, name_kind}
 use Rattle.pb_proof.proofs.PolSound as sound
 use Rattle.pb_proof.proofs.Walking.{Walks, fronts}

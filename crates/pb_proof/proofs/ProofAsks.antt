@@ -1,11 +1,10 @@
 -- Where a machine of proofs asks, the next byte stands at a place of its statement that asks.
-use Rattle.std.proofs.Common.{◌≡◌, ℕ, Bool, true, false, List, [], ◌∷◌, ◌++◌, refl, sym, ap, subst, ◌∙◌, Option, Some, None}
+use Rattle.std.proofs.Common.{◌≡◌, ℕ, Bool, true, false, List, [], ◌∷◌, ◌++◌, refl, sym, ap, subst, ◌∙◌, Some, None}
 use Rattle.std.proofs.lemmas.Bool.{false≢true}
 use Rattle.std.specs.Prelude.{IsTrue, nat_eq}
 use Rattle.pb_text.specs.Asking.{AsksOnly}
 use Rattle.pb_text.specs.Automaton.{Next, Go, End, Refuse, Reads, MayAsk}
-use Rattle.pb_text.specs.Languages.{◌⋅◌}
-use Rattle.pb_text.specs.Spelling.{Letter, Item, bytes}
+use Rattle.pb_text.specs.Spelling.{Letter, bytes}
 use Rattle.pb_text.proofs.Asked as asked
 use Rattle.pb_text.proofs.Lists.{bytes-append}
 use Rattle.pb_proof.specs.Asking.{AsksBehind, FirstWord, Asks}

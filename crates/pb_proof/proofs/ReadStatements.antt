@@ -1,20 +1,18 @@
 -- What was read of a proof are the first of its statements, and they meet the rules.
-use Rattle.std.proofs.Common.{◌≡◌, ℕ, ◌+◌, ◌<◌, ◌≤◌, Bool, true, false, List, [], ◌∷◌, ◌++◌, length, map, Option, Some, None, All, refl, sym, ap, ◌∙◌, subst, arith, length-append, append_assoc}
-use Rattle.std.proofs.lemmas.Bool.{leb-true, false≢true}
+use Rattle.std.proofs.Common.{◌≡◌, ℕ, ◌+◌, ◌<◌, ◌≤◌, Bool, true, false, List, [], ◌∷◌, ◌++◌, length, map, Option, Some, None, All, refl, sym, ap, ◌∙◌, subst, arith, length-append}
+use Rattle.std.proofs.lemmas.Bool.{false≢true}
 use Rattle.std.proofs.lemmas.Bool.Decides.{nat_tests}
 use Rattle.std.proofs.lemmas.List.{append-nil}
 use Rattle.std.proofs.lemmas.List.Elements.{All-nil, All-cons, All-head, All-tail}
-use Rattle.std.specs.Prelude.{nat_le, cond, filter}
-use Rattle.pb_text.specs.Reading.{Reads, ended_within, IsUnderWay, IsSpelled}
-use Rattle.pb_text.specs.Spelling.{Item, bytes, place_after, place_or, marks_since, marks_of}
+use Rattle.std.specs.Prelude.{nat_le}
+use Rattle.pb_text.specs.Reading.{ended_within, IsUnderWay, IsSpelled}
+use Rattle.pb_text.specs.Spelling.{Item, bytes, place_after, marks_since, marks_of}
 use Rattle.pb_text.specs.Whole.{events_of}
 use Rattle.pb_text.specs.declared.Place.{Place}
 use Rattle.pb_text.specs.declared.Spanned.{Spanned}
-use Rattle.pb_text.specs.declared.Stop.{Stop}
-use Rattle.pb_proof.specs.Proofs.{IsProof, statements_of}
-use Rattle.pb_proof.specs.Values.{IsStatementValue, IsProofValue}
+use Rattle.pb_proof.specs.Proofs.{IsProof}
+use Rattle.pb_proof.specs.Values.{IsStatementValue}
 use Rattle.pb_proof.specs.ValueLaws.{BeginProof, ReadStatements}
-use Rattle.pb_proof.specs.declared.proof.Proof.{Proof}
 use Rattle.pb_proof.specs.declared.statement.Statement.{Statement}
 use Rattle.pb_proof.proofs.ProofValues.{events_values, proof_values}
 

@@ -1,12 +1,12 @@
 -- Where a proof asks for memory, said of a statement, its bytes so far and the next one.
-use Rattle.std.specs.Prelude.{◌≡◌, ℕ, false, List, [], ◌∷◌, ◌++◌, IsTrue, ◌⊎◌, Option, Some, None}
+use Rattle.std.specs.Prelude.{◌≡◌, ℕ, false, List, [], ◌∷◌, ◌++◌, IsTrue, ◌⊎◌, Some}
 use Rattle.pb_text.specs.Classes.{is_digit, is_name_byte}
 use Rattle.pb_text.specs.Languages.{Language, ◌⋅◌, Bytes, Blanks1}
 use Rattle.pb_text.specs.Spelling.{Letter, bytes}
 use Rattle.pb_sums.specs.Asking.{EndsIn, AsksLiteral}
 use Rattle.pb_proof.specs.Lines.{pol_word, rup_word, soli_word, solx_word, del_word, id_word, conclusion_word}
 use Rattle.pb_proof.specs.declared.conclusion.Conclusion.{Conclusion}
-use Rattle.pb_proof.specs.declared.conclusion.Conclusion.TheVariants.{NoClaim, Unsat, Sat, Bounds}
+use Rattle.pb_proof.specs.declared.conclusion.Conclusion.TheVariants.{Sat, Bounds}
 use Rattle.pb_proof.specs.declared.statement.Statement.{Statement}
 use Rattle.pb_proof.specs.declared.statement.Statement.TheVariants.{Pol, Rup, Soli, Solx, Delete, Conclude}
 

@@ -1,7 +1,6 @@
 //! The machine of goals.
 
 ghost use Rattle.std.specs.Prelude.{◌≡◌, ◌-◌, ◌^◌, min};
-ghost use Rattle.pb_text.specs.Classes.{is_blank};
 ghost use Rattle.pb_text.specs.Limits.{largest};
 ghost use Rattle.pb_sums.specs.State.{units};
 ghost use Rattle.pb_proof.specs.Goal.{goal_plan, goal_done, linear_of, units_in};

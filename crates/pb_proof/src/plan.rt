@@ -1,7 +1,7 @@
 //! What a machine of proofs does with a byte, by what it has read last.
 
 ghost use Rattle.std.specs.Prelude.{◌≡◌, ◌<◌, length};
-ghost use Rattle.pb_text.specs.Classes.{is_blank, is_white};
+ghost use Rattle.pb_text.specs.Classes.{is_white};
 ghost use Rattle.pb_proof.specs.Machine.{words_of, behind, meets, spell, step_front, enter, pass, between, plan};
 ghost use Rattle.pb_proof.specs.State.{is_within, is_complete, is_done, stage_behind, PhaseFits};
 

@@ -1,16 +1,14 @@
 -- Where a machine of sums asks, the next byte is one of a name, or ends a literal.
-use Rattle.std.proofs.Common.{◌≡◌, ℕ, ◌+◌, ◌-◌, ◌*◌, Bool, true, false, cond, ◌||◌, ◌&&◌, List, [], ◌∷◌, ◌++◌, refl, sym, ap, subst, ◌∙◌, append_assoc, append-nil, inl, inr}
+use Rattle.std.proofs.Common.{◌≡◌, ℕ, ◌+◌, ◌-◌, ◌*◌, Bool, true, false, cond, ◌||◌, List, [], ◌∷◌, ◌++◌, refl, sym, ap, subst, ◌∙◌, append_assoc, append-nil, inl, inr}
 use Rattle.std.proofs.lemmas.Bool.{false≢true}
-use Rattle.std.specs.Prelude.{IsTrue, ℤ, Option, Some, None, nat_le, nat_eq}
+use Rattle.std.specs.Prelude.{IsTrue, Option, Some, None, nat_le, nat_eq}
 use Rattle.pb_text.specs.Automaton.{Next, Go, End, Refuse}
 use Rattle.pb_text.specs.Classes.{is_digit, is_letter, is_name_byte}
-use Rattle.pb_text.specs.Languages.{Each}
 use Rattle.pb_text.specs.Spelling.{Letter, bytes}
 use Rattle.pb_text.proofs.Asked.{Walks}
 use Rattle.pb_text.proofs.Languages.{each-append}
-use Rattle.pb_text.proofs.Lists.{bytes-append}
-use Rattle.pb_sums.specs.Asking.{EndsIn, IsNameFront, InName, EndsLiteral, AsksLiteral}
-use Rattle.pb_sums.specs.Machine.{Work, act, plan, digits, number, behind, kind, kind_of_numeral, kind_of_plain, symbol, letter_at, is_numeric, flushed, adds, is_more, fresh}
+use Rattle.pb_sums.specs.Asking.{EndsIn, IsNameFront, InName, AsksLiteral}
+use Rattle.pb_sums.specs.Machine.{act, plan, digits, number, behind, kind, symbol, letter_at, is_numeric, flushed, adds, is_more}
 use Rattle.pb_sums.specs.State.{SumState, sums, first, over, asks}
 use Rattle.pb_sums.specs.Sums.{IsName, is_space, allows, reads_sums}
 use Rattle.pb_sums.specs.declared.grammar.Spaces.{Spaces}
@@ -18,9 +16,8 @@ use Rattle.pb_sums.specs.declared.grammar.Part.{Part}
 use Rattle.pb_sums.specs.declared.values.Relation.{Relation}
 use Rattle.pb_sums.specs.declared.values.Relation.TheVariants.{AtLeast, Equal}
 use Rattle.pb_sums.specs.declared.values.SumEvent.{SumEvent}
-use Rattle.pb_sums.specs.declared.values.Term.{Term}
 use Rattle.pb_sums.specs.declared.phase.Kind.{Kind}
-use Rattle.pb_sums.specs.declared.phase.Kind.TheVariants.{Space, Digit, Start, Inner, Tilde, Plus, Minus, Greater, Equals, Semicolon, Other}
+use Rattle.pb_sums.specs.declared.phase.Kind.TheVariants.{Space, Digit, Start, Inner, Tilde, Plus, Minus, Greater, Equals, Semicolon}
 use Rattle.pb_sums.specs.declared.phase.Phase.{Phase}
 use Rattle.pb_sums.specs.declared.phase.Phase as phase
 use Rattle.pb_sums.specs.declared.phase.Move.{Move}

@@ -1,7 +1,7 @@
 -- Where an automaton asks, the next byte of any spelling stands in a statement at a place that asks.
-use Rattle.std.proofs.Common.{◌≡◌, ℕ, List, [], ◌∷◌, ◌++◌, Bool, true, false, IsTrue, Some, refl, sym, ap, ap₂, ◌∙◌, subst, append_assoc, append-nil, ◌⊎◌, inl, inr}
+use Rattle.std.proofs.Common.{◌≡◌, ℕ, List, [], ◌∷◌, ◌++◌, true, false, IsTrue, Some, refl, sym, ap, ap₂, ◌∙◌, subst, append_assoc, append-nil, ◌⊎◌, inl, inr}
 use Rattle.std.proofs.lemmas.Bool.{false≢true}
-use Rattle.pb_text.specs.Automaton.{Automaton, Next, Go, End, Refuse, Skips, Reads, Accepts, behind, Leads}
+use Rattle.pb_text.specs.Automaton.{Automaton, Next, Go, End, Skips, Reads, Accepts, behind, Leads}
 use Rattle.pb_text.specs.Asking.{IsWithin}
 use Rattle.pb_text.specs.Spelling.{Letter, Item, plain, bytes, letters_of, bytes_of}
 use Rattle.pb_text.proofs.Lists.{bytes-append, bytes-plain}

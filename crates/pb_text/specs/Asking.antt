@@ -1,5 +1,5 @@
 -- Where memory may be asked for, said of spellings alone.
-use Rattle.std.specs.Prelude.{◌≡◌, ℕ, List, [], ◌∷◌, ◌++◌}
+use Rattle.std.specs.Prelude.{◌≡◌, ℕ, List, ◌∷◌, ◌++◌}
 use Rattle.pb_text.specs.Spelling.{Item, bytes, bytes_of}
 
 -- Behind these bytes of a spelling the next one stands in a statement, at a place that asks: it is said of the
