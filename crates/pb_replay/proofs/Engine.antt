@@ -1,13 +1,11 @@
 -- Lemmas on the propagation engine.
 pub mod Literals
 pub mod Laws
-pub mod Open
 pub mod Runs
 pub mod Puts
 pub mod Looks
 pub mod Spent
 pub mod Propagated
-pub mod Confluence
 pub mod Undone
 pub mod Rested
 pub mod Values

@@ -81,20 +81,11 @@ Propagating-choose p waiting forms lists n list0 cands0 work0 next0 visits0 take
     one-or-none true y = refl
     one-or-none false y = refl
 
-pub Propagating-form : (aside : List ℕ) (forms : List Shape) (n : ℕ) (opens cands : List ℕ) (list : List NumberedLiteral) (work : List ℕ) (next form : ℕ) → length forms ≡ n → next < length work → form ≡ get_or work next form → IsTidy aside forms opens cands list work next n → form < n
-Propagating-form aside forms n opens cands list work next form e inside is t =
-    let named = t.named next form inside in
-    omega (arith, named, is, e)
-
 pub Propagating-look : (aside : List ℕ) (forms : List Shape) (n : ℕ) (opens cands : List ℕ) (list : List NumberedLiteral) (work : List ℕ) (next form : ℕ) → length forms ≡ n → next < length work → form ≡ get_or work next form → IsTidy aside forms opens cands list work next n → IsTidy aside forms opens cands list work (next + 1) form
 Propagating-look aside forms n opens cands list work next form e inside is t =
     let read = get_or_read work next form inside is 0 in
     let busy : IsTidy aside forms opens cands list work next (length forms) = rw e t in
     rw read (Tidy-next aside forms opens cands list work next busy)
-
-pub Propagating-there : (work : List ℕ) (next form : ℕ) → next < length work → form ≡ get_or work next form → IsAbsent work 0 form → ⊥
-Propagating-there work next form inside is gone =
-    gone next (omega arith) inside (sym (get_or_read work next form inside is 0))
 
 pub Propagating-paid : (lists : List (List Occurrence)) (list0 list list' : List NumberedLiteral) (cands0 cands cands' work0 work work' : List ℕ) (next0 next next' visits0 visits visits' : ℕ) → next' ≡ next + 1 → next0 ≤ next → IsPaid lists list0 list cands0 cands work0 work visits0 visits (next - next0) → IsPaid lists list list' cands cands' work work' visits visits' 1 → IsPaid lists list0 list' cands0 cands' work0 work' visits0 visits' (next' - next0)
 Propagating-paid lists list0 list list' cands0 cands cands' work0 work work' next0 next next' visits0 visits visits' e started p q = record {

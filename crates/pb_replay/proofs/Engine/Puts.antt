@@ -1,11 +1,10 @@
 use Rattle.std.specs.Prelude.{All, Bool, true, false, if◌then◌else◌}
 use Rattle.std.proofs.Common.{◌≡◌, ℕ, ◌+◌, ◌-◌, ◌*◌, ◌^◌, ◌<◌, ◌≤◌, ◌++◌, ◌∷◌, [], List, sym, ◌∙◌, ap, subst, arith, length, get_or, set, drop, min, length-append, length-set, Vec, Global}
-use Rattle.std.proofs.lemmas.List.{drop_more, drop_all, get_or-map, length-map}
-use Rattle.std.proofs.lemmas.List.Sums.{sum_by_push}
+use Rattle.std.proofs.lemmas.List.{drop_more, get_or-map, length-map}
 use Rattle.pb_replay.specs.declared.numbered.NumberedLiteral.{NumberedLiteral}
 use Rattle.pb_replay.specs.declared.propagate.term.Occurrence.{Occurrence}
 use Rattle.pb_replay.specs.Engine.Lists.{Shape, negation}
-use Rattle.pb_replay.specs.Engine.Counts.{place, IsCounted, IsTidy, IsPaid, IsAbsent, spent}
+use Rattle.pb_replay.specs.Engine.Counts.{place, IsCounted, IsTidy, IsAbsent}
 use Rattle.pb_replay.specs.Engine.Fields.{entries_of}
 use Rattle.pb_replay.proofs.Engine.Runs.{Counted-fits, Counted-lower, Tidy-lower, absent-push}
 
@@ -50,19 +49,6 @@ Putting-next forms es opens0 cands list work0 next visits0 opens work visits j o
   where
     least_upper : (v w a i : ℕ) → w ≡ min (v + 1) (2 ^ 64 - 1) → v ≤ a + i → w ≤ a + (i + 1)
     least_upper v w a i e h = omega arith
-
-pub Putting-counted : (forms : List Shape) (es : List Occurrence) (opens0 cands : List ℕ) (list : List NumberedLiteral) (work0 : List ℕ) (next visits0 : ℕ) (opens work : List ℕ) (visits j : ℕ) → length es ≤ j → IsPutting forms es opens0 cands list work0 next visits0 opens work visits j → IsCounted forms opens list []
-Putting-counted forms es opens0 cands list work0 next visits0 opens work visits j all p = subst (IsCounted forms opens list) (drop_all j es all) p.counted
-
-pub Putting-paid : (lists : List (List Occurrence)) (forms : List Shape) (opens0 cands : List ℕ) (list longer : List NumberedLiteral) (work0 : List ℕ) (next visits0 : ℕ) (opens work : List ℕ) (visits j : ℕ) (l : NumberedLiteral) → longer ≡ list ++ (l ∷ []) → j ≡ length (get_or lists (place (negation l)) []) → IsPutting forms (get_or lists (place (negation l)) []) opens0 cands longer work0 next visits0 opens work visits j → IsPaid lists list longer cands cands work0 work visits0 visits 0
-Putting-paid lists forms opens0 cands list longer work0 next visits0 opens work visits j l e n p =
-    let more : spent lists longer ≡ spent lists list + length (get_or lists (place (negation l)) []) =
-    ap (spent lists) e ∙ sum_by_push (λ k. length (get_or lists (place (negation k)) [])) list l in
-    record {
-      upper = omega (arith, more, n, p.upper);
-      work = omega (arith, more, n, p.grown);
-      rising = p.rising;
-    }
 
 -- by what the program reads
 pub entries-at : (occ : List (Vec Occurrence Global)) (p q : ℕ) (v : Vec Occurrence Global) → q < length occ → v ≡ get_or occ q v → q ≡ p → get_or (entries_of occ) p [] ≡ v.items
