@@ -4,7 +4,7 @@ use pb_sums::{Linear, Term};
 use pb_text::{Bytes, Sequence};
 
 /// A statement of an instance in OPB, as it is read.
-#[derive(Debug, Drop, PartialEq)]
+#[derive(Drop)]
 pub enum OpbEvent {
     /// The first line: how many variables and constraints it declares, and the bytes behind the second count.
     Header {

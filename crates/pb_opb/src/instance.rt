@@ -4,7 +4,7 @@ use pb_sums::{Linear, Term};
 use pb_text::{Bytes, Sequence};
 
 /// A comment, and where it stands.
-#[derive(Debug, Drop, PartialEq)]
+#[derive(Drop)]
 pub struct Comment {
     /// How many of the objective and the constraints ended before it.
     pub before: u64,
@@ -14,7 +14,7 @@ pub struct Comment {
 
 /// An instance in OPB, as written. White space is not kept, and a comment behind the last constraint is no part
 /// of it.
-#[derive(Debug, Drop, PartialEq)]
+#[derive(Drop)]
 pub struct Instance {
     /// The first count of the header, as declared. The second is the number of constraints.
     pub variables: u64,

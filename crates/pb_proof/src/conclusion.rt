@@ -12,7 +12,7 @@ pub enum Bound {
 }
 
 /// The claim of a proof.
-#[derive(Debug, Drop, PartialEq)]
+#[derive(Drop)]
 pub enum Conclusion {
     /// Nothing is claimed.
     NoClaim,

@@ -5,7 +5,7 @@ use crate::statement::Statement;
 use pb_text::Sequence;
 
 /// A proof in VeriPB 2.0, as written. White space and comments are not kept.
-#[derive(Debug, Drop, PartialEq)]
+#[derive(Drop)]
 pub struct Proof {
     /// The number of constraints that `f` gives, where it gives one.
     pub count: Option<u64>,

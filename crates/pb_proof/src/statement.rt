@@ -8,7 +8,7 @@ use pb_text::Sequence;
 
 /// A statement of a proof in VeriPB 2.0, as it is read: a line from its first word through its line feed, and the
 /// closing words without one.
-#[derive(Debug, Drop, PartialEq)]
+#[derive(Drop)]
 pub enum Statement {
     /// `pseudo-Boolean proof version 2.0`.
     Header,

@@ -3,7 +3,7 @@
 use pb_sums::{Literal, Name};
 
 /// A word of a postfix expression of cutting planes.
-#[derive(Debug, Drop, PartialEq)]
+#[derive(Drop)]
 pub enum PolWord {
     /// The constraint with an id, counted back from the newest one where it is negative.
     Id(i64),
