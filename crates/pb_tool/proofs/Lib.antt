@@ -9,3 +9,4 @@ mod Chosen
 mod Loads
 mod Solutions
 mod Stays
+mod Checked

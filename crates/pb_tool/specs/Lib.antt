@@ -1,7 +1,11 @@
+pub mod Checker
+pub mod Checks
+pub mod Compat
 pub mod Faults
 pub mod Files
 pub mod Normalised
 mod Opening
+pub mod Pieces
 pub mod Showing
 pub mod Staying
 pub mod Tidying

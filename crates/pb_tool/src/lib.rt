@@ -1,6 +1,8 @@
 //! The command: its words and its faults.
 #![tactic(auto)]
 
+mod check_laws;
+mod checker;
 mod fault;
 mod laws;
 mod limiting;
@@ -12,6 +14,8 @@ mod statement;
 mod tidying;
 mod words;
 
+pub use check_laws::any_cut_of_a_proof;
+pub use checker::{CheckFault, Checker};
 pub use fault::{Input, ToolFault, status, write_fault};
 pub use laws::{
     normal_forms_keep_solutions, one_normal_form, tidied_proof_stays, tidied_text_stays,
