@@ -40,6 +40,7 @@ use Rattle.pb_replay.proofs.lemmas.Claims.{run}
 use Rattle.std.proofs.Math.Seq.{take-add, take-length}
 use Rattle.std.proofs.lemmas.List.{length-drop}
 use Rattle.std.specs.Prelude.{IsSome, not, is_some}
+use Rattle.pb_tool.specs.Compat.{StandsFor}
 use Rattle.pb_tool.specs.Checker.{Checking, ProofFeeder, IsAt, IsRunning, Stands, StepsFrom}
 use Rattle.pb_tool.specs.Checks.{statements_at, Checks, IsReplayed, Leads, Takes, Refuses}
 use Rattle.pb_tool.specs.Pieces.{AnyCutting, bytes_to, ChecksAt, ChecksOnce, IsOpen, Feeds, joined, fault_of, is_whole, place_in}
@@ -48,7 +49,7 @@ use Rattle.pb_tool.specs.declared.checker.CheckFault.TheVariants.{Text, Step}
 
 -- ---- one statement more
 module _ (limit top : ℕ) (v : Problem) where
-  accepts_more : (marks : List (Spanned Statement)) (m : Spanned Statement) (s u t : State) → Accepts limit top v s (statements_at marks) u → Outcome limit top v u m.event (Ok t) → Accepts limit top v s (statements_at (marks ++ m ∷ [])) t
+  pub accepts_more : (marks : List (Spanned Statement)) (m : Spanned Statement) (s u t : State) → Accepts limit top v s (statements_at marks) u → Outcome limit top v u m.event (Ok t) → Accepts limit top v s (statements_at (marks ++ m ∷ [])) t
   accepts_more [] m s u t h k = (t, subst (λ (x : State). Outcome limit top v x m.event (Ok t)) (sym h) k, refl)
   accepts_more (n ∷ marks) m s u t h k = (h.0, h.1, accepts_more marks m h.0 u t h.2 k)
 
@@ -82,7 +83,7 @@ module _ (limit top : ℕ) where
   fine_last [] m h = All-head IsFine m [] h
   fine_last (n ∷ marks) m h = fine_last marks m (All-tail IsFine n (marks ++ m ∷ []) h)
 
-  last_is_value : (longest : ℕ) (input used : List ℕ) (marks : List (Spanned Statement)) (m : Spanned Statement) (place : Place) (done : Bool) → Reads (IsProof limit top) longest input used (marks ++ m ∷ []) place done None → IsStatementValue limit top m.event
+  pub last_is_value : (longest : ℕ) (input used : List ℕ) (marks : List (Spanned Statement)) (m : Spanned Statement) (place : Place) (done : Bool) → Reads (IsProof limit top) longest input used (marks ++ m ∷ []) place done None → IsStatementValue limit top m.event
   last_is_value longest input used marks m place true r =
       let s = r.answer.0 in
       fine_last marks m (subst (All IsFine) (sym s.marks_are) (fine_marks None [] s.items s.spelled.1.3))
@@ -182,7 +183,7 @@ module _ (exact : ReadsProofs) (limits : Limits) (longest : ℕ) (v : Problem) (
       }
 
 -- ---- a whole proof that was accepted has a verdict
-marks_events : (first : Option Place) (before : List ℕ) (items : List (Item Statement)) → statements_at (marks_since first before items) ≡ events_of items
+pub marks_events : (first : Option Place) (before : List ℕ) (items : List (Item Statement)) → statements_at (marks_since first before items) ≡ events_of items
 marks_events first before [] = refl
 marks_events first before (i ∷ items) = ap (λ (x : List Statement). i.event ∷ x) (marks_events None (before ++ (i.gap ++ bytes i.text)) items)
 
@@ -247,7 +248,7 @@ module _ (limit top : ℕ) (v : Problem) (first t : State) where
 
 module _ (limits : Limits) (longest : ℕ) (v : Problem) (first : Result State Fault) where
   -- the replay was in a state, and is in one
-  there : (input used : List ℕ) (marks : List (Spanned Statement)) (place : Place) (now : Result State Fault) → Reads (IsProof (largest limits) (top_of limits)) longest input used marks place true None → Leads limits v first (statements_at marks) now → (t : State) × (now ≡ Ok t) × (verdict_at t.next t.concluded ≡ None → ⊥)
+  pub there : (input used : List ℕ) (marks : List (Spanned Statement)) (place : Place) (now : Result State Fault) → Reads (IsProof (largest limits) (top_of limits)) longest input used marks place true None → Leads limits v first (statements_at marks) now → (t : State) × (now ≡ Ok t) × (verdict_at t.next t.concluded ≡ None → ⊥)
   there input used marks place now r leads =
       let s = r.answer.0 in
       let (pf, spells) = s.spelled in
@@ -354,6 +355,9 @@ pub any_cutting : (exact : ReadsProofs) → AnyCutting
 any_cutting exact limits longest v first before after pieces h owed feeds =
     seen exact limits longest v first (joined pieces) after after.fault (row exact limits longest v first [] before after pieces h owed feeds)
 
+pub shown_at : (r : Replaying) (t : State) → IsAt r (Ok t) → verdict_in r ≡ verdict_at t.next t.concluded
+shown_at r t (unspent, at) = ap (λ (x : Option Fault). if is_some x then None else verdict_at r.state.next r.state.concluded) unspent ∙ sym (ap (λ (x : Phase). verdict_at x t.concluded) at.next ∙ ap (λ (x : Option Verdict). verdict_at r.state.next x) at.concluded)
+
 -- ---- where the text has ended, of a checker
 module _ (exact : ReadsProofs) (limits : Limits) (longest : ℕ) (v : Problem) (first : Result State Fault) (input : List ℕ) (f : ProofFeeder) (r : Replaying) (e : Option CheckFault) (none : e ≡ None) (h : Stands limits longest v first input f r e) where
   now : IsRunning limits longest v first input f r
@@ -382,27 +386,27 @@ module _ (exact : ReadsProofs) (limits : Limits) (longest : ℕ) (v : Problem) (
         },
       )
 
-  shown : (t : State) → IsAt r (Ok t) → verdict_in r ≡ verdict_at t.next t.concluded
-  shown t (unspent, at) = ap (λ (x : Option Fault). if is_some x then None else verdict_at r.state.next r.state.concluded) unspent ∙ sym (ap (λ (x : Phase). verdict_at x t.concluded) at.next ∙ ap (λ (x : Option Verdict). verdict_at r.state.next x) at.concluded)
-
   pub verdict_here : is_complete f ≡ true → (w : Verdict) → Some w ≡ verdict_in r → (t : State) × IsReplayed limits longest v first input (place_of f) true None (Ok t) × (verdict_at t.next t.concluded ≡ Some w)
   verdict_here done w is =
       let text = whole_text done in
       let (t, same, some) = there limits longest v first input text.used text.marks (place_of f) now.now text.reads text.accepted in
-      (t, subst (λ (x : Result State Fault). IsReplayed limits longest v first input (place_of f) true None x) same text, sym (shown t (subst (λ (x : Result State Fault). IsAt r x) same now.at)) ∙ sym is)
+      (t, subst (λ (x : Result State Fault). IsReplayed limits longest v first input (place_of f) true None x) same text, sym (shown_at r t (subst (λ (x : Result State Fault). IsAt r x) same now.at)) ∙ sym is)
 
   pub no_verdict : is_complete f ≡ true → None ≡ verdict_in r → ⊥
   no_verdict done is =
       let text = whole_text done in
       let (t, same, some) = there limits longest v first input text.used text.marks (place_of f) now.now text.reads text.accepted in
-      some (sym (shown t (subst (λ (x : Result State Fault). IsAt r x) same now.at)) ∙ sym is)
+      some (sym (shown_at r t (subst (λ (x : Result State Fault). IsAt r x) same now.at)) ∙ sym is)
 
 -- ---- a replay stands somewhere
+pub some_state : (r : Replaying) → (s : State) × StandsFor r s
+some_state r = (r.state, record { same = refl; names = refl; next = refl; concluded = refl })
+
 pub somewhere : (r : Replaying) → (first : Result State Fault) × IsAt r first
 somewhere r = by r.fault refl
   where
     by : (o : Option Fault) → r.fault ≡ o → (first : Result State Fault) × IsAt r first
-    by None e = (Ok r.state, (e, record { same = refl; next = refl; concluded = refl }))
+    by None e = let (s, at) = some_state r in (Ok s, (e, at))
     by (Some x) e = (Err x, e)
 
 pub leads_none : (limits : Limits) (v : Problem) (first : Result State Fault) → Leads limits v first [] first

@@ -10,3 +10,6 @@ mod Loads
 mod Solutions
 mod Stays
 mod Checked
+mod Replayed
+mod Accepted
+mod Headline

@@ -1,5 +1,5 @@
 -- stand-in
-use Rattle.std.specs.Prelude.{◌≡◌, ◌⊎◌, Option, Some, None, Result, Ok, Err}
+use Rattle.std.specs.Prelude.{◌≡◌, ◌⊎◌, ℕ, List, Option, Some, None, Result, Ok, Err}
 use Rattle.pb_text.specs.Limits.{largest, top_of}
 use Rattle.pb_proof.specs.declared.Statement.{Statement}
 use Rattle.pb_replay.specs.Replay.{State}
@@ -16,8 +16,12 @@ next_in r = r.state.next
 abbrev pub concluded_in : Replaying → Option Verdict
 concluded_in r = r.state.concluded
 
+abbrev pub names_in : Replaying → List (List ℕ)
+names_in r = r.state.names
+
 pub record StandsFor (r : Replaying) (s : State) : Type 0 where
   pub same : s ≡ r.state
+  pub names : s.names ≡ names_in r
   pub next : s.next ≡ next_in r
   pub concluded : s.concluded ≡ concluded_in r
 

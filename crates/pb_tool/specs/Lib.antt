@@ -3,10 +3,14 @@ pub mod Checks
 pub mod Compat
 pub mod Faults
 pub mod Files
+pub mod Headline
 pub mod Normalised
 mod Opening
 pub mod Pieces
+pub mod Refusals
+pub mod Runs
 pub mod Showing
 pub mod Staying
 pub mod Tidying
+pub mod Verified
 pub mod Words

@@ -5,6 +5,8 @@ ghost use Rattle.pb_text.specs.Limits.{largest, top_of};
 ghost use Rattle.pb_proof.specs.Values.{IsStatementValue};
 ghost use Rattle.pb_replay.specs.Replay.{State};
 ghost use Rattle.pb_replay.specs.declared.fault.Fault.{Fault as AFault};
+ghost use Rattle.pb_replay.specs.Meaning.{IsFront};
+ghost use Rattle.pb_tool.specs.Compat.{names_in};
 ghost use Rattle.pb_tool.specs.Checker.{IsAt, StepsFrom};
 
 use pb_proof::{ProofMachine, Statement, proofs_are_exact};
@@ -194,10 +196,11 @@ impl Checker {
 }
 
 /// Steps through a statement that was read, which nothing wants any more.
-fn step_through(replay: &mut Replay, read: Spanned<Statement>) -> Result<(), CheckFault>
+pub(crate) fn step_through(replay: &mut Replay, read: Spanned<Statement>) -> Result<(), CheckFault>
     requires { IsStatementValue (largest replay.old.limits) (top_of replay.old.limits) read.event }
     ensures steps { (now : Result State AFault) → IsAt replay.old now
         → StepsFrom replay.old.limits replay.old.problem now read result replay.new }
+    ensures names { IsFront (names_in replay.old) (names_in replay.new) }
     ensures limits { replay.new.limits ≡ replay.old.limits }
     ensures problem { replay.new.problem ≡ replay.old.problem }
 {
@@ -209,6 +212,7 @@ fn step_by(replay: &mut Replay, read: &Spanned<Statement>) -> Result<(), CheckFa
     requires { IsStatementValue (largest replay.old.limits) (top_of replay.old.limits) read.now.event }
     ensures steps { (now : Result State AFault) → IsAt replay.old now
         → StepsFrom replay.old.limits replay.old.problem now read.now result replay.new }
+    ensures names { IsFront (names_in replay.old) (names_in replay.new) }
     ensures limits { replay.new.limits ≡ replay.old.limits }
     ensures problem { replay.new.problem ≡ replay.old.problem }
 {

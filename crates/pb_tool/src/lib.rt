@@ -9,12 +9,15 @@ mod limiting;
 mod normalising;
 mod opening;
 mod proof_tidying;
+mod refusal;
 mod showing;
 mod statement;
 mod tidying;
+mod verdict;
+mod verify;
 mod words;
 
-pub use check_laws::any_cut_of_a_proof;
+pub use check_laws::{any_cut_of_a_proof, unsat_is_true, verified_is_true};
 pub use checker::{CheckFault, Checker};
 pub use fault::{Input, ToolFault, status, write_fault};
 pub use laws::{
@@ -23,4 +26,5 @@ pub use laws::{
 pub use limiting::limits_of;
 pub use showing::show;
 pub use tidying::tidy;
+pub use verify::check;
 pub use words::{Job, WordsFault, read_words};
