@@ -12,13 +12,12 @@ use Rattle.pb_normal.specs.declared.Side.TheVariants.{AtLeast as least}
 use Rattle.pb_normal.specs.Form.{Form}
 use Rattle.pb_normal.specs.Rules.{negation_of, IsContradiction, SumIsContradiction}
 use Rattle.pb_replay.specs.declared.fault.Fault.TheVariants.{NoSuchId, NoObjective, NotContradiction, SolutionLogged, NoSolution, NotBound}
-use Rattle.pb_replay.specs.declared.state.solution.Logged.{Logged}
 use Rattle.pb_replay.specs.declared.verdict.Verdict.{Verdict}
 use Rattle.pb_replay.specs.declared.verdict.Verdict.TheVariants as verdict
 use Rattle.pb_replay.specs.Answer.{Answer, gives, need, found}
 use Rattle.pb_replay.specs.Loading.{Problem}
 use Rattle.pb_replay.specs.Propagation.{IsRup}
-use Rattle.pb_replay.specs.Replay.{State, Live, IsLive, Shown, normal_form, numbered}
+use Rattle.pb_replay.specs.Replay.{State, Logged, Live, IsLive, Shown, normal_form, numbered}
 
 -- what a conclusion claims, without how
 abbrev pub verdict_of : Conclusion → Verdict
@@ -41,7 +40,7 @@ abbrev pub none_left : {A : Type 0} → State → Option ℤ → Answer A → An
 none_left s id next = need (s.logged ≡ []) SolutionLogged (contradicted s.live id next)
 
 -- goes on with the named constraint, where there is a name
-abbrev pub named : List (Option Form) → Option ℤ → (Option Form → Answer State) → Answer State
+abbrev pub named : {A : Type 0} → List (Option Form) → Option ℤ → (Option Form → Answer A) → Answer A
 named live None next = next None
 named live (Some i) next = found (IsLive live i) (NoSuchId i) (λ f. next (Some f))
 
@@ -56,7 +55,7 @@ pub data IsShownBy (live : List (Option Form)) (id : Option Form) (g : Form) : T
   sum : (f : Form) → id ≡ Some f → SumIsContradiction f (negation_of g) → IsShownBy live id g
   propagated : IsRup (Live live) g → IsShownBy live id g
 
-abbrev pub lower_bound : ℕ → State → List Term → Bound → Option ℤ → Answer State → Answer State
+abbrev pub lower_bound : {A : Type 0} → ℕ → State → List Term → Bound → Option ℤ → Answer A → Answer A
 lower_bound limit s o Infinite id next = none_left s id next
 lower_bound limit s o (Finite b) id next =
     need ((g : Logged) → Contains s.logged g → b ≤ℤ g.value) NotBound
@@ -64,7 +63,7 @@ lower_bound limit s o (Finite b) id next =
     normal_form limit s.names least (objective_with o b) (λ g.
     need (IsShownBy s.live f g) NotBound next)))
 
-abbrev pub upper_bound : Problem → State → Bound → Option (List Literal) → Answer State → Answer State
+abbrev pub upper_bound : {A : Type 0} → Problem → State → Bound → Option (List Literal) → Answer A → Answer A
 upper_bound v s Infinite shown next = next
 upper_bound v s (Finite u) (Some given) next =
     found (Shown v (numbered s.names given)) NoSolution (λ g. need (g.value ≤ℤ u) NotBound next)

@@ -7,7 +7,7 @@ use Rattle.pb_opb.specs.declared.Instance.{Instance}
 use Rattle.pb_normal.specs.Names.{AreDistinct, HasNames}
 use Rattle.pb_normal.specs.Rules.{assignment}
 use Rattle.pb_normal.specs.Written.{names_of, by_number}
-use Rattle.pb_replay.specs.declared.state.solution.Logged.{Logged}
+use Rattle.pb_replay.specs.Replay.{Logged}
 use Rattle.pb_replay.specs.declared.verdict.Verdict.{Verdict}
 use Rattle.pb_replay.specs.declared.verdict.Verdict.TheVariants.{NoClaim, Unsat, Sat, Bounds}
 use Rattle.pb_replay.specs.Loading.{Problem, objective_of, Solves, written_value}

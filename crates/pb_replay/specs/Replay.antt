@@ -9,7 +9,6 @@ use Rattle.pb_normal.specs.Names.{number_in}
 use Rattle.pb_normal.specs.Rules.{IsSum, multiplied, divided, saturated, weakened, axiom_on, assignment}
 use Rattle.pb_normal.specs.Written.{true_sum, IsSideOf}
 use Rattle.pb_replay.specs.declared.fault.Fault.TheVariants.{Overflow, NoSuchId, Conflict, NotTotal, Violates, IdsSpent}
-use Rattle.pb_replay.specs.declared.state.solution.Logged.{Logged}
 use Rattle.pb_replay.specs.declared.numbered.NumberedLiteral.{NumberedLiteral}
 use Rattle.pb_replay.specs.declared.state.phase.Phase.{Phase}
 use Rattle.pb_replay.specs.declared.state.phase.Phase.TheVariants.{Beginning}
@@ -17,6 +16,11 @@ use Rattle.pb_replay.specs.declared.verdict.Verdict.{Verdict}
 use Rattle.pb_replay.specs.Answer.{Answer, gives, need, each_below, found, some, after}
 use Rattle.pb_replay.specs.Loading.{Problem, Fits, objective_of}
 use Rattle.pb_replay.specs.Propagation.{only, on, MeetsConflict, IsCompletion}
+
+-- a solution: its values by the numbers of names, and that of the objective
+pub record Logged : Type 0 where
+  pub values : List Bool
+  pub value : ℤ
 
 -- The constraint with the id i stands at i - 1, so the newest id is the length. A name's number is its place.
 pub record State : Type 0 where
@@ -90,16 +94,20 @@ no_form = record { terms = []; degree = 0 }
 abbrev pub logged_of : Problem → List Bool → Logged
 logged_of v values = record { values = values; value = value v (assignment values) }
 
--- The completion of given literals over a set of forms, where it is a solution: no conflict is met, each of so many
--- names has a value, and all constraints of the instance hold.
-abbrev pub Completed : Problem → (Form → Type 0) → ℕ → List NumberedLiteral → Answer Logged
-Completed v forms names given =
-    need (MeetsConflict forms given → ⊥) Conflict
-    (some (IsCompletion forms given) (λ list.
+-- the values of a closed list, where they are a solution: each of so many names has one, and all constraints of the
+-- instance hold
+abbrev pub Solution : Problem → ℕ → List NumberedLiteral → Answer Logged
+Solution v names list =
     each_below (HasValue list) names NotTotal
     (some (AreValues list names) (λ values.
     each_below (λ k. Holds (assignment values) (get_or v.loaded k no_form)) (length v.loaded) (λ k. Violates (k + 1))
-    (gives (logged_of v values))))))
+    (gives (logged_of v values))))
+
+-- the completion of given literals over a set of forms, where no conflict is met and it is a solution
+abbrev pub Completed : Problem → (Form → Type 0) → ℕ → List NumberedLiteral → Answer Logged
+Completed v forms names given =
+    need (MeetsConflict forms given → ⊥) Conflict
+    (some (IsCompletion forms given) (Solution v names))
 
 -- a solution by the instance's own constraints
 abbrev pub Shown : Problem → List NumberedLiteral → Logged → Type 0

@@ -1,44 +1,73 @@
 -- What a replay keeps, as a problem and a state
-use Rattle.std.specs.Prelude.{◌≡◌, ℕ, zero, suc, ◌≤◌, ◌⊎◌, if◌then◌else◌, is_some, List, length, take, get_or, Option, Some, None, option_map, Result, Ok, Err}
+use Rattle.std.specs.Prelude.{◌≡◌, ℕ, ℤ, zero, suc, ◌<◌, ◌≤◌, ◌≤ℤ◌, ◌⊎◌, false, if◌then◌else◌, is_some, List, [], ◌∷◌, ◌++◌, All, Contains, length, take, get_or, Option, Some, None, option_map, Result, Ok, Err}
 use Rattle.pb_text.specs.Limits.{largest, top_of}
 use Rattle.pb_text.specs.declared.Limits.{Limits}
 use Rattle.pb_proof.specs.declared.Statement.{Statement}
 use Rattle.pb_normal.specs.Form.{Form}
 use Rattle.pb_normal.specs.Names.{with_names}
+use Rattle.pb_normal.specs.Written.{magnitude}
 use Rattle.pb_replay.specs.declared.fault.Fault.{Fault}
 use Rattle.pb_replay.specs.declared.fault.Fault.TheVariants.{Memory}
 use Rattle.pb_replay.specs.declared.state.phase.Phase.{Phase}
 use Rattle.pb_replay.specs.declared.state.phase.Phase.TheVariants.{Done}
 use Rattle.pb_replay.specs.declared.verdict.Verdict.{Verdict}
 use Rattle.pb_replay.specs.declared.state.Running.{Running}
-use Rattle.pb_replay.specs.Loading.{Problem}
-use Rattle.pb_replay.specs.Replay.{State, added, first_state}
+use Rattle.pb_replay.specs.Loading.{Problem, objective_of}
+use Rattle.pb_replay.specs.Replay.{State, Logged, Live, added, first_state}
 use Rattle.pb_replay.specs.Statements.{Does, Outcome, mentioned}
 use Rattle.pb_replay.specs.Meaning.{IsFront, IsProblem, IsSound}
+
+-- the least value of those that were logged
+abbrev pub IsBest : List Logged → Option ℤ → Type 0
+IsBest logged None = logged ≡ []
+IsBest logged (Some b) = ((g : Logged) × Contains logged g × (g.value ≡ b)) × ((g : Logged) → Contains logged g → b ≤ℤ g.value)
+
+-- the form's variables are below that number
+abbrev pub IsInside : ℕ → Form → Type 0
+IsInside n f = All (λ t. t.variable < n) f.terms
 
 abbrev pub problem_of : Running → Problem
 problem_of r = record { loaded = r.loaded.items; objective = option_map (λ c. c.terms) r.objective; names = take r.own r.names }
 
-abbrev pub state_of : Running → State
-state_of r = record { live = r.live.items; names = r.names; logged = r.logged.items; next = r.next; concluded = r.concluded }
+-- the state in which these solutions were logged
+abbrev pub state_of : Running → List Logged → State
+state_of r logged = record { live = r.engine.forms; names = r.names; logged = logged; next = r.next; concluded = r.concluded }
 
 -- the state once a statement's names have appeared
 abbrev pub with_mentioned : State → Statement → State
 with_mentioned s st = record s { names = with_names s.names (mentioned st) }
 
--- what an answer is of a statement that may come, and of any; `Memory` may come at each
+-- What an answer is of a statement that may come, and of any, whatever was logged with this best value. `Memory` may come
+-- at each.
 abbrev pub Goes : Running → Statement → Result Unit Fault → Running → Type 0
-Goes old st (Ok _) new = Does (largest old.limits) (top_of old.limits) (problem_of old) (with_mentioned (state_of old) st) st (Ok (state_of new))
-Goes old st (Err e) new = (e ≡ Memory) ⊎ Does (largest old.limits) (top_of old.limits) (problem_of old) (with_mentioned (state_of old) st) st (Err e)
+Goes old st (Ok _) new = (logged : List Logged) → IsBest logged old.best → (more : List Logged) × IsBest more new.best
+    × Does (largest old.limits) (top_of old.limits) (problem_of old) (with_mentioned (state_of old logged) st) st (Ok (state_of new more))
+Goes old st (Err e) new = (e ≡ Memory) ⊎ ((logged : List Logged) → IsBest logged old.best
+    → Does (largest old.limits) (top_of old.limits) (problem_of old) (with_mentioned (state_of old logged) st) st (Err e))
 
 abbrev pub Comes : Running → Statement → Result Unit Fault → Running → Type 0
-Comes old st (Ok _) new = Outcome (largest old.limits) (top_of old.limits) (problem_of old) (state_of old) st (Ok (state_of new))
-Comes old st (Err e) new = (e ≡ Memory) ⊎ Outcome (largest old.limits) (top_of old.limits) (problem_of old) (state_of old) st (Err e)
+Comes old st (Ok _) new = (logged : List Logged) → IsBest logged old.best → (more : List Logged) × IsBest more new.best
+    × Outcome (largest old.limits) (top_of old.limits) (problem_of old) (state_of old logged) st (Ok (state_of new more))
+Comes old st (Err e) new = (e ≡ Memory) ⊎ ((logged : List Logged) → IsBest logged old.best
+    → Outcome (largest old.limits) (top_of old.limits) (problem_of old) (state_of old logged) st (Err e))
+
+-- the same of a statement whose names have appeared already
+abbrev pub GoesAt : Running → Statement → Result Unit Fault → Running → Type 0
+GoesAt old st (Ok _) new = (logged : List Logged) → IsBest logged old.best → (more : List Logged) × IsBest more new.best
+    × Does (largest old.limits) (top_of old.limits) (problem_of old) (state_of old logged) st (Ok (state_of new more))
+GoesAt old st (Err e) new = (e ≡ Memory) ⊎ ((logged : List Logged) → IsBest logged old.best
+    → Does (largest old.limits) (top_of old.limits) (problem_of old) (state_of old logged) st (Err e))
 
 -- the same of one form more
 abbrev pub Adding : Running → Form → Result Unit Fault → Running → Type 0
-Adding old form (Ok _) new = added (top_of old.limits) (state_of old) old.logged.items form (Ok (state_of new))
-Adding old form (Err e) new = (e ≡ Memory) ⊎ added (top_of old.limits) (state_of old) old.logged.items form (Err e)
+Adding old form (Ok _) new = (before after : List Logged) → added (top_of old.limits) (state_of old before) after form (Ok (state_of new after))
+Adding old form (Err e) new = (e ≡ Memory) ⊎ ((before after : List Logged) → added (top_of old.limits) (state_of old before) after form (Err e))
+
+-- the same of one form more, once a solution with this value was logged
+abbrev pub Logs : Running → ℤ → Form → Result Unit Fault → Running → Type 0
+Logs old z form (Ok _) new = (before : List Logged) (g : Logged) → IsBest before old.best → g.value ≡ z
+    → IsBest (before ++ g ∷ []) new.best × added (top_of old.limits) (state_of old before) (before ++ g ∷ []) form (Ok (state_of new (before ++ g ∷ [])))
+Logs old z form (Err e) new = (e ≡ Memory) ⊎ ((before : List Logged) (g : Logged) → added (top_of old.limits) (state_of old before) (before ++ g ∷ []) form (Err e))
 
 -- what stays whatever is answered
 pub record Keeps (old new : Running) : Type 0 where
@@ -48,25 +77,67 @@ pub record Keeps (old new : Running) : Type 0 where
   pub objective : option_map (λ c. c.terms) new.objective ≡ option_map (λ c. c.terms) old.objective
   pub names : IsFront old.names new.names
 
--- what is true before each statement
-pub record IsReady (r : Running) : Type 0 where
+-- the engine is not spent, has a variable for each name, and every live form lies within
+pub record IsLinked (r : Running) : Type 0 where
+  pub ready : r.engine.spent ≡ false
+  pub variables : r.engine.variables ≡ length r.names
+  pub inside : (f : Form) → Live r.engine.forms f → IsInside (length r.names) f
+
+-- what is true of the instance in every state
+pub record IsProper (r : Running) : Type 0 where
   pub own : r.own ≤ length r.names
   pub problem : IsProblem (problem_of r)
-  pub sound : IsSound (problem_of r) (state_of r)
+  pub fits : magnitude (objective_of (problem_of r).objective) ≤ largest r.limits
+  pub loaded : (f : Form) → Contains r.loaded.items f → IsInside r.own f
+
+-- what is true before each statement
+pub record IsReady (r : Running) : Type 0 where
+  pub proper : IsProper r
+  pub linked : IsLinked r
+  pub sound : (logged : List Logged) × IsBest logged r.best × IsSound (problem_of r) (state_of r logged)
+
+-- other names have appeared, and nothing else
+pub record HasNamed (others : List (List ℕ)) (old new : Running) : Type 0 where
+  pub names : new.names ≡ with_names old.names others
+  pub forms : new.engine.forms ≡ old.engine.forms
+  pub best : new.best ≡ old.best
+  pub next : new.next ≡ old.next
+  pub concluded : new.concluded ≡ old.concluded
+
+-- the lesser of the best value, where there is one, and another
+abbrev pub IsBetter : Option ℤ → ℤ → ℤ → Type 0
+IsBetter None z r = r ≡ z
+IsBetter (Some b) z r = (r ≤ℤ b) × (r ≤ℤ z) × ((r ≡ b) ⊎ (r ≡ z))
 
 -- before the first statement
 pub record IsFirst (given : Limits) (r : Running) : Type 0 where
   pub limits : r.limits ≡ given
   pub own : r.own ≡ length r.names
-  pub state : state_of r ≡ first_state (problem_of r)
+  pub best : r.best ≡ None
+  pub state : state_of r [] ≡ first_state (problem_of r)
+  pub ready : r.engine.spent ≡ false
+  pub variables : r.engine.variables ≡ length r.names
+  pub visits : r.visits ≡ 0
 
 -- what callers see of a replay; where there is a fault it is spent
 pub record Replaying : Type 0 where
   pub limits : Limits
   pub problem : Problem
-  pub state : State
+  pub live : List (Option Form)
+  pub names : List (List ℕ)
+  pub best : Option ℤ
+  pub next : Phase
+  pub concluded : Option Verdict
   pub fault : Option Fault
   pub visits : ℕ
+
+-- The state that it stands for. Of the logged solutions the best value alone is seen.
+pub record StandsFor (r : Replaying) (s : State) : Type 0 where
+  pub live : s.live ≡ r.live
+  pub names : s.names ≡ r.names
+  pub logged : IsBest s.logged r.best
+  pub next : s.next ≡ r.next
+  pub concluded : s.concluded ≡ r.concluded
 
 -- the verdict, once the proof has ended
 abbrev pub verdict_at : Phase → Option Verdict → Option Verdict
@@ -74,14 +145,14 @@ verdict_at Done concluded = concluded
 verdict_at _ concluded = None
 
 abbrev pub verdict_in : Replaying → Option Verdict
-verdict_in r = if is_some r.fault then None else verdict_at r.state.next r.state.concluded
+verdict_in r = if is_some r.fault then None else verdict_at r.next r.concluded
 
 -- the live constraint of an id
 abbrev pub constraint_in : List (Option Form) → ℕ → Option Form
 constraint_in live zero = None
 constraint_in live (suc n) = get_or live n None
 
--- what a step of one that is not spent answers
+-- What a step of one that is not spent answers, in every state that it stands for. A fault may be want of memory.
 abbrev pub StepsAs : Replaying → Statement → Result Unit Fault → Replaying → Type 0
-StepsAs old st (Ok _) new = Outcome (largest old.limits) (top_of old.limits) old.problem old.state st (Ok new.state) × (new.fault ≡ None)
-StepsAs old st (Err e) new = ((e ≡ Memory) ⊎ Outcome (largest old.limits) (top_of old.limits) old.problem old.state st (Err e)) × (new.fault ≡ Some e)
+StepsAs old st (Ok _) new = ((s : State) → StandsFor old s → (t : State) × StandsFor new t × Outcome (largest old.limits) (top_of old.limits) old.problem s st (Ok t)) × (new.fault ≡ None)
+StepsAs old st (Err e) new = ((e ≡ Memory) ⊎ ((s : State) → StandsFor old s → Outcome (largest old.limits) (top_of old.limits) old.problem s st (Err e))) × (new.fault ≡ Some e)

@@ -14,5 +14,4 @@ pub use fault::Fault;
 pub use numbered::NumberedLiteral;
 pub use replay::Replay;
 pub use state::phase::Phase;
-pub use state::solution::Logged;
 pub use verdict::Verdict;

@@ -7,7 +7,8 @@ ghost use Rattle.pb_proof.specs.Values.{IsStatementValue};
 ghost use Rattle.pb_replay.specs.Loading.{Opened};
 ghost use Rattle.pb_replay.specs.Replay.{first_state};
 ghost use Rattle.pb_replay.specs.Meaning.{IsFront, Means};
-ghost use Rattle.pb_replay.specs.Running.{StepsAs, verdict_in, constraint_in};
+ghost use Rattle.pb_replay.specs.Running.{StandsFor, StepsAs, verdict_in, constraint_in};
+ghost use Rattle.pb_replay.specs.Visits.{LooksOf};
 ghost use Rattle.pb_replay.specs.declared.fault.Fault.{Fault as AFault};
 
 use crate::fault::Fault;
@@ -32,14 +33,18 @@ pub struct Replay {
 
 impl Model for Replay {
     ghost use Rattle.std.specs.Prelude.{◌≡◌, None};
-    ghost use Rattle.pb_replay.specs.Running.{Replaying, IsReady, problem_of, state_of};
+    ghost use Rattle.pb_replay.specs.Running.{Replaying, IsReady, problem_of};
 
     ghost Value = { Replaying };
 
     ghost view = { λ r. record {
       limits = r.running.limits;
       problem = problem_of r.running;
-      state = state_of r.running;
+      live = r.running.engine.forms;
+      names = r.running.names;
+      best = r.running.best;
+      next = r.running.next;
+      concluded = r.running.concluded;
       fault = r.fault;
       visits = r.running.visits;
     } };
@@ -52,8 +57,9 @@ impl Replay {
     pub fn new(alloc: Global, instance: &Instance, limits: Limits) -> Result<Replay, Fault>
         ensures opened { IfOk result (λ r. Opened (largest limits) instance.now (Ok r.problem)) }
         ensures limits { IfOk result (λ r. r.limits ≡ limits) }
-        ensures first { IfOk result (λ r. r.state ≡ first_state r.problem) }
+        ensures first { IfOk result (λ r. StandsFor r (first_state r.problem)) }
         ensures running { IfOk result (λ r. r.fault ≡ None) }
+        ensures visits { IfOk result (λ r. r.visits ≡ 0) }
         ensures refused { IfErr result (λ e. (e ≡ Fault.Memory) ⊎ Opened (largest limits) instance.now (Err e)) }
     {
         match open(alloc, instance, limits) {
@@ -72,7 +78,8 @@ impl Replay {
         ensures again { (fault : AFault) → self.old.fault ≡ Some fault → (result ≡ Err fault) × (self.new ≡ self.old) }
         ensures limits { self.new.limits ≡ self.old.limits }
         ensures problem { self.new.problem ≡ self.old.problem }
-        ensures names { IsFront self.old.state.names self.new.state.names }
+        ensures names { IsFront self.old.names self.new.names }
+        ensures looks { self.old.fault ≡ None → LooksOf self.old.live self.old.names statement.now result self.old.visits self.new.visits }
     {
         if let Some(fault) = self.fault {
             return Err(fault);
@@ -102,31 +109,24 @@ impl Replay {
 
     /// The live constraint of an id. After a fault it means nothing.
     pub fn constraint(&self, id: u64) -> Option<&Normal>
-        ensures { option_copied result ≡ constraint_in self.now.state.live id }
+        ensures { option_copied result ≡ constraint_in self.now.live id }
     {
-        if id == 0 {
+        if id == 0 || id > self.newest() {
             return None;
         }
-        let at = (id - 1) as usize;
-        if at >= self.running.live.len() {
-            return None;
-        }
-        match &self.running.live[at] {
-            Some(form) => Some(form),
-            None => None,
-        }
+        self.running.engine.form((id - 1) as usize)
     }
 
     /// The newest id, 0 where none was given. After a fault it means nothing.
     pub fn newest(&self) -> u64
-        ensures { result ≡ length self.now.state.live }
+        ensures { result ≡ length self.now.live }
     {
-        self.running.live.len() as u64
+        self.running.engine.len() as u64
     }
 
     /// The name with a number, also after a fault.
     pub fn name_of(&self, number: usize) -> Option<&str>
-        ensures { option_copied result ≡ slice_get self.now.state.names number }
+        ensures { option_copied result ≡ slice_get self.now.names number }
     {
         self.running.names.name_of(number)
     }

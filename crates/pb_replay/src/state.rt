@@ -1,13 +1,15 @@
 //! What a replay keeps.
 
 pub(crate) mod find;
+pub(crate) mod literals;
 pub(crate) mod live;
 pub(crate) mod load;
+pub(crate) mod objective;
 pub(crate) mod phase;
 pub(crate) mod solution;
 
+use crate::propagate::engine::Engine;
 use crate::state::phase::Phase;
-use crate::state::solution::Logged;
 use crate::verdict::Verdict;
 use pb_normal::{Names, Normal};
 use pb_sums::Linear;
@@ -26,9 +28,12 @@ pub(crate) struct Running {
     pub(crate) loaded: Vec<Normal>,
     /// The objective's terms. Its relation and degree mean nothing.
     pub(crate) objective: Option<Linear>,
-    pub(crate) live: Vec<Option<Normal>>,
-    pub(crate) logged: Vec<Logged>,
+    /// The live constraints, that with the id i at i - 1.
+    pub(crate) engine: Engine,
+    /// The least value of a logged solution.
+    pub(crate) best: Option<i128>,
     pub(crate) next: Phase,
     pub(crate) concluded: Option<Verdict>,
+    /// How many looks the last `rup` took.
     pub(crate) visits: u64,
 }

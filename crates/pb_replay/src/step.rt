@@ -1,58 +1,79 @@
 //! What the statements do.
 
-ghost use Rattle.std.specs.Prelude.{◌≡◌, ◌↔◌, IsTrue};
+ghost use Rattle.std.specs.Prelude.{◌≡◌, ◌↔◌, IsTrue, OnOk};
 ghost use Rattle.pb_text.specs.Limits.{largest, top_of};
 ghost use Rattle.pb_proof.specs.Values.{IsStatementValue};
-ghost use Rattle.pb_replay.specs.Running.{Keeps, Goes, Comes};
-ghost use Rattle.pb_replay.specs.Statements.{comes};
+ghost use Rattle.pb_replay.specs.Running.{Keeps, Goes, Comes, IsLinked, IsReady};
+ghost use Rattle.pb_replay.specs.Statements.{IsCount, comes};
+ghost use Rattle.pb_replay.specs.Visits.{LooksOf, counted_from};
 
 mod conclude;
+mod contradiction;
 mod delete;
 mod pol;
 mod rup;
+mod shown;
 mod solution;
 
 use crate::fault::Fault;
 use crate::state::Running;
-use crate::state::live::copied;
+use crate::state::live::engine_of;
 use crate::state::phase::Phase;
 use pb_proof::Statement;
 
 /// The header.
 fn begin(running: &mut Running) -> Result<(), Fault>
+    requires { IsReady running.old }
     ensures goes { Goes running.old Statement.Header result running.new }
+    ensures linked { OnOk result (IsLinked running.new) }
     ensures kept { Keeps running.old running.new }
+    ensures visits { running.new.visits ≡ running.old.visits }
 {
     running.next = Phase::Loading;
     Ok(())
 }
 
+/// Whether the number after `f`, where there is one, is that of the constraints.
+fn is_count(count: Option<u64>, number: u64) -> bool
+    ensures { IsTrue result ↔ IsCount count number }
+{
+    match count {
+        None => true,
+        Some(count) => count == number,
+    }
+}
+
 /// `f`: the formula's constraints become live.
 fn load(running: &mut Running, count: Option<u64>) -> Result<(), Fault>
+    requires { IsReady running.old }
     ensures goes { Goes running.old (Statement.F count) result running.new }
+    ensures linked { OnOk result (IsLinked running.new) }
     ensures kept { Keeps running.old running.new }
+    ensures visits { running.new.visits ≡ running.old.visits }
 {
     let number = running.loaded.len() as u64;
-    if let Some(count) = count {
-        if count != number {
-            return Err(Fault::FormulaCount(number));
-        }
+    if !is_count(count, number) {
+        return Err(Fault::FormulaCount(number));
     }
     if number > running.limits.top() {
         return Err(Fault::IdsSpent);
     }
-    match copied(running.alloc, running.loaded.as_slice()) {
-        Ok(live) => running.live = live,
-        Err(fault) => return Err(fault),
-    }
+    running.engine = engine_of(
+        running.alloc,
+        running.loaded.as_slice(),
+        running.names.len(),
+    )?;
     running.next = Phase::Steps;
     Ok(())
 }
 
 /// `output NONE`.
 fn output(running: &mut Running) -> Result<(), Fault>
+    requires { IsReady running.old }
     ensures goes { Goes running.old Statement.Output result running.new }
+    ensures linked { OnOk result (IsLinked running.new) }
     ensures kept { Keeps running.old running.new }
+    ensures visits { running.new.visits ≡ running.old.visits }
 {
     running.next = Phase::Concluding;
     Ok(())
@@ -60,11 +81,24 @@ fn output(running: &mut Running) -> Result<(), Fault>
 
 /// The closing words.
 fn end(running: &mut Running) -> Result<(), Fault>
+    requires { IsReady running.old }
     ensures goes { Goes running.old Statement.End result running.new }
+    ensures linked { OnOk result (IsLinked running.new) }
     ensures kept { Keeps running.old running.new }
+    ensures visits { running.new.visits ≡ running.old.visits }
 {
     running.next = Phase::Done;
     Ok(())
+}
+
+/// Where the count of looks begins: a `rup` counts its own.
+fn begin_count(statement: &Statement, visits: u64) -> u64
+    ensures { result ≡ counted_from statement.now visits }
+{
+    match statement {
+        Statement::Rup(_) => 0,
+        _ => visits,
+    }
 }
 
 /// What a proof has come to where the statement may come.
@@ -92,15 +126,16 @@ fn is_due(next: Phase, statement: &Statement) -> bool
     next == coming(statement)
 }
 
-/// Takes a statement.
-pub(crate) fn take(running: &mut Running, statement: &Statement) -> Result<(), Fault>
-    requires { IsStatementValue (largest running.old.limits) (top_of running.old.limits) statement.now }
-    ensures comes { Comes running.old statement.now result running.new }
+/// Does what the statement says.
+fn carry_out(running: &mut Running, statement: &Statement) -> Result<(), Fault>
+    requires value { IsStatementValue (largest running.old.limits) (top_of running.old.limits) statement.now }
+    requires ready { IsReady running.old }
+    requires visits { running.old.visits ≡ counted_from statement.now running.old.visits }
+    ensures goes { Goes running.old statement.now result running.new }
+    ensures linked { OnOk result (IsLinked running.new) }
     ensures kept { Keeps running.old running.new }
+    ensures looks { LooksOf running.old.engine.forms running.old.names statement.now result running.old.visits running.new.visits }
 {
-    if !is_due(running.next, statement) {
-        return Err(Fault::Order);
-    }
     match statement {
         Statement::Header => begin(running),
         Statement::F(count) => load(running, *count),
@@ -113,4 +148,20 @@ pub(crate) fn take(running: &mut Running, statement: &Statement) -> Result<(), F
         Statement::Conclude(conclusion) => conclude::conclude(running, conclusion),
         Statement::End => end(running),
     }
+}
+
+/// Takes a statement.
+pub(crate) fn take(running: &mut Running, statement: &Statement) -> Result<(), Fault>
+    requires value { IsStatementValue (largest running.old.limits) (top_of running.old.limits) statement.now }
+    requires ready { IsReady running.old }
+    ensures comes { Comes running.old statement.now result running.new }
+    ensures linked { OnOk result (IsLinked running.new) }
+    ensures kept { Keeps running.old running.new }
+    ensures looks { LooksOf running.old.engine.forms running.old.names statement.now result running.old.visits running.new.visits }
+{
+    running.visits = begin_count(statement, running.visits);
+    if !is_due(running.next, statement) {
+        return Err(Fault::Order);
+    }
+    carry_out(running, statement)
 }

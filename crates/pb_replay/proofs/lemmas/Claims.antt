@@ -1,6 +1,6 @@
 -- Once a proof has concluded there is a verdict.
-use Rattle.std.specs.Prelude.{Option, Some, None, Ok, ℤ, IsSome}
-use Rattle.std.proofs.Common.{◌≡◌, ℕ, Bool, List, [], ◌∷◌, inl, inr, refl}
+use Rattle.std.specs.Prelude.{Option, Some, None, Ok, ℤ}
+use Rattle.std.proofs.Common.{◌≡◌, ℕ, List, [], ◌∷◌, refl}
 use Rattle.pb_sums.specs.declared.Literal.{Literal}
 use Rattle.pb_sums.specs.declared.Term.{Term}
 use Rattle.pb_proof.specs.declared.Bound.{Bound}
@@ -13,7 +13,6 @@ use Rattle.pb_normal.specs.Form.{Form}
 use Rattle.pb_normal.specs.Names.{with_names}
 use Rattle.pb_replay.specs.declared.state.phase.Phase.{Phase}
 use Rattle.pb_replay.specs.declared.state.phase.Phase.TheVariants.{Ending}
-use Rattle.pb_replay.specs.declared.verdict.Verdict.{Verdict}
 use Rattle.pb_replay.specs.Answer.{Answer}
 use Rattle.pb_replay.specs.Laws.{HasClaim, VerdictsAreThere}
 use Rattle.pb_replay.specs.Loading.{Problem}

@@ -16,7 +16,7 @@ use Rattle.pb_normal.specs.Names.{HasNames}
 use Rattle.pb_normal.specs.Written.{IsSideOf, names_of}
 use Rattle.pb_normal.proofs.Maps.{total-le-each, Holds-negation_back}
 use Rattle.pb_normal.proofs.Sums.{Holds-sum}
-use Rattle.pb_replay.specs.declared.state.solution.Logged.{Logged}
+use Rattle.pb_replay.specs.Replay.{Logged}
 use Rattle.pb_replay.specs.Answer.{Answer}
 use Rattle.pb_replay.specs.Loading.{Problem}
 use Rattle.pb_replay.specs.Propagation.{HoldAll}

@@ -15,7 +15,7 @@ use Rattle.pb_normal.specs.declared.Side.TheVariants.{AtLeast as least, AtMost a
 use Rattle.pb_normal.specs.Form.{Form}
 use Rattle.pb_normal.specs.Names.{with_names}
 use Rattle.pb_replay.specs.declared.fault.Fault.{Fault}
-use Rattle.pb_replay.specs.declared.state.solution.Logged.{Logged}
+use Rattle.pb_replay.specs.Replay.{Logged}
 use Rattle.pb_replay.specs.Answer.{Answer, need, found, some, after}
 use Rattle.pb_normal.specs.Rules.{IsSum}
 use Rattle.pb_replay.specs.Loading.{Problem}

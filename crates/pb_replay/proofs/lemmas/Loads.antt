@@ -117,6 +117,9 @@ opened-of limit i v h =
 proper-of : (i : Instance) (v : Problem) → IsOf i v → IsProblem v
 proper-of i v o = record { distinct = o.distinct; named = o.in_objective }
 
+pub loaded-inside : (limit : ℕ) (i : Instance) (v : Problem) → Opened limit i (Ok v) → (r : Form) → Contains v.loaded r → All (λ t. t.variable < length v.names) r.terms
+loaded-inside limit i v h r c = are_named v.names (sides_in i.constraints) v.loaded (opened-of limit i v h).forms r c
+
 pub problems-proper : ProblemsAreProper
 problems-proper limit i v h = proper-of i v (opened-of limit i v h)
 

@@ -1,7 +1,7 @@
 -- What is true before each statement
-use Rattle.std.specs.Prelude.{Result, Ok, Option, Some, None, IfSome, is_some, option_map}
+use Rattle.std.specs.Prelude.{Result, Ok, Err, Contains, Option, Some, None, IfSome, is_some, option_map}
 use Rattle.std.specs.List.{All as AllOf}
-use Rattle.std.proofs.Common.{◌≡◌, ℕ, ◌≤◌, List, [], ◌++◌, length, take, refl, sym, ◌∙◌, ap, arith, inl, length-append, false}
+use Rattle.std.proofs.Common.{◌≡◌, ℕ, zero, suc, ◌∷◌, ◌≤◌, List, [], ◌++◌, length, take, refl, sym, ◌∙◌, ap, subst, arith, inl, inr, ◌⊎◌, length-append, false}
 use Rattle.std.proofs.lemmas.List.{take-append-le}
 use Rattle.std.proofs.Math.Seq.{take-length}
 use Rattle.std.proofs.lemmas.List.Elements.{All-contains}
@@ -19,10 +19,15 @@ use Rattle.pb_replay.specs.declared.fault.Fault.{Fault}
 use Rattle.pb_replay.specs.declared.state.Running.{Running}
 use Rattle.pb_replay.specs.declared.verdict.Verdict.{Verdict}
 use Rattle.pb_replay.specs.Loading.{Problem, Opened, AreFormsOf, Fits, names_in, sides_in, objective_of, constraint_names}
-use Rattle.pb_replay.specs.Replay.{State, first_state}
+use Rattle.pb_replay.specs.Replay.{Logged, State}
+use Rattle.pb_replay.specs.declared.fault.Fault.TheVariants.{Memory}
+use Rattle.pb_replay.specs.Statements.{Outcome}
+use Rattle.pb_replay.proofs.lemmas.States.{same-state}
 use Rattle.pb_replay.specs.Meaning.{IsFront, IsSound, Means}
-use Rattle.pb_replay.specs.Running.{Comes, Keeps, IsReady, problem_of, state_of}
-use Rattle.pb_replay.proofs.lemmas.Loads.{problems-proper}
+use Rattle.pb_replay.specs.Running.{Comes, Keeps, IsBest, IsFirst, IsInside, IsLinked, IsProper, IsReady, problem_of, state_of}
+use Rattle.pb_text.specs.declared.Limits.{Limits}
+use Rattle.pb_replay.proofs.lemmas.Concluded.{contains-none}
+use Rattle.pb_replay.proofs.lemmas.Loads.{problems-proper, loaded-inside}
 use Rattle.pb_replay.proofs.lemmas.Sound.{first-sound, statements-sound}
 
 pub meant : (v : Problem) (s : State) (o : Option Verdict) → IsSound v s → o ≡ s.concluded → IfSome o (Means v)
@@ -36,29 +41,66 @@ own_names own names new le (more, e) = ap (take own) e ∙ take-append-le own na
 same_fields : (fs gs : List Form) (o p : Option (List Term)) (ns ms : List (List ℕ)) → fs ≡ gs → o ≡ p → ns ≡ ms → (let v : Problem = record { loaded = fs; objective = o; names = ns } in v) ≡ record { loaded = gs; objective = p; names = ms }
 same_fields fs gs o p ns ms e f g = rw (e, f, g) refl
 
-pub same_problem : (old new : Running) → IsReady old → Keeps old new → problem_of new ≡ problem_of old
-same_problem old new ready k =
-    let names : take new.own new.names ≡ take old.own old.names = ap (λ n. take n new.names) k.own ∙ own_names old.own old.names new.names ready.own k.names in
+pub same_problem : (old new : Running) → IsProper old → Keeps old new → problem_of new ≡ problem_of old
+same_problem old new proper k =
+    let names : take new.own new.names ≡ take old.own old.names = ap (λ n. take n new.names) k.own ∙ own_names old.own old.names new.names proper.own k.names in
     same_fields new.loaded.items old.loaded.items (option_map (λ (c : Linear). c.terms) new.objective) (option_map (λ (c : Linear). c.terms) old.objective) (take new.own new.names) (take old.own old.names) k.loaded k.objective names
 
-pub ready_after : (old new : Running) (st : Statement) → IsStatementValue (largest old.limits) (top_of old.limits) st → IsReady old → Comes old st (Ok tt) new → Keeps old new → IsReady new
-ready_after old new st value ready comes k =
-    let same = same_problem old new ready k in
-    let sound = statements-sound (largest old.limits) (top_of old.limits) (problem_of old) (state_of old) (state_of new) st ready.problem value ready.sound comes in
+pub proper_kept : (old new : Running) → IsProper old → Keeps old new → IsProper new
+proper_kept old new proper k =
+    let same = same_problem old new proper k in
     let more = (k.names).0 in
     record {
-      own = omega (arith, k.own, ready.own, ap length (k.names).1, length-append old.names more);
-      problem = rw same (ready.problem);
-      sound = rw same sound;
+      own = omega (arith, k.own, proper.own, ap length (k.names).1, length-append old.names more);
+      problem = rw same (proper.problem);
+      fits = subst (λ (l : Limits). magnitude (objective_of (problem_of new).objective) ≤ largest l) (sym k.limits) (subst (λ (v : Problem). magnitude (objective_of v.objective) ≤ largest old.limits) (sym same) proper.fits);
+      loaded = λ f c. subst (λ n. IsInside n f) (sym k.own) (proper.loaded f (subst (λ (fs : List Form). Contains fs f) k.loaded c));
     }
 
-pub ready_first : (limit : ℕ) (i : Instance) (r : Running) → Opened limit i (Ok (problem_of r)) → r.own ≡ length r.names → state_of r ≡ first_state (problem_of r) → IsReady r
-ready_first limit i r opened own first =
-    let proper = problems-proper limit i (problem_of r) opened in
+pub ready_after : (old new : Running) (st : Statement) → IsStatementValue (largest old.limits) (top_of old.limits) st → IsReady old → Comes old st (Ok tt) new → Keeps old new → IsLinked new → IsReady new
+ready_after old new st value ready comes k linked =
+    let same = same_problem old new ready.proper k in
+    let before = ready.sound in
+    let after = comes before.0 before.1 in
+    let sound = statements-sound (largest old.limits) (top_of old.limits) (problem_of old) (state_of old before.0) (state_of new after.0) st ready.proper.problem value before.2 after.2 in
     record {
-      own = omega (arith, own);
-      problem = proper;
-      sound = rw first (first-sound (problem_of r) proper);
+      proper = proper_kept old new ready.proper k;
+      linked = linked;
+      sound = (after.0, after.1, rw same sound);
+    }
+
+-- a state that a replay stands for
+pub stood : (r : Running) (s : State) → s.live ≡ r.engine.forms → s.names ≡ r.names → s.next ≡ r.next → s.concluded ≡ r.concluded → state_of r s.logged ≡ s
+stood r s e f g h = sym (same-state e f g h)
+
+pub step-ok : (old new : Running) (st : Statement) → Comes old st (Ok tt) new → (s : State) → s.live ≡ old.engine.forms → s.names ≡ old.names → IsBest s.logged old.best → s.next ≡ old.next → s.concluded ≡ old.concluded
+    → (more : List Logged) × IsBest more new.best × Outcome (largest old.limits) (top_of old.limits) (problem_of old) s st (Ok (state_of new more))
+step-ok old new st comes s e f best g h =
+    let k = comes s.logged best in
+    (k.0, k.1, subst (λ (x : State). Outcome (largest old.limits) (top_of old.limits) (problem_of old) x st (Ok (state_of new k.0))) (stood old s e f g h) k.2)
+
+pub step-err : (old new : Running) (st : Statement) (d : Fault) → (d ≡ Memory) ⊎ ((logged : List Logged) → IsBest logged old.best → Outcome (largest old.limits) (top_of old.limits) (problem_of old) (state_of old logged) st (Err d))
+    → (d ≡ Memory) ⊎ ((s : State) → s.live ≡ old.engine.forms → s.names ≡ old.names → IsBest s.logged old.best → s.next ≡ old.next → s.concluded ≡ old.concluded → Outcome (largest old.limits) (top_of old.limits) (problem_of old) s st (Err d))
+step-err old new st d (inl memory) = inl memory
+step-err old new st d (inr h) = inr (λ s e f best g k. subst (λ (x : State). Outcome (largest old.limits) (top_of old.limits) (problem_of old) x st (Err d)) (stood old s e f g k) (h s.logged best))
+
+pub ready_first : (limits : Limits) (i : Instance) (r : Running) → Opened (largest limits) i (Ok (problem_of r)) → IsFirst limits r → magnitude (objective_of (problem_of r).objective) ≤ largest limits → IsReady r
+ready_first limits i r opened first fits =
+    let proper = problems-proper (largest limits) i (problem_of r) opened in
+    let none : r.engine.forms ≡ [] = ap (λ (s : State). s.live) first.state in
+    record {
+      proper = record {
+        own = omega (arith, first.own);
+        problem = proper;
+        fits = rw first.limits fits;
+        loaded = λ f c. let h = loaded-inside (largest limits) i (problem_of r) opened f c in rw (ap (λ n. length (take n r.names)) first.own ∙ ap length (take-length r.names) ∙ sym first.own) at h;
+      };
+      linked = record {
+        ready = first.ready;
+        variables = first.variables;
+        inside = λ f c. absurd (contains-none r.engine.forms (Some f) none c);
+      };
+      sound = ([], rw first.best refl, rw first.state (first-sound (problem_of r) proper));
     }
 
 -- what an instance opens as
@@ -82,3 +124,11 @@ opened_ok limit i forms o start names cs same objective begins grown fits magnit
 pub none_of : {A : Type 0} (o : Option A) → is_some o ≡ false → o ≡ None
 none_of None e = refl
 none_of (Some x) e = absurd cc
+
+pub own-length : (r : Running) → IsProper r → r.own ≡ length (take r.own r.names)
+own-length r p = at r.own r.names p.own
+  where
+    at : (k : ℕ) (ns : List (List ℕ)) → k ≤ length ns → k ≡ length (take k ns)
+    at zero ns le = refl
+    at (suc k) [] le = absurd (omega (arith, le))
+    at (suc k) (n ∷ ns) le = ap suc (at k ns (omega (arith, le)))

@@ -4,7 +4,7 @@ use Rattle.std.proofs.Common.{◌≡◌, ℕ, ◌<◌, ◌≤◌, List, refl, sy
 use Rattle.std.proofs.lemmas.Bool.{cases_lt}
 use Rattle.pb_text.specs.Limits.{largest, top_of}
 use Rattle.pb_sums.specs.declared.Linear.{Linear}
-use Rattle.pb_proof.specs.declared.Statement.TheVariants.{Rup}
+use Rattle.pb_proof.specs.declared.Statement.TheVariants.{F, Rup}
 use Rattle.pb_normal.specs.declared.NormalFault.{NormalFault}
 use Rattle.pb_normal.specs.declared.NormalFault.TheVariants as normal
 use Rattle.pb_normal.specs.declared.Side.TheVariants.{AtLeast as least}
@@ -13,14 +13,19 @@ use Rattle.pb_normal.specs.Names.{AfterFront, with_names}
 use Rattle.pb_normal.specs.Written.{names_of, IsSideOf}
 use Rattle.pb_normal.proofs.Appearing.{front}
 use Rattle.pb_replay.specs.declared.fault.Fault.{Fault}
-use Rattle.pb_replay.specs.declared.fault.Fault.TheVariants.{NotImplied}
+use Rattle.pb_replay.specs.declared.fault.Fault.TheVariants.{NotImplied, Order}
+use Rattle.std.specs.Prelude.{Option, Some}
+use Rattle.std.proofs.Common.{subst, map, length}
+use Rattle.pb_text.specs.declared.Limits.{Limits}
+use Rattle.pb_replay.specs.declared.state.phase.Phase.TheVariants.{Steps}
+use Rattle.pb_replay.proofs.lemmas.States.{same-state}
 use Rattle.pb_replay.specs.declared.state.Running.{Running}
 use Rattle.pb_replay.specs.Loading.{Fits}
 use Rattle.pb_replay.specs.Propagation.{IsRup}
 use Rattle.pb_proof.specs.declared.Statement.{Statement}
-use Rattle.pb_replay.specs.Replay.{Live, State, added}
-use Rattle.pb_replay.specs.Running.{Adding, Goes, Comes, Keeps, state_of}
-use Rattle.pb_replay.specs.Statements.{comes}
+use Rattle.pb_replay.specs.Replay.{Live, Logged, State, added}
+use Rattle.pb_replay.specs.Running.{Adding, Goes, Comes, Keeps, problem_of, state_of, with_mentioned}
+use Rattle.pb_replay.specs.Statements.{Does, IsCount, comes}
 use Rattle.pb_replay.specs.Meaning.{IsFront}
 
 -- a form was made, so its numbers fit
@@ -31,21 +36,47 @@ fits_of r x limit n e h =
       | inr le ↦ le
     ]
 
+-- what is said of each list of logged solutions
+pub goes-ok : (old new : Running) (st : Statement) → new.best ≡ old.best
+    → ((logged : List Logged) → Does (largest old.limits) (top_of old.limits) (problem_of old) (with_mentioned (state_of old logged) st) st (Ok (state_of new logged)))
+    → Goes old st (Ok tt) new
+goes-ok old new st same h logged best = (logged, rw same best, h logged)
+
+pub goes-err : (old new : Running) (st : Statement) (e : Fault)
+    → ((logged : List Logged) → Does (largest old.limits) (top_of old.limits) (problem_of old) (with_mentioned (state_of old logged) st) st (Err e))
+    → Goes old st (Err e) new
+goes-err old new st e h = inr (λ logged best. h logged)
+
 module _ (old : Running) (linear : Linear) (names : List (List ℕ)) (form : Form) (appeared : names ≡ with_names old.names (names_of linear.terms)) (fits : Fits (largest old.limits) linear) (is : IsSideOf names least linear form) where
   over : IsSideOf (with_names old.names (names_of linear.terms)) least linear form
   over = rw appeared at is
 
-  by_names : (r : Result State Fault) → added (top_of old.limits) (record (state_of old) { names = names }) old.logged.items form r
-      → added (top_of old.limits) (record (state_of old) { names = with_names old.names (names_of linear.terms) }) old.logged.items form r
-  by_names r k = rw appeared at k
+  pub rup_added : (middle : Running) (result : Result Unit Fault) (new : Running) → middle.names ≡ names → middle.engine.forms ≡ old.engine.forms → middle.limits ≡ old.limits → middle.next ≡ old.next → middle.concluded ≡ old.concluded → new.best ≡ old.best
+      → IsRup (Live old.engine.forms) form → Adding middle form result new → Goes old (Rup linear) result new
+  rup_added middle (Ok u) new e f l n c b implied h =
+      goes-ok old new (Rup linear) b (λ logged. inl (fits, (form, over, inl (implied, moved logged))))
+    where
+      same : (logged : List Logged) → state_of middle logged ≡ with_mentioned (state_of old logged) (Rup linear)
+      same logged = same-state f (e ∙ appeared) n c
 
-  pub rup_added : (visits : ℕ) (result : Result Unit Fault) (new : Running) → IsRup (Live old.live.items) form → Adding (record old { names = names; visits = visits }) form result new → Goes old (Rup linear) result new
-  rup_added visits (Ok u) new implied h = inl (fits, (form, over, inl (implied, by_names (Ok (state_of new)) h)))
-  rup_added visits (Err e) new implied (inl memory) = inl memory
-  rup_added visits (Err e) new implied (inr h) = inr (inl (fits, (form, over, inl (implied, by_names (Err e) h))))
+      moved : (logged : List Logged) → added (top_of old.limits) (with_mentioned (state_of old logged) (Rup linear)) logged form (Ok (state_of new logged))
+      moved logged =
+          subst (λ (x : Limits). added (top_of x) (with_mentioned (state_of old logged) (Rup linear)) logged form (Ok (state_of new logged))) l
+          (subst (λ (s : State). added (top_of middle.limits) s logged form (Ok (state_of new logged))) (same logged) (h logged logged))
+  rup_added middle (Err e') new e f l n c b implied (inl memory) = inl memory
+  rup_added middle (Err e') new e f l n c b implied (inr h) =
+      goes-err old new (Rup linear) e' (λ logged. inl (fits, (form, over, inl (implied, moved logged))))
+    where
+      same : (logged : List Logged) → state_of middle logged ≡ with_mentioned (state_of old logged) (Rup linear)
+      same logged = same-state f (e ∙ appeared) n c
 
-  pub rup_refused : (new : Running) → (IsRup (Live old.live.items) form → ⊥) → Goes old (Rup linear) (Err NotImplied) new
-  rup_refused new none = inr (inl (fits, (form, over, inr (none, refl))))
+      moved : (logged : List Logged) → added (top_of old.limits) (with_mentioned (state_of old logged) (Rup linear)) logged form (Err e')
+      moved logged =
+          subst (λ (x : Limits). added (top_of x) (with_mentioned (state_of old logged) (Rup linear)) logged form (Err e')) l
+          (subst (λ (s : State). added (top_of middle.limits) s logged form (Err e')) (same logged) (h logged logged))
+
+  pub rup_refused : (new : Running) → (IsRup (Live old.engine.forms) form → ⊥) → Goes old (Rup linear) (Err NotImplied) new
+  rup_refused new none = goes-err old new (Rup linear) NotImplied (λ logged. inl (fits, (form, over, inr (none, refl))))
 
 -- names that appeared stand behind the others
 pub front_after : (old new others : List (List ℕ)) → new ≡ with_names old others → IsFront old new
@@ -69,13 +100,18 @@ keeps_then a b c h k = record {
 }
 
 -- a statement that comes where it may
-pub came : (old : Running) (st which : Statement) (result : Result Unit Fault) (new : Running) → st ≡ which → old.next ≡ comes st → Goes old which result new → Comes old st result new
-came old st which result new e next h = by_result result (let P : Statement → Type 0 = λ x. Goes old x result new in let g : P which = h in rw (← e) at g)
-  where
-    by_result : (r : Result Unit Fault) → Goes old st r new → Comes old st r new
-    by_result (Ok u) g = inl (next, g)
-    by_result (Err d) (inl memory) = inl memory
-    by_result (Err d) (inr g) = inr (inl (next, g))
+pub came : (old : Running) (st : Statement) (result : Result Unit Fault) (new : Running) → old.next ≡ comes st → Goes old st result new → Comes old st result new
+came old st (Ok u) new next g = λ logged best. let h = g logged best in (h.0, h.1, inl (next, h.2))
+came old st (Err d) new next (inl memory) = inl memory
+came old st (Err d) new next (inr g) = inr (λ logged best. inl (next, g logged best))
+
+pub came-counted : (old : Running) (visits : ℕ) (st : Statement) (result : Result Unit Fault) (new : Running) → old.next ≡ comes st → Goes (record old { visits = visits }) st result new → Comes old st result new
+came-counted old visits st (Ok u) new next g = λ logged best. let h = g logged best in (h.0, h.1, inl (next, h.2))
+came-counted old visits st (Err d) new next (inl memory) = inl memory
+came-counted old visits st (Err d) new next (inr g) = inr (λ logged best. inl (next, g logged best))
+
+pub came-not : (old : Running) (st : Statement) (new : Running) → (old.next ≡ comes st → ⊥) → Comes old st (Err Order) new
+came-not old st new late = inr (λ logged best. inr (late, refl))
 
 pub not_so : (b : Bool) (P : Type 0) → b ≡ false → IsTrue b ↔ P → P → ⊥
 not_so true P e h p = cc
@@ -84,3 +120,8 @@ not_so false P e h p = let t = h.1 p in absurd (search rules)
 pub is_so : (b : Bool) (P : Type 0) → b ≡ true → IsTrue b ↔ P → P
 is_so true P e h = h.0 (search rules)
 is_so false P e h = absurd cc
+
+pub loaded-goes : (old new : Running) (count : Option ℕ) → new.best ≡ old.best → new.names ≡ old.names → new.concluded ≡ old.concluded → new.next ≡ Steps → new.engine.forms ≡ map (λ (f : Form). let o : Option Form = Some f in o) old.loaded.items
+    → IsCount count (length old.loaded.items) → length old.loaded.items ≤ top_of old.limits → Goes old (F count) (Ok tt) new
+loaded-goes old new count b n d x f counted le =
+    goes-ok old new (F count) b (λ logged. inl (counted, inl (le, let to : State → Result State Fault = λ s. Ok s in ap to (same-state f n x d))))

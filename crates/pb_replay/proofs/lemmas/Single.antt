@@ -1,6 +1,6 @@
 -- Answers have at most one value or fault
 use Rattle.std.specs.Prelude.{Result, Ok, Err, Contains, Option, Some, None, ℤ, set, unsigned_abs}
-use Rattle.std.proofs.Common.{◌≡◌, ℕ, suc, ◌+◌, ◌<◌, Bool, true, false, List, [], ◌∷◌, ◌++◌, length, get_or, refl, sym, ◌∙◌, ap, arith, inl, inr, pos, ◌-ℤ◌}
+use Rattle.std.proofs.Common.{◌≡◌, ℕ, suc, ◌<◌, Bool, true, false, List, [], ◌∷◌, ◌++◌, length, get_or, refl, sym, ◌∙◌, ap, arith, inl, inr, pos, ◌-ℤ◌}
 use Rattle.std.proofs.lemmas.Bool.{cases_order}
 use Rattle.pb_sums.specs.declared.Literal.{Literal}
 use Rattle.pb_sums.specs.declared.Term.{Term}
@@ -14,19 +14,18 @@ use Rattle.pb_proof.specs.declared.Statement.TheVariants.{Header, F, Pol, Rup, S
 use Rattle.pb_proof.specs.Postfix.{Tree, Constraint, True, Sum, Times, Divided, Saturated, Weakened, words}
 use Rattle.pb_normal.specs.declared.Side.{Side}
 use Rattle.pb_normal.specs.declared.Side.TheVariants.{AtLeast as least, AtMost as most}
-use Rattle.pb_normal.specs.Form.{Form, Holds}
+use Rattle.pb_normal.specs.Form.{Form}
 use Rattle.pb_normal.specs.Names.{with_names}
 use Rattle.pb_replay.specs.declared.fault.Fault.{Fault}
-use Rattle.pb_replay.specs.declared.fault.Fault.TheVariants as fault
-use Rattle.pb_replay.specs.declared.state.solution.Logged.{Logged}
+use Rattle.pb_replay.specs.Replay.{Logged}
 use Rattle.pb_replay.specs.declared.numbered.NumberedLiteral.{NumberedLiteral}
 use Rattle.pb_replay.specs.Answer.{Answer, gives, need, each_below, found, some, after}
-use Rattle.pb_normal.specs.Rules.{IsSum, assignment, multiplied}
+use Rattle.pb_normal.specs.Rules.{IsSum, multiplied}
 use Rattle.pb_normal.proofs.Unique.{IsSum-unique, IsRising-same, same_form}
 use Rattle.pb_normal.proofs.WrittenForms.{IsFormOf-unique}
 use Rattle.pb_replay.specs.Loading.{Problem, FitsAll, AreFormsOf, names_in, sides_in}
 use Rattle.pb_replay.specs.Propagation.{on}
-use Rattle.pb_replay.specs.Replay.{State, Live, IsLive, place, TreeForm, normal_form, HasValue, AreValues, Completed, Shown, no_form, logged_of, IsClause, Deleted, added, numbered}
+use Rattle.pb_replay.specs.Replay.{State, Live, IsLive, place, TreeForm, normal_form, HasValue, AreValues, Solution, Completed, Shown, logged_of, IsClause, Deleted, added, numbered}
 use Rattle.pb_replay.specs.Conclusions.{none_left, named, objective_with, lower_bound, upper_bound, Concludes}
 use Rattle.pb_replay.specs.Statements.{Does, mentioned}
 use Rattle.pb_replay.specs.Laws.{IsSingle, OpeningsAreSingle, OutcomesAreSingle}
@@ -112,13 +111,8 @@ AreValues-one : (list : List NumberedLiteral) (names : ℕ) (xs ys : List Bool) 
 AreValues-one list names xs ys p q =
     same_values xs ys (p.count ∙ sym q.count) (λ k lt. let inside : k < names = omega (arith, lt, p.count) in p.each k inside ∙ sym (q.each k inside))
 
--- what follows a completion
 abbrev Rest : Problem → ℕ → List NumberedLiteral → Answer Logged
-Rest v names list =
-    each_below (HasValue list) names fault.NotTotal
-    (some (AreValues list names) (λ values.
-    each_below (λ k. Holds (assignment values) (get_or v.loaded k no_form)) (length v.loaded) (λ k. fault.Violates (k + 1))
-    (gives (logged_of v values))))
+Rest = Solution
 
 single-rest : (v : Problem) (names : ℕ) (list : List NumberedLiteral) → IsSingle (Rest v names list)
 single-rest v names list =
@@ -141,7 +135,7 @@ Rest-same v names a b same r (inr p) = inr (p.0, p.1, λ h. p.2 (back p.0 h), λ
     forth k (inl h) = inl (sym (same k false) ∙ h)
     forth k (inr h) = inr (sym (same k true) ∙ h)
 
-single-completed : (v : Problem) (forms : Form → Type 0) (names : ℕ) (given : List NumberedLiteral) → IsSingle (Completed v forms names given)
+pub single-completed : (v : Problem) (forms : Form → Type 0) (names : ℕ) (given : List NumberedLiteral) → IsSingle (Completed v forms names given)
 single-completed v forms names given r s (inl p) (inl q) =
     let same = completion-one forms given (p.1).0 (q.1).0 p.0 (p.1).1 (q.1).1 in
     single-rest v names (q.1).0 r s (Rest-same v names (p.1).0 (q.1).0 same r (p.1).2) (q.1).2

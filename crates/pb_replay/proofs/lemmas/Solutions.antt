@@ -5,7 +5,7 @@ use Rattle.std.proofs.lemmas.Bool.{cases_Bool}
 use Rattle.std.proofs.lemmas.List.{get_or_default}
 use Rattle.pb_normal.specs.Form.{Form, Holds, total, true_at}
 use Rattle.pb_normal.specs.Rules.{assignment}
-use Rattle.pb_replay.specs.declared.state.solution.Logged.{Logged}
+use Rattle.pb_replay.specs.Replay.{Logged}
 use Rattle.pb_replay.specs.declared.numbered.NumberedLiteral.{NumberedLiteral}
 use Rattle.pb_replay.specs.Loading.{Problem}
 use Rattle.pb_replay.specs.Propagation.{only, on, HoldAll, MeetsConflict, IsCompletion}

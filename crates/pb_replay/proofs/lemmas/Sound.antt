@@ -16,7 +16,7 @@ use Rattle.pb_normal.specs.Names.{AreDistinct, with_names}
 use Rattle.pb_normal.specs.Rules.{assignment}
 use Rattle.pb_normal.specs.Written.{true_sum, IsSideOf}
 use Rattle.pb_normal.proofs.Appearing.{distinct}
-use Rattle.pb_replay.specs.declared.state.solution.Logged.{Logged}
+use Rattle.pb_replay.specs.Replay.{Logged}
 use Rattle.pb_replay.specs.declared.state.phase.Phase.{Phase}
 use Rattle.pb_replay.specs.declared.state.phase.Phase.TheVariants.{Loading, Steps, Concluding, Ending, Done}
 use Rattle.pb_replay.specs.Loading.{Problem}
@@ -104,7 +104,7 @@ logged-sound v s r g next sound solved value_is excluded =
           | inr here ↦ allowed (HoldAll-added a s.live r holds here)
         ]
 
-Deleted-live : (live : List (Option Form)) (ids : List ℤ) (rest : List (Option Form)) → Deleted live ids (Ok rest) → (f : Form) → Live rest f → Live live f
+pub Deleted-live : (live : List (Option Form)) (ids : List ℤ) (rest : List (Option Form)) → Deleted live ids (Ok rest) → (f : Form) → Live rest f → Live live f
 Deleted-live live [] rest h f c = rw (ok-same h) at c
 Deleted-live live (i ∷ ids) rest h f c =
     let at = needed h in

@@ -28,7 +28,7 @@ use Rattle.pb_proof.specs.Postfix.{Tree, Constraint, True, Sum, Times, Divided, 
 use Rattle.pb_normal.specs.declared.Side.{Side}
 use Rattle.pb_normal.specs.declared.Side.TheVariants.{AtLeast as least, AtMost as most}
 use Rattle.pb_normal.specs.Rules.{IsSum}
-use Rattle.pb_replay.specs.declared.state.solution.Logged.{Logged}
+use Rattle.pb_replay.specs.Replay.{Logged}
 use Rattle.pb_replay.specs.Answer.{Answer, gives, need, found, some, after}
 use Rattle.pb_replay.specs.Loading.{Problem}
 use Rattle.pb_replay.specs.Conclusions.{none_left, named, objective_with, lower_bound, upper_bound, Concludes}

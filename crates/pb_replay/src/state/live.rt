@@ -1,42 +1,74 @@
 //! The live constraints.
 
-ghost use Rattle.std.specs.Prelude.{◌≡◌, IfOk, IfErr, map, Some};
+ghost use Rattle.std.specs.Prelude.{◌≡◌, ◌≤◌, Contains, IfOk, IfErr, OnOk, length, map, Some, false, []};
 ghost use Rattle.pb_normal.specs.Form.{Form};
-ghost use Rattle.pb_replay.specs.Running.{Keeps, Adding};
+ghost use Rattle.pb_replay.specs.Running.{Keeps, Adding, IsLinked, IsInside};
 
 use crate::fault::Fault;
+use crate::propagate::engine::Engine;
 use crate::state::Running;
 use pb_normal::Normal;
 use std::alloc::{AllocError, Global};
 
+/// Gives the engine variables up to that number.
+pub(crate) fn widen(engine: &mut Engine, from: usize, to: usize) -> Result<(), Fault>
+    requires ready { engine.old.spent ≡ false }
+    requires from { engine.old.variables ≡ from }
+    requires to { from ≤ to }
+    ensures forms { OnOk result (engine.new.forms ≡ engine.old.forms) }
+    ensures variables { OnOk result (engine.new.variables ≡ to) }
+    ensures ready { OnOk result (engine.new.spent ≡ false) }
+    ensures err { IfErr result (λ e. e ≡ Fault.Memory) }
+{
+    for _number in from..to {
+        engine.widen()?;
+    }
+    Ok(())
+}
+
+/// An engine over so many variables.
+pub(crate) fn engine_over(alloc: Global, variables: usize) -> Result<Engine, Fault>
+    ensures forms { IfOk result (λ e. e.forms ≡ []) }
+    ensures variables { IfOk result (λ e. e.variables ≡ variables) }
+    ensures ready { IfOk result (λ e. e.spent ≡ false) }
+    ensures err { IfErr result (λ e. e ≡ Fault.Memory) }
+{
+    let mut engine = Engine::new(alloc);
+    widen(&mut engine, 0, variables)?;
+    Ok(engine)
+}
+
+/// An engine with copies of the forms, over so many variables.
+pub(crate) fn engine_of(alloc: Global, forms: &[Normal], variables: usize) -> Result<Engine, Fault>
+    requires inside { (f : Form) → Contains forms.now f → IsInside variables f }
+    ensures forms { IfOk result (λ e. e.forms ≡ map (λ f. Some f) forms.now) }
+    ensures variables { IfOk result (λ e. e.variables ≡ variables) }
+    ensures ready { IfOk result (λ e. e.spent ≡ false) }
+    ensures err { IfErr result (λ e. e ≡ Fault.Memory) }
+{
+    let mut engine = engine_over(alloc, variables)?;
+    for form in forms {
+        let copy = form.copy()?;
+        engine.insert(copy)?;
+    }
+    Ok(engine)
+}
+
 /// Adds a form, with the next id.
 pub(crate) fn add(running: &mut Running, form: Normal) -> Result<(), Fault>
+    requires linked { IsLinked running.old }
+    requires inside { IsInside (length running.old.names) form }
     ensures adding { Adding running.old form result running.new }
+    ensures best { running.new.best ≡ running.old.best }
+    ensures linked { OnOk result (IsLinked running.new) }
     ensures kept { Keeps running.old running.new }
+    ensures visits { running.new.visits ≡ running.old.visits }
 {
-    if running.live.len() as u64 >= running.limits.top() {
+    if running.engine.len() as u64 >= running.limits.top() {
         return Err(Fault::IdsSpent);
     }
-    match running.live.push(Some(form)) {
+    match running.engine.insert(form) {
         Ok(()) => Ok(()),
         Err(_) => Err(Fault::Memory),
     }
-}
-
-/// Copies of the forms.
-pub(crate) fn copied(alloc: Global, forms: &[Normal]) -> Result<Vec<Option<Normal>>, Fault>
-    ensures ok { IfOk result (λ v. v.items ≡ map (λ f. Some f) forms.now) }
-    ensures err { IfErr result (λ e. e ≡ Fault.Memory) }
-{
-    let mut live = Vec::new(alloc);
-    for form in forms {
-        let copy = match form.copy() {
-            Ok(copy) => copy,
-            Err(_) => return Err(Fault::Memory),
-        };
-        if let Err(_) = live.push(Some(copy)) {
-            return Err(Fault::Memory);
-        }
-    }
-    Ok(live)
 }

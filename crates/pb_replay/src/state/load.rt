@@ -11,6 +11,7 @@ ghost use Rattle.pb_replay.specs.Running.{IsFirst, problem_of};
 
 use crate::fault::Fault;
 use crate::state::Running;
+use crate::state::live::engine_over;
 use crate::state::phase::Phase;
 use pb_normal::{Names, Normal, NormalFault, Side};
 use pb_opb::Instance;
@@ -147,6 +148,7 @@ fn kept_objective(
 pub(crate) fn open(alloc: Global, instance: &Instance, limits: Limits) -> Result<Running, Fault>
     ensures ok { IfOk result (λ r. Opened (largest limits) instance.now (Ok (problem_of r))) }
     ensures first { IfOk result (λ r. IsFirst limits r) }
+    ensures fits { IfOk result (λ r. magnitude (objective_of (problem_of r).objective) ≤ largest limits) }
     ensures err { IfErr result (λ e. (e ≡ Fault.Memory) ⊎ Opened (largest limits) instance.now (Err e)) }
 {
     let mut names = Names::new(alloc);
@@ -159,6 +161,7 @@ pub(crate) fn open(alloc: Global, instance: &Instance, limits: Limits) -> Result
         Err(fault) => return Err(Fault::from(fault)),
     };
     let own = names.len();
+    let engine = engine_over(alloc, own)?;
     Ok(Running {
         alloc,
         limits,
@@ -166,8 +169,8 @@ pub(crate) fn open(alloc: Global, instance: &Instance, limits: Limits) -> Result
         own,
         loaded: forms,
         objective,
-        live: Vec::new(alloc),
-        logged: Vec::new(alloc),
+        engine,
+        best: None,
         next: Phase::Beginning,
         concluded: None,
         visits: 0,

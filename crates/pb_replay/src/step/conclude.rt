@@ -1,83 +1,81 @@
 //! Conclusions.
 
-ghost use Rattle.pb_replay.specs.Conclusions.{has_contradiction};
-ghost use Rattle.pb_replay.specs.Running.{Keeps, Goes};
+ghost use Rattle.std.specs.Prelude.{◌≡◌, ◌<◌, All, IfSome, IsSome, List, OnOk, Option, Some, [], length, option_map};
+ghost use Rattle.pb_sums.specs.declared.values.Literal.{Literal as Written};
+ghost use Rattle.pb_replay.specs.Replay.{numbered};
+ghost use Rattle.pb_replay.specs.Running.{Keeps, Goes, GoesAt, HasNamed, IsLinked, IsProper, IsReady};
 
 use crate::fault::Fault;
+use crate::numbered::NumberedLiteral;
 use crate::state::Running;
-use crate::state::find::find;
 use crate::state::phase::Phase;
+use crate::step::contradiction::none_is_left;
+use crate::step::shown::shown;
+use crate::step::solution::take_literals;
 use crate::verdict::Verdict;
-use pb_normal::Normal;
 use pb_proof::{Bound, Conclusion, Statement};
 use pb_sums::Literal;
 use pb_text::Sequence;
 
-/// Whether some live form is a contradiction.
-fn some_contradiction(live: &[Option<Normal>]) -> Result<(), Fault>
-    ensures { has_contradiction live.now None result }
-{
-    for entry in live {
-        if let Some(form) = entry {
-            if form.is_contradiction() {
-                return Ok(());
-            }
-        }
-    }
-    Err(Fault::NotContradiction)
-}
-
-/// Whether the live form of that id is a contradiction.
-fn named_contradiction(live: &[Option<Normal>], id: i64) -> Result<(), Fault>
-    ensures { has_contradiction live.now (Some id) result }
-{
-    match find(live, id) {
-        None => Err(Fault::NoSuchId(id)),
-        Some(form) => {
-            if form.is_contradiction() {
-                Ok(())
-            } else {
-                Err(Fault::NotContradiction)
-            }
-        }
-    }
-}
-
 /// `UNSAT`.
 fn unsat(running: &mut Running, id: Option<i64>) -> Result<(), Fault>
+    requires { IsReady running.old }
     ensures goes { Goes running.old (Statement.Conclude (Conclusion.Unsat id)) result running.new }
+    ensures linked { OnOk result (IsLinked running.new) }
     ensures kept { Keeps running.old running.new }
+    ensures visits { running.new.visits ≡ running.old.visits }
 {
-    if !running.logged.is_empty() {
-        return Err(Fault::SolutionLogged);
+    match none_is_left(running, id) {
+        Ok(()) => {
+            running.next = Phase::Ending;
+            running.concluded = Some(Verdict::Unsat);
+            Ok(())
+        }
+        Err(fault) => Err(fault),
     }
-    let found = match id {
-        None => some_contradiction(running.live.as_slice()),
-        Some(id) => named_contradiction(running.live.as_slice(), id),
-    };
-    if let Err(fault) = found {
-        return Err(fault);
+}
+
+/// `SAT` by these literals, once their names have numbers.
+fn claim_sat(running: &mut Running, given: &[NumberedLiteral]) -> Result<(), Fault>
+    requires proper { IsProper running.old }
+    requires linked { IsLinked running.old }
+    requires inside { All (λ l. l.variable < length running.old.names) given.now }
+    ensures goes { (written : List Written) → given.now ≡ numbered running.old.names written → GoesAt running.old (Statement.Conclude (Conclusion.Sat (Some written))) result running.new }
+    ensures linked { OnOk result (IsLinked running.new) }
+    ensures kept { Keeps running.old running.new }
+    ensures visits { running.new.visits ≡ running.old.visits }
+{
+    match shown(running, given) {
+        Ok(_) => {
+            running.next = Phase::Ending;
+            running.concluded = Some(Verdict::Sat);
+            Ok(())
+        }
+        Err(fault) => Err(fault),
     }
-    running.next = Phase::Ending;
-    running.concluded = Some(Verdict::Unsat);
-    Ok(())
 }
 
 /// `SAT` by these literals.
 fn sat_shown(running: &mut Running, given: &Sequence<Literal>) -> Result<(), Fault>
+    requires { IsReady running.old }
     ensures goes { Goes running.old (Statement.Conclude (Conclusion.Sat (Some given.now))) result running.new }
+    ensures linked { OnOk result (IsLinked running.new) }
     ensures kept { Keeps running.old running.new }
+    ensures visits { running.new.visits ≡ running.old.visits }
 {
-    let _ = (given.len(), running.own);
-    Err(Fault::Memory)
+    let numbers = take_literals(running, given.as_slice())?;
+    claim_sat(running, numbers.as_slice())
 }
 
 /// `SAT` by what was logged.
 fn sat_logged(running: &mut Running) -> Result<(), Fault>
+    requires { IsReady running.old }
     ensures goes { Goes running.old (Statement.Conclude (Conclusion.Sat None)) result running.new }
+    ensures linked { OnOk result (IsLinked running.new) }
     ensures kept { Keeps running.old running.new }
+    ensures visits { running.new.visits ≡ running.old.visits }
 {
-    if running.logged.is_empty() {
+    if running.best.is_none() {
         return Err(Fault::NoSolution);
     }
     running.next = Phase::Ending;
@@ -87,8 +85,11 @@ fn sat_logged(running: &mut Running) -> Result<(), Fault>
 
 /// `SAT`.
 fn sat(running: &mut Running, shown: &Option<Sequence<Literal>>) -> Result<(), Fault>
+    requires { IsReady running.old }
     ensures goes { Goes running.old (Statement.Conclude (Conclusion.Sat shown.now)) result running.new }
+    ensures linked { OnOk result (IsLinked running.new) }
     ensures kept { Keeps running.old running.new }
+    ensures visits { running.new.visits ≡ running.old.visits }
 {
     match shown {
         None => sat_logged(running),
@@ -104,24 +105,39 @@ fn bounds(
     upper: Bound,
     shown: &Option<Sequence<Literal>>,
 ) -> Result<(), Fault>
+    requires { IsReady running.old }
     ensures goes { Goes running.old (Statement.Conclude (Conclusion.Bounds lower id upper shown.now)) result running.new }
+    ensures linked { OnOk result (IsLinked running.new) }
     ensures kept { Keeps running.old running.new }
+    ensures visits { running.new.visits ≡ running.old.visits }
 {
     let _ = shown.is_some();
     Err(Fault::Memory)
 }
 
+/// `NONE`.
+fn no_claim(running: &mut Running) -> Result<(), Fault>
+    requires { IsReady running.old }
+    ensures goes { Goes running.old (Statement.Conclude Conclusion.NoClaim) result running.new }
+    ensures linked { OnOk result (IsLinked running.new) }
+    ensures kept { Keeps running.old running.new }
+    ensures visits { running.new.visits ≡ running.old.visits }
+{
+    running.next = Phase::Ending;
+    running.concluded = Some(Verdict::NoClaim);
+    Ok(())
+}
+
 /// The claim of a proof.
 pub(crate) fn conclude(running: &mut Running, conclusion: &Conclusion) -> Result<(), Fault>
+    requires { IsReady running.old }
     ensures goes { Goes running.old (Statement.Conclude conclusion.now) result running.new }
+    ensures linked { OnOk result (IsLinked running.new) }
     ensures kept { Keeps running.old running.new }
+    ensures visits { running.new.visits ≡ running.old.visits }
 {
     match conclusion {
-        Conclusion::NoClaim => {
-            running.next = Phase::Ending;
-            running.concluded = Some(Verdict::NoClaim);
-            Ok(())
-        }
+        Conclusion::NoClaim => no_claim(running),
         Conclusion::Unsat(id) => unsat(running, *id),
         Conclusion::Sat(shown) => sat(running, shown),
         Conclusion::Bounds {

@@ -1,10 +1,11 @@
 //! `del id`.
 
-ghost use Rattle.std.specs.Prelude.{◌≡◌, OnOk, IfErr, Ok, Err};
+ghost use Rattle.std.specs.Prelude.{◌≡◌, false, OnOk, IfErr, Ok, Err};
 ghost use Rattle.pb_replay.specs.Replay.{Deleted};
-ghost use Rattle.pb_replay.specs.Running.{Keeps, Goes};
+ghost use Rattle.pb_replay.specs.Running.{Keeps, Goes, IsLinked, IsReady};
 
 use crate::fault::Fault;
+use crate::propagate::engine::Engine;
 use crate::state::Running;
 use crate::state::find::{find, place_of};
 use pb_normal::Normal;
@@ -12,25 +13,31 @@ use pb_proof::Statement;
 use pb_text::Sequence;
 
 /// Deletes the constraints of these ids one after the other, up to the first id that has none.
-fn delete_each(live: &mut [Option<Normal>], ids: &[i64]) -> Result<(), Fault>
-    ensures ok { OnOk result (Deleted live.old ids.now (Ok live.new)) }
-    ensures err { IfErr result (λ e. Deleted live.old ids.now (Err e)) }
+fn delete_each(engine: &mut Engine, ids: &[i64]) -> Result<(), Fault>
+    requires { engine.old.spent ≡ false }
+    ensures ok { OnOk result (Deleted engine.old.forms ids.now (Ok engine.new.forms)) }
+    ensures err { IfErr result (λ e. Deleted engine.old.forms ids.now (Err e)) }
+    ensures variables { engine.new.variables ≡ engine.old.variables }
+    ensures ready { engine.new.spent ≡ false }
 {
     for id in ids {
-        match find(live, *id) {
+        match find(engine, *id) {
             Some(_) => {}
             None => return Err(Fault::NoSuchId(*id)),
         }
-        let at = place_of(live.len(), *id);
-        live[at] = None;
+        let at = place_of(engine.len(), *id);
+        engine.remove(at);
     }
     Ok(())
 }
 
 /// `del id`: the constraints of these ids are no longer live.
 pub(crate) fn delete(running: &mut Running, ids: &Sequence<i64>) -> Result<(), Fault>
+    requires { IsReady running.old }
     ensures goes { Goes running.old (Statement.Delete ids.now) result running.new }
+    ensures linked { OnOk result (IsLinked running.new) }
     ensures kept { Keeps running.old running.new }
+    ensures visits { running.new.visits ≡ running.old.visits }
 {
-    delete_each(running.live.as_mut_slice(), ids.as_slice())
+    delete_each(&mut running.engine, ids.as_slice())
 }

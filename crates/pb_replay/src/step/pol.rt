@@ -9,14 +9,15 @@ ghost use Rattle.pb_normal.specs.Rules.{IsSum, multiplied};
 ghost use Rattle.pb_replay.specs.Answer.{some};
 ghost use Rattle.pb_replay.specs.Meaning.{IsFront};
 ghost use Rattle.pb_replay.specs.Replay.{TreeForm, limited};
-ghost use Rattle.pb_replay.specs.Running.{Keeps, Goes};
+ghost use Rattle.pb_replay.specs.Running.{Keeps, Goes, IsLinked, IsReady};
 ghost use Rattle.pb_replay.specs.Stack.{takes, Leaves, Word, Words};
 ghost use Rattle.pb_replay.specs.Statements.{word_names};
 
 use crate::fault::Fault;
+use crate::propagate::engine::Engine;
 use crate::state::Running;
 use crate::state::find::{find, number_of};
-use crate::state::live::add;
+use crate::state::live::{add, widen};
 use pb_normal::{Names, Normal};
 use pb_proof::{PolWord, Statement};
 use pb_text::{Limits, Sequence};
@@ -71,7 +72,7 @@ fn push(stack: &mut Vec<Normal>, form: Normal) -> Result<(), Fault>
 fn made(
     alloc: Global,
     names: &Names,
-    live: &[Option<Normal>],
+    engine: &Engine,
     word: &PolWord,
     stack: &mut Vec<Normal>,
     limits: Limits,
@@ -79,12 +80,12 @@ fn made(
     requires takes { takes word.now ≤ length stack.old.items }
     requires named { HasNames names.now (word_names (word.now ∷ [])) }
     requires value { IsWord (largest limits) (top_of limits) word.now }
-    ensures ok { IfOk result (λ r. Word (largest limits) names.now live.now word.now (reverse stack.old.items) (Ok (r ∷ reverse stack.new.items))) }
+    ensures ok { IfOk result (λ r. Word (largest limits) names.now engine.now.forms word.now (reverse stack.old.items) (Ok (r ∷ reverse stack.new.items))) }
     ensures count { OnOk result (length stack.new.items + takes word.now ≡ length stack.old.items) }
-    ensures err { IfErr result (λ e. (e ≡ Fault.Memory) ⊎ Word (largest limits) names.now live.now word.now (reverse stack.old.items) (Err e)) }
+    ensures err { IfErr result (λ e. (e ≡ Fault.Memory) ⊎ Word (largest limits) names.now engine.now.forms word.now (reverse stack.old.items) (Err e)) }
 {
     match word {
-        PolWord::Id(id) => match find(live, *id) {
+        PolWord::Id(id) => match find(engine, *id) {
             Some(form) => Ok(form.copy()?),
             None => Err(Fault::NoSuchId(*id)),
         },
@@ -145,19 +146,19 @@ fn number_words(names: &mut Names, words: &[PolWord]) -> Result<(), AllocError>
 fn evaluated(
     alloc: Global,
     names: &Names,
-    live: &[Option<Normal>],
+    engine: &Engine,
     words: &[PolWord],
     limits: Limits,
 ) -> Result<Normal, Fault>
     requires postfix { IsPostfix words.now }
     requires values { All (IsWord (largest limits) (top_of limits)) words.now }
     requires named { HasNames names.now (word_names words.now) }
-    ensures ok { IfOk result (λ r. some (λ tree. words.now ≡ words_of tree) (TreeForm (largest limits) names.now live.now) (Ok r)) }
-    ensures err { IfErr result (λ e. (e ≡ Fault.Memory) ⊎ some (λ tree. words.now ≡ words_of tree) (TreeForm (largest limits) names.now live.now) (Err e)) }
+    ensures ok { IfOk result (λ r. some (λ tree. words.now ≡ words_of tree) (TreeForm (largest limits) names.now engine.now.forms) (Ok r)) }
+    ensures err { IfErr result (λ e. (e ≡ Fault.Memory) ⊎ some (λ tree. words.now ≡ words_of tree) (TreeForm (largest limits) names.now engine.now.forms) (Err e)) }
 {
     let mut stack = Vec::new(alloc);
     for word in words {
-        let form = match made(alloc, names, live, word, &mut stack, limits) {
+        let form = match made(alloc, names, engine, word, &mut stack, limits) {
             Ok(form) => form,
             Err(fault) => return Err(fault),
         };
@@ -170,17 +171,22 @@ fn evaluated(
 
 /// `pol`: the form of an expression is added.
 pub(crate) fn pol(running: &mut Running, words: &Sequence<PolWord>) -> Result<(), Fault>
-    requires { IsStatementValue (largest running.old.limits) (top_of running.old.limits) (Statement.Pol words.now) }
+    requires value { IsStatementValue (largest running.old.limits) (top_of running.old.limits) (Statement.Pol words.now) }
+    requires ready { IsReady running.old }
     ensures goes { Goes running.old (Statement.Pol words.now) result running.new }
+    ensures linked { OnOk result (IsLinked running.new) }
     ensures kept { Keeps running.old running.new }
+    ensures visits { running.new.visits ≡ running.old.visits }
 {
+    let before = running.names.len();
     if let Err(_) = number_words(&mut running.names, words.as_slice()) {
         return Err(Fault::Memory);
     }
+    widen(&mut running.engine, before, running.names.len())?;
     let made = evaluated(
         running.alloc,
         &running.names,
-        running.live.as_slice(),
+        &running.engine,
         words.as_slice(),
         running.limits,
     );

@@ -1,27 +1,214 @@
 //! `soli` and `solx`.
 
-ghost use Rattle.pb_replay.specs.Running.{Keeps, Goes};
+ghost use Rattle.std.specs.Prelude.{◌≡◌, ◌<◌, ◌^◌, ◌⊎◌, All, IfOk, IfErr, IsSome, OnOk, Ok, Err, length, true, false, not, map, unsigned_abs, ℕ, [], List};
+ghost use Rattle.pb_replay.specs.Engine.Live.{Live, Gives};
+ghost use Rattle.pb_replay.specs.Propagation.{MeetsConflict, IsCompletion, on};
+ghost use Rattle.pb_replay.specs.Replay.{Completed, IsClause, Logged, numbered};
+ghost use Rattle.pb_replay.specs.Running.{Keeps, Goes, GoesAt, Logs, HasNamed, IsBetter, IsInside, IsLinked, IsProper, IsReady, problem_of};
+ghost use Rattle.pb_replay.specs.Statements.{literal_names};
+ghost use Rattle.pb_sums.specs.declared.values.Literal.{Literal as Written};
+ghost use Rattle.pb_replay.specs.Bounds.{Demands};
+ghost use Rattle.pb_replay.specs.declared.numbered.NumberedLiteral.{NumberedLiteral as ANumberedLiteral};
 
 use crate::fault::Fault;
+use crate::numbered::NumberedLiteral;
+use crate::propagate::engine::Engine;
 use crate::state::Running;
+use crate::state::literals::{number_names, numbered_literals};
+use crate::state::live::{add, widen};
+use crate::state::objective::objective_form;
+use crate::state::solution::judged;
+use pb_normal::{Normal, NormalFault, Side};
 use pb_proof::Statement;
 use pb_sums::Literal;
 use pb_text::Sequence;
+use std::alloc::{AllocError, AllocFailed, Global};
+
+/// The literals by number, once their names have one.
+pub(crate) fn take_literals(
+    running: &mut Running,
+    given: &[Literal],
+) -> Result<Vec<NumberedLiteral>, Fault>
+    requires { IsLinked running.old }
+    ensures literals { IfOk result (λ v. v.items ≡ numbered running.new.names given.now) }
+    ensures inside { IfOk result (λ v. All (λ l. l.variable < length running.new.names) v.items) }
+    ensures named { OnOk result (HasNamed (literal_names given.now) running.old running.new) }
+    ensures linked { OnOk result (IsLinked running.new) }
+    ensures kept { Keeps running.old running.new }
+    ensures visits { running.new.visits ≡ running.old.visits }
+    ensures err { IfErr result (λ e. e ≡ Fault.Memory) }
+{
+    let before = running.names.len();
+    number_names(&mut running.names, given)?;
+    widen(&mut running.engine, before, running.names.len())?;
+    let numbers = numbered_literals(running.alloc, &running.names, given)?;
+    Ok(numbers)
+}
+
+/// The values of the completion of the literals over the engine's forms.
+pub(crate) fn completion(
+    engine: &mut Engine,
+    given: &[NumberedLiteral],
+) -> Result<Vec<Option<bool>>, Fault>
+    requires ready { engine.old.spent ≡ false }
+    requires inside { All (λ l. l.variable < engine.old.variables) given.now }
+    ensures free { IfOk result (λ v. MeetsConflict (Live engine.old.forms) given.now → ⊥) }
+    ensures list { IfOk result (λ v. (list : List ANumberedLiteral) × IsCompletion (Live engine.old.forms) given.now list × Gives list v.items) }
+    ensures err { IfErr result (λ e. (e ≡ Fault.Memory) ⊎ ((e ≡ Fault.Conflict) × MeetsConflict (Live engine.old.forms) given.now)) }
+    ensures forms { OnOk result (engine.new.forms ≡ engine.old.forms) }
+    ensures variables { OnOk result (engine.new.variables ≡ engine.old.variables) }
+    ensures ready { OnOk result (engine.new.spent ≡ false) }
+{
+    match engine.complete(given)? {
+        Some(values) => Ok(values),
+        None => Err(Fault::Conflict),
+    }
+}
+
+/// The least value so far, with another.
+fn better(best: Option<i128>, value: i128) -> i128
+    ensures { IsBetter best value result }
+{
+    match best {
+        Some(best) => best.min(value),
+        None => value,
+    }
+}
+
+/// The value of the solution that the literals complete to over the live constraints.
+fn completed(running: &mut Running, given: &[NumberedLiteral]) -> Result<i128, Fault>
+    requires proper { IsProper running.old }
+    requires linked { IsLinked running.old }
+    requires inside { All (λ l. l.variable < length running.old.names) given.now }
+    ensures ok { IfOk result (λ z. (g : Logged) × Completed (problem_of running.old) (Live running.old.engine.forms) (length running.old.names) given.now (Ok g) × (g.value ≡ z)) }
+    ensures err { IfErr result (λ e. (e ≡ Fault.Memory) ⊎ Completed (problem_of running.old) (Live running.old.engine.forms) (length running.old.names) given.now (Err e)) }
+    ensures small { IfOk result (λ z. unsigned_abs z < 2 ^ 127) }
+    ensures same { OnOk result (HasNamed [] running.old running.new) }
+    ensures linked { OnOk result (IsLinked running.new) }
+    ensures kept { Keeps running.old running.new }
+    ensures visits { running.new.visits ≡ running.old.visits }
+{
+    match completion(&mut running.engine, given) {
+        Ok(values) => judged(running, values.as_slice(), running.names.len()),
+        Err(fault) => Err(fault),
+    }
+}
+
+/// The negations of the literals, by variable and sign.
+fn negations(alloc: Global, given: &[NumberedLiteral]) -> Result<Vec<(usize, bool)>, AllocError>
+    ensures { IfOk result (λ v. v.items ≡ map (λ l. (l.variable, not l.negated)) given.now) }
+{
+    given
+        .iter()
+        .map(|l| (l.variable, !l.negated))
+        .collect(alloc)
+}
+
+/// The clause of the negations of the literals.
+fn clause_of(alloc: Global, given: &[NumberedLiteral]) -> Result<Normal, Fault>
+    requires { (x : ℕ) → on given.now x true ≡ true → on given.now x false ≡ true → ⊥ }
+    ensures clause { IfOk result (λ r. IsClause given.now r) }
+    ensures inside { IfOk result (λ r. (n : ℕ) → All (λ l. l.variable < n) given.now → IsInside n r) }
+    ensures err { IfErr result (λ e. e ≡ Fault.Memory) }
+{
+    let literals = negations(alloc, given)?;
+    let clause = Normal::from_literals(alloc, literals.as_slice(), 1)?;
+    Ok(clause)
+}
+
+/// Logs a solution with that value, and adds a form.
+fn log(running: &mut Running, value: i128, form: Normal) -> Result<(), Fault>
+    requires linked { IsLinked running.old }
+    requires inside { IsInside (length running.old.names) form }
+    ensures logs { Logs running.old value form result running.new }
+    ensures linked { OnOk result (IsLinked running.new) }
+    ensures kept { Keeps running.old running.new }
+    ensures visits { running.new.visits ≡ running.old.visits }
+{
+    match add(running, form) {
+        Ok(()) => {
+            running.best = Some(better(running.best, value));
+            Ok(())
+        }
+        Err(fault) => Err(fault),
+    }
+}
+
+/// Logs the solution that the literals complete to, and excludes them.
+fn exclude(running: &mut Running, given: &[NumberedLiteral]) -> Result<(), Fault>
+    requires proper { IsProper running.old }
+    requires linked { IsLinked running.old }
+    requires inside { All (λ l. l.variable < length running.old.names) given.now }
+    ensures goes { (written : List Written) → given.now ≡ numbered running.old.names written → GoesAt running.old (Statement.Solx written) result running.new }
+    ensures linked { OnOk result (IsLinked running.new) }
+    ensures kept { Keeps running.old running.new }
+    ensures visits { running.new.visits ≡ running.old.visits }
+{
+    match completed(running, given) {
+        Ok(value) => {
+            let clause = clause_of(running.alloc, given)?;
+            log(running, value, clause)
+        }
+        Err(fault) => Err(fault),
+    }
+}
 
 /// `solx`: a solution is logged and excluded.
 pub(crate) fn solx(running: &mut Running, given: &Sequence<Literal>) -> Result<(), Fault>
+    requires { IsReady running.old }
     ensures goes { Goes running.old (Statement.Solx given.now) result running.new }
+    ensures linked { OnOk result (IsLinked running.new) }
     ensures kept { Keeps running.old running.new }
+    ensures visits { running.new.visits ≡ running.old.visits }
 {
-    let _ = given.len();
-    Err(Fault::Memory)
+    let numbers = take_literals(running, given.as_slice())?;
+    exclude(running, numbers.as_slice())
+}
+
+/// Logs a solution with that value, and demands a lower one.
+fn demand_less(running: &mut Running, value: i128) -> Result<(), Fault>
+    requires proper { IsProper running.old }
+    requires linked { IsLinked running.old }
+    requires small { unsigned_abs value < 2 ^ 127 }
+    ensures demands { Demands running.old value result running.new }
+    ensures linked { OnOk result (IsLinked running.new) }
+    ensures kept { Keeps running.old running.new }
+    ensures visits { running.new.visits ≡ running.old.visits }
+{
+    match objective_form(running, value - 1, Side::AtMost) {
+        Ok(demand) => log(running, value, demand),
+        Err(fault) => Err(fault),
+    }
+}
+
+/// Logs the solution that the literals complete to, and demands a lower value.
+fn improve(running: &mut Running, given: &[NumberedLiteral]) -> Result<(), Fault>
+    requires proper { IsProper running.old }
+    requires linked { IsLinked running.old }
+    requires inside { All (λ l. l.variable < length running.old.names) given.now }
+    requires objective { IsSome running.old.objective }
+    ensures goes { (written : List Written) → given.now ≡ numbered running.old.names written → GoesAt running.old (Statement.Soli written) result running.new }
+    ensures linked { OnOk result (IsLinked running.new) }
+    ensures kept { Keeps running.old running.new }
+    ensures visits { running.new.visits ≡ running.old.visits }
+{
+    match completed(running, given) {
+        Ok(value) => demand_less(running, value),
+        Err(fault) => Err(fault),
+    }
 }
 
 /// `soli`: a solution is logged, and a lower value demanded.
 pub(crate) fn soli(running: &mut Running, given: &Sequence<Literal>) -> Result<(), Fault>
+    requires { IsReady running.old }
     ensures goes { Goes running.old (Statement.Soli given.now) result running.new }
+    ensures linked { OnOk result (IsLinked running.new) }
     ensures kept { Keeps running.old running.new }
+    ensures visits { running.new.visits ≡ running.old.visits }
 {
-    let _ = given.len();
-    Err(Fault::Memory)
+    if running.objective.is_none() {
+        return Err(Fault::NoObjective);
+    }
+    let numbers = take_literals(running, given.as_slice())?;
+    improve(running, numbers.as_slice())
 }

@@ -1,6 +1,27 @@
-use Rattle.pb_replay.proofs.lemmas.Ready.{ready_after}
+use Rattle.std.specs.Prelude.{None}
+use Rattle.std.proofs.Common.{◌≡◌, inl, inr, refl}
+use Rattle.pb_replay.specs.Running.{state_of}
+use Rattle.pb_replay.proofs.lemmas.Ready.{ready_after, step-ok, step-err}
 use Rattle.pb_replay.proofs.replay.Replay.step.Goals as goal
 
 pub invariant_of-self : goal.invariant_of-self
 invariant_of-self c none =
-    ready_after c.self.inside.running c.take.new.running c.args.statement.now (rw (← c.self.view_is) at c.requires) (c.self.invariant none) (rw c.in-Ok.is at c.take.ensures.comes) c.take.ensures.kept
+    ready_after c.self.inside.running c.take.new.running c.args.statement.now (rw (← c.self.view_is) at c.requires) (c.self.invariant none) (rw c.in-Ok.is at c.take.ensures.comes) c.take.ensures.kept (rw c.in-Ok.is at c.take.ensures.linked)
+
+pub returns-in-Ok-clause-steps : goal.returns-in-Ok-clause-steps
+returns-in-Ok-clause-steps c = λ free_before.
+    let free : c.self.inside.fault ≡ None = rw (← c.self.view_is) at free_before in
+    rw (← c.self.view_is) (
+      λ s f.
+          let k = step-ok c.self.inside.running c.take.new.running c.args.statement.now (rw c.in-Ok.is at c.take.ensures.comes) s f.live f.names f.logged f.next f.concluded in
+          (state_of c.take.new.running k.0, record { live = refl; names = refl; logged = k.1; next = refl; concluded = refl }, k.2),
+      free,
+    )
+
+pub returns-in-Ok-clause-looks : goal.returns-in-Ok-clause-looks
+returns-in-Ok-clause-looks c = λ free_before. rw (← c.self.view_is) (rw c.in-Ok.is at c.take.ensures.looks)
+
+pub returns-in-Err-clause-steps : goal.returns-in-Err-clause-steps
+returns-in-Err-clause-steps c = λ free_before.
+    let h = step-err c.self.inside.running c.take.new.running c.args.statement.now c.in-Err.fault (rw c.in-Err.is at c.take.ensures.comes) in
+    rw (← c.self.view_is) (elim h [ inl memory ↦ inl memory | inr k ↦ inr (λ s f. k s f.live f.names f.logged f.next f.concluded) ], refl)

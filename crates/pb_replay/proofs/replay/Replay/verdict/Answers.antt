@@ -6,4 +6,4 @@ use Rattle.pb_replay.proofs.replay.Replay.verdict.Goals as goal
 pub returns-in-Done-clause-means : goal.returns-in-Done-clause-means
 returns-in-Done-clause-means c =
     let ready = c.self.invariant (none_of c.self.inside.fault (sym c.is_some.ensures ∙ c.if-is_some.false)) in
-    rw (← c.self.view_is) (meant (problem_of c.self.inside.running) (state_of c.self.inside.running) c.self.inside.running.concluded ready.sound refl)
+    rw (← c.self.view_is) (meant (problem_of c.self.inside.running) (state_of c.self.inside.running ready.sound.0) c.self.inside.running.concluded (ready.sound).2 refl)

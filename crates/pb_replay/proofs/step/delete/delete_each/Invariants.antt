@@ -1,5 +1,5 @@
-use Rattle.std.specs.Prelude.{Result, Option}
-use Rattle.std.proofs.Common.{List, drop}
+use Rattle.std.specs.Prelude.{Result, Option, false}
+use Rattle.std.proofs.Common.{◌≡◌, List, drop}
 use Rattle.pb_normal.specs.Form.{Form}
 use Rattle.pb_replay.specs.Replay.{Deleted}
 use Rattle.pb_replay.specs.declared.fault.Fault.{Fault}
@@ -7,4 +7,7 @@ use Rattle.pb_replay.proofs.step.delete.delete_each.Given as goal
 
 -- what the rest answers the whole answers
 abbrev pub invariant-loop-id : goal.invariant-loop-id
-invariant-loop-id l = (r : Result (List (Option Form)) Fault) → Deleted l.live (drop l.id-index l.ids) r → Deleted l.fn.live l.ids r
+invariant-loop-id l =
+    ((r : Result (List (Option Form)) Fault) → Deleted l.engine.forms (drop l.id-index l.ids) r → Deleted l.fn.engine.forms l.ids r)
+    × (l.engine.variables ≡ l.fn.engine.variables)
+    × (l.engine.spent ≡ false)

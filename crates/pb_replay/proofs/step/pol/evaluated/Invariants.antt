@@ -4,4 +4,4 @@ use Rattle.pb_replay.proofs.step.pol.evaluated.Given as goal
 
 -- what the rest answers the whole answers
 abbrev pub invariant-loop-word : goal.invariant-loop-word
-invariant-loop-word l = Standing (largest l.limits) (top_of l.limits) l.names l.live l.words l.word-index l.stack.items
+invariant-loop-word l = Standing (largest l.limits) (top_of l.limits) l.names l.engine.forms l.words l.word-index l.stack.items

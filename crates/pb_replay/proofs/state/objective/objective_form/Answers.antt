@@ -1,0 +1,30 @@
+use Rattle.std.specs.Int.{w128}
+use Rattle.std.specs.Prelude.{option_map}
+use Rattle.std.proofs.Common.{rules, refl, take, sym, ap, FitsSigned}
+use Rattle.std.proofs.lemmas.Int.{to_z-of_z}
+use Rattle.pb_sums.specs.declared.Linear.{Linear}
+use Rattle.pb_normal.specs.Written.{names_of}
+use Rattle.pb_replay.proofs.lemmas.Objectives.{unchanged, objective-made, objective-within}
+use Rattle.pb_replay.proofs.lemmas.Rups.{fits_of, front_after}
+use Rattle.pb_replay.proofs.state.objective.objective_form.Goals as goal
+
+pub returns-in_err-form-clause-kept : goal.returns-in_err-form-clause-kept
+returns-in_err-form-clause-kept c =
+    let some = c.in_err-form.ensures.err in
+    record { limits = refl; own = refl; loaded = refl; objective = sym (ap (option_map (λ (x : Linear). x.terms)) c.in-Some.is); names = front_after c.args.running.now.names c.from_linear.new.names (take some.0 (names_of c.in-Some.linear.terms)) some.1 }
+
+pub returns-clause-kept : goal.returns-clause-kept
+returns-clause-kept c =
+    record { limits = refl; own = refl; loaded = refl; objective = sym (ap (option_map (λ (x : Linear). x.terms)) c.in-Some.is); names = front_after c.args.running.now.names c.from_linear.new.names (names_of c.in-Some.linear.terms) c.in_ok-form.ensures.names }
+
+pub returns-clause-names : goal.returns-clause-names
+returns-clause-names c = unchanged c.args.running.now c.in-Some.linear c.from_linear.new.names c.requires c.in-Some.is c.in_ok-form.ensures.names
+
+pub returns-clause-ok : goal.returns-clause-ok
+returns-clause-ok c =
+    let fits : FitsSigned w128 c.args.degree = search rules in
+    objective-made c.args.running.now c.in-Some.linear c.args.degree _ c.args.side c.from_linear.new.names c.in_ok-form.form c.requires c.in-Some.is c.in_ok-form.ensures.names (to_z-of_z w128 c.args.degree fits)
+    (fits_of _ _ _ _ c.in_ok-form.was c.from_linear.ensures.overflow) c.in_ok-form.ensures.form
+
+pub returns-clause-inside : goal.returns-clause-inside
+returns-clause-inside c = objective-within c.args.running.now c.in-Some.linear c.from_linear.new.names c.in_ok-form.form _ _ c.requires c.in-Some.is c.in_ok-form.ensures.names c.in_ok-form.ensures.form

@@ -1,0 +1,9 @@
+use Rattle.std.proofs.Common.{ℕ, ◌<◌, get_or}
+use Rattle.pb_normal.specs.Form.{Holds}
+use Rattle.pb_normal.specs.Rules.{assignment}
+use Rattle.pb_replay.specs.Replay.{no_form}
+use Rattle.pb_replay.proofs.state.solution.all_hold.Given as goal
+
+-- the forms so far hold
+abbrev pub invariant-loop-at : goal.invariant-loop-at
+invariant-loop-at l = (k : ℕ) → k < l.at → Holds (assignment l.values) (get_or l.loaded k no_form)

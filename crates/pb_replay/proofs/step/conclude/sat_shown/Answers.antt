@@ -1,0 +1,11 @@
+use Rattle.std.specs.Prelude.{Some}
+use Rattle.pb_proof.specs.declared.Conclusion.TheVariants.{Sat}
+use Rattle.pb_proof.specs.declared.Statement.TheVariants.{Conclude}
+use Rattle.pb_replay.proofs.lemmas.Going.{goes-from}
+use Rattle.std.proofs.Common.{◌∙◌}
+use Rattle.pb_replay.proofs.step.conclude.sat_shown.Goals as goal
+
+pub returns-clause-goes : goal.returns-clause-goes
+returns-clause-goes c =
+    goes-from c.args.running.now c.take_literals.new.running (Conclude (Sat (Some c.args.given.now))) (rw c.as_slice.ensures at c.in_ok-numbers.ensures.named) c.requires.proper c.take_literals.ensures.kept c.claim_sat.result c.claim_sat.new.running
+    (c.claim_sat.ensures.goes c.args.given.now (c.as_slice-2.ensures.value ∙ (rw c.as_slice.ensures at c.in_ok-numbers.ensures.literals)))

@@ -1,0 +1,67 @@
+//! Whether a live constraint is a contradiction.
+
+ghost use Rattle.std.specs.Prelude.{◌≡◌, List, None, Some, get_or, ◌<◌, IsTrue, ◌↔◌, length};
+ghost use Rattle.pb_normal.specs.Form.{Form};
+ghost use Rattle.pb_normal.specs.Rules.{IsContradiction};
+ghost use Rattle.pb_replay.specs.Conclusions.{has_contradiction, none_left};
+ghost use Rattle.pb_replay.specs.Answer.{gives};
+ghost use Rattle.pb_replay.specs.Replay.{Logged};
+ghost use Rattle.pb_replay.specs.Running.{IsBest, state_of};
+
+use crate::fault::Fault;
+use crate::propagate::engine::Engine;
+use crate::state::Running;
+use crate::state::find::find;
+use pb_normal::Normal;
+
+/// Whether the form of that number is a live contradiction.
+fn is_contradiction_at(engine: &Engine, number: usize) -> bool
+    requires { number < length engine.now.forms }
+    ensures { IsTrue result ↔ ((f : Form) × (get_or engine.now.forms number None ≡ Some f) × IsContradiction f) }
+{
+    match engine.form(number) {
+        Some(form) => form.is_contradiction(),
+        None => false,
+    }
+}
+
+/// Whether some live form is a contradiction.
+fn some_contradiction(engine: &Engine) -> Result<(), Fault>
+    ensures { has_contradiction engine.now.forms None result }
+{
+    for number in 0..engine.len() {
+        if is_contradiction_at(engine, number) {
+            return Ok(());
+        }
+    }
+    Err(Fault::NotContradiction)
+}
+
+/// Whether the live form of that id is a contradiction.
+fn named_contradiction(engine: &Engine, id: i64) -> Result<(), Fault>
+    ensures { has_contradiction engine.now.forms (Some id) result }
+{
+    match find(engine, id) {
+        None => Err(Fault::NoSuchId(id)),
+        Some(form) => {
+            if form.is_contradiction() {
+                Ok(())
+            } else {
+                Err(Fault::NotContradiction)
+            }
+        }
+    }
+}
+
+/// Whether no solution was logged and there is a contradiction.
+pub(crate) fn none_is_left(running: &Running, id: Option<i64>) -> Result<(), Fault>
+    ensures { (logged : List Logged) → IsBest logged running.now.best → none_left (state_of running.now logged) id (gives tt) result }
+{
+    if running.best.is_some() {
+        return Err(Fault::SolutionLogged);
+    }
+    match id {
+        None => some_contradiction(&running.engine),
+        Some(id) => named_contradiction(&running.engine, id),
+    }
+}

@@ -1,0 +1,75 @@
+//! Solutions that a conclusion shows.
+
+ghost use Rattle.std.specs.Prelude.{◌≡◌, ◌<◌, ◌⊎◌, All, Contains, IfOk, IfErr, IfSome, OnOk, Ok, Err, length, option_map};
+ghost use Rattle.pb_replay.specs.Statements.{shown_names};
+ghost use Rattle.pb_replay.specs.Replay.{Completed, Logged, Shown, numbered};
+ghost use Rattle.pb_replay.specs.Running.{Keeps, HasNamed, IsLinked, IsProper, problem_of};
+
+use crate::fault::Fault;
+use crate::numbered::NumberedLiteral;
+use crate::state::Running;
+use crate::state::live::engine_of;
+use crate::state::solution::judged;
+use crate::step::solution::{completion, take_literals};
+use pb_sums::Literal;
+use pb_text::Sequence;
+
+/// The value of the solution that the literals complete to over the instance's own constraints.
+fn own_value(running: &Running, given: &[NumberedLiteral]) -> Result<i128, Fault>
+    requires proper { IsProper running.now }
+    requires inside { All (λ l. l.variable < length running.now.names) given.now }
+    ensures ok { IfOk result (λ z. (g : Logged) × Completed (problem_of running.now) (Contains running.now.loaded.items) running.now.own given.now (Ok g) × (g.value ≡ z)) }
+    ensures err { IfErr result (λ e. (e ≡ Fault.Memory) ⊎ Completed (problem_of running.now) (Contains running.now.loaded.items) running.now.own given.now (Err e)) }
+{
+    let mut engine = engine_of(
+        running.alloc,
+        running.loaded.as_slice(),
+        running.names.len(),
+    )?;
+    match completion(&mut engine, given) {
+        Ok(values) => judged(running, values.as_slice(), running.own),
+        Err(fault) => Err(fault),
+    }
+}
+
+/// The value of the solution that the literals show.
+pub(crate) fn shown(running: &Running, given: &[NumberedLiteral]) -> Result<i128, Fault>
+    requires proper { IsProper running.now }
+    requires inside { All (λ l. l.variable < length running.now.names) given.now }
+    ensures ok { IfOk result (λ z. (g : Logged) × Shown (problem_of running.now) given.now g × (g.value ≡ z)) }
+    ensures err { IfErr result (λ e. (e ≡ Fault.Memory) ⊎ ((e ≡ Fault.NoSolution) × ((g : Logged) → Shown (problem_of running.now) given.now g → ⊥))) }
+{
+    match own_value(running, given) {
+        Ok(value) => Ok(value),
+        Err(fault) => {
+            if fault == Fault::Memory {
+                Err(Fault::Memory)
+            } else {
+                Err(Fault::NoSolution)
+            }
+        }
+    }
+}
+
+/// The literals of a conclusion by number, where it shows some, once their names have one.
+pub(crate) fn take_shown(
+    running: &mut Running,
+    shown: &Option<Sequence<Literal>>,
+) -> Result<Option<Vec<NumberedLiteral>>, Fault>
+    requires { IsLinked running.old }
+    ensures literals { IfOk result (λ o. option_map (λ v. v.items) o ≡ option_map (numbered running.new.names) shown.now) }
+    ensures inside { IfOk result (λ o. IfSome o (λ v. All (λ l. l.variable < length running.new.names) v.items)) }
+    ensures named { OnOk result (HasNamed (shown_names shown.now) running.old running.new) }
+    ensures linked { OnOk result (IsLinked running.new) }
+    ensures kept { Keeps running.old running.new }
+    ensures visits { running.new.visits ≡ running.old.visits }
+    ensures err { IfErr result (λ e. e ≡ Fault.Memory) }
+{
+    match shown {
+        None => Ok(None),
+        Some(given) => {
+            let numbers = take_literals(running, given.as_slice())?;
+            Ok(Some(numbers))
+        }
+    }
+}
