@@ -21,7 +21,6 @@ use Rattle.pb_replay.specs.declared.fault.Fault.{Fault}
 use Rattle.pb_replay.specs.declared.fault.Fault.TheVariants.{Memory as no_memory}
 use Rattle.pb_replay.specs.declared.verdict.Verdict.{Verdict}
 use Rattle.pb_tool.specs.Checks.{statements_at}
-use Rattle.pb_tool.specs.Compat.{names_in}
 use Rattle.pb_tool.specs.Runs.{IsNoReplay, IsReplayOf, IsToldAs, Replays, Runs, faults_of_instance}
 use Rattle.pb_tool.specs.Verified.{ChecksFiles, IsAccepted, IsNamed, IsTold, IsVerified, verdict_line}
 use Rattle.pb_tool.specs.declared.checker.CheckFault.TheVariants as check
@@ -60,7 +59,7 @@ module _ (limits : Limits) (longest : ℕ) (v : Problem) (first : State) (before
       )
 
   -- a refused statement, with the name that it tells
-  pub step_told : (after : Option (List ℕ)) (new : Replaying) (place : Place) (e : Fault) (f : ToolFault) → Runs limits longest v first before (Err (check.Step place e)) after new → IsToldAs (names_in new) place e f → Replays limits longest v first before (Err f) after
+  pub step_told : (after : Option (List ℕ)) (new : Replaying) (place : Place) (e : Fault) (f : ToolFault) → Runs limits longest v first before (Err (check.Step place e)) after new → IsToldAs new.names place e f → Replays limits longest v first before (Err f) after
   step_told after new place e (Step at x name) (st, state, comes, why) (is, told) = (
     st,
     state,
@@ -68,13 +67,13 @@ module _ (limits : Limits) (longest : ℕ) (v : Problem) (first : State) (before
     reason told why,
   )
     where
-      reason : (x ≡ no_memory) ⊎ ((x ≡ e) × IsTold (names_in new) e (string_bytes name))
-          → (e ≡ no_memory) ⊎ (Outcome (largest limits) (top_of limits) v state st (Err e) × IsFront state.names (names_in new))
+      reason : (x ≡ no_memory) ⊎ ((x ≡ e) × IsTold new.names e (string_bytes name))
+          → (e ≡ no_memory) ⊎ (Outcome (largest limits) (top_of limits) v state st (Err e) × IsFront state.names new.names)
           → (x ≡ no_memory) ⊎ (Outcome (largest limits) (top_of limits) v state st (Err x) × IsNamed state.names x (string_bytes name))
       reason (inl h) w = inl h
       reason (inr (same, h)) (inl m) = inl (same ∙ m)
       reason (inr (same, h)) (inr (out, front)) =
-          inr (subst (λ (y : Fault). Outcome (largest limits) (top_of limits) v state st (Err y) × IsNamed state.names y (string_bytes name)) (sym same) (out, (names_in new, front, h)))
+          inr (subst (λ (y : Fault). Outcome (largest limits) (top_of limits) v state st (Err y) × IsNamed state.names y (string_bytes name)) (sym same) (out, (new.names, front, h)))
   step_told after new place e (Text i s) h told = absurd told
   step_told after new place e (Open i) h told = absurd told
   step_told after new place e (Overflow i) h told = absurd told

@@ -3,7 +3,7 @@ use Rattle.std.proofs.Common.{◌≡◌, ℕ, ◌+◌, ◌-◌, List, [], ◌∷
 use Rattle.std.proofs.lemmas.List.Elements.{All-nil, All-cons, All-head, All-tail}
 use Rattle.pb_text.specs.Limits.{largest, top_of}
 use Rattle.pb_text.specs.Automaton.{Accepts as AcceptsBytes}
-use Rattle.pb_text.specs.Feeding.{StandsAt, FeedsOnce, place_of, halt_of, is_complete}
+use Rattle.pb_text.specs.Feeding.{StandsAt, FeedsOnce, HoldsFew, place_of, halt_of, is_complete}
 use Rattle.pb_text.specs.Reading.{Reads, Explains, ended_within}
 use Rattle.pb_text.specs.Spelling.{Item, bytes, marks_of, marks_since}
 use Rattle.pb_text.specs.Standing.{Counts, IsOpen as IsOpenText}
@@ -20,7 +20,7 @@ use Rattle.pb_text.proofs.Told.{stands_reads}
 use Rattle.pb_proof.specs.Formats.{ReadsProofs}
 use Rattle.pb_proof.specs.Lines.{SpellsStatement}
 use Rattle.pb_proof.specs.Proofs.{IsProof, IsGap}
-use Rattle.pb_proof.specs.State.{begin, proofs}
+use Rattle.pb_proof.specs.State.{ProofState, begin, proofs}
 use Rattle.pb_proof.specs.Values.{IsStatementValue}
 use Rattle.pb_proof.specs.declared.Conclusion.{Conclusion}
 use Rattle.pb_proof.specs.declared.Statement.{Statement}
@@ -28,22 +28,22 @@ use Rattle.pb_proof.specs.declared.Statement.TheVariants.{Header, F, Output, Con
 use Rattle.pb_proof.proofs.ProofValues.{statement_values}
 use Rattle.pb_replay.specs.Laws.{HasClaim}
 use Rattle.pb_replay.specs.Loading.{Problem}
-use Rattle.pb_replay.specs.Replay.{State}
-use Rattle.pb_replay.specs.Running.{Replaying, verdict_at, verdict_in}
+use Rattle.pb_replay.specs.Replay.{State, Logged}
+use Rattle.pb_replay.specs.Running.{IsBest, Replaying, StandsFor, StepsAs, verdict_at, verdict_in}
 use Rattle.pb_replay.specs.Statements.{Outcome, Accepts}
 use Rattle.pb_replay.specs.declared.fault.Fault.{Fault}
 use Rattle.pb_replay.specs.declared.state.phase.Phase.{Phase}
 use Rattle.pb_replay.specs.declared.state.phase.Phase.TheVariants.{Done}
 use Rattle.pb_replay.specs.declared.verdict.Verdict.{Verdict}
 use Rattle.pb_replay.proofs.lemmas.Accepting.{needed, ok-same}
+use Rattle.pb_replay.proofs.lemmas.Best.{best-push}
 use Rattle.pb_replay.proofs.lemmas.Claims.{run}
 use Rattle.std.proofs.Math.Seq.{take-add, take-length}
 use Rattle.std.proofs.lemmas.List.{length-drop}
-use Rattle.std.specs.Prelude.{IsSome, not, is_some}
-use Rattle.pb_tool.specs.Compat.{StandsFor}
+use Rattle.std.specs.Prelude.{ℤ, IsSome, not, is_some}
 use Rattle.pb_tool.specs.Checker.{Checking, ProofFeeder, IsAt, IsRunning, Stands, StepsFrom}
 use Rattle.pb_tool.specs.Checks.{statements_at, Checks, IsReplayed, Leads, Takes, Refuses}
-use Rattle.pb_tool.specs.Pieces.{AnyCutting, bytes_to, ChecksAt, ChecksOnce, IsOpen, Feeds, joined, fault_of, is_whole, place_in}
+use Rattle.pb_tool.specs.Pieces.{AnyCutting, HoldsOpen, bytes_to, ChecksAt, ChecksOnce, IsOpen, Feeds, joined, fault_of, is_whole, place_in}
 use Rattle.pb_tool.specs.declared.checker.CheckFault.{CheckFault}
 use Rattle.pb_tool.specs.declared.checker.CheckFault.TheVariants.{Text, Step}
 
@@ -58,6 +58,17 @@ module _ (limits : Limits) (v : Problem) where
   leads_more (Ok s) marks m now t (u, is, h) k =
       (t, refl, accepts_more (largest limits) (top_of limits) v marks m s u t h (subst (λ (x : Result State Fault). Takes limits v x m.event t) is k))
   leads_more (Err e) marks m now t (none, is) k = absurd (subst (λ (x : Result State Fault). Takes limits v x m.event t) is k)
+
+-- ---- a step
+module _ (limits : Limits) (v : Problem) where
+  took : (old new : Replaying) (m : Spanned Statement) → old.limits ≡ limits → old.problem ≡ v → StepsAs old m.event (Ok tt) new → (s : State) → StandsFor old s → (t : State) × IsAt new (Ok t) × Takes limits v (Ok s) m.event t
+  took old new m l p steps s at =
+      let (t, to, out) = steps.0 s at in
+      (t, (steps.1, to), subst (λ (x : Limits). Takes x v (Ok s) m.event t) l (subst (λ (x : Problem). Takes old.limits x (Ok s) m.event t) p out))
+
+pub stepped_ok : (old new : Replaying) (m : Spanned Statement) → (old.fault ≡ None → StepsAs old m.event (Ok tt) new) → ((e : Fault) → old.fault ≡ Some e → ◌≡◌ {A = Result Unit Fault} (Ok tt) (Err e)) → (now : Result State Fault) → IsAt old now → StepsFrom old.limits old.problem now m (Ok tt) new
+stepped_ok old new m steps again (Ok s) at = took old.limits old.problem old new m refl refl (steps at.0) s at.1
+stepped_ok old new m steps again (Err e) at = absurd (let bad = again e at in cc bad)
 
 -- ---- a statement that was read meets the rules
 module _ (limit top : ℕ) where
@@ -356,7 +367,9 @@ any_cutting exact limits longest v first before after pieces h owed feeds =
     seen exact limits longest v first (joined pieces) after after.fault (row exact limits longest v first [] before after pieces h owed feeds)
 
 pub shown_at : (r : Replaying) (t : State) → IsAt r (Ok t) → verdict_in r ≡ verdict_at t.next t.concluded
-shown_at r t (unspent, at) = ap (λ (x : Option Fault). if is_some x then None else verdict_at r.state.next r.state.concluded) unspent ∙ sym (ap (λ (x : Phase). verdict_at x t.concluded) at.next ∙ ap (λ (x : Option Verdict). verdict_at r.state.next x) at.concluded)
+shown_at r t (unspent, at) =
+    ap (λ (x : Option Fault). if is_some x then None else verdict_at r.next r.concluded) unspent
+    ∙ sym (ap (λ (x : Phase). verdict_at x t.concluded) at.next ∙ ap (λ (x : Option Verdict). verdict_at r.next x) at.concluded)
 
 -- ---- where the text has ended, of a checker
 module _ (exact : ReadsProofs) (limits : Limits) (longest : ℕ) (v : Problem) (first : Result State Fault) (input : List ℕ) (f : ProofFeeder) (r : Replaying) (e : Option CheckFault) (none : e ≡ None) (h : Stands limits longest v first input f r e) where
@@ -399,8 +412,16 @@ module _ (exact : ReadsProofs) (limits : Limits) (longest : ℕ) (v : Problem) (
       some (sym (shown_at r t (subst (λ (x : Result State Fault). IsAt r x) same now.at)) ∙ sym is)
 
 -- ---- a replay stands somewhere
+some_best : (best : Option ℤ) → (logged : List Logged) × IsBest logged best
+some_best None = ([], refl)
+some_best (Some b) = let g : Logged = record { values = []; value = b } in (g ∷ [], best-push [] None g b refl refl)
+
 pub some_state : (r : Replaying) → (s : State) × StandsFor r s
-some_state r = (r.state, record { same = refl; names = refl; next = refl; concluded = refl })
+some_state r =
+    let (logged, best) = some_best r.best in (
+      record { live = r.live; names = r.names; logged = logged; next = r.next; concluded = r.concluded },
+      record { live = refl; names = refl; logged = best; next = refl; concluded = refl },
+    )
 
 pub somewhere : (r : Replaying) → (first : Result State Fault) × IsAt r first
 somewhere r = by r.fault refl
@@ -412,3 +433,11 @@ somewhere r = by r.fault refl
 pub leads_none : (limits : Limits) (v : Problem) (first : Result State Fault) → Leads limits v first [] first
 leads_none limits v (Ok s) = (s, refl, refl)
 leads_none limits v (Err e) = (refl, refl)
+
+-- ---- what is held of the open statement
+module _ (exact : ReadsProofs) (limits : Limits) (longest : ℕ) (v : Problem) (first : Result State Fault) (input : List ℕ) (f : ProofFeeder) (r : Replaying) (e : Option CheckFault) (none : e ≡ None) (h : Stands limits longest v first input f r e) where
+  pub open_at : (held : ℕ) → ((longest : ℕ) (start : ProofState) (input : List ℕ) (marks : List (Spanned Statement)) → StandsAt longest start input marks f → HoldsFew start input f held) → HoldsOpen limits input (place_of f) held
+  open_at held few =
+      let now = running_at limits longest v first input f r e none h in
+      let (used, n, front, place, opens, bound) = few longest (begin (largest limits) (top_of limits)) input now.marks now.stands in
+      (used, n, front, place, λ items k at. opens items ((exact (largest limits) (top_of limits) items).1 k) at, bound)

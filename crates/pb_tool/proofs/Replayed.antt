@@ -25,7 +25,7 @@ use Rattle.pb_replay.specs.declared.state.phase.Phase.TheVariants.{Beginning, Lo
 use Rattle.pb_replay.specs.declared.verdict.Verdict.{Verdict}
 use Rattle.pb_tool.specs.Checker.{IsAt, StepsFrom}
 use Rattle.pb_tool.specs.Checks.{statements_at, Refuses, Takes}
-use Rattle.pb_tool.specs.Compat.{StandsFor, names_in}
+use Rattle.pb_replay.specs.Running.{StandsFor}
 use Rattle.pb_tool.specs.Files.{IsVeri}
 use Rattle.pb_tool.specs.Runs.{Runs, faults_of_text}
 use Rattle.pb_tool.specs.Verified.{IsAccepted}
@@ -101,12 +101,12 @@ module _ (exact : ReadsProofs) (limits : Limits) (longest : ℕ) where
                 accepts_more (largest limits) (top_of limits) v marks m first led.0 s led.2 (subst (λ (x : Problem). Takes limits x (Ok led.0) m.event s) problem (subst (λ (x : Limits). Takes x r.problem (Ok led.0) m.event s) limited takes)),
               )
 
-          told : (e : Fault) → IsFront led.0.names (names_in new) → Refuses limits v (Ok led.0) m.event e
-              → (e ≡ fault.Memory) ⊎ (Outcome (largest limits) (top_of limits) v led.0 m.event (Err e) × IsFront led.0.names (names_in new))
+          told : (e : Fault) → IsFront led.0.names new.names → Refuses limits v (Ok led.0) m.event e
+              → (e ≡ fault.Memory) ⊎ (Outcome (largest limits) (top_of limits) v led.0 m.event (Err e) × IsFront led.0.names new.names)
           told e names (inl h) = inl h
           told e names (inr h) = inr (h, names)
 
-          pub refused_run : (x : CheckFault) → Answers r m (Err x) new → IsFront (names_in r) (names_in new) → HasSoFar (marks ++ m ∷ []) m.past → Runs limits longest v first before (Err x) after new
+          pub refused_run : (x : CheckFault) → Answers r m (Err x) new → IsFront r.names new.names → HasSoFar (marks ++ m ∷ []) m.past → Runs limits longest v first before (Err x) after new
           refused_run x steps names t =
               let (e, is, refuses) = steps (Ok led.0) (none, led.1) in
               let here = subst (λ (y : Problem). Refuses limits y (Ok led.0) m.event e) problem (subst (λ (y : Limits). Refuses y r.problem (Ok led.0) m.event e) limited refuses) in
@@ -114,5 +114,5 @@ module _ (exact : ReadsProofs) (limits : Limits) (longest : ℕ) where
                 m.event,
                 led.0,
                 record { marks = marks; last = m; took = so_far_to (marks ++ m ∷ []) m.past t; begins_is = refl; statement = refl; accepted = led.2 },
-                told e (subst (λ (y : List (List ℕ)). IsFront y (names_in new)) (sym led.1.names) names) here,
+                told e (subst (λ (y : List (List ℕ)). IsFront y new.names) (sym led.1.names) names) here,
               )

@@ -10,7 +10,7 @@ use Rattle.pb_proof.specs.declared.Statement.{Statement}
 use Rattle.pb_replay.specs.Loading.{Problem}
 use Rattle.pb_replay.specs.Replay.{State}
 use Rattle.pb_replay.specs.Running.{Replaying}
-use Rattle.pb_tool.specs.Compat.{StandsFor}
+use Rattle.pb_replay.specs.Running.{StandsFor}
 use Rattle.pb_replay.specs.declared.fault.Fault.{Fault}
 use Rattle.pb_tool.specs.Checks.{statements_at, Checks, Leads, Takes, Refuses}
 use Rattle.pb_tool.specs.declared.checker.CheckFault.{CheckFault}

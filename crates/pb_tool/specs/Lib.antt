@@ -1,6 +1,5 @@
 pub mod Checker
 pub mod Checks
-pub mod Compat
 pub mod Faults
 pub mod Files
 pub mod Headline

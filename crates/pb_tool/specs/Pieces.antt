@@ -1,7 +1,11 @@
 -- What a feed says of a checker.
-use Rattle.std.specs.Prelude.{◌≡◌, ℕ, List, [], ◌∷◌, ◌++◌, take, Bool, true, false, Option, Some, None, Result, Ok, Err}
+use Rattle.std.specs.Prelude.{◌≡◌, ◌≤◌, ℕ, List, [], ◌∷◌, ◌++◌, take, Bool, true, false, Option, Some, None, Result, Ok, Err}
 use Rattle.pb_text.specs.Feeding.{place_of, is_complete}
+use Rattle.pb_text.specs.Limits.{largest, top_of}
+use Rattle.pb_text.specs.Reading.{HasOpen, IsFront}
+use Rattle.pb_text.specs.Spelling.{place_after}
 use Rattle.pb_text.specs.Standing.{Counts}
+use Rattle.pb_proof.specs.Proofs.{IsProof}
 use Rattle.pb_text.specs.declared.Limits.{Limits}
 use Rattle.pb_text.specs.declared.Place.{Place}
 use Rattle.pb_replay.specs.Loading.{Problem}
@@ -62,6 +66,13 @@ abbrev pub AnyCutting : Type 0
 AnyCutting = (limits : Limits) (longest : ℕ) (v : Problem) (first : Result State Fault) (before after : Checking) (pieces : List (List ℕ)) →
     ChecksAt limits longest v first [] before → IsOpen (fault_of before) → Feeds before pieces after →
     Checks limits longest v first (joined pieces) (place_in after) (is_whole after) (fault_of after)
+
+-- The place is that after bytes which were used of the input, and at most as much is held as these have bytes of a
+-- statement that they do not end: nothing between two statements.
+abbrev pub HoldsOpen : Limits → List ℕ → Place → ℕ → Type 0
+HoldsOpen limits input place held =
+    (used : List ℕ) × (n : ℕ) × IsFront used input × (place ≡ place_after used)
+    × HasOpen (IsProof (largest limits) (top_of limits)) used n × (held ≤ n)
 
 -- the bytes of the piece that were dealt with: where a statement came, those through its last
 abbrev pub bytes_to : Bool → ℕ → List ℕ → List ℕ

@@ -16,7 +16,7 @@ use Rattle.pb_replay.specs.Statements.{Outcome, Accepts}
 use Rattle.pb_replay.specs.declared.fault.Fault.{Fault}
 use Rattle.pb_replay.specs.declared.fault.Fault.TheVariants.{Memory as no_memory, Overflow as over}
 use Rattle.pb_replay.specs.declared.verdict.Verdict.{Verdict}
-use Rattle.pb_tool.specs.Compat.{StandsFor, names_in}
+use Rattle.pb_replay.specs.Running.{StandsFor}
 use Rattle.pb_tool.specs.Files.{IsProofFile}
 use Rattle.pb_tool.specs.Tidying.{IsOpbFile, IsNoOpbFile}
 use Rattle.pb_tool.specs.Verified.{ComesTo, IsAccepted, IsRefusedStep, IsRefusedText, IsTold}
@@ -68,7 +68,7 @@ module _ (limits : Limits) (longest : ℕ) where
     Runs (Err (check.Text s)) after new = (t : State) × IsAccepted limits longest v first before after s.place false (Some s) t
     Runs (Err (check.Step begins e)) after new =
         (st : Statement) × (state : State) × ComesTo limits longest v first before after begins st state
-        × ((e ≡ no_memory) ⊎ (Outcome (largest limits) (top_of limits) v state st (Err e) × IsFront state.names (names_in new)))
+        × ((e ≡ no_memory) ⊎ (Outcome (largest limits) (top_of limits) v state st (Err e) × IsFront state.names new.names))
 
     -- the same, with the rest behind the proof
     abbrev pub Replays : Result Verdict ToolFault → Option (List ℕ) → Type 0

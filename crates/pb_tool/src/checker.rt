@@ -6,7 +6,6 @@ ghost use Rattle.pb_proof.specs.Values.{IsStatementValue};
 ghost use Rattle.pb_replay.specs.Replay.{State};
 ghost use Rattle.pb_replay.specs.declared.fault.Fault.{Fault as AFault};
 ghost use Rattle.pb_replay.specs.Meaning.{IsFront};
-ghost use Rattle.pb_tool.specs.Compat.{names_in};
 ghost use Rattle.pb_tool.specs.Checker.{IsAt, StepsFrom};
 
 use pb_proof::{ProofMachine, Statement, proofs_are_exact};
@@ -60,7 +59,7 @@ impl Checker {
     ghost use Rattle.pb_text.specs.declared.Limits.{Limits};
     ghost use Rattle.pb_replay.specs.Loading.{Problem};
     ghost use Rattle.pb_tool.specs.Checks.{Ends};
-    ghost use Rattle.pb_tool.specs.Pieces.{ChecksAt, ChecksOnce, IsOpen, bytes_gone, fault_in, fault_of, is_whole, place_in};
+    ghost use Rattle.pb_tool.specs.Pieces.{ChecksAt, ChecksOnce, HoldsOpen, IsOpen, bytes_gone, fault_in, fault_of, is_whole, place_in};
     ghost use Rattle.pb_tool.specs.declared.checker.CheckFault.{CheckFault as ACheckFault};
 
     /// A checker of a proof for the replay, in whatever state that is. It stops at a statement which has not ended
@@ -91,7 +90,7 @@ impl Checker {
 
     /// The name with a number, also after a fault.
     pub fn name_of(&self, number: usize) -> Option<&str>
-        ensures { option_copied result ≡ slice_get self.now.replay.state.names number }
+        ensures { option_copied result ≡ slice_get self.now.replay.names number }
     {
         self.replay.name_of(number)
     }
@@ -99,7 +98,12 @@ impl Checker {
     /// How much of the current statement is kept.
     pub fn held(&self) -> usize
         ensures kept { result ≡ proofs.kept (state_of self.now.feeder) }
+        ensures few { (limits : Limits) (longest : ℕ) (v : Problem) (first : Result State AFault) (input : List ℕ)
+            → fault_of self.now ≡ None
+            → ChecksAt limits longest v first input self.now
+            → HoldsOpen limits input (place_in self.now) result }
     {
+        proofs_are_exact();
         self.feeder.held()
     }
 
@@ -200,7 +204,7 @@ pub(crate) fn step_through(replay: &mut Replay, read: Spanned<Statement>) -> Res
     requires { IsStatementValue (largest replay.old.limits) (top_of replay.old.limits) read.event }
     ensures steps { (now : Result State AFault) → IsAt replay.old now
         → StepsFrom replay.old.limits replay.old.problem now read result replay.new }
-    ensures names { IsFront (names_in replay.old) (names_in replay.new) }
+    ensures names { IsFront replay.old.names replay.new.names }
     ensures limits { replay.new.limits ≡ replay.old.limits }
     ensures problem { replay.new.problem ≡ replay.old.problem }
 {
@@ -212,7 +216,7 @@ fn step_by(replay: &mut Replay, read: &Spanned<Statement>) -> Result<(), CheckFa
     requires { IsStatementValue (largest replay.old.limits) (top_of replay.old.limits) read.now.event }
     ensures steps { (now : Result State AFault) → IsAt replay.old now
         → StepsFrom replay.old.limits replay.old.problem now read.now result replay.new }
-    ensures names { IsFront (names_in replay.old) (names_in replay.new) }
+    ensures names { IsFront replay.old.names replay.new.names }
     ensures limits { replay.new.limits ≡ replay.old.limits }
     ensures problem { replay.new.problem ≡ replay.old.problem }
 {

@@ -6,7 +6,7 @@ ghost use Rattle.pb_text.specs.Limits.{largest};
 ghost use Rattle.pb_replay.specs.Loading.{Opened};
 ghost use Rattle.pb_replay.specs.Replay.{State, first_state};
 ghost use Rattle.pb_opb.specs.declared.Instance.{Instance as AnInstance};
-ghost use Rattle.pb_tool.specs.Compat.{StandsFor, names_in};
+ghost use Rattle.pb_replay.specs.Running.{StandsFor};
 ghost use Rattle.pb_tool.specs.Tidying.{IsOpbFile};
 ghost use Rattle.pb_tool.specs.Runs.{IsNoReplay, IsReplayOf, IsToldAs, Replays, Runs, faults_of_instance, faults_of_proof, faults_of_text};
 ghost use Rattle.pb_tool.specs.Verified.{ChecksFiles, IsTold};
@@ -119,7 +119,7 @@ fn in_proof(stop: Stop) -> ToolFault
 /// The fault of a statement that was refused, with a copy of the name that it tells by its number. Where there is no
 /// memory for that, memory ran out.
 fn refusal(alloc: Global, replay: &Replay, place: Place, fault: Fault) -> ToolFault
-    ensures { IsToldAs (names_in replay.now) place fault result }
+    ensures { IsToldAs replay.now.names place fault result }
 {
     match told_name(alloc, replay, fault) {
         Ok(name) => ToolFault::Step { place, fault, name },
@@ -133,7 +133,7 @@ fn refusal(alloc: Global, replay: &Replay, place: Place, fault: Fault) -> ToolFa
 
 /// The name that a refusal tells by its number, where it does.
 fn told_name(alloc: Global, replay: &Replay, fault: Fault) -> Result<String, AllocError>
-    ensures { IfOk result (λ name. IsTold (names_in replay.now) fault (string_bytes name)) }
+    ensures { IfOk result (λ name. IsTold replay.now.names fault (string_bytes name)) }
 {
     match fault {
         Fault::NotTotal(number) => copied_name(alloc, replay, number),
@@ -143,7 +143,7 @@ fn told_name(alloc: Global, replay: &Replay, fault: Fault) -> Result<String, All
 
 /// A copy of the name with a number, empty where there is none.
 fn copied_name(alloc: Global, replay: &Replay, number: usize) -> Result<String, AllocError>
-    ensures { IfOk result (λ name. string_bytes name ≡ get_or (names_in replay.now) number []) }
+    ensures { IfOk result (λ name. string_bytes name ≡ get_or replay.now.names number []) }
 {
     match replay.name_of(number) {
         Some(name) => String::from_str(alloc, name),
