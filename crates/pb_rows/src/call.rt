@@ -23,6 +23,9 @@ pub enum Verb {
     Words,
     Fault,
     Limits,
+    Check,
+    Checker,
+    Steps,
 }
 
 /// The grammar of the text.
@@ -62,6 +65,8 @@ pub struct Call {
     pub each: Each,
     pub is_held: bool,
     pub has_spans: bool,
+    pub looks_least: Option<u64>,
+    pub looks_most: u64,
 }
 
 impl Call {
@@ -80,6 +85,8 @@ impl Call {
             each: Each::Neither,
             is_held: false,
             has_spans: false,
+            looks_least: None,
+            looks_most: u64::MAX,
         }
     }
 
@@ -141,6 +148,9 @@ fn other_verb(word: &str) -> Result<Verb, Broken> {
         "words" => Ok(Verb::Words),
         "fault" => Ok(Verb::Fault),
         "limits" => Ok(Verb::Limits),
+        "check" => Ok(Verb::Check),
+        "checker" => Ok(Verb::Checker),
+        "steps" => Ok(Verb::Steps),
         _ => Err(Broken::Call),
     }
 }
@@ -186,6 +196,8 @@ fn set(call: &mut Call, key: &str, value: &str) -> Result<(), Broken> {
         "reader-most" => call.reader_most = number as usize,
         "writer-fails" => call.writer_fails = Some(number),
         "writer-most" => call.writer_most = number as usize,
+        "looks-least" => call.looks_least = Some(number),
+        "looks-most" => call.looks_most = number,
         _ => return Err(Broken::Word),
     }
     Ok(())

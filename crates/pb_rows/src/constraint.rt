@@ -253,11 +253,22 @@ fn negated(form: &Normal) -> Result<Normal, NoForm> {
     Ok(form.negation()?)
 }
 
+/// What has a name for a number.
+pub trait Named {
+    fn text_of(&self, number: usize) -> Option<&str>;
+}
+
+impl Named for Names {
+    fn text_of(&self, number: usize) -> Option<&str> {
+        self.name_of(number)
+    }
+}
+
 /// Writes a form as a line.
-fn write_form<S: Sink>(form: &Normal, names: &Names, out: &mut S) -> Result<(), Failed> {
+pub fn write_form<S: Sink, N: Named>(form: &Normal, names: &N, out: &mut S) -> Result<(), Failed> {
     for index in 0..form.len() {
         let (variable, negated, coefficient) = form.term(index);
-        let name = names.name_of(variable).unwrap_or("?");
+        let name = names.text_of(variable).unwrap_or("?");
         write_bytes(b"+", out)?;
         write_number(coefficient, out)?;
         write_bytes(if negated { b" ~" } else { b" " }, out)?;

@@ -3,6 +3,7 @@
 
 mod broken;
 mod call;
+mod check;
 mod command;
 mod constraint;
 mod fault;
@@ -15,6 +16,7 @@ mod read;
 mod row;
 mod rows;
 mod spell;
+mod steps;
 mod sweep;
 mod value;
 

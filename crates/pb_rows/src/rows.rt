@@ -2,6 +2,7 @@
 
 use crate::broken::Broken;
 use crate::call::{Call, Verb, call_of};
+use crate::check::{run_check, run_checker};
 use crate::command::run_command;
 use crate::constraint::run_forms;
 use crate::fault::run_fault;
@@ -13,6 +14,7 @@ use crate::page::{Done, is_same};
 use crate::read::run_read;
 use crate::row::Row;
 use crate::spell::add_line;
+use crate::steps::run_steps;
 use crate::sweep::run_sweep;
 use pb_sums::write_count;
 use pb_text::{Failed, Sink, write_bytes};
@@ -164,5 +166,8 @@ fn run_call(alloc: Global, call: &Call, row: &Row<'_>) -> Result<Done, Broken> {
         Verb::Words => run_words(alloc, row.call, text),
         Verb::Fault => run_fault(alloc, row.call),
         Verb::Limits => run_limits(alloc, call),
+        Verb::Check => run_check(alloc, call, text),
+        Verb::Checker => run_checker(alloc, call, text, &row.wanted),
+        Verb::Steps => run_steps(alloc, call, text),
     }
 }

@@ -26,7 +26,7 @@ use Rattle.pb_tool.specs.Showing.{IsSpelling, IsRefusedAfter, InText, InRest, Sh
 use Rattle.pb_tool.specs.Tidying.{IsFile, IsOpb, IsRefused, IsNoOpbFile, Tidies}
 use Rattle.pb_tool.specs.Tidying.IsRefused.{InText as in_text, InRest as in_rest}
 use Rattle.pb_tool.specs.declared.fault.ToolFault.{ToolFault}
-use Rattle.pb_tool.specs.declared.fault.ToolFault.TheVariants.{Text, Open, Overflow, Memory, Write}
+use Rattle.pb_tool.specs.declared.fault.ToolFault.TheVariants.{Text, Open, Overflow, Memory, Write, Step}
 use Rattle.pb_tool.specs.declared.fault.Input.TheVariants.{File}
 use Rattle.pb_tool.specs.declared.fault.Input.TheVariants as input
 
@@ -82,6 +82,7 @@ module _ {E : Type 0} (format : List (Item E) → Type 0) (longest : ℕ) (befor
     shows_before old (Err (Open i)) after new h = h
     shows_before old (Err (Overflow i)) after new h = h
     shows_before old (Err (Memory i)) after new h = h
+    shows_before old (Err (Step place e name)) after new h = h
 
     -- nothing, where the source failed at its first byte
     pub shows_nothing : ReadsNothing format longest → (old : W) → Shows format longest text contents faults before old (Err (Text File first_fault)) mid old
@@ -127,6 +128,7 @@ module _ (before mid : Option (List ℕ)) (k : Keeps before mid) where
       tidies_proof_before old (Err (Open i)) after new h = h
       tidies_proof_before old (Err (Overflow i)) after new h = h
       tidies_proof_before old (Err (Memory i)) after new h = h
+      tidies_proof_before old (Err (Step place e name)) after new h = h
 
       pub tidies_before : (old : W) (result : Result Unit ToolFault) (after : Option (List ℕ)) (new : W) → Tidies limits longest false contents faults mid old result after new → Tidies limits longest false contents faults before old result after new
       tidies_before old (Ok u) after new (v, f, w, a, o) = (v, file_before _ after v f, w, a, o)
@@ -141,6 +143,7 @@ module _ (before mid : Option (List ℕ)) (k : Keeps before mid) where
       tidies_before old (Err (Memory input.Instance)) after new h = h
       tidies_before old (Err (Memory input.Proof)) after new h = h
       tidies_before old (Err (Open i)) after new h = h
+      tidies_before old (Err (Step place e name)) after new h = h
 
       -- nothing, where the source failed at its first byte
       pub tidies_no_proof : ReadsNothing (IsVeri limits) longest → (old : W) → TidiesProof limits longest contents faults before old (Err (Text File first_fault)) mid old

@@ -9,3 +9,7 @@ mod Chosen
 mod Loads
 mod Solutions
 mod Stays
+mod Checked
+mod Replayed
+mod Accepted
+mod Headline

@@ -14,7 +14,7 @@ use Rattle.pb_text.specs.declared.Machine.{Ghosts}
 use Rattle.pb_text.specs.Writing.{Wrote}
 use Rattle.pb_tool.specs.Showing.{shown_line, shown, EndsAt, IsSpelling, IsRefusedAfter, InText, InRest, Shows}
 use Rattle.pb_tool.specs.declared.fault.ToolFault.{ToolFault}
-use Rattle.pb_tool.specs.declared.fault.ToolFault.TheVariants.{Text, Open, Overflow, Memory, Write}
+use Rattle.pb_tool.specs.declared.fault.ToolFault.TheVariants.{Text, Open, Overflow, Memory, Write, Step}
 use Rattle.pb_tool.specs.declared.fault.Input.TheVariants.{File, Instance, Proof}
 use Rattle.pb_tool.proofs.Feeds.{took_join}
 
@@ -111,3 +111,4 @@ module _ {E : Type 0} (one other : List (Item E) → Type 0) (longest : ℕ)
     shows_to before old (Err (Open i)) after new h = h
     shows_to before old (Err (Overflow i)) after new h = h
     shows_to before old (Err (Memory i)) after new h = h
+    shows_to before old (Err (Step place e name)) after new h = h

@@ -1,5 +1,5 @@
 -- The line and the exit status of a fault, and what it says of the source.
-use Rattle.std.specs.Prelude.{ℕ, ◌/◌, ◌%◌, List, [], ◌∷◌, ◌++◌, codes, decimal, slice_index, Result, Ok, Err}
+use Rattle.std.specs.Prelude.{ℕ, ◌/◌, ◌%◌, List, [], ◌∷◌, ◌++◌, codes, decimal, slice_index, string_bytes, Result, Ok, Err}
 use Rattle.pb_text.specs.Pulling.{faults_with}
 use Rattle.pb_text.specs.declared.place.Place.{Place}
 use Rattle.pb_text.specs.declared.place.Why.{Why}
@@ -8,6 +8,7 @@ use Rattle.pb_tool.specs.declared.fault.Input.{Input}
 use Rattle.pb_tool.specs.declared.fault.Input.TheVariants.{File, Instance, Proof}
 use Rattle.pb_tool.specs.declared.fault.ToolFault.{ToolFault}
 use Rattle.pb_tool.specs.declared.fault.ToolFault.TheVariants as fault
+use Rattle.pb_tool.specs.Refusals.{refusal_text, refusal_status}
 
 -- which input it is
 abbrev pub prefix_of : Input → List ℕ
@@ -41,6 +42,7 @@ fault_line (fault.Open input) = prefix_of input ++ codes "cannot open" ++ 10 ∷
 fault_line (fault.Overflow input) = prefix_of input ++ codes "overflow" ++ 10 ∷ []
 fault_line (fault.Memory input) = prefix_of input ++ codes "out of memory" ++ 10 ∷ []
 fault_line fault.Write = codes "output: write fault" ++ 10 ∷ []
+fault_line (fault.Step place e name) = codes "proof: " ++ place_text place ++ refusal_text e (string_bytes name) ++ 10 ∷ []
 
 -- 1 where the text was refused, and 3 where its reader failed or memory ran out
 abbrev pub stop_status : Why → ℕ
@@ -57,6 +59,7 @@ exit_status (fault.Open input) = 3
 exit_status (fault.Overflow input) = 1
 exit_status (fault.Memory input) = 3
 exit_status fault.Write = 3
+exit_status (fault.Step place e name) = refusal_status e
 
 -- how often a source has failed after a command that answers this: once more where the answer is a read fault, and
 -- else as often as before
@@ -67,3 +70,4 @@ faults_told (Err (fault.Open input)) n = n
 faults_told (Err (fault.Overflow input)) n = n
 faults_told (Err (fault.Memory input)) n = n
 faults_told (Err fault.Write) n = n
+faults_told (Err (fault.Step place e name)) n = n

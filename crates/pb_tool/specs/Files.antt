@@ -14,7 +14,7 @@ use Rattle.pb_proof.specs.declared.Statement.{Statement}
 use Rattle.pb_tool.specs.Showing.{Shows}
 use Rattle.pb_tool.specs.Tidying.{IsFile, IsOpb, IsRefused, Tidies}
 use Rattle.pb_tool.specs.declared.fault.ToolFault.{ToolFault}
-use Rattle.pb_tool.specs.declared.fault.ToolFault.TheVariants.{Text, Open, Overflow, Memory, Write}
+use Rattle.pb_tool.specs.declared.fault.ToolFault.TheVariants.{Text, Open, Overflow, Memory, Write, Step}
 use Rattle.pb_tool.specs.declared.fault.Input.TheVariants.{File}
 
 -- the first byte of the text is `p`
@@ -55,6 +55,7 @@ module _ (limits : Limits) (longest : ℕ) where
     TidiesProof before old (Err (Overflow i)) after new = ⊥
     TidiesProof before old (Err (Memory i)) after new = ⊥
     TidiesProof before old (Err (Open i)) after new = ⊥
+    TidiesProof before old (Err (Step place e name)) after new = ⊥
 
     -- With `normal` the source is read as an instance, whatever its text begins with.
     abbrev pub TidiesFile : Bool → Option (List ℕ) → W → Result Unit ToolFault → Option (List ℕ) → W → Type 0

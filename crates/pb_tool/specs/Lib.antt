@@ -1,8 +1,15 @@
+pub mod Checker
+pub mod Checks
 pub mod Faults
 pub mod Files
+pub mod Headline
 pub mod Normalised
 mod Opening
+pub mod Pieces
+pub mod Refusals
+pub mod Runs
 pub mod Showing
 pub mod Staying
 pub mod Tidying
+pub mod Verified
 pub mod Words

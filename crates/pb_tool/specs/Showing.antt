@@ -10,7 +10,7 @@ use Rattle.pb_text.specs.declared.Place.{Place}
 use Rattle.pb_text.specs.declared.Spanned.{Spanned}
 use Rattle.pb_text.specs.declared.Stop.{Stop}
 use Rattle.pb_tool.specs.declared.fault.ToolFault.{ToolFault}
-use Rattle.pb_tool.specs.declared.fault.ToolFault.TheVariants.{Text, Open, Overflow, Memory, Write}
+use Rattle.pb_tool.specs.declared.fault.ToolFault.TheVariants.{Text, Open, Overflow, Memory, Write, Step}
 use Rattle.pb_tool.specs.declared.fault.Input.TheVariants.{File, Instance, Proof}
 
 module _ {E : Type 0} (text : E → List ℕ) where
@@ -58,3 +58,4 @@ module _ {E : Type 0} (format : List (Item E) → Type 0) (longest : ℕ) where
     Shows before old (Err (Open i)) after new = ⊥
     Shows before old (Err (Overflow i)) after new = ⊥
     Shows before old (Err (Memory i)) after new = ⊥
+    Shows before old (Err (Step place e name)) after new = ⊥

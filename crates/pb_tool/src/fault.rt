@@ -6,7 +6,9 @@ ghost use Rattle.pb_text.specs.Writing.{Writes};
 ghost use Rattle.pb_tool.specs.Faults.{exit_status, fault_line, hex_of, place_text, prefix_of};
 ghost use Rattle.pb_tool.specs.Faults.{reason_of};
 
+use crate::refusal::write_step;
 use itoa::Buffer;
+use pb_replay::Fault;
 use pb_text::{Failed, Place, Sink, Stop, Why, write_bytes};
 use thiserror::Error;
 
@@ -26,7 +28,10 @@ pub enum Input {
 pub enum ToolFault {
     /// The text stopped its reader at a place.
     #[error("the reader stopped")]
-    Text { input: Input, stop: Stop },
+    Text {
+        input: Input,
+        stop: Stop,
+    },
     /// The file could not be opened.
     #[error("a file could not be opened")]
     Open(Input),
@@ -39,6 +44,14 @@ pub enum ToolFault {
     /// The output could not be written.
     #[error("the output could not be written")]
     Write,
+    /// The statement of the proof that begins at the place was refused. The name is that without a value, where that
+    /// is why, and else empty.
+    #[error("a statement was refused")]
+    Step {
+        place: Place,
+        fault: Fault,
+        name: String,
+    },
 }
 
 /// The exit status of a fault: 1 where the input was refused, and 3 where a file could not be opened,
@@ -53,6 +66,10 @@ pub fn status(fault: &ToolFault) -> u8
         },
         ToolFault::Overflow(_) => 1,
         ToolFault::Open(_) | ToolFault::Memory(_) | ToolFault::Write => 3,
+        ToolFault::Step { fault, .. } => match fault {
+            Fault::Memory => 3,
+            _ => 1,
+        },
     }
 }
 
@@ -77,6 +94,7 @@ pub fn write_fault<S: Sink>(fault: &ToolFault, out: &mut S) -> Result<(), Failed
         ToolFault::Overflow(input) => write_whole(*input, b"overflow", out),
         ToolFault::Memory(input) => write_whole(*input, b"out of memory", out),
         ToolFault::Write => write_bytes(b"output: write fault\n", out),
+        ToolFault::Step { place, fault, name } => write_step(*place, *fault, name.as_str(), out),
     }
 }
 
@@ -112,7 +130,7 @@ fn prefix(input: Input) -> &'static [u8]
 }
 
 /// The place, as far as its colon and space.
-fn write_place<S: Sink>(place: Place, out: &mut S) -> Result<(), Failed>
+pub(crate) fn write_place<S: Sink>(place: Place, out: &mut S) -> Result<(), Failed>
     ensures { Writes S.contents S.faults out.old (place_text place) result out.new }
 {
     let mut line = Buffer::new();
@@ -145,7 +163,7 @@ fn hex(byte: u8) -> [u8; 2]
 }
 
 /// Writes texts one after another.
-fn write_parts<S: Sink>(parts: &[&[u8]], out: &mut S) -> Result<(), Failed>
+pub(crate) fn write_parts<S: Sink>(parts: &[&[u8]], out: &mut S) -> Result<(), Failed>
     ensures { Writes S.contents S.faults out.old
         (flat_map (λ part. part.now) parts.now) result out.new }
 {

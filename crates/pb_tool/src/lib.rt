@@ -1,17 +1,24 @@
 //! The command: its words and its faults.
 #![tactic(auto)]
 
+mod check_laws;
+mod checker;
 mod fault;
 mod laws;
 mod limiting;
 mod normalising;
 mod opening;
 mod proof_tidying;
+mod refusal;
 mod showing;
 mod statement;
 mod tidying;
+mod verdict;
+mod verify;
 mod words;
 
+pub use check_laws::{any_cut_of_a_proof, unsat_is_true, verified_is_true};
+pub use checker::{CheckFault, Checker};
 pub use fault::{Input, ToolFault, status, write_fault};
 pub use laws::{
     normal_forms_keep_solutions, one_normal_form, tidied_proof_stays, tidied_text_stays,
@@ -19,4 +26,5 @@ pub use laws::{
 pub use limiting::limits_of;
 pub use showing::show;
 pub use tidying::{tidy, tidy_with_hasher};
+pub use verify::check;
 pub use words::{Job, WordsFault, read_words};

@@ -98,7 +98,7 @@ fn tidy_instance<S: Source, W: Sink>(
 }
 
 /// Reads an instance, behind which only white space and comments may stand.
-fn read_file<S: Source>(
+pub(crate) fn read_file<S: Source>(
     alloc: Global,
     input: &mut S,
     longest: u64,

@@ -1,0 +1,167 @@
+//! Rows of `check`, and of its parts: an instance, a line `&`, and a proof.
+
+use crate::broken::Broken;
+use crate::call::{Call, Each};
+use crate::command::tell_fault;
+use crate::feed::Cut;
+use crate::page::{Done, Page, answered, finished, is_same, page};
+use pb_opb::read_instance;
+use pb_proof::Bound;
+use pb_replay::{Replay, Verdict};
+use pb_sums::write_number;
+use pb_text::doubles::{FaultyReader, FaultyWriter};
+use pb_text::{Failed, Over, Sink, write_bytes};
+use pb_tool::{CheckFault, Checker, Input, ToolFault, check};
+use std::alloc::Global;
+use std::str::FromStr;
+
+/// The line between an instance and a proof.
+const BETWEEN: &[u8] = b"&\n";
+
+/// The two inputs of a row.
+pub fn inputs_of(text: &[u8]) -> Result<(&[u8], &[u8]), Broken> {
+    for at in 0..text.len() {
+        let (front, rest) = text.split_at(at);
+        if let Some(proof) = rest.strip_prefix(BETWEEN) {
+            return Ok((front, proof));
+        }
+    }
+    Err(Broken::Value)
+}
+
+/// Checks a proof over readers and a writer as the call says: the reader of the proof fails.
+pub fn run_check(alloc: Global, call: &Call, text: &[u8]) -> Result<Done, Broken> {
+    let limits = call.limits()?;
+    let (instance, proof) = inputs_of(text)?;
+    let mut first = FaultyReader::new(instance);
+    first.most = call.reader_most;
+    let mut second = FaultyReader::new(proof);
+    second.most = call.reader_most;
+    match call.each {
+        Each::Read => first.fails_at = call.reader_fails,
+        _ => second.fails_at = call.reader_fails,
+    }
+    let mut writer = FaultyWriter::new(Vec::new(alloc));
+    writer.most = call.writer_most;
+    writer.fails_at = call.writer_fails;
+    let mut out = Over::new(writer);
+    let longest = Some(call.longest.max(1));
+    let (mut first, mut second) = (Over::new(first), Over::new(second));
+    let answer = check(alloc, &mut first, &mut second, &mut out, longest, limits);
+    let mut told = page(alloc);
+    match &answer {
+        Ok(_) => write_bytes(b"ok\n", &mut told)?,
+        Err(fault) => tell_fault(fault, &mut told)?,
+    }
+    Ok(finished(out, told))
+}
+
+/// Feeds a proof to a checker in one piece, in pieces of 1, 2 and 37 bytes, and in two pieces with each cut. Answers what the
+/// first gave that is not as wanted, or else the last.
+pub fn run_checker(alloc: Global, call: &Call, text: &[u8], wanted: &Done) -> Result<Done, Broken> {
+    let (instance, proof) = inputs_of(text)?;
+    for size in [1, 2, 37] {
+        let found = check_cut(alloc, call, instance, proof, Cut { first: size, size })?;
+        if !is_same(&found, wanted) {
+            return Ok(found);
+        }
+    }
+    for first in 0..proof.len() {
+        let size = usize::MAX;
+        let found = check_cut(alloc, call, instance, proof, Cut { first, size })?;
+        if !is_same(&found, wanted) {
+            return Ok(found);
+        }
+    }
+    let (first, size) = (usize::MAX, 1);
+    check_cut(alloc, call, instance, proof, Cut { first, size })
+}
+
+fn check_cut(
+    alloc: Global,
+    call: &Call,
+    instance: &[u8],
+    proof: &[u8],
+    cut: Cut,
+) -> Result<Done, Broken> {
+    let mut told = page(alloc);
+    let Ok(replay) = opened(alloc, call, instance)? else {
+        write_bytes(b"no replay\n", &mut told)?;
+        return Ok(answered(alloc, told));
+    };
+    let mut checker = Checker::new(alloc, replay, Some(call.longest.max(1)));
+    let (front, rest) = proof.split_at(cut.first.min(proof.len()));
+    let mut end = checker.feed(front).map(|_used| ());
+    for piece in rest.chunks(cut.size.max(1)) {
+        end = checker.feed(piece).map(|_used| ());
+    }
+    let end = match end {
+        Ok(()) => checker.finish(),
+        Err(fault) => Err(fault),
+    };
+    tell_end(alloc, &checker, end, &mut told)?;
+    Ok(answered(alloc, told))
+}
+
+/// A replay over the instance of a row, where it opens.
+pub fn opened(
+    alloc: Global,
+    call: &Call,
+    instance: &[u8],
+) -> Result<Result<Replay, pb_replay::Fault>, Broken> {
+    let limits = call.limits()?;
+    match read_instance(alloc, &mut Over::new(instance), limits) {
+        Ok(read) => Ok(Replay::new(alloc, &read.event, limits)),
+        Err(_) => Err(Broken::Value),
+    }
+}
+
+fn tell_end(
+    alloc: Global,
+    checker: &Checker,
+    end: Result<Verdict, CheckFault>,
+    told: &mut Page,
+) -> Result<(), Broken> {
+    match end {
+        Ok(verdict) => tell_verdict(verdict, told)?,
+        Err(CheckFault::Text(stop)) => tell_fault(
+            &ToolFault::Text {
+                input: Input::Proof,
+                stop,
+            },
+            told,
+        )?,
+        Err(CheckFault::Step(place, fault)) => {
+            let name = match fault {
+                pb_replay::Fault::NotTotal(number) => checker.name_of(number).unwrap_or("?"),
+                _ => "",
+            };
+            let name = String::from_str(alloc, name)?;
+            tell_fault(&ToolFault::Step { place, fault, name }, told)?;
+        }
+    }
+    Ok(())
+}
+
+/// Writes the verdict in the words of its line.
+pub fn tell_verdict<S: Sink>(verdict: Verdict, out: &mut S) -> Result<(), Failed> {
+    match verdict {
+        Verdict::NoClaim => write_bytes(b"verified NONE\n", out),
+        Verdict::Unsat => write_bytes(b"verified UNSAT\n", out),
+        Verdict::Sat => write_bytes(b"verified SAT\n", out),
+        Verdict::Bounds(lower, upper) => {
+            write_bytes(b"verified BOUNDS ", out)?;
+            tell_bound(lower, out)?;
+            write_bytes(b" ", out)?;
+            tell_bound(upper, out)?;
+            write_bytes(b"\n", out)
+        }
+    }
+}
+
+fn tell_bound<S: Sink>(bound: Bound, out: &mut S) -> Result<(), Failed> {
+    match bound {
+        Bound::Finite(value) => write_number(value, out),
+        Bound::Infinite => write_bytes(b"INF", out),
+    }
+}

@@ -1,0 +1,130 @@
+//! Rows of a replay, statement by statement.
+
+use crate::broken::Broken;
+use crate::call::Call;
+use crate::check::{inputs_of, opened, tell_verdict};
+use crate::command::tell_fault;
+use crate::constraint::{Named, write_form};
+use crate::page::{Done, Page, answered, finished, page, tell_count, tell_either};
+use pb_proof::{ProofMachine, Statement, statement_is_value};
+use pb_replay::{Fault, Replay};
+use pb_sums::write_count;
+use pb_text::{Feeder, Place, write_bytes};
+use pb_tool::ToolFault;
+use std::alloc::Global;
+use std::str::FromStr;
+
+impl Named for Replay {
+    fn text_of(&self, number: usize) -> Option<&str> {
+        self.name_of(number)
+    }
+}
+
+/// Steps a replay over the instance through the statements of a proof, whose header is not written in the row. Writes the
+/// constraints that are live then, each behind its id, and tells the verdict if there is one, or the first refusal; with
+/// `looks-least` and `looks-most` whether the looks of the last `rup` lie between these.
+pub fn run_steps(alloc: Global, call: &Call, text: &[u8]) -> Result<Done, Broken> {
+    let (instance, lines) = inputs_of(text)?;
+    let mut told = page(alloc);
+    let Ok(mut replay) = opened(alloc, call, instance)? else {
+        write_bytes(b"no replay\n", &mut told)?;
+        return Ok(answered(alloc, told));
+    };
+    let mut out = page(alloc);
+    match step_all(alloc, call, &mut replay, lines)? {
+        Ok(()) => {
+            write_live(&replay, &mut out)?;
+            tell_state(&replay, &mut told)?;
+        }
+        Err((place, fault)) => tell_refusal(alloc, &mut replay, place, fault, &mut told)?,
+    }
+    tell_looks(call, replay.visits(), &mut told)?;
+    Ok(finished(out, told))
+}
+
+/// Steps through each statement, and answers the first that is refused.
+fn step_all(
+    alloc: Global,
+    call: &Call,
+    replay: &mut Replay,
+    lines: &[u8],
+) -> Result<Result<(), (Place, Fault)>, Broken> {
+    let limits = call.limits()?;
+    let mut feeder = Feeder::new(ProofMachine::new(alloc, limits));
+    let mut text = Vec::new(alloc);
+    text.extend_from_slice(b"pseudo-Boolean proof version 2.0\n")?;
+    text.extend_from_slice(lines)?;
+    let mut rest = text.as_slice();
+    for _ in 0..text.len() {
+        let Ok(fed) = feeder.feed(rest) else {
+            return Err(Broken::Value);
+        };
+        rest = &rest[fed.used.min(rest.len())..];
+        let Some(read) = fed.event else {
+            return Ok(Ok(()));
+        };
+        if let Err(fault) = step_one(replay, &read.event)? {
+            return Ok(Err((read.first, fault)));
+        }
+    }
+    Ok(Ok(()))
+}
+
+/// Steps through one statement.
+fn step_one(replay: &mut Replay, statement: &Statement) -> Result<Result<(), Fault>, Broken> {
+    if !statement_is_value(statement, replay.limits()) {
+        return Err(Broken::Value);
+    }
+    Ok(replay.step(statement))
+}
+
+/// Writes each live constraint behind its id.
+fn write_live(replay: &Replay, out: &mut Page) -> Result<(), Broken> {
+    for id in 1..replay.newest().saturating_add(1) {
+        if let Some(form) = replay.constraint(id) {
+            write_count(id, out)?;
+            write_bytes(b": ", out)?;
+            write_form(form, replay, out)?;
+        }
+    }
+    Ok(())
+}
+
+fn tell_state(replay: &Replay, told: &mut Page) -> Result<(), Broken> {
+    match replay.verdict() {
+        Some(verdict) => tell_verdict(verdict, told)?,
+        None => write_bytes(b"ok\n", told)?,
+    }
+    Ok(())
+}
+
+/// Tells a refusal, which the replay is to answer again, and then shows no verdict.
+fn tell_refusal(
+    alloc: Global,
+    replay: &mut Replay,
+    place: Place,
+    fault: Fault,
+    told: &mut Page,
+) -> Result<(), Broken> {
+    let name = match fault {
+        Fault::NotTotal(number) => replay.name_of(number).unwrap_or("?"),
+        _ => "",
+    };
+    let name = String::from_str(alloc, name)?;
+    tell_fault(&ToolFault::Step { place, fault, name }, told)?;
+    if replay.step(&Statement::End) != Err(fault) || replay.verdict().is_some() {
+        write_bytes(b"not again\n", told)?;
+    }
+    Ok(())
+}
+
+fn tell_looks(call: &Call, looks: u64, told: &mut Page) -> Result<(), Broken> {
+    if let Some(least) = call.looks_least {
+        let is_within = least <= looks && looks <= call.looks_most;
+        tell_either(is_within, b"looks within\n", b"looks outside: ", told)?;
+        if !is_within {
+            tell_count(looks, b"\n", told)?;
+        }
+    }
+    Ok(())
+}

@@ -1,0 +1,149 @@
+-- What a check owes of two sources, from what its parts owe.
+use Rattle.std.proofs.Common.{◌≡◌, ◌⊎◌, ℕ, ◌≤◌, List, [], ◌++◌, length, true, Option, Some, None, Result, Ok, Err, refl, sym, ap, ◌∙◌, subst, inl, inr, arith, length-append}
+use Rattle.std.specs.Prelude.{string_bytes}
+use Rattle.pb_text.specs.Blank.{ReadsBlank}
+use Rattle.pb_text.specs.Limits.{largest, top_of}
+use Rattle.pb_text.specs.Reading.{byte_limit}
+use Rattle.pb_text.specs.Spelling.{place_after}
+use Rattle.pb_text.specs.Writing.{Wrote, Broke}
+use Rattle.pb_text.specs.declared.Limits.{Limits}
+use Rattle.pb_text.specs.declared.Place.{Place}
+use Rattle.pb_text.specs.declared.Spanned.{Spanned}
+use Rattle.pb_proof.specs.declared.Proof.{Proof}
+use Rattle.pb_proof.specs.declared.Statement.{Statement}
+use Rattle.pb_proof.specs.Proofs.{statements_of}
+use Rattle.pb_replay.specs.Loading.{Problem}
+use Rattle.pb_replay.specs.Meaning.{IsFront}
+use Rattle.pb_replay.specs.Replay.{State, first_state}
+use Rattle.pb_replay.specs.Running.{Replaying}
+use Rattle.pb_replay.specs.Statements.{Outcome, Accepts}
+use Rattle.pb_replay.specs.declared.fault.Fault.{Fault}
+use Rattle.pb_replay.specs.declared.fault.Fault.TheVariants.{Memory as no_memory}
+use Rattle.pb_replay.specs.declared.verdict.Verdict.{Verdict}
+use Rattle.pb_tool.specs.Checks.{statements_at}
+use Rattle.pb_tool.specs.Runs.{IsNoReplay, IsReplayOf, IsToldAs, Replays, Runs, faults_of_instance}
+use Rattle.pb_tool.specs.Verified.{ChecksFiles, IsAccepted, IsNamed, IsTold, IsVerified, verdict_line}
+use Rattle.pb_tool.specs.declared.checker.CheckFault.TheVariants as check
+use Rattle.pb_tool.specs.declared.fault.ToolFault.{ToolFault}
+use Rattle.pb_tool.specs.declared.fault.ToolFault.TheVariants.{Text, Open, Overflow, Memory, Write, Step}
+use Rattle.pb_tool.specs.declared.fault.Input.TheVariants.{File, Instance as of_instance, Proof as of_proof}
+use Rattle.pb_tool.proofs.Checked.{marks_events}
+use Rattle.pb_tool.proofs.Feeds.{took_join}
+use Rattle.pb_tool.proofs.Shown.{after_offset}
+
+module _ (limits : Limits) (longest : ℕ) (v : Problem) (first : State) (before : Option (List ℕ)) where
+  -- a whole proof, and a blank rest
+  pub whole_file : (mid after : Option (List ℕ)) (place : Place) (t : State) (w : Verdict) → IsAccepted limits longest v first before mid place true None t → t.concluded ≡ Some w → ReadsBlank place mid (Ok tt) after → Replays limits longest v first before (Ok w) after
+  whole_file mid after place t w a claimed (rest, more, blank, bound) =
+      let s = a.took.reads.answer.0 in
+      let (q, spells) = s.spelled in
+      let used = a.took.used in
+      let at = ap (λ (x : Place). x.offset) a.took.reads.place_is ∙ after_offset used in
+      let within : length (used ++ rest) ≤ byte_limit = omega (arith, bound, at, length-append used rest) in
+      let same = ap (λ (x : List (Spanned Statement)). statements_at x) s.marks_are ∙ (marks_events None [] s.items ∙ spells.1) in
+      let read : Spanned Proof = record { event = q; first = place_after []; past = place_after used } in (
+        q,
+        record {
+          used = used;
+          rest = rest;
+          took = took_join before mid after used rest a.took.seen [] a.took.took more;
+          read = read;
+          spelled = record { marks = a.marks; spelled = s; value = spells.1; first = refl; past = refl };
+          blank = blank;
+          within = within;
+          value = refl;
+        },
+        t,
+        subst (λ (x : List Statement). Accepts (largest limits) (top_of limits) v first x t) same a.accepted,
+        claimed,
+      )
+
+  -- a refused statement, with the name that it tells
+  pub step_told : (after : Option (List ℕ)) (new : Replaying) (place : Place) (e : Fault) (f : ToolFault) → Runs limits longest v first before (Err (check.Step place e)) after new → IsToldAs new.names place e f → Replays limits longest v first before (Err f) after
+  step_told after new place e (Step at x name) (st, state, comes, why) (is, told) = (
+    st,
+    state,
+    record { marks = comes.marks; last = comes.last; took = comes.took; begins_is = is ∙ comes.begins_is; statement = comes.statement; accepted = comes.accepted },
+    reason told why,
+  )
+    where
+      reason : (x ≡ no_memory) ⊎ ((x ≡ e) × IsTold new.names e (string_bytes name))
+          → (e ≡ no_memory) ⊎ (Outcome (largest limits) (top_of limits) v state st (Err e) × IsFront state.names new.names)
+          → (x ≡ no_memory) ⊎ (Outcome (largest limits) (top_of limits) v state st (Err x) × IsNamed state.names x (string_bytes name))
+      reason (inl h) w = inl h
+      reason (inr (same, h)) (inl m) = inl (same ∙ m)
+      reason (inr (same, h)) (inr (out, front)) =
+          inr (subst (λ (y : Fault). Outcome (largest limits) (top_of limits) v state st (Err y) × IsNamed state.names y (string_bytes name)) (sym same) (out, (new.names, front, h)))
+  step_told after new place e (Text i s) h told = absurd told
+  step_told after new place e (Open i) h told = absurd told
+  step_told after new place e (Overflow i) h told = absurd told
+  step_told after new place e (Memory i) h told = absurd told
+  step_told after new place e Write h told = absurd told
+
+module _ (limits : Limits) (longest n : ℕ) (is : longest ≡ n) {W : Type 0} (contents : W → Option (List ℕ)) (faults : W → ℕ) (i i' p p' : Option (List ℕ)) (old new : W) where
+  abbrev Checks : Result Verdict ToolFault → Type 0
+  Checks result = ChecksFiles limits n contents faults i p old result i' p' new
+
+  -- there is no replay
+  pub no_replay : (f : ToolFault) → IsNoReplay limits longest i i' f → p' ≡ p → new ≡ old → Checks (Err f)
+  no_replay f h kept same = subst (λ (m : ℕ). ChecksFiles limits m contents faults i p old (Err f) i' p' new) is (by f h)
+    where
+      by : (f : ToolFault) → IsNoReplay limits longest i i' f → ChecksFiles limits longest contents faults i p old (Err f) i' p' new
+      by (Text of_instance s) h = (h, kept, same)
+      by (Text File s) h = absurd h
+      by (Text of_proof s) h = absurd h
+      by (Overflow of_instance) h = (h.0, h.1, h.2, kept, same)
+      by (Overflow File) h = absurd h
+      by (Overflow of_proof) h = absurd h
+      by (Memory of_instance) h = (h.0, h.1, kept, same)
+      by (Memory File) h = absurd h
+      by (Memory of_proof) h = absurd h
+      by (Open input) h = absurd h
+      by Write h = absurd h
+      by (Step place e name) h = absurd h
+
+  module _ (r : Replaying) (h : IsReplayOf limits longest i i' r) where
+    abbrev Owes : Result Verdict ToolFault → Type 0
+    Owes result = Replays r.limits longest r.problem (first_state r.problem) p result p'
+
+    here : (result : Result Verdict ToolFault) → Owes result → Replays limits longest r.problem (first_state r.problem) p result p'
+    here result owed = subst (λ (x : Limits). Replays x longest r.problem (first_state r.problem) p result p') h.limited owed
+
+    verified : (w : Verdict) (q : Proof) (t : State) → Accepts (largest limits) (top_of limits) r.problem (first_state r.problem) (statements_of q) t → t.concluded ≡ Some w → IsVerified limits h.instance q w
+    verified w q t accepted claimed = record { problem = r.problem; opened = h.opened; last = t; accepted = accepted; claimed = claimed }
+
+    -- all was accepted
+    pub checked_ok : (w : Verdict) → Owes (Ok w) → Wrote contents faults old (verdict_line w) new → Checks (Ok w)
+    checked_ok w owed wrote =
+        let (q, file, t, accepted, claimed) = here (Ok w) owed in
+        subst (λ (m : ℕ). ChecksFiles limits m contents faults i p old (Ok w) i' p' new) is (h.instance, h.file, q, file, verified w q t accepted claimed, wrote)
+
+    pub checked_broke : (w : Verdict) → Owes (Ok w) → Broke contents faults old (verdict_line w) new → Checks (Err Write)
+    checked_broke w owed broke =
+        let (q, file, t, accepted, claimed) = here (Ok w) owed in
+        subst (λ (m : ℕ). ChecksFiles limits m contents faults i p old (Err Write) i' p' new) is (h.instance, h.file, q, file, w, verified w q t accepted claimed, broke)
+
+    -- the proof was refused
+    pub checked_refused : (f : ToolFault) → Owes (Err f) → new ≡ old → Checks (Err f)
+    checked_refused f owed same = subst (λ (m : ℕ). ChecksFiles limits m contents faults i p old (Err f) i' p' new) is (by f (here (Err f) owed))
+      where
+        by : (f : ToolFault) → Replays limits longest r.problem (first_state r.problem) p (Err f) p' → ChecksFiles limits longest contents faults i p old (Err f) i' p' new
+        by (Step place e name) x = (h.instance, h.file, r.problem, h.opened, x, same)
+        by (Text of_proof s) x = (h.instance, h.file, r.problem, h.opened, x, same)
+        by (Text File s) x = absurd x
+        by (Text of_instance s) x = absurd x
+        by (Overflow input) x = absurd x
+        by (Memory input) x = absurd x
+        by (Open input) x = absurd x
+        by Write x = absurd x
+
+    -- the source of the instance did not fail then
+    pub instance_read : (f : ToolFault) → Owes (Err f) → (k m : ℕ) → k ≡ m → k ≡ faults_of_instance {A = Verdict} (Err f) m
+    instance_read (Text of_instance s) x k m h = absurd x
+    instance_read (Text File s) x k m h = h
+    instance_read (Text of_proof s) x k m h = h
+    instance_read (Step place e name) x k m h = h
+    instance_read (Overflow input) x k m h = h
+    instance_read (Memory input) x k m h = h
+    instance_read (Open input) x k m h = h
+    instance_read Write x k m h = h

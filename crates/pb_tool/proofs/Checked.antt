@@ -1,0 +1,443 @@
+-- What a feed and a step leave of a checker.
+use Rattle.std.proofs.Common.{◌≡◌, ℕ, ◌+◌, ◌-◌, List, [], ◌∷◌, ◌++◌, length, take, drop, nat_le, if◌then◌else◌, Bool, true, false, Option, Some, None, Result, Ok, Err, refl, sym, ap, ◌∙◌, subst, append-nil, append_assoc, take-append-drop, All}
+use Rattle.std.proofs.lemmas.List.Elements.{All-nil, All-cons, All-head, All-tail}
+use Rattle.pb_text.specs.Limits.{largest, top_of}
+use Rattle.pb_text.specs.Automaton.{Accepts as AcceptsBytes}
+use Rattle.pb_text.specs.Feeding.{StandsAt, FeedsOnce, HoldsFew, place_of, halt_of, is_complete}
+use Rattle.pb_text.specs.Reading.{Reads, Explains, ended_within}
+use Rattle.pb_text.specs.Spelling.{Item, bytes, marks_of, marks_since}
+use Rattle.pb_text.specs.Standing.{Counts, IsOpen as IsOpenText}
+use Rattle.pb_text.specs.Whole.{events_of}
+use Rattle.pb_text.specs.declared.Fed.{Fed}
+use Rattle.pb_text.specs.declared.Limits.{Limits}
+use Rattle.pb_text.specs.declared.Place.{Place}
+use Rattle.pb_text.specs.declared.Spanned.{Spanned}
+use Rattle.pb_text.specs.declared.Stop.{Stop}
+use Rattle.pb_text.specs.declared.place.Why.{Why}
+use Rattle.pb_text.specs.declared.place.Why.TheVariants.{Byte, TooLarge, Ended, TooLong, Read, Memory}
+use Rattle.pb_text.proofs.Formats as formats
+use Rattle.pb_text.proofs.Told.{stands_reads}
+use Rattle.pb_proof.specs.Formats.{ReadsProofs}
+use Rattle.pb_proof.specs.Lines.{SpellsStatement}
+use Rattle.pb_proof.specs.Proofs.{IsProof, IsGap}
+use Rattle.pb_proof.specs.State.{ProofState, begin, proofs}
+use Rattle.pb_proof.specs.Values.{IsStatementValue}
+use Rattle.pb_proof.specs.declared.Conclusion.{Conclusion}
+use Rattle.pb_proof.specs.declared.Statement.{Statement}
+use Rattle.pb_proof.specs.declared.Statement.TheVariants.{Header, F, Output, Conclude, End}
+use Rattle.pb_proof.proofs.ProofValues.{statement_values}
+use Rattle.pb_replay.specs.Laws.{HasClaim}
+use Rattle.pb_replay.specs.Loading.{Problem}
+use Rattle.pb_replay.specs.Replay.{State, Logged}
+use Rattle.pb_replay.specs.Running.{IsBest, Replaying, StandsFor, StepsAs, verdict_at, verdict_in}
+use Rattle.pb_replay.specs.Statements.{Outcome, Accepts}
+use Rattle.pb_replay.specs.declared.fault.Fault.{Fault}
+use Rattle.pb_replay.specs.declared.state.phase.Phase.{Phase}
+use Rattle.pb_replay.specs.declared.state.phase.Phase.TheVariants.{Done}
+use Rattle.pb_replay.specs.declared.verdict.Verdict.{Verdict}
+use Rattle.pb_replay.proofs.lemmas.Accepting.{needed, ok-same}
+use Rattle.pb_replay.proofs.lemmas.Best.{best-push}
+use Rattle.pb_replay.proofs.lemmas.Claims.{run}
+use Rattle.std.proofs.Math.Seq.{take-add, take-length}
+use Rattle.std.proofs.lemmas.List.{length-drop}
+use Rattle.std.specs.Prelude.{ℤ, IsSome, not, is_some}
+use Rattle.pb_tool.specs.Checker.{Checking, ProofFeeder, IsAt, IsRunning, Stands, StepsFrom}
+use Rattle.pb_tool.specs.Checks.{statements_at, Checks, IsReplayed, Leads, Takes, Refuses}
+use Rattle.pb_tool.specs.Pieces.{AnyCutting, HoldsOpen, bytes_to, ChecksAt, ChecksOnce, IsOpen, Feeds, joined, fault_of, is_whole, place_in}
+use Rattle.pb_tool.specs.declared.checker.CheckFault.{CheckFault}
+use Rattle.pb_tool.specs.declared.checker.CheckFault.TheVariants.{Text, Step}
+
+-- ---- one statement more
+module _ (limit top : ℕ) (v : Problem) where
+  pub accepts_more : (marks : List (Spanned Statement)) (m : Spanned Statement) (s u t : State) → Accepts limit top v s (statements_at marks) u → Outcome limit top v u m.event (Ok t) → Accepts limit top v s (statements_at (marks ++ m ∷ [])) t
+  accepts_more [] m s u t h k = (t, subst (λ (x : State). Outcome limit top v x m.event (Ok t)) (sym h) k, refl)
+  accepts_more (n ∷ marks) m s u t h k = (h.0, h.1, accepts_more marks m h.0 u t h.2 k)
+
+module _ (limits : Limits) (v : Problem) where
+  leads_more : (first : Result State Fault) (marks : List (Spanned Statement)) (m : Spanned Statement) (now : Result State Fault) (t : State) → Leads limits v first (statements_at marks) now → Takes limits v now m.event t → Leads limits v first (statements_at (marks ++ m ∷ [])) (Ok t)
+  leads_more (Ok s) marks m now t (u, is, h) k =
+      (t, refl, accepts_more (largest limits) (top_of limits) v marks m s u t h (subst (λ (x : Result State Fault). Takes limits v x m.event t) is k))
+  leads_more (Err e) marks m now t (none, is) k = absurd (subst (λ (x : Result State Fault). Takes limits v x m.event t) is k)
+
+-- ---- a step
+module _ (limits : Limits) (v : Problem) where
+  took : (old new : Replaying) (m : Spanned Statement) → old.limits ≡ limits → old.problem ≡ v → StepsAs old m.event (Ok tt) new → (s : State) → StandsFor old s → (t : State) × IsAt new (Ok t) × Takes limits v (Ok s) m.event t
+  took old new m l p steps s at =
+      let (t, to, out) = steps.0 s at in
+      (t, (steps.1, to), subst (λ (x : Limits). Takes x v (Ok s) m.event t) l (subst (λ (x : Problem). Takes old.limits x (Ok s) m.event t) p out))
+
+pub stepped_ok : (old new : Replaying) (m : Spanned Statement) → (old.fault ≡ None → StepsAs old m.event (Ok tt) new) → ((e : Fault) → old.fault ≡ Some e → ◌≡◌ {A = Result Unit Fault} (Ok tt) (Err e)) → (now : Result State Fault) → IsAt old now → StepsFrom old.limits old.problem now m (Ok tt) new
+stepped_ok old new m steps again (Ok s) at = took old.limits old.problem old new m refl refl (steps at.0) s at.1
+stepped_ok old new m steps again (Err e) at = absurd (let bad = again e at in cc bad)
+
+-- ---- a statement that was read meets the rules
+module _ (limit top : ℕ) where
+  abbrev IsFine : Spanned Statement → Type 0
+  IsFine m = IsStatementValue limit top m.event
+
+  fine_marks : (first : Option Place) (before : List ℕ) (items : List (Item Statement)) → All (λ i. IsGap i.gap × SpellsStatement limit top i.event i.text) items → All IsFine (marks_since first before items)
+  fine_marks first before [] h = All-nil IsFine
+  fine_marks first before (i ∷ items) h =
+      let head = All-head (λ (x : Item Statement). IsGap x.gap × SpellsStatement limit top x.event x.text) i items h in
+      let tail = All-tail (λ (x : Item Statement). IsGap x.gap × SpellsStatement limit top x.event x.text) i items h in
+      All-cons IsFine _ _ (statement_values limit top i.event i.text head.1) (fine_marks None (before ++ (i.gap ++ bytes i.text)) items tail)
+
+  one_fine : (m : Spanned Statement) (rest : List (Spanned Statement)) (b : Bool) → IsFine m → All IsFine rest → All IsFine (if b then m ∷ rest else rest)
+  one_fine m rest true h k = All-cons IsFine m rest h k
+  one_fine m rest false h k = k
+
+  fine_some : (n : ℕ) (marks : List (Spanned Statement)) → All IsFine marks → All IsFine (ended_within n marks)
+  fine_some n [] h = All-nil IsFine
+  fine_some n (m ∷ marks) h = one_fine m (ended_within n marks) (nat_le m.past.offset n) (All-head IsFine m marks h) (fine_some n marks (All-tail IsFine m marks h))
+
+  fine_last : (marks : List (Spanned Statement)) (m : Spanned Statement) → All IsFine (marks ++ m ∷ []) → IsFine m
+  fine_last [] m h = All-head IsFine m [] h
+  fine_last (n ∷ marks) m h = fine_last marks m (All-tail IsFine n (marks ++ m ∷ []) h)
+
+  pub last_is_value : (longest : ℕ) (input used : List ℕ) (marks : List (Spanned Statement)) (m : Spanned Statement) (place : Place) (done : Bool) → Reads (IsProof limit top) longest input used (marks ++ m ∷ []) place done None → IsStatementValue limit top m.event
+  last_is_value longest input used marks m place true r =
+      let s = r.answer.0 in
+      fine_last marks m (subst (All IsFine) (sym s.marks_are) (fine_marks None [] s.items s.spelled.1.3))
+  last_is_value longest input used marks m place false r =
+      let w = r.answer.0 in
+      let (items, h, front) = w.viable in
+      fine_last marks m (subst (All IsFine) (w.seen items h front) (fine_some (length used) (marks_of items) (fine_marks None [] items h.1.3)))
+
+-- ---- what a read without a stop says of the bytes used alone
+module _ (limit top longest : ℕ) where
+  used_alone : (input used : List ℕ) (marks : List (Spanned Statement)) (place : Place) (done : Bool) → Reads (IsProof limit top) longest input used marks place done None → Reads (IsProof limit top) longest used used marks place done None
+  used_alone input used marks place true r = record { left = []; input_is = sym (append-nil used); place_is = r.place_is; answer = (r.answer.0, refl) }
+  used_alone input used marks place false r = record { left = []; input_is = sym (append-nil used); place_is = r.place_is; answer = (r.answer.0, refl) }
+
+  stopped : (input used : List ℕ) (marks : List (Spanned Statement)) (place : Place) (done : Bool) (s : Stop) → Reads (IsProof limit top) longest input used marks place done (Some s) → Reads (IsProof limit top) longest input used marks place false (Some s)
+  stopped input used marks place true s r = absurd (let e = r.answer.1 in cc e)
+  stopped input used marks place false s r = r
+
+-- ---- a feed and a step
+module _ (exact : ReadsProofs) (limits : Limits) (longest : ℕ) (v : Problem) (first : Result State Fault) where
+  abbrev Says : List ℕ → List ℕ → List (Spanned Statement) → Place → Bool → Option Stop → Type 0
+  Says = Reads (IsProof (largest limits) (top_of limits)) longest
+
+  pub text : (input : List ℕ) (marks : List (Spanned Statement)) (f : ProofFeeder) → StandsAt longest (begin (largest limits) (top_of limits)) input marks f → (used : List ℕ) × Says input used marks (place_of f) (is_complete f) (halt_of f)
+  text input marks f s = (
+    bytes s.1.letters,
+    formats.reads (AcceptsBytes proofs (begin (largest limits) (top_of limits))) (IsProof (largest limits) (top_of limits)) (λ items h. (exact (largest limits) (top_of limits) items).0 h) (λ items h. (exact (largest limits) (top_of limits) items).1 h) longest input (bytes s.1.letters) marks (place_of f) (is_complete f) (halt_of f)
+        (stands_reads proofs longest (begin (largest limits) (top_of limits)) input marks f.machine f.place f.first f.stop s.1 (is_complete f) refl),
+  )
+
+  module _ (input piece : List ℕ) (f n : ProofFeeder) (r : Replaying) (h : IsRunning limits longest v first input f r) where
+    owed : IsOpenText f.stop
+    owed = subst IsOpenText (sym h.running) tt
+
+    quiet : (used : ℕ) → FeedsOnce f piece (Ok (record { used = used; event = None })) n → halt_of n ≡ None → IsRunning limits longest v first (input ++ piece) n r
+    quiet used feeds running = record {
+      marks = h.marks;
+      stands = rw append-nil at (feeds.0 longest (begin (largest limits) (top_of limits)) input h.marks owed h.stands);
+      running = running;
+      limits_are = h.limits_are;
+      problem = h.problem;
+      now = h.now;
+      at = h.at;
+      accepted = h.accepted;
+    }
+
+    halted : (s : Stop) → FeedsOnce f piece (Err s) n → halt_of n ≡ Some s → Checks limits longest v first (input ++ piece) (place_of n) false (Some (Text s))
+    halted s feeds halts =
+        let stands : StandsAt longest (begin (largest limits) (top_of limits)) (input ++ piece) h.marks n = rw append-nil at (feeds.0 longest (begin (largest limits) (top_of limits)) input h.marks owed h.stands) in
+        let (used, reads) = text (input ++ piece) h.marks n stands in (
+          h.now,
+          record {
+            used = used;
+            marks = h.marks;
+            reads = stopped (largest limits) (top_of limits) longest (input ++ piece) used h.marks (place_of n) (is_complete n) s (subst (λ (x : Option Stop). Says (input ++ piece) used h.marks (place_of n) (is_complete n) x) halts reads);
+            accepted = h.accepted;
+          },
+        )
+
+    module _ (used : ℕ) (m : Spanned Statement) (feeds : FeedsOnce f piece (Ok (record { used = used; event = Some m })) n) (running : halt_of n ≡ None) where
+      stands : StandsAt longest (begin (largest limits) (top_of limits)) (input ++ take used piece) (h.marks ++ m ∷ []) n
+      stands = feeds.0 longest (begin (largest limits) (top_of limits)) input h.marks owed h.stands
+
+      said : (u : List ℕ) × Says (input ++ take used piece) u (h.marks ++ m ∷ []) (place_of n) (is_complete n) None
+      said =
+          let (u, reads) = text (input ++ take used piece) (h.marks ++ m ∷ []) n stands in
+          (u, subst (λ (x : Option Stop). Says (input ++ take used piece) u (h.marks ++ m ∷ []) (place_of n) (is_complete n) x) running reads)
+
+      is_value : IsStatementValue (largest r.limits) (top_of r.limits) m.event
+      is_value = subst (λ (x : Limits). IsStatementValue (largest x) (top_of x) m.event) (sym h.limits_are) (last_is_value (largest limits) (top_of limits) longest (input ++ take used piece) said.0 h.marks m (place_of n) (is_complete n) said.1)
+
+      stepped : (t : Replaying) → StepsFrom r.limits r.problem h.now m (Ok tt) t → t.limits ≡ r.limits → t.problem ≡ r.problem → IsRunning limits longest v first (input ++ take used piece) n t
+      stepped t (s, at, takes) limited problem = record {
+        marks = h.marks ++ m ∷ [];
+        stands = stands;
+        running = running;
+        limits_are = limited ∙ h.limits_are;
+        problem = problem ∙ h.problem;
+        now = Ok s;
+        at = at;
+        accepted = leads_more limits v first h.marks m h.now s h.accepted (subst (λ (x : Problem). Takes limits x h.now m.event s) h.problem (subst (λ (x : Limits). Takes x r.problem h.now m.event s) h.limits_are takes));
+      }
+
+      refused : (t : Replaying) (e : Fault) → Refuses r.limits r.problem h.now m.event e → Checks limits longest v first (input ++ piece) (place_of n) false (Some (Step m.first e))
+      refused t e refuses = record {
+        used = said.0;
+        left = said.1.left ++ drop used piece;
+        marks = h.marks;
+        last = m;
+        before = h.now;
+        done = is_complete n;
+        input_is = ap (λ (x : List ℕ). input ++ x) (sym (take-append-drop used piece)) ∙ (sym (append_assoc input (take used piece) (drop used piece)) ∙ (ap (λ (x : List ℕ). x ++ drop used piece) said.1.input_is ∙ append_assoc said.0 said.1.left (drop used piece)));
+        reads = used_alone (largest limits) (top_of limits) longest (input ++ take used piece) said.0 (h.marks ++ m ∷ []) (place_of n) (is_complete n) said.1;
+        begins_is = refl;
+        accepted = h.accepted;
+        refused = subst (λ (x : Problem). Refuses limits x h.now m.event e) h.problem (subst (λ (x : Limits). Refuses x r.problem h.now m.event e) h.limits_are refuses);
+      }
+
+-- ---- a whole proof that was accepted has a verdict
+pub marks_events : (first : Option Place) (before : List ℕ) (items : List (Item Statement)) → statements_at (marks_since first before items) ≡ events_of items
+marks_events first before [] = refl
+marks_events first before (i ∷ items) = ap (λ (x : List Statement). i.event ∷ x) (marks_events None (before ++ (i.gap ++ bytes i.text)) items)
+
+module _ (limit top : ℕ) (v : Problem) where
+  ended : (steps : List Statement) (c : Conclusion) (s t : State) → Accepts limit top v s (steps ++ Output ∷ Conclude c ∷ End ∷ []) t → t.next ≡ Done
+  ended [] c s t (a, h, (b, k, (d, l, e))) = let last = ok-same (needed l).1 in rw (sym e, last) refl
+  ended (x ∷ steps) c s t h = ended steps c h.0 t h.2
+
+-- ---- the same, of whatever stands beside them
+fed_with : (fed : Fed Statement) (event : Option (Spanned Statement)) → fed.event ≡ event → fed ≡ record { used = fed.used; event = event }
+fed_with fed event e = ap (λ (x : Option (Spanned Statement)). let y : Fed Statement = record { used = fed.used; event = x } in y) e
+
+running_at : (limits : Limits) (longest : ℕ) (v : Problem) (first : Result State Fault) (input : List ℕ) (f : ProofFeeder) (r : Replaying) (e : Option CheckFault) → e ≡ None → Stands limits longest v first input f r e → IsRunning limits longest v first input f r
+running_at limits longest v first input f r None e h = h
+running_at limits longest v first input f r (Some x) e h = absurd (cc e)
+
+stands_at : (limits : Limits) (longest : ℕ) (v : Problem) (first : Result State Fault) (input : List ℕ) (f : ProofFeeder) (r : Replaying) (e : Option CheckFault) → e ≡ None → IsRunning limits longest v first input f r → Stands limits longest v first input f r e
+stands_at limits longest v first input f r None e h = h
+stands_at limits longest v first input f r (Some x) e h = absurd (cc e)
+
+module _ (exact : ReadsProofs) (limits : Limits) (longest : ℕ) (v : Problem) (first : Result State Fault) (input piece : List ℕ) (f n : ProofFeeder) (r : Replaying) (old : Option CheckFault) (none : old ≡ None) (h : Stands limits longest v first input f r old) where
+  go : IsRunning limits longest v first input f r
+  go = running_at limits longest v first input f r old none h
+
+  pub quiet_at : (fed : Fed Statement) → fed.event ≡ None → FeedsOnce f piece (Ok fed) n → halt_of n ≡ None → Stands limits longest v first (input ++ piece) n r old
+  quiet_at fed e feeds running =
+      stands_at limits longest v first (input ++ piece) n r old none (quiet exact limits longest v first input piece f n r go fed.used (subst (λ (x : Fed Statement). FeedsOnce f piece (Ok x) n) (fed_with fed None e) feeds) running)
+
+  pub halted_at : (s : Stop) → FeedsOnce f piece (Err s) n → halt_of n ≡ Some s → Checks limits longest v first (input ++ piece) (place_of n) false (Some (Text s))
+  halted_at s feeds halts = halted exact limits longest v first input piece f n r go s feeds halts
+
+  module _ (fed : Fed Statement) (m : Spanned Statement) (e : fed.event ≡ Some m) (fs : FeedsOnce f piece (Ok fed) n) (running : halt_of n ≡ None) where
+    feeds : FeedsOnce f piece (Ok (record { used = fed.used; event = Some m })) n
+    feeds = subst (λ (x : Fed Statement). FeedsOnce f piece (Ok x) n) (fed_with fed (Some m) e) fs
+
+    pub value_at : IsStatementValue (largest r.limits) (top_of r.limits) m.event
+    value_at = is_value exact limits longest v first input piece f n r go fed.used m feeds running
+
+    pub stepped_at : (t : Replaying) → ((now : Result State Fault) → IsAt r now → StepsFrom r.limits r.problem now m (Ok tt) t) → t.limits ≡ r.limits → t.problem ≡ r.problem → Stands limits longest v first (input ++ take fed.used piece) n t old
+    stepped_at t steps limited problem = stands_at limits longest v first (input ++ take fed.used piece) n t old none (stepped exact limits longest v first input piece f n r go fed.used m feeds running t (steps go.now go.at) limited problem)
+
+    pub refused_at : (t : Replaying) (x : CheckFault) → ((now : Result State Fault) → IsAt r now → StepsFrom r.limits r.problem now m (Err x) t) → Stands limits longest v first (input ++ piece) n t (Some x)
+    refused_at t x steps =
+        let (why, is, refuses) = steps go.now go.at in
+        subst (λ (y : CheckFault). Stands limits longest v first (input ++ piece) n t (Some y)) (sym is) (refused exact limits longest v first input piece f n r go fed.used m feeds running t why refuses)
+
+-- ---- where the text has ended
+module _ (limit top : ℕ) (v : Problem) (first t : State) where
+  claim : HasClaim t.next t.concluded → t.next ≡ Done → IsSome t.concluded
+  claim c e = rw e at c
+
+  given : (o : Option Verdict) → IsSome o → o ≡ None → ⊥
+  given None i e = absurd (cc i)
+  given (Some x) i e = absurd (cc e)
+
+  whole : (count : Option ℕ) (steps : List Statement) (c : Conclusion) → Accepts limit top v first (Header ∷ F count ∷ (steps ++ Output ∷ Conclude c ∷ End ∷ [])) t → verdict_at t.next t.concluded ≡ None → ⊥
+  whole count steps c (a, h, (b, k, rest)) none =
+      let begins = (needed h).0 in
+      let p : HasClaim first.next first.concluded = rw begins tt in
+      let done = ended limit top v steps c b t rest in
+      given t.concluded (claim (run limit top v first t (Header ∷ F count ∷ (steps ++ Output ∷ Conclude c ∷ End ∷ [])) p (a, h, (b, k, rest))) done) (rw done at none)
+
+module _ (limits : Limits) (longest : ℕ) (v : Problem) (first : Result State Fault) where
+  -- the replay was in a state, and is in one
+  pub there : (input used : List ℕ) (marks : List (Spanned Statement)) (place : Place) (now : Result State Fault) → Reads (IsProof (largest limits) (top_of limits)) longest input used marks place true None → Leads limits v first (statements_at marks) now → (t : State) × (now ≡ Ok t) × (verdict_at t.next t.concluded ≡ None → ⊥)
+  there input used marks place now r leads =
+      let s = r.answer.0 in
+      let (pf, spells) = s.spelled in
+      let same = ap (λ (x : List (Spanned Statement)). statements_at x) s.marks_are ∙ (marks_events None [] s.items ∙ spells.1) in
+      by first pf.count pf.steps pf.conclusion (subst (λ (x : List Statement). Leads limits v first x now) same leads)
+    where
+      by : (first : Result State Fault) (count : Option ℕ) (steps : List Statement) (c : Conclusion) → Leads limits v first (Header ∷ F count ∷ (steps ++ Output ∷ Conclude c ∷ End ∷ [])) now → (t : State) × (now ≡ Ok t) × (verdict_at t.next t.concluded ≡ None → ⊥)
+      by (Ok s) count steps c (t, is, accepted) = (t, is, whole (largest limits) (top_of limits) v s t count steps c accepted)
+      by (Err e) count steps c (none, is) = absurd (cc none)
+
+-- ---- input behind a fault
+module _ (limit top longest : ℕ) (used left piece : List ℕ) where
+  beyond : (l : List ℕ) → l ++ piece ≡ [] → l ≡ []
+  beyond [] e = refl
+  beyond (x ∷ l) e = absurd (cc e)
+
+  explained : (why : Why) → Counts why → Explains (IsProof limit top) longest used left why → Explains (IsProof limit top) longest used (left ++ piece) why
+  explained (Byte b) c (more, e, bad, digit) = (more ++ piece, ap (λ (x : List ℕ). x ++ piece) e, bad, digit)
+  explained TooLarge c (b, more, e, bad, digit, ends) = (b, more ++ piece, ap (λ (x : List ℕ). x ++ piece) e, bad, digit, ends)
+  explained TooLong c (some, full) = (λ e. some (beyond left e), full)
+  explained Ended c h = absurd c
+  explained Read c h = h
+  explained Memory c (b, more, e, viable, room) = (b, more ++ piece, ap (λ (x : List ℕ). x ++ piece) e, viable, room)
+
+later : (limits : Limits) (longest : ℕ) (v : Problem) (first : Result State Fault) (input piece : List ℕ) (place : Place) (e : CheckFault) → IsOpen (Some e) → Checks limits longest v first input place false (Some e) → Checks limits longest v first (input ++ piece) place false (Some e)
+later limits longest v first input piece place (Text s) counts (now, h) = (
+  now,
+  record {
+    used = h.used;
+    marks = h.marks;
+    reads = record {
+      left = h.reads.left ++ piece;
+      input_is = ap (λ (x : List ℕ). x ++ piece) h.reads.input_is ∙ append_assoc h.used h.reads.left piece;
+      place_is = h.reads.place_is;
+      answer = (h.reads.answer.0, h.reads.answer.1, explained (largest limits) (top_of limits) longest h.used h.reads.left piece s.why counts h.reads.answer.2);
+    };
+    accepted = h.accepted;
+  },
+)
+later limits longest v first input piece place (Step begins e) counts h = record {
+  used = h.used;
+  left = h.left ++ piece;
+  marks = h.marks;
+  last = h.last;
+  before = h.before;
+  done = h.done;
+  input_is = ap (λ (x : List ℕ). x ++ piece) h.input_is ∙ append_assoc h.used h.left piece;
+  reads = h.reads;
+  begins_is = h.begins_is;
+  accepted = h.accepted;
+  refused = h.refused;
+}
+
+-- a checker that has a fault stays as it is
+pub stays : (c : Checking) (piece : List ℕ) (e : CheckFault) → c.fault ≡ Some e → ChecksOnce c piece c
+stays c piece e is = (λ limits longest v first input owed h. by limits longest v first input c.fault is owed h, λ owed. owed)
+  where
+    by : (limits : Limits) (longest : ℕ) (v : Problem) (first : Result State Fault) (input : List ℕ) (x : Option CheckFault) → x ≡ Some e → IsOpen x → Stands limits longest v first input c.feeder c.replay x → Stands limits longest v first (input ++ piece) c.feeder c.replay x
+    by limits longest v first input None is owed h = absurd (cc is)
+    by limits longest v first input (Some x) is owed h = later limits longest v first input piece (place_of c.feeder) x owed h
+
+-- one piece of a piece after another
+pub onward_by : (input piece : List ℕ) (i n : ℕ) → (input ++ take i piece) ++ take n (drop i piece) ≡ input ++ take (i + n) piece
+onward_by input piece i n = append_assoc input (take i piece) (take n (drop i piece)) ∙ ap (λ (x : List ℕ). input ++ x) (sym (take-add i n piece))
+
+pub to_end : (input piece : List ℕ) (i : ℕ) → (input ++ take i piece) ++ drop i piece ≡ input ++ piece
+to_end input piece i = append_assoc input (take i piece) (drop i piece) ∙ ap (λ (x : List ℕ). input ++ x) (take-append-drop i piece)
+
+pub to_more : (b : Bool) (used : ℕ) (piece : List ℕ) → not b ≡ false → bytes_to b used piece ≡ take used piece
+to_more true used piece h = refl
+to_more false used piece h = absurd (cc h)
+
+pub to_all : (b : Bool) (used : ℕ) (piece : List ℕ) → not b ≡ true → bytes_to b used piece ≡ piece
+to_all true used piece h = absurd (cc h)
+to_all false used piece h = refl
+
+-- all that is left of a piece
+pub all_rest : (piece : List ℕ) (i : ℕ) → take (length piece - i) (drop i piece) ≡ drop i piece
+all_rest piece i = ap (λ (k : ℕ). take k (drop i piece)) (sym (length-drop i piece)) ∙ take-length (drop i piece)
+
+-- ---- feeds in a row
+module _ (exact : ReadsProofs) (limits : Limits) (longest : ℕ) (v : Problem) (first : Result State Fault) where
+  row : (input : List ℕ) (before after : Checking) (pieces : List (List ℕ)) → ChecksAt limits longest v first input before → IsOpen (fault_of before) → Feeds before pieces after → ChecksAt limits longest v first (input ++ joined pieces) after
+  row input before after [] h owed e = subst (λ (x : Checking). ChecksAt limits longest v first (input ++ []) x) e (rw append-nil h)
+  row input before after (piece ∷ pieces) h owed (mid, once, rest) =
+      subst (λ (x : List ℕ). ChecksAt limits longest v first x after) (append_assoc input piece (joined pieces))
+      (row (input ++ piece) mid after pieces (once.0 limits longest v first input owed h) (once.1 owed) rest)
+
+  seen : (input : List ℕ) (c : Checking) (x : Option CheckFault) → Stands limits longest v first input c.feeder c.replay x → Checks limits longest v first input (place_in c) (is_whole c) x
+  seen input c None h =
+      let (used, reads) = text exact limits longest v first input h.marks c.feeder h.stands in (
+        h.now,
+        record {
+          used = used;
+          marks = h.marks;
+          reads = subst (λ (y : Option Stop). Reads (IsProof (largest limits) (top_of limits)) longest input used h.marks (place_of c.feeder) (is_complete c.feeder) y) h.running reads;
+          accepted = h.accepted;
+        },
+      )
+  seen input c (Some (Text s)) h = h
+  seen input c (Some (Step begins e)) h = h
+
+pub any_cutting : (exact : ReadsProofs) → AnyCutting
+any_cutting exact limits longest v first before after pieces h owed feeds =
+    seen exact limits longest v first (joined pieces) after after.fault (row exact limits longest v first [] before after pieces h owed feeds)
+
+pub shown_at : (r : Replaying) (t : State) → IsAt r (Ok t) → verdict_in r ≡ verdict_at t.next t.concluded
+shown_at r t (unspent, at) =
+    ap (λ (x : Option Fault). if is_some x then None else verdict_at r.next r.concluded) unspent
+    ∙ sym (ap (λ (x : Phase). verdict_at x t.concluded) at.next ∙ ap (λ (x : Option Verdict). verdict_at r.next x) at.concluded)
+
+-- ---- where the text has ended, of a checker
+module _ (exact : ReadsProofs) (limits : Limits) (longest : ℕ) (v : Problem) (first : Result State Fault) (input : List ℕ) (f : ProofFeeder) (r : Replaying) (e : Option CheckFault) (none : e ≡ None) (h : Stands limits longest v first input f r e) where
+  now : IsRunning limits longest v first input f r
+  now = running_at limits longest v first input f r e none h
+
+  abbrev IsTold : (used : List ℕ) → Bool → Option Stop → Type 0
+  IsTold used done stop = Reads (IsProof (largest limits) (top_of limits)) longest input used now.marks (place_of f) done stop
+
+  told : (used : List ℕ) × IsTold used (is_complete f) None
+  told =
+      let (used, reads) = text exact limits longest v first input now.marks f now.stands in
+      (used, subst (λ (x : Option Stop). IsTold used (is_complete f) x) now.running reads)
+
+  whole_text : is_complete f ≡ true → IsReplayed limits longest v first input (place_of f) true None now.now
+  whole_text done = record { used = told.0; marks = now.marks; reads = subst (λ (b : Bool). IsTold told.0 b None) done told.1; accepted = now.accepted }
+
+  pub cut_text : is_complete f ≡ false → Checks limits longest v first input (place_of f) false (Some (Text (record { place = place_of f; why = Ended })))
+  cut_text done =
+      let reads = subst (λ (b : Bool). IsTold told.0 b None) done told.1 in (
+        now.now,
+        record {
+          used = told.0;
+          marks = now.marks;
+          reads = record { left = reads.left; input_is = reads.input_is; place_is = reads.place_is; answer = (reads.answer.0, refl, reads.answer.1) };
+          accepted = now.accepted;
+        },
+      )
+
+  pub verdict_here : is_complete f ≡ true → (w : Verdict) → Some w ≡ verdict_in r → (t : State) × IsReplayed limits longest v first input (place_of f) true None (Ok t) × (verdict_at t.next t.concluded ≡ Some w)
+  verdict_here done w is =
+      let text = whole_text done in
+      let (t, same, some) = there limits longest v first input text.used text.marks (place_of f) now.now text.reads text.accepted in
+      (t, subst (λ (x : Result State Fault). IsReplayed limits longest v first input (place_of f) true None x) same text, sym (shown_at r t (subst (λ (x : Result State Fault). IsAt r x) same now.at)) ∙ sym is)
+
+  pub no_verdict : is_complete f ≡ true → None ≡ verdict_in r → ⊥
+  no_verdict done is =
+      let text = whole_text done in
+      let (t, same, some) = there limits longest v first input text.used text.marks (place_of f) now.now text.reads text.accepted in
+      some (sym (shown_at r t (subst (λ (x : Result State Fault). IsAt r x) same now.at)) ∙ sym is)
+
+-- ---- a replay stands somewhere
+some_best : (best : Option ℤ) → (logged : List Logged) × IsBest logged best
+some_best None = ([], refl)
+some_best (Some b) = let g : Logged = record { values = []; value = b } in (g ∷ [], best-push [] None g b refl refl)
+
+pub some_state : (r : Replaying) → (s : State) × StandsFor r s
+some_state r =
+    let (logged, best) = some_best r.best in (
+      record { live = r.live; names = r.names; logged = logged; next = r.next; concluded = r.concluded },
+      record { live = refl; names = refl; logged = best; next = refl; concluded = refl },
+    )
+
+pub somewhere : (r : Replaying) → (first : Result State Fault) × IsAt r first
+somewhere r = by r.fault refl
+  where
+    by : (o : Option Fault) → r.fault ≡ o → (first : Result State Fault) × IsAt r first
+    by None e = let (s, at) = some_state r in (Ok s, (e, at))
+    by (Some x) e = (Err x, e)
+
+pub leads_none : (limits : Limits) (v : Problem) (first : Result State Fault) → Leads limits v first [] first
+leads_none limits v (Ok s) = (s, refl, refl)
+leads_none limits v (Err e) = (refl, refl)
+
+-- ---- what is held of the open statement
+module _ (exact : ReadsProofs) (limits : Limits) (longest : ℕ) (v : Problem) (first : Result State Fault) (input : List ℕ) (f : ProofFeeder) (r : Replaying) (e : Option CheckFault) (none : e ≡ None) (h : Stands limits longest v first input f r e) where
+  pub open_at : (held : ℕ) → ((longest : ℕ) (start : ProofState) (input : List ℕ) (marks : List (Spanned Statement)) → StandsAt longest start input marks f → HoldsFew start input f held) → HoldsOpen limits input (place_of f) held
+  open_at held few =
+      let now = running_at limits longest v first input f r e none h in
+      let (used, n, front, place, opens, bound) = few longest (begin (largest limits) (top_of limits)) input now.marks now.stands in
+      (used, n, front, place, λ items k at. opens items ((exact (largest limits) (top_of limits) items).1 k) at, bound)

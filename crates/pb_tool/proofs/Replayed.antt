@@ -1,0 +1,118 @@
+-- What a run of a replay through the statements of a source owes.
+use Rattle.std.proofs.Common.{◌≡◌, ◌⊎◌, ℕ, List, [], ◌∷◌, ◌++◌, Bool, true, Option, Some, None, Result, Ok, Err, refl, sym, ◌∙◌, subst, inl, inr}
+use Rattle.pb_text.specs.Limits.{largest, top_of}
+use Rattle.pb_text.specs.Automaton.{Accepts as AcceptsBytes}
+use Rattle.pb_text.specs.Reading.{Reads}
+use Rattle.pb_text.specs.Rows.{TookAll, TookSoFar}
+use Rattle.pb_text.specs.declared.Limits.{Limits}
+use Rattle.pb_text.specs.declared.Place.{Place}
+use Rattle.pb_text.specs.declared.Spanned.{Spanned}
+use Rattle.pb_text.specs.declared.Stop.{Stop}
+use Rattle.pb_text.proofs.Formats as formats
+use Rattle.pb_proof.specs.Formats.{ReadsProofs}
+use Rattle.pb_proof.specs.State.{begin, proofs}
+use Rattle.pb_proof.specs.Values.{IsStatementValue}
+use Rattle.pb_proof.specs.declared.Statement.{Statement}
+use Rattle.pb_replay.specs.Loading.{Problem}
+use Rattle.pb_replay.specs.Meaning.{IsFront}
+use Rattle.pb_replay.specs.Replay.{State}
+use Rattle.pb_replay.specs.Running.{Replaying, verdict_at, verdict_in}
+use Rattle.pb_replay.specs.Statements.{Outcome, Accepts}
+use Rattle.pb_replay.specs.declared.fault.Fault.{Fault}
+use Rattle.pb_replay.specs.declared.fault.Fault.TheVariants as fault
+use Rattle.pb_replay.specs.declared.state.phase.Phase.{Phase}
+use Rattle.pb_replay.specs.declared.state.phase.Phase.TheVariants.{Beginning, Loading, Steps, Concluding, Ending, Done}
+use Rattle.pb_replay.specs.declared.verdict.Verdict.{Verdict}
+use Rattle.pb_tool.specs.Checker.{IsAt, StepsFrom}
+use Rattle.pb_tool.specs.Checks.{statements_at, Refuses, Takes}
+use Rattle.pb_replay.specs.Running.{StandsFor}
+use Rattle.pb_tool.specs.Files.{IsVeri}
+use Rattle.pb_tool.specs.Runs.{Runs, faults_of_text}
+use Rattle.pb_tool.specs.Verified.{IsAccepted}
+use Rattle.pb_tool.specs.declared.checker.CheckFault.{CheckFault}
+use Rattle.pb_tool.proofs.Checked.{accepts_more, last_is_value, shown_at, some_state, there}
+
+-- what a step answers, from wherever the replay stood
+abbrev Answers : Replaying → Spanned Statement → Result Unit CheckFault → Replaying → Type 0
+Answers old m result new = (now : Result State Fault) → IsAt old now → StepsFrom old.limits old.problem now m result new
+
+pub unspent_after : (old new : Replaying) (m : Spanned Statement) → old.fault ≡ None → Answers old m (Ok tt) new → new.fault ≡ None
+unspent_after old new m none steps = let (s, at) = some_state old in (steps (Ok s) (none, at)).1.0
+
+pub refused_faults : (old new : Replaying) (m : Spanned Statement) (x : CheckFault) → old.fault ≡ None → Answers old m (Err x) new → (k n : ℕ) → k ≡ n → k ≡ faults_of_text {A = Unit} (Err x) n
+refused_faults old new m x none steps k n h =
+    let (s, at) = some_state old in
+    let (e, is, refuses) = steps (Ok s) (none, at) in
+    subst (λ (y : CheckFault). k ≡ faults_of_text {A = Unit} (Err y) n) (sym is) h
+
+claimed : (p : Phase) (c : Option Verdict) (w : Verdict) → verdict_at p c ≡ Some w → c ≡ Some w
+claimed Done c w h = h
+claimed Beginning c w h = absurd (cc h)
+claimed Loading c w h = absurd (cc h)
+claimed Steps c w h = absurd (cc h)
+claimed Concluding c w h = absurd (cc h)
+claimed Ending c w h = absurd (cc h)
+
+module _ (exact : ReadsProofs) (limits : Limits) (longest : ℕ) where
+  abbrev IsRead : List ℕ → List ℕ → List (Spanned Statement) → Place → Bool → Option Stop → Type 0
+  IsRead = Reads (AcceptsBytes proofs (begin (largest limits) (top_of limits))) longest
+
+  to_proof : (input used : List ℕ) (marks : List (Spanned Statement)) (place : Place) (done : Bool) (stop : Option Stop) → IsRead input used marks place done stop → Reads (IsVeri limits) longest input used marks place done stop
+  to_proof = formats.reads (AcceptsBytes proofs (begin (largest limits) (top_of limits))) (IsVeri limits) (λ items h. (exact (largest limits) (top_of limits) items).0 h) (λ items h. (exact (largest limits) (top_of limits) items).1 h) longest
+
+  module _ (before after : Option (List ℕ)) where
+    abbrev HasAll : List (Spanned Statement) → Place → Bool → Option Stop → Type 0
+    HasAll = TookAll (AcceptsBytes proofs (begin (largest limits) (top_of limits))) longest before after
+
+    abbrev HasSoFar : List (Spanned Statement) → Place → Type 0
+    HasSoFar = TookSoFar (AcceptsBytes proofs (begin (largest limits) (top_of limits))) longest before after
+
+    all_to : (marks : List (Spanned Statement)) (place : Place) (done : Bool) (stop : Option Stop) → HasAll marks place done stop → TookAll (IsVeri limits) longest before after marks place done stop
+    all_to marks place done stop t = record { used = t.used; seen = t.seen; took = t.took; reads = to_proof (t.used ++ t.seen) t.used marks place done stop t.reads }
+
+    so_far_to : (marks : List (Spanned Statement)) (place : Place) → HasSoFar marks place → TookSoFar (IsVeri limits) longest before after marks place
+    so_far_to marks place t = record { used = t.used; seen = t.seen; took = t.took; done = t.done; reads = to_proof t.used t.used marks place t.done None t.reads }
+
+    pub value_pulled : (current : Limits) → current ≡ limits → (marks : List (Spanned Statement)) (m : Spanned Statement) (place : Place) → HasSoFar (marks ++ m ∷ []) place → IsStatementValue (largest current) (top_of current) m.event
+    value_pulled current same marks m place t =
+        let all = so_far_to (marks ++ m ∷ []) place t in
+        subst (λ (x : Limits). IsStatementValue (largest x) (top_of x) m.event) (sym same) (last_is_value (largest limits) (top_of limits) longest all.used all.used marks m place all.done all.reads)
+
+    module _ (v : Problem) (first : State) (r : Replaying) (marks : List (Spanned Statement)) (led : (t : State) × StandsFor r t × Accepts (largest limits) (top_of limits) v first (statements_at marks) t) where
+      pub accepted : (place : Place) (done : Bool) (stop : Option Stop) → HasAll marks place done stop → IsAccepted limits longest v first before after place done stop led.0
+      accepted place done stop all = record { marks = marks; took = all_to marks place done stop all; accepted = led.2 }
+
+      module _ (none : r.fault ≡ None) where
+        pub ended : (place : Place) (w : Verdict) → HasAll marks place true None → Some w ≡ verdict_in r → (t : State) × IsAccepted limits longest v first before after place true None t × (t.concluded ≡ Some w)
+        ended place w all is = (led.0, accepted place true None all, claimed led.0.next led.0.concluded w (sym (shown_at r led.0 (none, led.1)) ∙ sym is))
+
+        pub no_end : (place : Place) → HasAll marks place true None → None ≡ verdict_in r → ⊥
+        no_end place all is =
+            let t = all_to marks place true None all in
+            let (u, same, some) = there limits longest v (Ok first) (t.used ++ t.seen) t.used marks place (Ok led.0) t.reads (led.0, refl, led.2) in
+            some (sym (shown_at r u (subst (λ (x : Result State Fault). IsAt r x) same (none, led.1))) ∙ sym is)
+
+        module _ (new : Replaying) (m : Spanned Statement) (limited : r.limits ≡ limits) (problem : r.problem ≡ v) where
+          pub led_more : Answers r m (Ok tt) new → (t : State) × StandsFor new t × Accepts (largest limits) (top_of limits) v first (statements_at (marks ++ m ∷ [])) t
+          led_more steps =
+              let (s, at, takes) = steps (Ok led.0) (none, led.1) in (
+                s,
+                at.1,
+                accepts_more (largest limits) (top_of limits) v marks m first led.0 s led.2 (subst (λ (x : Problem). Takes limits x (Ok led.0) m.event s) problem (subst (λ (x : Limits). Takes x r.problem (Ok led.0) m.event s) limited takes)),
+              )
+
+          told : (e : Fault) → IsFront led.0.names new.names → Refuses limits v (Ok led.0) m.event e
+              → (e ≡ fault.Memory) ⊎ (Outcome (largest limits) (top_of limits) v led.0 m.event (Err e) × IsFront led.0.names new.names)
+          told e names (inl h) = inl h
+          told e names (inr h) = inr (h, names)
+
+          pub refused_run : (x : CheckFault) → Answers r m (Err x) new → IsFront r.names new.names → HasSoFar (marks ++ m ∷ []) m.past → Runs limits longest v first before (Err x) after new
+          refused_run x steps names t =
+              let (e, is, refuses) = steps (Ok led.0) (none, led.1) in
+              let here = subst (λ (y : Problem). Refuses limits y (Ok led.0) m.event e) problem (subst (λ (y : Limits). Refuses y r.problem (Ok led.0) m.event e) limited refuses) in
+              subst (λ (y : CheckFault). Runs limits longest v first before (Err y) after new) (sym is) (
+                m.event,
+                led.0,
+                record { marks = marks; last = m; took = so_far_to (marks ++ m ∷ []) m.past t; begins_is = refl; statement = refl; accepted = led.2 },
+                told e (subst (λ (y : List (List ℕ)). IsFront y new.names) (sym led.1.names) names) here,
+              )

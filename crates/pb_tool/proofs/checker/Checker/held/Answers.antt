@@ -1,0 +1,6 @@
+use Rattle.pb_tool.proofs.Checked.{open_at}
+use Rattle.pb_tool.proofs.checker.Checker.held.Goals as goal
+
+pub returns-clause-few : goal.returns-clause-few
+returns-clause-few c limits longest v first input none given =
+    rw (← c.self.view_is) (open_at c.proofs_are_exact.ensures limits longest v first input c.self.inside.feeder c.self.inside.replay c.self.inside.fault (rw (← c.self.view_is) at none) (rw (← c.self.view_is) at given) c.held.result c.held.ensures.few)

@@ -1,0 +1,106 @@
+use Rattle.std.proofs.Common.{ℕ, ◌+◌, ◌-◌, ◌^◌, ◌<◌, ◌≤◌, [], ◌∷◌, ◌++◌, None, true, ap, ◌∙◌, sym, arith, refl, subst}
+use Rattle.pb_text.specs.Automaton.{Accepts as AcceptsBytes}
+use Rattle.pb_text.specs.Limits.{largest, top_of}
+use Rattle.pb_text.specs.Pulling.{faults_with}
+use Rattle.pb_text.specs.declared.Place.{Place}
+use Rattle.pb_proof.specs.State.{begin, proofs}
+use Rattle.pb_tool.specs.Verified.{IsAccepted}
+use Rattle.pb_tool.proofs.Checked.{some_state}
+use Rattle.pb_tool.proofs.Replayed as replayed
+use Rattle.pb_tool.proofs.Shown.{first_pull, so_far_within}
+use Rattle.pb_tool.proofs.verify.run.Goals as goal
+
+pub loop-read-init : goal.loop-read-init
+loop-read-init g c = record {
+  faults = refl;
+  unspent = c.requires.running;
+  limited = refl;
+  problem = refl;
+  led = (
+    [],
+    first_pull c.args.longest _ (g.S.Source.left c.args.input.now) c.within-feeder.result (rw (c.new.ensures.begins, c.limits.ensures) at c.within-feeder.ensures.stands) c.within-feeder.ensures.running (ap (λ (p : Place). p.offset) c.within-feeder.ensures.place),
+    λ first at. (first, at, refl),
+  );
+}
+
+pub step_through-requires : goal.step_through-requires
+step_through-requires g c =
+    let i = c.loop-read.invariant in
+    let t = rw (c.in-Ok-Some.is, c.in-Ok-Some.field-0-is) at c.pull.ensures in
+    let (more, sofar) = t.row c.args.longest _ (g.S.Source.left c.args.input.now) i.led.0 i.led.1 in
+    replayed.value_pulled c.proofs_are_exact.ensures c.args.replay.now.limits c.args.longest _ _ c.loop-read.replay.limits i.limited i.led.0 c.in-Ok-Some.read _ sofar
+
+fewer : (a b : ℕ) → b ≤ 2 ^ 40 → a < b → 2 ^ 40 + 1 - b < 2 ^ 40 + 1 - a
+fewer a b reach onward = omega arith
+
+pub loop-read-smaller : goal.loop-read-smaller
+loop-read-smaller g c =
+    let i = c.loop-read.invariant in
+    let t = rw (c.in-Ok-Some.is, c.in-Ok-Some.field-0-is) at c.pull.ensures in
+    let (more, sofar) = t.row c.args.longest _ (g.S.Source.left c.args.input.now) i.led.0 i.led.1 in
+    let within = so_far_within (AcceptsBytes proofs (begin (largest c.args.replay.now.limits) (top_of c.args.replay.now.limits))) c.args.longest (g.S.Source.left c.args.input.now) (g.S.Source.left c.pull.new.source) (i.led.0 ++ c.in-Ok-Some.read ∷ []) c.in-Ok-Some.read.past sofar in
+    fewer _ _ (subst (λ (p : Place). p.offset ≤ 2 ^ 40) (t.past c.in-Ok-Some.read refl) within) (t.onward c.in-Ok-Some.read refl)
+
+pub loop-read-preserved : goal.loop-read-preserved
+loop-read-preserved g c =
+    let i = c.loop-read.invariant in
+    let t = rw (c.in-Ok-Some.is, c.in-Ok-Some.field-0-is) at c.pull.ensures in
+    let (more, sofar) = t.row c.args.longest _ (g.S.Source.left c.args.input.now) i.led.0 i.led.1 in
+    let u = c.in-Ok.ensures in
+    record {
+      faults = rw i.led.1.running at t.faults ∙ i.faults;
+      unspent = replayed.unspent_after c.loop-read.replay c.step_through.new.replay c.in-Ok-Some.read i.unspent u.steps;
+      limited = u.limits ∙ i.limited;
+      problem = u.problem ∙ i.problem;
+      led = (
+        i.led.0 ++ c.in-Ok-Some.read ∷ [],
+        more,
+        λ first at. replayed.led_more c.proofs_are_exact.ensures c.args.replay.now.limits c.args.longest (g.S.Source.left c.args.input.now) (g.S.Source.left c.pull.new.source) c.args.replay.now.problem first c.loop-read.replay i.led.0 (i.led.2 first at) i.unspent c.step_through.new.replay c.in-Ok-Some.read i.limited i.problem u.steps,
+      );
+    }
+
+pub returns-in-Err-step_through-clause-runs : goal.returns-in-Err-step_through-clause-runs
+returns-in-Err-step_through-clause-runs g c first at =
+    let i = c.loop-read.invariant in
+    let t = rw (c.in-Ok-Some.is, c.in-Ok-Some.field-0-is) at c.pull.ensures in
+    let (more, sofar) = t.row c.args.longest _ (g.S.Source.left c.args.input.now) i.led.0 i.led.1 in
+    let u = c.in-Err-step_through.ensures in
+    replayed.refused_run c.proofs_are_exact.ensures c.args.replay.now.limits c.args.longest (g.S.Source.left c.args.input.now) (g.S.Source.left c.pull.new.source) c.args.replay.now.problem first c.loop-read.replay i.led.0 (i.led.2 first at) i.unspent c.step_through.new.replay c.in-Ok-Some.read i.limited i.problem c.in-Err-step_through.fault u.steps u.names sofar
+
+pub returns-in-Err-step_through-clause-faults : goal.returns-in-Err-step_through-clause-faults
+returns-in-Err-step_through-clause-faults g c =
+    let i = c.loop-read.invariant in
+    let t = rw (c.in-Ok-Some.is, c.in-Ok-Some.field-0-is) at c.pull.ensures in
+    replayed.refused_faults c.loop-read.replay c.step_through.new.replay c.in-Ok-Some.read c.in-Err-step_through.fault i.unspent c.in-Err-step_through.ensures.steps _ _ (rw i.led.1.running at t.faults ∙ i.faults)
+
+pub returns-in-Err-clause-runs : goal.returns-in-Err-clause-runs
+returns-in-Err-clause-runs g c first at =
+    let i = c.loop-read.invariant in
+    let t = rw c.in-Err.is at c.pull.ensures in
+    ((i.led.2 first at).0, replayed.accepted c.proofs_are_exact.ensures c.args.replay.now.limits c.args.longest (g.S.Source.left c.args.input.now) (g.S.Source.left c.pull.new.source) c.args.replay.now.problem first c.loop-read.replay i.led.0 (i.led.2 first at) _ _ _ (t.row c.args.longest _ (g.S.Source.left c.args.input.now) i.led.0 i.led.1))
+
+pub returns-in-Err-clause-faults : goal.returns-in-Err-clause-faults
+returns-in-Err-clause-faults g c =
+    let i = c.loop-read.invariant in
+    let t = rw c.in-Err.is at c.pull.ensures in
+    rw i.led.1.running at t.faults ∙ ap (λ (n : ℕ). faults_with c.in-Err.stop.why n) i.faults
+
+pub unreachable-requires : goal.unreachable-requires
+unreachable-requires g c =
+    let i = c.loop-read.invariant in
+    let t = rw (c.in-Ok-None.is, c.in-Ok-None.field-0-is) at c.pull.ensures in
+    let (first, at) = some_state c.args.replay.now in
+    replayed.no_end c.proofs_are_exact.ensures c.args.replay.now.limits c.args.longest (g.S.Source.left c.args.input.now) (g.S.Source.left c.pull.new.source) c.args.replay.now.problem first c.loop-read.replay i.led.0 (i.led.2 first at) i.unspent _ (t.row c.args.longest _ (g.S.Source.left c.args.input.now) i.led.0 i.led.1) (sym c.in-None.is ∙ c.verdict.ensures.verdict)
+
+pub returns-clause-runs : goal.returns-clause-runs
+returns-clause-runs g c first at =
+    let i = c.loop-read.invariant in
+    let t = rw (c.in-Ok-None.is, c.in-Ok-None.field-0-is) at c.pull.ensures in
+    let (last, accepted, claimed) = replayed.ended c.proofs_are_exact.ensures c.args.replay.now.limits c.args.longest (g.S.Source.left c.args.input.now) (g.S.Source.left c.pull.new.source) c.args.replay.now.problem first c.loop-read.replay i.led.0 (i.led.2 first at) i.unspent _ c.in-Some.verdict (t.row c.args.longest _ (g.S.Source.left c.args.input.now) i.led.0 i.led.1) (sym c.in-Some.is ∙ c.verdict.ensures.verdict) in
+    (last, subst (λ (p : Place). IsAccepted c.args.replay.now.limits c.args.longest c.args.replay.now.problem first (g.S.Source.left c.args.input.now) (g.S.Source.left c.pull.new.source) p true None last) (sym c.place.ensures.place) accepted, claimed)
+
+pub returns-clause-faults : goal.returns-clause-faults
+returns-clause-faults g c =
+    let i = c.loop-read.invariant in
+    let t = rw (c.in-Ok-None.is, c.in-Ok-None.field-0-is) at c.pull.ensures in
+    rw i.led.1.running at t.faults ∙ i.faults

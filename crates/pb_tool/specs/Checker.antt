@@ -1,0 +1,60 @@
+-- How a checker stands to the text that it was fed.
+use Rattle.std.specs.Prelude.{◌≡◌, ℕ, List, false, Option, Some, None, Result, Ok, Err}
+use Rattle.pb_text.specs.Limits.{largest, top_of}
+use Rattle.pb_text.specs.Feeding.{StandsAt, place_of, halt_of}
+use Rattle.pb_text.specs.declared.Limits.{Limits}
+use Rattle.pb_text.specs.declared.Spanned.{Spanned}
+use Rattle.pb_text.specs.declared.Feeder.{Feeder}
+use Rattle.pb_proof.specs.State.{ProofState, begin, proofs}
+use Rattle.pb_proof.specs.declared.Statement.{Statement}
+use Rattle.pb_replay.specs.Loading.{Problem}
+use Rattle.pb_replay.specs.Replay.{State}
+use Rattle.pb_replay.specs.Running.{Replaying}
+use Rattle.pb_replay.specs.Running.{StandsFor}
+use Rattle.pb_replay.specs.declared.fault.Fault.{Fault}
+use Rattle.pb_tool.specs.Checks.{statements_at, Checks, Leads, Takes, Refuses}
+use Rattle.pb_tool.specs.declared.checker.CheckFault.{CheckFault}
+use Rattle.pb_tool.specs.declared.checker.CheckFault.TheVariants.{Step}
+
+-- a feeder of the machine of proofs
+abbrev pub ProofFeeder : Type 0
+ProofFeeder = Feeder ProofState Statement (record { automaton = proofs })
+
+-- what callers see of a checker
+pub record Checking : Type 0 where
+  pub feeder : ProofFeeder
+  pub replay : Replaying
+  pub fault : Option CheckFault
+
+-- The replay is in the state, or the fault has spent it.
+abbrev pub IsAt : Replaying → Result State Fault → Type 0
+IsAt r (Ok s) = (r.fault ≡ None) × StandsFor r s
+IsAt r (Err spent) = r.fault ≡ Some spent
+
+-- what a step through a statement that was read answers, from where the replay stood
+abbrev pub StepsFrom : Limits → Problem → Result State Fault → Spanned Statement → Result Unit CheckFault → Replaying → Type 0
+StepsFrom limits v now m (Ok u) new = (t : State) × IsAt new (Ok t) × Takes limits v now m.event t
+StepsFrom limits v now m (Err f) new = (e : Fault) × (f ≡ Step m.first e) × Refuses limits v now m.event e
+
+module _ (limits : Limits) (longest : ℕ) (v : Problem) (first : Result State Fault) (input : List ℕ) where
+  -- Every statement that came was accepted, and the text goes on.
+  pub record IsRunning (f : ProofFeeder) (r : Replaying) : Type 0 where
+    pub marks : List (Spanned Statement)
+    pub stands : StandsAt longest (begin (largest limits) (top_of limits)) input marks f
+    pub running : halt_of f ≡ None
+    pub limits_are : r.limits ≡ limits
+    pub problem : r.problem ≡ v
+    pub now : Result State Fault
+    pub at : IsAt r now
+    pub accepted : Leads limits v first (statements_at marks) now
+
+  -- The feeder and the replay of a checker were fed the input.
+  abbrev pub Stands : ProofFeeder → Replaying → Option CheckFault → Type 0
+  Stands f r None = IsRunning f r
+  Stands f r (Some e) = Checks limits longest v first input (place_of f) false (Some e)
+
+-- This holds of every checker: it stands to some text.
+abbrev pub IsSomewhere : ProofFeeder → Replaying → Option CheckFault → Type 0
+IsSomewhere f r e =
+    (limits : Limits) × (longest : ℕ) × (v : Problem) × (first : Result State Fault) × (input : List ℕ)
+    × Stands limits longest v first input f r e

@@ -1,0 +1,75 @@
+-- What a check says of the text of a proof: how far its statements were accepted, and why not further.
+use Rattle.std.specs.Prelude.{◌≡◌, ◌⊎◌, ℕ, List, [], ◌∷◌, ◌++◌, map, Bool, true, false, Option, Some, None, Result, Ok, Err}
+use Rattle.pb_text.specs.Limits.{largest, top_of}
+use Rattle.pb_text.specs.Reading.{Reads}
+use Rattle.pb_text.specs.declared.Limits.{Limits}
+use Rattle.pb_text.specs.declared.Place.{Place}
+use Rattle.pb_text.specs.declared.Spanned.{Spanned}
+use Rattle.pb_text.specs.declared.Stop.{Stop}
+use Rattle.pb_proof.specs.Proofs.{IsProof}
+use Rattle.pb_proof.specs.declared.Statement.{Statement}
+use Rattle.pb_replay.specs.Loading.{Problem}
+use Rattle.pb_replay.specs.Replay.{State}
+use Rattle.pb_replay.specs.Running.{verdict_at}
+use Rattle.pb_replay.specs.Statements.{Outcome, Accepts}
+use Rattle.pb_replay.specs.declared.fault.Fault.{Fault}
+use Rattle.pb_replay.specs.declared.fault.Fault.TheVariants as fault
+use Rattle.pb_replay.specs.declared.verdict.Verdict.{Verdict}
+use Rattle.pb_tool.specs.declared.checker.CheckFault.{CheckFault}
+use Rattle.pb_tool.specs.declared.checker.CheckFault.TheVariants.{Text, Step}
+
+-- the statements of marks, without their places
+abbrev pub statements_at : List (Spanned Statement) → List Statement
+statements_at marks = map (λ m. m.event) marks
+
+-- A replay over the problem is in a state, or a fault has spent it.
+module _ (limits : Limits) (v : Problem) where
+  -- One that is in a state comes to another by one accepted statement. A spent one accepts none.
+  abbrev pub Takes : Result State Fault → Statement → State → Type 0
+  Takes (Ok s) st t = Outcome (largest limits) (top_of limits) v s st (Ok t)
+  Takes (Err spent) st t = ⊥
+
+  -- the same by accepted statements, one after the other
+  abbrev pub Leads : Result State Fault → List Statement → Result State Fault → Type 0
+  Leads (Ok s) sts now = (t : State) × (now ≡ Ok t) × Accepts (largest limits) (top_of limits) v s sts t
+  Leads (Err spent) sts now = (sts ≡ []) × (now ≡ Err spent)
+
+  -- It refuses the statement: by its rules, or because memory ran out. A spent one refuses each with its fault.
+  abbrev pub Refuses : Result State Fault → Statement → Fault → Type 0
+  Refuses (Ok s) st e = (e ≡ fault.Memory) ⊎ Outcome (largest limits) (top_of limits) v s st (Err e)
+  Refuses (Err spent) st e = e ≡ spent
+
+-- A replay over the problem began at first. What is said of the bytes that were fed is said of all of them joined.
+module _ (limits : Limits) (longest : ℕ) (v : Problem) (first : Result State Fault) where
+  -- The text was read so far, and every statement that it has was accepted.
+  pub record IsReplayed (input : List ℕ) (place : Place) (done : Bool) (stop : Option Stop) (now : Result State Fault) : Type 0 where
+    pub used : List ℕ
+    pub marks : List (Spanned Statement)
+    pub reads : Reads (IsProof (largest limits) (top_of limits)) longest input used marks place done stop
+    pub accepted : Leads limits v first (statements_at marks) now
+
+  -- Every statement but the last was accepted, and that one, which began at begins, was refused. Nothing behind it was
+  -- read.
+  pub record IsRefusedAt (input : List ℕ) (place begins : Place) (e : Fault) : Type 0 where
+    pub used : List ℕ
+    pub left : List ℕ
+    pub marks : List (Spanned Statement)
+    pub last : Spanned Statement
+    pub before : Result State Fault
+    pub done : Bool
+    pub input_is : input ≡ used ++ left
+    pub reads : Reads (IsProof (largest limits) (top_of limits)) longest used used (marks ++ last ∷ []) place done None
+    pub begins_is : begins ≡ last.first
+    pub accepted : Leads limits v first (statements_at marks) before
+    pub refused : Refuses limits v before last.event e
+
+  -- how far it came, or which fault comes first
+  abbrev pub Checks : List ℕ → Place → Bool → Option CheckFault → Type 0
+  Checks input place done None = (now : Result State Fault) × IsReplayed input place done None now
+  Checks input place done (Some (Text stop)) = (now : Result State Fault) × IsReplayed input place false (Some stop) now
+  Checks input place done (Some (Step begins e)) = IsRefusedAt input place begins e
+
+  -- where the input has ended: the verdict of a whole proof, or the fault; `Ended` where the text is cut
+  abbrev pub Ends : List ℕ → Place → Result Verdict CheckFault → Type 0
+  Ends input place (Ok w) = (t : State) × IsReplayed input place true None (Ok t) × (verdict_at t.next t.concluded ≡ Some w)
+  Ends input place (Err f) = Checks input place false (Some f)

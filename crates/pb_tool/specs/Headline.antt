@@ -1,0 +1,24 @@
+-- What an accepted check means.
+use Rattle.std.specs.Prelude.{ℕ, List, Bool, Option, Ok}
+use Rattle.pb_text.specs.declared.Limits.{Limits}
+use Rattle.pb_opb.specs.declared.Instance.{Instance}
+use Rattle.pb_proof.specs.declared.Proof.{Proof}
+use Rattle.pb_replay.specs.Loading.{Solves}
+use Rattle.pb_replay.specs.Meaning.{MeansWritten}
+use Rattle.pb_replay.specs.declared.verdict.Verdict.{Verdict}
+use Rattle.pb_replay.specs.declared.verdict.Verdict.TheVariants.{Unsat}
+use Rattle.pb_tool.specs.Files.{IsProofFile}
+use Rattle.pb_tool.specs.Tidying.{IsOpbFile}
+use Rattle.pb_tool.specs.Verified.{ChecksFiles, IsVerified}
+
+-- What a proof that is read shows of an instance is true of the instance as it is written.
+abbrev pub VerdictsAreTrue : Type 0
+VerdictsAreTrue = (limits : Limits) (longest : ℕ) (i : Instance) (p : Proof) (w : Verdict) (before after : Option (List ℕ)) →
+    IsProofFile limits longest before after p → IsVerified limits i p w → MeansWritten i w
+
+-- Where a check answers that UNSAT is verified, the first source is an instance, and no assignment of its names solves
+-- it.
+abbrev pub UnsatIsTrue : {W : Type 0} → (W → Option (List ℕ)) → (W → ℕ) → Type 0
+UnsatIsTrue {W} contents faults = (limits : Limits) (longest : ℕ) (i p i' p' : Option (List ℕ)) (old new : W) →
+    ChecksFiles limits longest contents faults i p old (Ok Unsat) i' p' new →
+    (v : Instance) × IsOpbFile limits longest i i' v × ((a : List ℕ → Bool) → Solves v a → ⊥)

@@ -1,0 +1,84 @@
+-- What a feed says of a checker.
+use Rattle.std.specs.Prelude.{◌≡◌, ◌≤◌, ℕ, List, [], ◌∷◌, ◌++◌, take, Bool, true, false, Option, Some, None, Result, Ok, Err}
+use Rattle.pb_text.specs.Feeding.{place_of, is_complete}
+use Rattle.pb_text.specs.Limits.{largest, top_of}
+use Rattle.pb_text.specs.Reading.{HasOpen, IsFront}
+use Rattle.pb_text.specs.Spelling.{place_after}
+use Rattle.pb_text.specs.Standing.{Counts}
+use Rattle.pb_proof.specs.Proofs.{IsProof}
+use Rattle.pb_text.specs.declared.Limits.{Limits}
+use Rattle.pb_text.specs.declared.Place.{Place}
+use Rattle.pb_replay.specs.Loading.{Problem}
+use Rattle.pb_replay.specs.Replay.{State}
+use Rattle.pb_replay.specs.declared.fault.Fault.{Fault}
+use Rattle.pb_tool.specs.Checker.{Checking, Stands}
+use Rattle.pb_tool.specs.Checks.{Checks}
+use Rattle.pb_tool.specs.declared.checker.Went.{Went}
+use Rattle.pb_tool.specs.declared.checker.CheckFault.{CheckFault}
+use Rattle.pb_tool.specs.declared.checker.CheckFault.TheVariants.{Text, Step}
+
+-- why it stopped, if it did
+abbrev pub fault_of : Checking → Option CheckFault
+fault_of c = c.fault
+
+-- the place of the next byte
+abbrev pub place_in : Checking → Place
+place_in c = place_of c.feeder
+
+-- the text of the proof is complete
+abbrev pub is_whole : Checking → Bool
+is_whole c = is_complete c.feeder
+
+-- The checker, whose statements have at most longest bytes and whose replay, with these limits, began at first, was fed
+-- the input.
+abbrev pub ChecksAt : Limits → ℕ → Problem → Result State Fault → List ℕ → Checking → Type 0
+ChecksAt limits longest v first input c = Stands limits longest v first input c.feeder c.replay c.fault
+
+-- Input that comes now still counts: it was not said to have ended.
+abbrev pub IsOpen : Option CheckFault → Type 0
+IsOpen None = Unit {0}
+IsOpen (Some (Text s)) = Counts s.why
+IsOpen (Some (Step begins e)) = Unit {0}
+
+abbrev pub fault_in : {A : Type 0} → Result A CheckFault → Option CheckFault
+fault_in (Ok x) = None
+fault_in (Err e) = Some e
+
+-- what one feed says of the checker: as it stood to all the input before, it stands to that with these bytes
+abbrev pub ChecksOnce : Checking → List ℕ → Checking → Type 0
+ChecksOnce old piece new =
+    ((limits : Limits) (longest : ℕ) (v : Problem) (first : Result State Fault) (input : List ℕ) →
+    IsOpen old.fault → ChecksAt limits longest v first input old → ChecksAt limits longest v first (input ++ piece) new)
+    × (IsOpen old.fault → IsOpen new.fault)
+
+-- feeds in a row
+abbrev pub Feeds : Checking → List (List ℕ) → Checking → Type 0
+Feeds before [] after = before ≡ after
+Feeds before (piece ∷ pieces) after = (mid : Checking) × ChecksOnce before piece mid × Feeds mid pieces after
+
+abbrev pub joined : List (List ℕ) → List ℕ
+joined [] = []
+joined (piece ∷ pieces) = piece ++ joined pieces
+
+-- However the text of a proof is cut: after any feeds in a row of a checker that was new, what it answers is said of all
+-- bytes joined.
+abbrev pub AnyCutting : Type 0
+AnyCutting = (limits : Limits) (longest : ℕ) (v : Problem) (first : Result State Fault) (before after : Checking) (pieces : List (List ℕ)) →
+    ChecksAt limits longest v first [] before → IsOpen (fault_of before) → Feeds before pieces after →
+    Checks limits longest v first (joined pieces) (place_in after) (is_whole after) (fault_of after)
+
+-- The place is that after bytes which were used of the input, and at most as much is held as these have bytes of a
+-- statement that they do not end: nothing between two statements.
+abbrev pub HoldsOpen : Limits → List ℕ → Place → ℕ → Type 0
+HoldsOpen limits input place held =
+    (used : List ℕ) × (n : ℕ) × IsFront used input × (place ≡ place_after used)
+    × HasOpen (IsProof (largest limits) (top_of limits)) used n × (held ≤ n)
+
+-- the bytes of the piece that were dealt with: where a statement came, those through its last
+abbrev pub bytes_to : Bool → ℕ → List ℕ → List ℕ
+bytes_to true used piece = take used piece
+bytes_to false used piece = piece
+
+abbrev pub bytes_gone : Result Went CheckFault → List ℕ → List ℕ
+bytes_gone (Ok w) piece = bytes_to w.more w.used piece
+bytes_gone (Err e) piece = piece

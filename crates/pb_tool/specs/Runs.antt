@@ -1,0 +1,80 @@
+-- What the parts of a check owe: the replay of an instance, and its run through a proof.
+use Rattle.std.specs.Prelude.{◌≡◌, ◌⊎◌, ℕ, List, string_bytes, true, false, Option, Some, None, Result, Ok, Err}
+use Rattle.pb_text.specs.Limits.{largest, top_of}
+use Rattle.pb_text.specs.Pulling.{faults_with}
+use Rattle.pb_text.specs.declared.Limits.{Limits}
+use Rattle.pb_text.specs.declared.Place.{Place}
+use Rattle.pb_opb.specs.declared.Instance.{Instance}
+use Rattle.pb_proof.specs.Proofs.{statements_of}
+use Rattle.pb_proof.specs.declared.Proof.{Proof}
+use Rattle.pb_proof.specs.declared.Statement.{Statement}
+use Rattle.pb_replay.specs.Loading.{Problem, Opened}
+use Rattle.pb_replay.specs.Meaning.{IsFront}
+use Rattle.pb_replay.specs.Replay.{State, first_state}
+use Rattle.pb_replay.specs.Running.{Replaying}
+use Rattle.pb_replay.specs.Statements.{Outcome, Accepts}
+use Rattle.pb_replay.specs.declared.fault.Fault.{Fault}
+use Rattle.pb_replay.specs.declared.fault.Fault.TheVariants.{Memory as no_memory, Overflow as over}
+use Rattle.pb_replay.specs.declared.verdict.Verdict.{Verdict}
+use Rattle.pb_replay.specs.Running.{StandsFor}
+use Rattle.pb_tool.specs.Files.{IsProofFile}
+use Rattle.pb_tool.specs.Tidying.{IsOpbFile, IsNoOpbFile}
+use Rattle.pb_tool.specs.Verified.{ComesTo, IsAccepted, IsRefusedStep, IsRefusedText, IsTold}
+use Rattle.pb_tool.specs.declared.checker.CheckFault.{CheckFault}
+use Rattle.pb_tool.specs.declared.checker.CheckFault.TheVariants as check
+use Rattle.pb_tool.specs.declared.fault.ToolFault.{ToolFault}
+use Rattle.pb_tool.specs.declared.fault.ToolFault.TheVariants.{Text, Overflow, Memory, Step}
+use Rattle.pb_tool.specs.declared.fault.Input.TheVariants.{Instance as of_instance, Proof as of_proof}
+
+-- how often a source has failed after a check that answers this: once more where the answer is a read fault of it
+abbrev pub faults_of_instance : {A : Type 0} → Result A ToolFault → ℕ → ℕ
+faults_of_instance (Err (Text of_instance s)) n = faults_with s.why n
+faults_of_instance _ n = n
+
+abbrev pub faults_of_proof : {A : Type 0} → Result A ToolFault → ℕ → ℕ
+faults_of_proof (Err (Text of_proof s)) n = faults_with s.why n
+faults_of_proof _ n = n
+
+abbrev pub faults_of_text : {A : Type 0} → Result A CheckFault → ℕ → ℕ
+faults_of_text (Err (check.Text s)) n = faults_with s.why n
+faults_of_text _ n = n
+
+-- the fault of the tool: with that name, or want of memory
+abbrev pub IsToldAs : List (List ℕ) → Place → Fault → ToolFault → Type 0
+IsToldAs names place e (Step at f name) = (at ≡ place) × ((f ≡ no_memory) ⊎ ((f ≡ e) × IsTold names e (string_bytes name)))
+IsToldAs names place e _ = ⊥
+
+module _ (limits : Limits) (longest : ℕ) where
+  -- The replay is that of the instance which the source had.
+  pub record IsReplayOf (before after : Option (List ℕ)) (r : Replaying) : Type 0 where
+    pub instance : Instance
+    pub file : IsOpbFile limits longest before after instance
+    pub opened : Opened (largest limits) instance (Ok r.problem)
+    pub limited : r.limits ≡ limits
+    pub first : StandsFor r (first_state r.problem)
+    pub running : r.fault ≡ None
+
+  -- why there is none
+  abbrev pub IsNoReplay : Option (List ℕ) → Option (List ℕ) → ToolFault → Type 0
+  IsNoReplay before after (Text of_instance s) = IsNoOpbFile limits longest before after s
+  IsNoReplay before after (Overflow of_instance) = (v : Instance) × IsOpbFile limits longest before after v × Opened (largest limits) v (Err over)
+  IsNoReplay before after (Memory of_instance) = (v : Instance) × IsOpbFile limits longest before after v
+  IsNoReplay before after _ = ⊥
+
+  module _ (v : Problem) (first : State) (before : Option (List ℕ)) where
+    -- the statements of a source that were stepped through
+    abbrev pub Runs : Result (Verdict × Place) CheckFault → Option (List ℕ) → Replaying → Type 0
+    Runs (Ok r) after new = (t : State) × IsAccepted limits longest v first before after r.1 true None t × (t.concluded ≡ Some r.0)
+    Runs (Err (check.Text s)) after new = (t : State) × IsAccepted limits longest v first before after s.place false (Some s) t
+    Runs (Err (check.Step begins e)) after new =
+        (st : Statement) × (state : State) × ComesTo limits longest v first before after begins st state
+        × ((e ≡ no_memory) ⊎ (Outcome (largest limits) (top_of limits) v state st (Err e) × IsFront state.names new.names))
+
+    -- the same, with the rest behind the proof
+    abbrev pub Replays : Result Verdict ToolFault → Option (List ℕ) → Type 0
+    Replays (Ok w) after =
+        (q : Proof) × IsProofFile limits longest before after q
+        × (t : State) × Accepts (largest limits) (top_of limits) v first (statements_of q) t × (t.concluded ≡ Some w)
+    Replays (Err (Step place e name)) after = IsRefusedStep limits longest v first before after place e (string_bytes name)
+    Replays (Err (Text of_proof s)) after = IsRefusedText limits longest v first before after s
+    Replays (Err _) after = ⊥

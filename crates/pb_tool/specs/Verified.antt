@@ -1,0 +1,109 @@
+-- What `pb check` answers of an instance and a proof, and what it writes.
+use Rattle.std.specs.Prelude.{◌≡◌, ◌⊎◌, ℕ, List, [], ◌∷◌, ◌++◌, codes, get_or, string_bytes, Bool, true, false, Option, Some, None, Result, Ok, Err}
+use Rattle.pb_text.specs.Blank.{ReadsBlank}
+use Rattle.pb_text.specs.Limits.{largest, top_of}
+use Rattle.pb_text.specs.Rows.{TookAll, TookSoFar}
+use Rattle.pb_text.specs.Writing.{Wrote, Broke}
+use Rattle.pb_text.specs.declared.Limits.{Limits}
+use Rattle.pb_text.specs.declared.Place.{Place}
+use Rattle.pb_text.specs.declared.Spanned.{Spanned}
+use Rattle.pb_text.specs.declared.Stop.{Stop}
+use Rattle.pb_opb.specs.declared.Instance.{Instance}
+use Rattle.pb_proof.specs.Canonical.{bound_bytes}
+use Rattle.pb_proof.specs.Proofs.{statements_of}
+use Rattle.pb_proof.specs.declared.Proof.{Proof}
+use Rattle.pb_proof.specs.declared.Statement.{Statement}
+use Rattle.pb_replay.specs.Loading.{Problem, Opened}
+use Rattle.pb_replay.specs.Meaning.{IsFront}
+use Rattle.pb_replay.specs.Replay.{State, first_state}
+use Rattle.pb_replay.specs.Statements.{Outcome, Accepts}
+use Rattle.pb_replay.specs.declared.fault.Fault.{Fault}
+use Rattle.pb_replay.specs.declared.fault.Fault.TheVariants.{Memory as no_memory, Overflow as over, NotTotal}
+use Rattle.pb_replay.specs.declared.verdict.Verdict.{Verdict}
+use Rattle.pb_replay.specs.declared.verdict.Verdict.TheVariants as verdict
+use Rattle.pb_tool.specs.Checks.{statements_at}
+use Rattle.pb_tool.specs.Files.{IsVeri, IsProofFile}
+use Rattle.pb_tool.specs.Tidying.{IsOpbFile, IsNoOpbFile}
+use Rattle.pb_tool.specs.declared.fault.ToolFault.{ToolFault}
+use Rattle.pb_tool.specs.declared.fault.ToolFault.TheVariants.{Text, Open, Overflow, Memory, Write, Step}
+use Rattle.pb_tool.specs.declared.fault.Input.TheVariants.{File, Instance as of_instance, Proof as of_proof}
+
+-- the line of a verdict, with its line feed
+abbrev pub verdict_line : Verdict → List ℕ
+verdict_line verdict.NoClaim = codes "verified NONE\n"
+verdict_line verdict.Unsat = codes "verified UNSAT\n"
+verdict_line verdict.Sat = codes "verified SAT\n"
+verdict_line (verdict.Bounds lower upper) = codes "verified BOUNDS " ++ (bound_bytes lower ++ (32 ∷ (bound_bytes upper ++ (10 ∷ []))))
+
+-- the name that a refusal tells by its number, among these
+abbrev pub IsTold : List (List ℕ) → Fault → List ℕ → Type 0
+IsTold names (NotTotal n) name = name ≡ get_or names n []
+IsTold names _ name = name ≡ []
+
+-- The same, where these were the names before the statement. Its own come behind them.
+abbrev pub IsNamed : List (List ℕ) → Fault → List ℕ → Type 0
+IsNamed names e name = (all : List (List ℕ)) × IsFront names all × IsTold all e name
+
+module _ (limits : Limits) where
+  -- The instance opens, and the statements of the proof are accepted with this verdict.
+  pub record IsVerified (i : Instance) (p : Proof) (w : Verdict) : Type 0 where
+    pub problem : Problem
+    pub opened : Opened (largest limits) i (Ok problem)
+    pub last : State
+    pub accepted : Accepts (largest limits) (top_of limits) problem (first_state problem) (statements_of p) last
+    pub claimed : last.concluded ≡ Some w
+
+  module _ (longest : ℕ) (v : Problem) (first : State) (before : Option (List ℕ)) where
+    -- The text of a proof came so far in a source, and its statements lead from the first state to the last.
+    pub record IsAccepted (after : Option (List ℕ)) (place : Place) (done : Bool) (stop : Option Stop) (last : State) : Type 0 where
+      pub marks : List (Spanned Statement)
+      pub took : TookAll (IsVeri limits) longest before after marks place done stop
+      pub accepted : Accepts (largest limits) (top_of limits) v first (statements_at marks) last
+
+    -- All statements before this one, which begins at the place, were accepted and lead to the state. Nothing behind it was
+    -- taken.
+    pub record ComesTo (after : Option (List ℕ)) (begins : Place) (st : Statement) (state : State) : Type 0 where
+      pub marks : List (Spanned Statement)
+      pub last : Spanned Statement
+      pub took : TookSoFar (IsVeri limits) longest before after (marks ++ last ∷ []) last.past
+      pub begins_is : begins ≡ last.first
+      pub statement : last.event ≡ st
+      pub accepted : Accepts (largest limits) (top_of limits) v first (statements_at marks) state
+
+    -- The statement that begins at the place is the first that is refused: by its rules, or because memory ran out.
+    abbrev pub IsRefusedStep : Option (List ℕ) → Place → Fault → List ℕ → Type 0
+    IsRefusedStep after begins e name =
+        (st : Statement) × (state : State) × ComesTo after begins st state
+        × ((e ≡ no_memory) ⊎ (Outcome (largest limits) (top_of limits) v state st (Err e) × IsNamed state.names e name))
+
+    -- The text is refused, and every statement before that place was accepted: in the proof, or in the rest behind it.
+    pub data IsRefusedText (after : Option (List ℕ)) (s : Stop) : Type 0 where
+      InProof : (last : State) → IsAccepted after s.place false (Some s) last → IsRefusedText after s
+      BehindProof : (mid : Option (List ℕ)) (place : Place) (last : State) (w : Verdict) → IsAccepted mid place true None last → last.concluded ≡ Some w → ReadsBlank place mid (Err s) after → IsRefusedText after s
+
+  module _ (longest : ℕ) {W : Type 0} (contents : W → Option (List ℕ)) (faults : W → ℕ) where
+    -- What was read of the two sources, one after the other, and what was written: nothing before both were accepted.
+    -- Each case says which tests were passed before the refusal.
+    abbrev pub ChecksFiles : Option (List ℕ) → Option (List ℕ) → W → Result Verdict ToolFault → Option (List ℕ) → Option (List ℕ) → W → Type 0
+    ChecksFiles i p old (Ok w) i' p' new =
+        (v : Instance) × IsOpbFile limits longest i i' v × (q : Proof) × IsProofFile limits longest p p' q
+        × IsVerified v q w × Wrote contents faults old (verdict_line w) new
+    ChecksFiles i p old (Err (Text of_instance s)) i' p' new = IsNoOpbFile limits longest i i' s × (p' ≡ p) × (new ≡ old)
+    ChecksFiles i p old (Err (Overflow of_instance)) i' p' new =
+        (v : Instance) × IsOpbFile limits longest i i' v × Opened (largest limits) v (Err over) × (p' ≡ p) × (new ≡ old)
+    ChecksFiles i p old (Err (Memory of_instance)) i' p' new = (v : Instance) × IsOpbFile limits longest i i' v × (p' ≡ p) × (new ≡ old)
+    ChecksFiles i p old (Err (Step place e name)) i' p' new =
+        (v : Instance) × IsOpbFile limits longest i i' v × (problem : Problem) × Opened (largest limits) v (Ok problem)
+        × IsRefusedStep longest problem (first_state problem) p p' place e (string_bytes name) × (new ≡ old)
+    ChecksFiles i p old (Err (Text of_proof s)) i' p' new =
+        (v : Instance) × IsOpbFile limits longest i i' v × (problem : Problem) × Opened (largest limits) v (Ok problem)
+        × IsRefusedText longest problem (first_state problem) p p' s × (new ≡ old)
+    ChecksFiles i p old (Err Write) i' p' new =
+        (v : Instance) × IsOpbFile limits longest i i' v × (q : Proof) × IsProofFile limits longest p p' q
+        × (w : Verdict) × IsVerified v q w × Broke contents faults old (verdict_line w) new
+    ChecksFiles i p old (Err (Text File s)) i' p' new = ⊥
+    ChecksFiles i p old (Err (Overflow File)) i' p' new = ⊥
+    ChecksFiles i p old (Err (Overflow of_proof)) i' p' new = ⊥
+    ChecksFiles i p old (Err (Memory File)) i' p' new = ⊥
+    ChecksFiles i p old (Err (Memory of_proof)) i' p' new = ⊥
+    ChecksFiles i p old (Err (Open input)) i' p' new = ⊥

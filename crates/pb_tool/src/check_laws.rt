@@ -1,0 +1,29 @@
+//! Laws of checks. These functions do nothing: what they ensure are the laws.
+
+ghost use Rattle.pb_tool.specs.Headline.{UnsatIsTrue, VerdictsAreTrue};
+ghost use Rattle.pb_tool.specs.Pieces.{AnyCutting};
+
+use pb_proof::proofs_are_exact;
+use pb_replay::laws::verdicts_are_true;
+use pb_text::Sink;
+
+/// However the text of a proof is cut, what a checker answers is said of all bytes joined.
+pub fn any_cut_of_a_proof()
+    ensures { AnyCutting }
+{
+    proofs_are_exact();
+}
+
+/// What is verified is true of the instance as it is written.
+pub fn verified_is_true()
+    ensures { VerdictsAreTrue }
+{
+    verdicts_are_true();
+}
+
+/// Where `check` answers that UNSAT is verified, no assignment of its names solves the instance.
+pub fn unsat_is_true<W: Sink>()
+    ensures { UnsatIsTrue W.contents W.faults }
+{
+    verdicts_are_true();
+}

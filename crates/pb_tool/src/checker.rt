@@ -1,0 +1,227 @@
+//! Checks a proof, in whatever pieces its text comes.
+
+ghost use Rattle.std.specs.Prelude.{◌≡◌, Result};
+ghost use Rattle.pb_text.specs.Limits.{largest, top_of};
+ghost use Rattle.pb_proof.specs.Values.{IsStatementValue};
+ghost use Rattle.pb_replay.specs.Replay.{State};
+ghost use Rattle.pb_replay.specs.declared.fault.Fault.{Fault as AFault};
+ghost use Rattle.pb_replay.specs.Meaning.{IsFront};
+ghost use Rattle.pb_tool.specs.Checker.{IsAt, StepsFrom};
+
+use pb_proof::{ProofMachine, Statement, proofs_are_exact};
+use pb_replay::{Fault, Replay, Verdict};
+use pb_text::{BYTE_LIMIT, Feeder, Place, Spanned, Stop, Why};
+use std::alloc::Global;
+use std::marker::Model;
+
+/// Why a proof is refused.
+#[derive(Clone, Copy, Debug, PartialEq, Eq)]
+pub enum CheckFault {
+    /// Its text stopped the reader at a place.
+    Text(Stop),
+    /// The statement that begins at the place was refused.
+    Step(Place, Fault),
+}
+
+/// How far a piece was taken: so many bytes of it, and whether a statement ends there.
+#[derive(Clone, Copy, Debug, PartialEq, Eq)]
+pub(crate) struct Went {
+    pub(crate) used: usize,
+    pub(crate) more: bool,
+}
+
+/// Checks a proof, in whatever pieces its text comes: each statement goes to the replay when its last byte has come,
+/// and is kept no longer.
+#[derive(Drop)]
+pub struct Checker {
+    feeder: Feeder<ProofMachine>,
+    replay: Replay,
+    fault: Option<CheckFault>,
+}
+
+impl Model for Checker {
+    ghost use Rattle.pb_tool.specs.Checker.{Checking, IsSomewhere};
+
+    ghost Value = { Checking };
+
+    ghost view = { λ c. record { feeder = c.feeder; replay = c.replay; fault = c.fault } };
+
+    // It stands to some text.
+    ghost invariant = { λ c. IsSomewhere c.feeder c.replay c.fault };
+}
+
+impl Checker {
+    ghost use Rattle.pb_text.specs.Feeding.{state_of};
+    ghost use Rattle.pb_proof.specs.State.{proofs};
+    ghost use Rattle.std.specs.Prelude.{◌+◌, ◌<◌, ◌≤◌, ◌++◌, [], ℕ, List, None, Some, Err, IfErr, IfOk, IfSome, length, slice_get, unwrap_or, true, ◌^◌};
+    ghost use Rattle.std.specs.Option.{option_copied};
+    ghost use Rattle.pb_text.specs.Blank.{IsInReach};
+    ghost use Rattle.pb_text.specs.declared.Limits.{Limits};
+    ghost use Rattle.pb_replay.specs.Loading.{Problem};
+    ghost use Rattle.pb_tool.specs.Checks.{Ends};
+    ghost use Rattle.pb_tool.specs.Pieces.{ChecksAt, ChecksOnce, HoldsOpen, IsOpen, bytes_gone, fault_in, fault_of, is_whole, place_in};
+    ghost use Rattle.pb_tool.specs.declared.checker.CheckFault.{CheckFault as ACheckFault};
+
+    /// A checker of a proof for the replay, in whatever state that is. It stops at a statement which has not ended
+    /// within its first `longest` bytes, where there is such a limit.
+    pub fn new(alloc: Global, replay: Replay, longest: Option<u64>) -> Checker
+        requires { IfSome longest (λ n. 0 < n) }
+        ensures stands { (first : Result State AFault) → IsAt replay first
+            → ChecksAt replay.limits (unwrap_or longest (2 ^ 40)) replay.problem first [] result }
+        ensures running { fault_of result ≡ None }
+        ensures place { place_in result ≡ Place.START }
+        ensures replay { result.replay ≡ replay }
+    {
+        let machine = ProofMachine::new(alloc, replay.limits());
+        Checker {
+            feeder: Feeder::within(machine, longest.unwrap_or(BYTE_LIMIT)),
+            replay,
+            fault: None,
+        }
+    }
+
+    /// The place of the next byte.
+    pub fn place(&self) -> Place
+        ensures place { result ≡ place_in self.now }
+        ensures reach { IsInReach result }
+    {
+        self.feeder.place()
+    }
+
+    /// The name with a number, also after a fault.
+    pub fn name_of(&self, number: usize) -> Option<&str>
+        ensures { option_copied result ≡ slice_get self.now.replay.names number }
+    {
+        self.replay.name_of(number)
+    }
+
+    /// How much of the current statement is kept.
+    pub fn held(&self) -> usize
+        ensures kept { result ≡ proofs.kept (state_of self.now.feeder) }
+        ensures few { (limits : Limits) (longest : ℕ) (v : Problem) (first : Result State AFault) (input : List ℕ)
+            → fault_of self.now ≡ None
+            → ChecksAt limits longest v first input self.now
+            → HoldsOpen limits input (place_in self.now) result }
+    {
+        proofs_are_exact();
+        self.feeder.held()
+    }
+
+    /// Takes a piece of the text, and steps through each statement that ends in it. It answers how many bytes it used:
+    /// the whole piece, or through the last byte of the proof, and none after that. After a fault it answers that fault.
+    pub fn feed(&mut self, piece: &[u8]) -> Result<usize, CheckFault>
+        // As it stood to all the text before, it stands to that with this piece.
+        ensures checks { ChecksOnce self.old piece.now self.new }
+        ensures fault { fault_of self.new ≡ fault_in result }
+        ensures used { IfOk result (λ n. ((place_in self.new).offset ≡ (place_in self.old).offset + n) × (n ≤ length piece.now)) }
+        ensures again { (e : ACheckFault) → fault_of self.old ≡ Some e → (result ≡ Err e) × (self.new ≡ self.old) }
+    {
+        if let Some(fault) = self.fault {
+            return Err(fault);
+        }
+        let mut used = 0;
+        loop {
+            match self.advance(&piece[used..]) {
+                Ok(went) => {
+                    used += went.used;
+                    if !went.more {
+                        return Ok(used);
+                    }
+                }
+                Err(fault) => return Err(fault),
+            }
+        }
+    }
+
+    /// Takes bytes of the piece up to the next statement, which it steps through, or all of them.
+    fn advance(&mut self, piece: &[u8]) -> Result<Went, CheckFault>
+        requires { fault_of self.old ≡ None }
+        ensures stands { (limits : Limits) (longest : ℕ) (v : Problem) (first : Result State AFault) (input : List ℕ)
+            → ChecksAt limits longest v first input self.old
+            → ChecksAt limits longest v first (input ++ bytes_gone result piece.now) self.new }
+        ensures open { IsOpen (fault_of self.new) }
+        ensures fault { fault_of self.new ≡ fault_in result }
+        ensures used { IfOk result (λ w. ((place_in self.new).offset ≡ (place_in self.old).offset + w.used) × (w.used ≤ length piece.now)) }
+        ensures onward { IfOk result (λ w. w.more ≡ true → 0 < w.used) }
+    {
+        proofs_are_exact();
+        let fed = match self.feeder.feed(piece) {
+            Ok(fed) => fed,
+            Err(stop) => {
+                let fault = CheckFault::Text(stop);
+                self.fault = Some(fault);
+                return Err(fault);
+            }
+        };
+        let used = fed.used;
+        let Some(read) = fed.event else {
+            return Ok(Went { used, more: false });
+        };
+        match step_through(&mut self.replay, read) {
+            Ok(()) => Ok(Went { used, more: true }),
+            Err(fault) => {
+                self.fault = Some(fault);
+                Err(fault)
+            }
+        }
+    }
+
+    /// The text has ended: what the proof has shown, or why it is refused.
+    pub fn finish(&mut self) -> Result<Verdict, CheckFault>
+        ensures ends { (limits : Limits) (longest : ℕ) (v : Problem) (first : Result State AFault) (input : List ℕ)
+            → fault_of self.old ≡ None
+            → ChecksAt limits longest v first input self.old
+            → Ends limits longest v first input (place_in self.new) result }
+        ensures fault { fault_of self.new ≡ fault_in result }
+        ensures place { place_in self.new ≡ place_in self.old }
+        // It wants no memory: the one fault that comes here is that the text was cut.
+        ensures first { fault_of self.old ≡ None
+            → IfErr result (λ e. e ≡ CheckFault.Text (record { place = place_in self.old; why = Why.Ended })) }
+        ensures again { (e : ACheckFault) → fault_of self.old ≡ Some e → (result ≡ Err e) × (self.new ≡ self.old) }
+    {
+        if let Some(fault) = self.fault {
+            return Err(fault);
+        }
+        proofs_are_exact();
+        if self.feeder.is_done() {
+            match self.replay.verdict() {
+                Some(verdict) => Ok(verdict),
+                None => unreachable!(),
+            }
+        } else {
+            let fault = CheckFault::Text(Stop {
+                place: self.feeder.place(),
+                why: Why::Ended,
+            });
+            self.fault = Some(fault);
+            Err(fault)
+        }
+    }
+}
+
+/// Steps through a statement that was read, which nothing wants any more.
+pub(crate) fn step_through(replay: &mut Replay, read: Spanned<Statement>) -> Result<(), CheckFault>
+    requires { IsStatementValue (largest replay.old.limits) (top_of replay.old.limits) read.event }
+    ensures steps { (now : Result State AFault) → IsAt replay.old now
+        → StepsFrom replay.old.limits replay.old.problem now read result replay.new }
+    ensures names { IsFront replay.old.names replay.new.names }
+    ensures limits { replay.new.limits ≡ replay.old.limits }
+    ensures problem { replay.new.problem ≡ replay.old.problem }
+{
+    step_by(replay, &read)
+}
+
+/// The same of a statement that the caller keeps.
+fn step_by(replay: &mut Replay, read: &Spanned<Statement>) -> Result<(), CheckFault>
+    requires { IsStatementValue (largest replay.old.limits) (top_of replay.old.limits) read.now.event }
+    ensures steps { (now : Result State AFault) → IsAt replay.old now
+        → StepsFrom replay.old.limits replay.old.problem now read.now result replay.new }
+    ensures names { IsFront replay.old.names replay.new.names }
+    ensures limits { replay.new.limits ≡ replay.old.limits }
+    ensures problem { replay.new.problem ≡ replay.old.problem }
+{
+    match replay.step(&read.event) {
+        Ok(()) => Ok(()),
+        Err(fault) => Err(CheckFault::Step(read.first, fault)),
+    }
+}
