@@ -76,7 +76,10 @@ impl Names {
         requires { number < length self.now }
         ensures { slice_get self.now number ≡ Some result.now }
     {
-        self.set.as_slice()[number].as_str()
+        match self.set.get_index(number) {
+            Some(name) => name.as_str(),
+            None => "",
+        }
     }
 
     /// The number of a name, which gets the next one where it has none.

@@ -1,11 +1,11 @@
 //! The rules of cutting planes.
 
-ghost use Rattle.std.specs.Prelude.{◌≡◌, ◌*◌, ◌<◌, ◌≤◌, ◌≤ℤ◌, ◌^◌, ◌↔◌, pos, IfOk, IfErr, IsTrue, All, map, min, nat_lt, filter, Err};
+ghost use Rattle.std.specs.Prelude.{◌≡◌, ◌*◌, ◌<◌, ◌≤◌, ◌≤ℤ◌, ◌^◌, ◌↔◌, ◌==◌, not, pos, IfOk, IfErr, IsTrue, All, map, min, nat_lt, filter, Err};
 ghost use Rattle.std.specs.Int.{div_ceil};
 ghost use Rattle.std.specs.Int.RustNames.{unsigned_abs};
 ghost use Rattle.pb_text.specs.Limits.{largest};
-ghost use Rattle.pb_normal.specs.Form.{IsNormal, IsWithin, Follows, FollowsBoth, IsOpposite};
-ghost use Rattle.pb_normal.specs.Rules.{IsSum, Passes, SumPasses, SumMeasures, SumIsContradiction, multiplied, divided, saturated, weakened, axiom_on, negation_of, with_coefficient, opposite};
+ghost use Rattle.pb_normal.specs.Form.{IsNormal, IsWithin, Follows, FollowsBoth, IsOpposite, each, total};
+ghost use Rattle.pb_normal.specs.Rules.{IsSum, Passes, SumPasses, SumMeasures, SumIsContradiction, multiplied, divided, saturated, weakened, axiom_on, negation_of, with_coefficient, of_variable, opposite};
 
 use crate::entry::Entry;
 use crate::fault::NormalFault;
@@ -88,15 +88,8 @@ impl Normal {
         ensures sound { IfOk result (λ r. Follows self.now r) }
         ensures memory { IfErr result (λ e. e ≡ NormalFault.Memory) }
     {
-        let mut terms = Vec::new(*self.terms.allocator());
-        let mut dropped = 0;
-        for t in self.terms.iter() {
-            if t.variable == variable {
-                dropped += t.coefficient;
-            } else {
-                terms.push(*t)?;
-            }
-        }
+        let terms = terms_without(*self.terms.allocator(), self.terms.as_slice(), variable)?;
+        let dropped = coefficients_on(self.terms.as_slice(), variable);
         let degree = self.degree.saturating_sub(dropped);
         Ok(Normal { terms, degree })
     }
@@ -197,4 +190,28 @@ fn opposite_terms(alloc: Global, terms: &[Entry]) -> Result<Vec<Entry>, AllocErr
             ..*t
         })
         .collect(alloc)
+}
+
+fn terms_without(alloc: Global, terms: &[Entry], variable: usize) -> Result<Vec<Entry>, AllocError>
+    ensures { IfOk result (λ v. v.items ≡ filter (λ t. not (t.variable == variable)) terms.now) }
+{
+    terms
+        .iter()
+        .map(|t| *t)
+        .filter(|t| t.variable != variable)
+        .collect(alloc)
+}
+
+// The sum of the coefficients on a variable and on its negation.
+fn coefficients_on(terms: &[Entry], variable: usize) -> u128
+    requires { total each terms.now < 2 ^ 127 }
+    ensures { result ≡ total (of_variable variable) terms.now }
+{
+    let mut sum = 0;
+    for t in terms {
+        if t.variable == variable {
+            sum += t.coefficient;
+        }
+    }
+    sum
 }

@@ -1,19 +1,18 @@
 -- Lemmas on the propagation engine.
 pub mod Literals
 pub mod Laws
-pub mod Open
 pub mod Runs
 pub mod Puts
 pub mod Looks
 pub mod Spent
 pub mod Propagated
-pub mod Confluence
 pub mod Undone
 pub mod Rested
 pub mod Values
 pub mod Derivations
 pub mod Sources
 pub mod Crosses
+pub mod Ends
 pub mod Sorted
 pub mod Gets
 pub mod Links

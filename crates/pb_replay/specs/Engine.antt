@@ -6,3 +6,4 @@ pub mod Fields
 pub mod Forms
 pub mod Live
 pub mod Rest
+pub mod Laws

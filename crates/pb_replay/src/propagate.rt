@@ -3,6 +3,7 @@
 pub mod assignment;
 pub mod engine;
 pub mod kept;
+pub mod laws;
 pub mod links;
 pub mod literal;
 pub mod run;

@@ -101,13 +101,6 @@ eager-count os keep eager a g =
     (λ i d h. let named = e.named i d h in omega (arith, named, slots-length os (shapes_of keep) a, length-map keep kept_shape))
     (λ i d h. rw (less-zero (get_or (filter (waits keep) eager) i d)) (waits-one os keep (get_or (filter (waits keep) eager) i d) a (filter-true (waits keep) eager i d h)))
 
-pub filter-one : (p : ℕ → Bool) (x : ℕ) → length (filter p (x ∷ [])) ≤ 1
-filter-one p x = by_head (p x) refl
-  where
-    by_head : (b : Bool) → p x ≡ b → length (filter p (x ∷ [])) ≤ 1
-    by_head true e = rw e (omega arith)
-    by_head false e = rw e (omega arith)
-
 -- the list is no longer than the looks were many
 pub found-least : (n v n0 v0 : ℕ) → n0 ≡ 0 → v0 ≡ 0 → AreFound n0 n v0 v → n < 2 ^ 64 → n ≤ v
 found-least n v n0 v0 e f found small =

@@ -3,7 +3,7 @@ use Rattle.std.proofs.Common.{◌≡◌, ℕ, Bool, true, false, not, List, ◌�
 use Rattle.std.proofs.lemmas.Bool.{cases_Bool, or_cases, or_right, both_ways}
 use Rattle.pb_replay.specs.declared.numbered.NumberedLiteral.{NumberedLiteral}
 use Rattle.pb_normal.specs.Form.{Form}
-use Rattle.pb_replay.specs.Propagation.{only, on, opened, MayPut, Derivation, begin, put, HasConflict, opposed, broken, MeetsConflict, IsCompletion}
+use Rattle.pb_replay.specs.Propagation.{only, on, opened, MayPut, Derivation, begin, put, HasConflict, opposed, broken, MeetsConflict}
 use Rattle.pb_replay.proofs.Engine.Choices.{only-true, total-fits, total-within}
 
 -- each literal of the first list is on the second
@@ -77,18 +77,10 @@ derivation-part forms given closed w c n _ (put {list} l d m) =
       | conflicting bad ↦ absurd (n bad)
     ]
 
-completion-part : (forms : Form → Type 0) (given a b : List NumberedLiteral) → (MeetsConflict forms given → ⊥) → IsCompletion forms given a → IsCompletion forms given b → IsPart a b
-completion-part forms given a b free p q =
-    derivation-part forms given b (derivation-keeps forms given b q.derived) q.closed (λ bad. free (record { list = b; derived = q.derived; conflict = bad })) a p.derived
-
 same_Bool : (b c : Bool) → (b ≡ true → c ≡ true) → (c ≡ true → b ≡ true) → b ≡ c
 same_Bool true c f g = sym (f refl)
 same_Bool false true f g = g refl
 same_Bool false false f g = refl
-
-pub completion-one : (forms : Form → Type 0) (given a b : List NumberedLiteral) → (MeetsConflict forms given → ⊥) → IsCompletion forms given a → IsCompletion forms given b → (v : ℕ) (n : Bool) → on a v n ≡ on b v n
-completion-one forms given a b free p q v n =
-    same_Bool (on a v n) (on b v n) (completion-part forms given a b free p q v n) (completion-part forms given b a free q p v n)
 
 pub conflict-part : (forms : Form → Type 0) (a b : List NumberedLiteral) → IsPart a b → HasConflict forms a → HasConflict forms b
 conflict-part forms a b w (opposed v here there) = opposed v (w v true here) (w v false there)

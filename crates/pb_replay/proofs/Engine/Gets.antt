@@ -59,11 +59,6 @@ get-push_past [] (suc k) y h = refl
 get-push_past (x ∷ xs) zero y h = absurd (omega (arith, h))
 get-push_past (x ∷ xs) (suc k) y h = get-push_past xs k y (omega (arith, h))
 
-pub get-or_past : {X : Type 0} (xs : List X) (i : ℕ) (d : X) → length xs ≤ i → get_or xs i d ≡ d
-get-or_past [] i d h = refl
-get-or_past (x ∷ xs) zero d h = absurd (omega (arith, h))
-get-or_past (x ∷ xs) (suc i) d h = get-or_past xs i d (omega (arith, h))
-
 pub get-push_other : {X : Type 0} (xs : List X) (k : ℕ) (y : X) → (k ≡ length xs → ⊥) → slice_get (xs ++ (y ∷ [])) k ≡ slice_get xs k
 get-push_other [] zero y n = absurd (n refl)
 get-push_other [] (suc k) y n = refl

@@ -19,7 +19,13 @@ pub beq-refl : (a : Bool) → beq a a ≡ true
 beq-refl true = refl
 beq-refl false = refl
 
-not-not : (a : Bool) → not (not a) ≡ a
+pub beq-not : (a b : Bool) → beq (not a) b ≡ not (beq a b)
+beq-not true true = refl
+beq-not true false = refl
+beq-not false true = refl
+beq-not false false = refl
+
+pub not-not : (a : Bool) → not (not a) ≡ a
 not-not true = refl
 not-not false = refl
 
@@ -45,10 +51,6 @@ same-refl a = rw (eq-eqb a.variable a.variable refl, beq-refl a.negated)
 
 pub negation-negation : (l : NumberedLiteral) → negation (negation l) ≡ l
 negation-negation l = literal_ext _ _ refl (not-not l.negated)
-
-negation_differs_at : (n : Bool) → n ≡ not n → (true ≡ false)
-negation_differs_at true h = h
-negation_differs_at false h = sym h
 
 pub or-false : (b : Bool) → (b || false) ≡ b
 or-false true = refl
@@ -77,9 +79,6 @@ has-push_cases xs l k h =
       | inl old ↦ inl old
       | inr new ↦ inr (same-true l k new)
     ]
-
-pub within-push : (xs : List NumberedLiteral) (l : NumberedLiteral) → IsWithin xs (xs ++ (l ∷ []))
-within-push xs l k h = has-push_old xs l k h
 
 pub push-within : (xs ys : List NumberedLiteral) (l : NumberedLiteral) → IsWithin xs ys → has ys l ≡ true → IsWithin (xs ++ (l ∷ [])) ys
 push-within xs ys l w here k h =

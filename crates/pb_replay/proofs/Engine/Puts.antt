@@ -1,18 +1,17 @@
 use Rattle.std.specs.Prelude.{All, Bool, true, false, if◌then◌else◌}
 use Rattle.std.proofs.Common.{◌≡◌, ℕ, ◌+◌, ◌-◌, ◌*◌, ◌^◌, ◌<◌, ◌≤◌, ◌++◌, ◌∷◌, [], List, sym, ◌∙◌, ap, subst, arith, length, get_or, set, drop, min, length-append, length-set, Vec, Global}
-use Rattle.std.proofs.lemmas.List.{drop_more, drop_all, get_or-map, length-map}
-use Rattle.std.proofs.lemmas.List.Sums.{sum_by_push}
+use Rattle.std.proofs.lemmas.List.{drop_more, get_or-map, length-map}
 use Rattle.pb_replay.specs.declared.numbered.NumberedLiteral.{NumberedLiteral}
 use Rattle.pb_replay.specs.declared.propagate.term.Occurrence.{Occurrence}
 use Rattle.pb_replay.specs.Engine.Lists.{Shape, negation}
-use Rattle.pb_replay.specs.Engine.Counts.{place, IsCounted, IsTidy, IsPaid, IsAbsent, spent}
+use Rattle.pb_replay.specs.Engine.Counts.{place, IsCounted, IsTidy, IsAbsent}
 use Rattle.pb_replay.specs.Engine.Fields.{entries_of}
 use Rattle.pb_replay.proofs.Engine.Runs.{Counted-fits, Counted-lower, Tidy-lower, absent-push}
 
 -- the first j entries were taken from the open sums
 pub record IsPutting (forms : List Shape) (es : List Occurrence) (opens0 cands : List ℕ) (list : List NumberedLiteral) (work0 : List ℕ) (next visits0 : ℕ) (opens work : List ℕ) (visits j : ℕ) : Type 0 where
   pub counted : IsCounted forms opens list (drop j es)
-  pub tidy : (busy : ℕ) → IsTidy forms opens0 cands list work0 next busy → IsTidy forms opens cands list work next busy
+  pub tidy : (aside : List ℕ) (busy : ℕ) → IsTidy aside forms opens0 cands list work0 next busy → IsTidy aside forms opens cands list work next busy
   pub longer : (s : ℕ) → IsAbsent work 0 s → IsAbsent work0 0 s
   pub sizes : length opens ≡ length forms
   pub grown : length work ≡ length work0 + j
@@ -22,7 +21,7 @@ pub record IsPutting (forms : List Shape) (es : List Occurrence) (opens0 cands :
 pub Putting-start : (forms : List Shape) (es : List Occurrence) (opens cands : List ℕ) (list : List NumberedLiteral) (work : List ℕ) (next visits : ℕ) → IsCounted forms opens list es → length opens ≡ length forms → IsPutting forms es opens cands list work next visits opens work visits 0
 Putting-start forms es opens cands list work next visits c s = record {
   counted = c;
-  tidy = λ busy t. t;
+  tidy = λ aside busy t. t;
   longer = λ s gone. gone;
   sizes = s;
   grown = omega arith;
@@ -40,7 +39,7 @@ Putting-next forms es opens0 cands list work0 next visits0 opens work visits j o
     let room : e.form < length opens = omega (arith, named, p.sizes) in
     record {
       counted = Counted-lower forms opens opens' list e (drop (j + 1) es) is room (subst (IsCounted forms opens list) (drop_more es j d inside) p.counted);
-      tidy = λ busy t. Tidy-lower forms opens opens' cands list work work' next busy e.form (get_or opens e.form 0 - e.coefficient) is longer named (omega (arith, p.grown, within)) (p.tidy busy t);
+      tidy = λ aside busy t. Tidy-lower aside forms opens opens' cands list work work' next busy e.form (get_or opens e.form 0 - e.coefficient) is longer named (omega (arith, p.grown, within)) (p.tidy aside busy t);
       longer = λ s gone. p.longer s (absent-push work e.form 0 s (let from = rw longer at gone in from));
       sizes = ap length is ∙ length-set opens e.form (get_or opens e.form 0 - e.coefficient) ∙ p.sizes;
       grown = omega (arith, ap length longer, length-append work (e.form ∷ []), p.grown);
@@ -50,19 +49,6 @@ Putting-next forms es opens0 cands list work0 next visits0 opens work visits j o
   where
     least_upper : (v w a i : ℕ) → w ≡ min (v + 1) (2 ^ 64 - 1) → v ≤ a + i → w ≤ a + (i + 1)
     least_upper v w a i e h = omega arith
-
-pub Putting-counted : (forms : List Shape) (es : List Occurrence) (opens0 cands : List ℕ) (list : List NumberedLiteral) (work0 : List ℕ) (next visits0 : ℕ) (opens work : List ℕ) (visits j : ℕ) → length es ≤ j → IsPutting forms es opens0 cands list work0 next visits0 opens work visits j → IsCounted forms opens list []
-Putting-counted forms es opens0 cands list work0 next visits0 opens work visits j all p = subst (IsCounted forms opens list) (drop_all j es all) p.counted
-
-pub Putting-paid : (lists : List (List Occurrence)) (forms : List Shape) (opens0 cands : List ℕ) (list longer : List NumberedLiteral) (work0 : List ℕ) (next visits0 : ℕ) (opens work : List ℕ) (visits j : ℕ) (l : NumberedLiteral) → longer ≡ list ++ (l ∷ []) → j ≡ length (get_or lists (place (negation l)) []) → IsPutting forms (get_or lists (place (negation l)) []) opens0 cands longer work0 next visits0 opens work visits j → IsPaid lists list longer cands cands work0 work visits0 visits 0
-Putting-paid lists forms opens0 cands list longer work0 next visits0 opens work visits j l e n p =
-    let more : spent lists longer ≡ spent lists list + length (get_or lists (place (negation l)) []) =
-    ap (spent lists) e ∙ sum_by_push (λ k. length (get_or lists (place (negation k)) [])) list l in
-    record {
-      upper = omega (arith, more, n, p.upper);
-      work = omega (arith, more, n, p.grown);
-      rising = p.rising;
-    }
 
 -- by what the program reads
 pub entries-at : (occ : List (Vec Occurrence Global)) (p q : ℕ) (v : Vec Occurrence Global) → q < length occ → v ≡ get_or occ q v → q ≡ p → get_or (entries_of occ) p [] ≡ v.items

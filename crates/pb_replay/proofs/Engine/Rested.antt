@@ -1,5 +1,7 @@
 use Rattle.std.specs.Prelude.{All}
-use Rattle.std.proofs.Common.{◌≡◌, ℕ, ◌<◌, ◌∷◌, [], List, refl, arith, length, get_or}
+use Rattle.std.proofs.Common.{◌≡◌, ℕ, ◌<◌, ◌-◌, ◌++◌, ◌∷◌, [], List, refl, sym, ◌∙◌, arith, inl, inr, length, length-append, get_or}
+use Rattle.std.proofs.lemmas.Bool.{cases_lt}
+use Rattle.std.proofs.lemmas.List.{get_or_append_left, get_or-append_right}
 use Rattle.std.proofs.lemmas.List.Sums.{sum_by-cons}
 use Rattle.pb_replay.specs.declared.propagate.term.Term.{Term}
 use Rattle.pb_replay.specs.Engine.Lists.{Shape, negation, open_part, open_sum, size}
@@ -20,6 +22,13 @@ pub record IsEager (forms : List Shape) (work : List ℕ) : Type 0 where
   pub named : All (λ s. s < length forms) work
   pub aside : (s : ℕ) (d : Shape) → s < length forms → IsAbsent work 0 s → IsCalm (get_or forms s d) (size (get_or forms s d).terms) 0
 
+-- in neither of two lists
+absent-both : (xs ys : List ℕ) (s : ℕ) → IsAbsent xs 0 s → IsAbsent ys 0 s → IsAbsent (xs ++ ys) 0 s
+absent-both xs ys s p q i from less at = elim (cases_lt i (length xs)) [
+  | inl before ↦ p i from before (sym (get_or_append_left xs ys 0 i before) ∙ at)
+  | inr after ↦ q (i - length xs) (omega arith) (omega (arith, less, after, length-append xs ys)) (sym (get_or-append_right xs ys (length xs) i 0 refl after) ∙ at)
+]
+
 -- what a propagation from no literals needs of its beginning holds where each form is as it was made
 pub rest-counted : (forms : List Shape) (opens cands : List ℕ) → IsUndone forms opens cands [] 0 → IsCounted forms opens [] []
 rest-counted forms opens cands u = record {
@@ -30,11 +39,11 @@ rest-counted forms opens cands u = record {
       omega (arith, clean.0, sum, nothing);
 }
 
-pub rest-tidy : (forms : List Shape) (opens cands work : List ℕ) → IsUndone forms opens cands [] 0 → IsEager forms work → IsTidy forms opens cands [] work 0 (length forms)
-rest-tidy forms opens cands work u e = record {
-  calm = λ s d inside idle gone.
+pub rest-tidy : (aside : List ℕ) (forms : List Shape) (opens cands work : List ℕ) → IsUndone forms opens cands [] 0 → All (λ s. s < length forms) work → IsEager forms (aside ++ work) → IsTidy aside forms opens cands [] work 0 (length forms)
+rest-tidy aside forms opens cands work u named e = record {
+  calm = λ s d inside idle off gone.
       let clean = u.clean s d inside (λ i from less. absurd (omega (arith, less))) in
-      rw (clean.0, clean.1) (e.aside s d inside gone);
+      rw (clean.0, clean.1) (e.aside s d inside (absent-both aside work s off gone));
   passed = λ s d inside k f before within.
       let clean = u.clean s d inside (λ i from less. absurd (omega (arith, less))) in
       absurd (omega (arith, clean.1, before));
@@ -42,5 +51,5 @@ rest-tidy forms opens cands work u e = record {
       let clean = u.clean s d inside (λ i from less. absurd (omega (arith, less))) in
       omega (arith, clean.1);
   clean = λ s d inside gone. u.clean s d inside (λ i from less. absurd (omega (arith, less)));
-  named = e.named;
+  named = named;
 }

@@ -1,20 +1,21 @@
 -- The engine between two calls: what a call finds, and what it leaves.
 use Rattle.std.specs.Prelude.{All, map, filter, Option, Some, None, slice_get, Contains}
-use Rattle.std.proofs.Common.{◌≡◌, ℕ, zero, suc, ◌+◌, ◌-◌, ◌<◌, ◌≤◌, ◌⊎◌, ◌++◌, ◌∷◌, [], List, Bool, true, false, refl, sym, ◌∙◌, ap, subst, arith, inl, inr, length, get_or, take, set, length-set, length-append}
+use Rattle.std.proofs.Common.{◌≡◌, ℕ, zero, suc, ◌+◌, ◌-◌, ◌<◌, ◌≤◌, ◌⊎◌, ◌++◌, ◌∷◌, [], List, Bool, true, false, refl, sym, ◌∙◌, ap, subst, arith, inl, inr, cond, length, get_or, take, set, get_or-set_other, length-set, length-append}
 use Rattle.std.proofs.lemmas.Bool.{cases_lt, cases_Bool, both_ways}
-use Rattle.std.proofs.lemmas.List.{length-map, map-append, map-set, get_or_append_left, append-nil}
+use Rattle.std.proofs.lemmas.List.{length-map, map-append, map-set, get_or_append_left, append-nil, take_more_set}
+use Rattle.std.proofs.lemmas.List.Elements.{All-nil, All-cons, filter-append, filter_more}
 use Rattle.pb_normal.specs.Form.{Form}
 use Rattle.pb_normal.specs.Rules.{opposite}
 use Rattle.pb_normal.specs.declared.entry.Entry.{Entry}
 use Rattle.pb_replay.specs.declared.propagate.kept.Kept.{Kept}
 use Rattle.pb_replay.specs.Engine.Lists.{Shape, size}
 use Rattle.pb_replay.specs.Engine.Forms.{IsKeptAs}
-use Rattle.pb_replay.specs.Engine.Counts.{IsAbsent, IsCalm, IsUndone}
+use Rattle.pb_replay.specs.Engine.Counts.{IsAbsent, IsCalm, IsUndone, IsTidy}
 use Rattle.pb_replay.specs.Engine.Fields.{shapes_of, kept_shape, HasEntered, IsEmpty}
 use Rattle.pb_replay.specs.Engine.Rest.{IsSlot, AreSlots, AreRising, waits, kept_waits, IsEager, AreAtRest}
 use Rattle.pb_replay.specs.Engine.Live.{Live}
 use Rattle.pb_replay.specs.Propagation.{With}
-use Rattle.pb_replay.proofs.Engine.Rested.{IsEager as IsCalmBut}
+use Rattle.pb_replay.proofs.Engine.Rested.{IsEager as IsCalmBut, rest-tidy}
 use Rattle.pb_replay.proofs.Engine.Bridge.{AreKept}
 use Rattle.pb_replay.proofs.Engine.Gets.{last-is}
 
@@ -345,3 +346,63 @@ opposite-inside es n all k d h =
     let is : get_or (map opposite es) k d ≡ opposite e.value = mapped opposite es k d e.value inside ∙ ap opposite (e.at e.value) in
     let small : (get_or es k e.value).variable < n = all k e.value inside in
     omega (arith, ap (λ (x : Entry). x.variable) is, ap (λ (x : Entry). x.variable) (e.at e.value), small)
+
+-- what a propagation from no literals needs of its beginning, where all that may put one on the empty list waits
+pub rest-tidy-all : (keep : List Kept) (eager opens cands : List ℕ) → AreAtRest keep opens cands → IsEager keep eager → IsTidy (filter (waits keep) eager) (shapes_of keep) opens cands [] [] 0 (length keep)
+rest-tidy-all keep eager opens cands rest e =
+    let waiting = filter (waits keep) eager in
+    let whole : IsEager keep (waiting ++ []) = subst (IsEager keep) (sym (append-nil waiting)) (eager-filter keep eager e) in
+    let tidy = rest-tidy waiting (shapes_of keep) opens cands [] (rest-undone keep opens cands rest) (λ i d less. absurd (omega (arith, less))) (calm-but keep (waiting ++ []) whole) in
+    rw (length-map keep kept_shape) at tidy
+
+-- the same, where one of the forms is put to work first
+filter-twice : (p : ℕ → Bool) (x : ℕ) → filter p (filter p (x ∷ [])) ≡ filter p (x ∷ [])
+filter-twice p x = at (p x) refl
+  where
+    at : (b : Bool) → p x ≡ b → filter p (filter p (x ∷ [])) ≡ filter p (x ∷ [])
+    at true e = rw (e, e) refl
+    at false e = rw e refl
+
+pub first-count : (p : ℕ → Bool) (eager : List ℕ) (x : ℕ) → length (filter p (eager ++ filter p (x ∷ []))) ≡ length (filter p eager) + length (filter p (x ∷ []))
+first-count p eager x = ap length (filter-append p eager (filter p (x ∷ [])) ∙ ap (λ (ys : List ℕ). filter p eager ++ ys) (filter-twice p x)) ∙ length-append (filter p eager) (filter p (x ∷ []))
+
+pub rest-tidy-first : (keep : List Kept) (eager opens cands work : List ℕ) (number : ℕ) → number < length keep → work ≡ filter (waits keep) (number ∷ []) → AreAtRest keep opens cands → IsEager keep (eager ++ filter (waits keep) (number ∷ [])) → IsTidy (filter (waits keep) eager) (shapes_of keep) opens cands [] work 0 (length keep)
+rest-tidy-first keep eager opens cands work number inside is rest e =
+    let waiting = filter (waits keep) eager in
+    let first = filter (waits keep) (number ∷ []) in
+    let once : filter (waits keep) first ≡ first = filter-twice (waits keep) number in
+    let split : filter (waits keep) (eager ++ first) ≡ waiting ++ first = filter-append (waits keep) eager first ∙ ap (λ (xs : List ℕ). waiting ++ xs) once in
+    let whole : IsEager keep (waiting ++ first) = subst (IsEager keep) split (eager-filter keep (eager ++ first) e) in
+    let P : ℕ → Type 0 = λ s. s < length (shapes_of keep) in
+    let named = filter-all P (waits keep) (number ∷ []) (All-cons P number [] (omega (arith, inside, length-map keep kept_shape)) (All-nil P)) in
+    let tidy = rest-tidy waiting (shapes_of keep) opens cands first (rest-undone keep opens cands rest) named (calm-but keep (waiting ++ first) whole) in
+    rw is (rw (length-map keep kept_shape) at tidy)
+
+-- the first i numbers of a list were tried, and those that pass stand at its front
+pub record IsPruned (p : ℕ → Bool) (old new : List ℕ) (i kept : ℕ) : Type 0 where
+  pub front : take kept new ≡ filter p (take i old)
+  pub back : (j : ℕ) → i ≤ j → get_or new j 0 ≡ get_or old j 0
+  pub size : length new ≡ length old
+  pub less : kept ≤ i
+
+pub pruned-drop : (p : ℕ → Bool) (old new : List ℕ) (i kept x : ℕ) → i < length old → x ≡ get_or new i 0 → p x ≡ false → IsPruned p old new i kept → IsPruned p old new (i + 1) kept
+pruned-drop p old new i kept x inside is out r = record {
+  front =
+      let same : x ≡ get_or old i 0 = is ∙ r.back i (omega arith) in
+      let none : cond (p (get_or old i 0)) (get_or old i 0 ∷ []) [] ≡ [] = ap (λ b. cond b (get_or old i 0 ∷ []) []) (ap p (sym same) ∙ out) in
+      r.front ∙ sym (filter_more p old i 0 inside ∙ ap (λ (ys : List ℕ). filter p (take i old) ++ ys) none ∙ append-nil (filter p (take i old)));
+  back = λ j h. r.back j (omega (arith, h));
+  size = r.size;
+  less = omega (arith, r.less);
+}
+
+pub pruned-keep : (p : ℕ → Bool) (old new new' : List ℕ) (i kept x : ℕ) → i < length old → x ≡ get_or new i 0 → p x ≡ true → new' ≡ set new kept x → IsPruned p old new i kept → IsPruned p old new' (i + 1) (kept + 1)
+pruned-keep p old new new' i kept x inside is passes written r = rw written (record {
+  front =
+      let same : x ≡ get_or old i 0 = is ∙ r.back i (omega arith) in
+      let one : cond (p (get_or old i 0)) (get_or old i 0 ∷ []) [] ≡ x ∷ [] = ap (λ b. cond b (get_or old i 0 ∷ []) []) (ap p (sym same) ∙ passes) ∙ ap (λ y. y ∷ []) (sym same) in
+      take_more_set new kept x (omega (arith, inside, r.less, r.size)) ∙ ap (λ (ys : List ℕ). ys ++ (x ∷ [])) r.front ∙ sym (filter_more p old i 0 inside ∙ ap (λ (ys : List ℕ). filter p (take i old) ++ ys) one);
+  back = λ j h. get_or-set_other new kept j x 0 (λ e. absurd (omega (arith, e, h, r.less))) ∙ r.back j (omega (arith, h));
+  size = length-set new kept x ∙ r.size;
+  less = omega (arith, r.less);
+})

@@ -1,5 +1,5 @@
 use Rattle.std.specs.Prelude.{◌==◌, sum_by}
-use Rattle.std.proofs.Common.{◌≡◌, ℕ, ◌+◌, ◌-◌, ◌<◌, ◌≤◌, ◌⊎◌, ◌++◌, ◌∷◌, [], List, true, false, refl, sym, ◌∙◌, ap, inl, inr, arith, length, get_or, set, length-append, get_or-set_same, get_or-set_other}
+use Rattle.std.proofs.Common.{◌≡◌, ℕ, zero, suc, ◌+◌, ◌-◌, ◌<◌, ◌≤◌, ◌⊎◌, ◌++◌, ◌∷◌, [], List, true, false, refl, sym, ◌∙◌, ap, inl, inr, arith, length, get_or, set, length-append, get_or-set_same, get_or-set_other}
 use Rattle.std.proofs.lemmas.Bool.{cases_lt, cases_Bool, cases_eq, both_ways, eq-eqb, ne_eqb, or_left, or_right, or_cases}
 use Rattle.std.proofs.lemmas.List.{get_or_append_left, get_or_push, get_or_default}
 use Rattle.std.proofs.lemmas.List.Elements.{All-push}
@@ -77,9 +77,13 @@ pub absent-push : (work : List ℕ) (x n s : ℕ) → IsAbsent (work ++ (x ∷ [
 absent-push work x n s h i from less at =
     h i from (omega (arith, less, length-append work (x ∷ []))) (get_or_append_left work (x ∷ []) 0 i less ∙ at)
 
-absent-new : (work : List ℕ) (x n s : ℕ) → n ≤ length work → IsAbsent (work ++ (x ∷ [])) n s → s ≡ x → ⊥
+pub absent-new : (work : List ℕ) (x n s : ℕ) → n ≤ length work → IsAbsent (work ++ (x ∷ [])) n s → s ≡ x → ⊥
 absent-new work x n s from h e =
     h (length work) from (omega (arith, length-append work (x ∷ []))) (get_or_push work x 0 (length work) refl ∙ sym e)
+
+pub absent-cons : (x : ℕ) (xs : List ℕ) (s : ℕ) → (x ≡ s → ⊥) → IsAbsent xs 0 s → IsAbsent (x ∷ xs) 0 s
+absent-cons x xs s apart gone zero from less at = apart at
+absent-cons x xs s apart gone (suc i) from less at = gone i (omega arith) (omega (arith, less)) at
 
 done-push : (list : List NumberedLiteral) (l k : NumberedLiteral) → IsDone list k → IsDone (list ++ (l ∷ [])) k
 done-push list l k h =
@@ -102,8 +106,8 @@ Counted-put forms opens list next l entries e absent linked r = rw e (record {
       omega (arith, before, none, taken, link);
 })
 
-pub Tidy-put : (forms : List Shape) (opens cands : List ℕ) (list longer : List NumberedLiteral) (work : List ℕ) (next busy : ℕ) (l : NumberedLiteral) → longer ≡ list ++ (l ∷ []) → IsTidy forms opens cands list work next busy → IsTidy forms opens cands longer work next busy
-Tidy-put forms opens cands list longer work next busy l e r = rw e (record {
+pub Tidy-put : (aside : List ℕ) (forms : List Shape) (opens cands : List ℕ) (list longer : List NumberedLiteral) (work : List ℕ) (next busy : ℕ) (l : NumberedLiteral) → longer ≡ list ++ (l ∷ []) → IsTidy aside forms opens cands list work next busy → IsTidy aside forms opens cands longer work next busy
+Tidy-put aside forms opens cands list longer work next busy l e r = rw e (record {
   calm = r.calm;
   passed = λ s d inside k f before within. done-push list l (get_or (get_or forms s d).terms k f).literal (r.passed s d inside k f before within);
   bounded = r.bounded;
@@ -136,11 +140,11 @@ Counted-lower forms opens lower list e rest is room r = rw is (record { each = �
         let now = get_or-set_other opens e.form s (get_or opens e.form 0 - e.coefficient) 0 other in
         omega (arith, now, total, head, part)
 
-pub Tidy-lower : (forms : List Shape) (opens lower cands : List ℕ) (list : List NumberedLiteral) (work more : List ℕ) (next busy x y : ℕ) → lower ≡ set opens x y → more ≡ work ++ (x ∷ []) → x < length forms → next ≤ length work → IsTidy forms opens cands list work next busy → IsTidy forms lower cands list more next busy
-Tidy-lower forms opens lower cands list work more next busy x y is longer inside_x within r = rw (is, longer) (record {
-  calm = λ s d inside idle gone.
+pub Tidy-lower : (aside : List ℕ) (forms : List Shape) (opens lower cands : List ℕ) (list : List NumberedLiteral) (work more : List ℕ) (next busy x y : ℕ) → lower ≡ set opens x y → more ≡ work ++ (x ∷ []) → x < length forms → next ≤ length work → IsTidy aside forms opens cands list work next busy → IsTidy aside forms lower cands list more next busy
+Tidy-lower aside forms opens lower cands list work more next busy x y is longer inside_x within r = rw (is, longer) (record {
+  calm = λ s d inside idle off gone.
       let apart = absent-new work x next s within gone in
-      rw (get_or-set_other opens x s y 0 apart) (r.calm s d inside idle (absent-push work x next s gone));
+      rw (get_or-set_other opens x s y 0 apart) (r.calm s d inside idle off (absent-push work x next s gone));
   passed = r.passed;
   bounded = r.bounded;
   clean = λ s d inside gone.
@@ -150,9 +154,9 @@ Tidy-lower forms opens lower cands list work more next busy x y is longer inside
 })
 
 -- the busy form's candidate changes
-pub Tidy-pass : (forms : List Shape) (opens cands passed : List ℕ) (list : List NumberedLiteral) (work : List ℕ) (next busy c : ℕ) (terms : List Term) (e : Term) → passed ≡ set cands busy (c + 1) → c ≡ get_or cands busy 0 → busy < length cands → ((d : Shape) → busy < length forms → (get_or forms busy d).terms ≡ terms) → c < length terms → IsDone list (get_or terms c e).literal → (IsAbsent work 0 busy → ⊥) → IsTidy forms opens cands list work next busy → IsTidy forms opens passed list work next busy
-Tidy-pass forms opens cands passed list work next busy c terms e is at room same here done there r = rw is (record {
-  calm = λ s d inside idle gone. rw (get_or-set_other cands busy s (c + 1) 0 idle) (r.calm s d inside idle gone);
+pub Tidy-pass : (aside : List ℕ) (forms : List Shape) (opens cands passed : List ℕ) (list : List NumberedLiteral) (work : List ℕ) (next busy c : ℕ) (terms : List Term) (e : Term) → passed ≡ set cands busy (c + 1) → c ≡ get_or cands busy 0 → busy < length cands → ((d : Shape) → busy < length forms → (get_or forms busy d).terms ≡ terms) → c < length terms → IsDone list (get_or terms c e).literal → (IsAbsent work 0 busy → ⊥) → IsTidy aside forms opens cands list work next busy → IsTidy aside forms opens passed list work next busy
+Tidy-pass aside forms opens cands passed list work next busy c terms e is at room same here done there r = rw is (record {
+  calm = λ s d inside idle off gone. rw (get_or-set_other cands busy s (c + 1) 0 idle) (r.calm s d inside idle off gone);
   passed = λ s d inside k f before within. elim (cases_eq s busy) [
     | inr other ↦
         let kept = r.passed s d inside in
@@ -187,9 +191,9 @@ Tidy-pass forms opens cands passed list work next busy c terms e is at room same
     last_one a b h k = grind arith
 
 -- the next form of the work list is looked at
-pub Tidy-next : (forms : List Shape) (opens cands : List ℕ) (list : List NumberedLiteral) (work : List ℕ) (next : ℕ) → IsTidy forms opens cands list work next (length forms) → IsTidy forms opens cands list work (next + 1) (get_or work next 0)
-Tidy-next forms opens cands list work next r = record {
-  calm = λ s d inside idle gone. r.calm s d inside (λ e. absurd (omega (arith, e, inside))) (λ i from less at. elim (cases_eq i next) [
+pub Tidy-next : (aside : List ℕ) (forms : List Shape) (opens cands : List ℕ) (list : List NumberedLiteral) (work : List ℕ) (next : ℕ) → IsTidy aside forms opens cands list work next (length forms) → IsTidy aside forms opens cands list work (next + 1) (get_or work next 0)
+Tidy-next aside forms opens cands list work next r = record {
+  calm = λ s d inside idle off gone. r.calm s d inside (λ e. absurd (omega (arith, e, inside))) off (λ i from less at. elim (cases_eq i next) [
     | inl here ↦ idle (sym at ∙ ap (λ j. get_or work j 0) here)
     | inr later ↦ gone i (after i next from later) less at
   ]);
@@ -202,11 +206,11 @@ Tidy-next forms opens cands list work next r = record {
     after : (i n : ℕ) → n ≤ i → (i ≡ n → ⊥) → n + 1 ≤ i
     after i n from later = grind arith
 
-pub Tidy-settle : (forms : List Shape) (opens cands : List ℕ) (list : List NumberedLiteral) (work : List ℕ) (next busy : ℕ) (e : Shape) → IsCalm (get_or forms busy e) (get_or opens busy 0) (get_or cands busy 0) → IsTidy forms opens cands list work next busy → IsTidy forms opens cands list work next (length forms)
-Tidy-settle forms opens cands list work next busy e calm r = record {
-  calm = λ s d inside idle gone. elim (cases_eq s busy) [
+pub Tidy-settle : (aside : List ℕ) (forms : List Shape) (opens cands : List ℕ) (list : List NumberedLiteral) (work : List ℕ) (next busy : ℕ) (e : Shape) → IsCalm (get_or forms busy e) (get_or opens busy 0) (get_or cands busy 0) → IsTidy aside forms opens cands list work next busy → IsTidy aside forms opens cands list work next (length forms)
+Tidy-settle aside forms opens cands list work next busy e calm r = record {
+  calm = λ s d inside idle off gone. elim (cases_eq s busy) [
     | inl one ↦ rw (one, get_or_default forms busy d e (rw one at inside)) calm
-    | inr other ↦ r.calm s d inside other gone
+    | inr other ↦ r.calm s d inside other off gone
   ];
   passed = r.passed;
   bounded = r.bounded;

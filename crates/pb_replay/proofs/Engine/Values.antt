@@ -7,13 +7,13 @@ use Rattle.std.specs.List.{list_any}
 use Rattle.std.proofs.lemmas.List.{length-append, get_or_append_left, get_or-append_right, get_or_past, set_past, drop_more, drop_all}
 use Rattle.pb_replay.specs.declared.numbered.NumberedLiteral.{NumberedLiteral}
 use Rattle.pb_replay.specs.Engine.Lists.{negation, same, has, says, holds, vacancy}
-use Rattle.pb_replay.proofs.Engine.Literals.{has-none, has-push, has-get, beq-refl, literal_ext, or-false}
+use Rattle.pb_replay.proofs.Engine.Literals.{has-none, has-push, has-get, beq-refl, literal_ext, not-not, or-false}
 
 -- the values are those that the list gives
 abbrev pub Agree : List (Option Bool) → List NumberedLiteral → Type 0
 Agree values list = (l : NumberedLiteral) → has list l ≡ says values l
 
-pub says-some : (values : List (Option Bool)) (l : NumberedLiteral) (m : Bool) → get_or values l.variable None ≡ Some m → says values l ≡ beq m l.negated
+pub says-some : (values : List (Option Bool)) (l : NumberedLiteral) (m : Bool) → get_or values l.variable None ≡ Some m → says values l ≡ beq (not m) l.negated
 unfolding says
 says-some values l m h = rw h
 
@@ -48,7 +48,7 @@ vacant values list l a absent open' =
     vacant_from : (o : Option Bool) → get_or values l.variable None ≡ o → get_or values l.variable None ≡ None
     vacant_from None h = h
     vacant_from (Some m) h =
-        absurd (beq-either m l.negated
+        absurd (beq-either (not m) l.negated
         (sym (says-some values l m h) ∙ sym (a l) ∙ absent)
         (sym (says-some values (negation l) m h) ∙ sym (a (negation l)) ∙ open'))
 
@@ -61,7 +61,7 @@ opposite values list l a here =
     opposite_from None h = absurd (both_ways _ (says-none values l h) (sym (a l) ∙ here))
     opposite_from (Some m) h =
         a (negation l) ∙ says-some values (negation l) m h
-        ∙ beq-opposite m l.negated (sym (says-some values l m h) ∙ sym (a l) ∙ here)
+        ∙ beq-opposite (not m) l.negated (sym (says-some values l m h) ∙ sym (a l) ∙ here)
 
 same-other : (l k : NumberedLiteral) → (k.variable ≡ l.variable → ⊥) → same l k ≡ false
 unfolding same
@@ -86,27 +86,28 @@ says-apart : (xs : List (Option Bool)) (v : ℕ) (o : Option Bool) (q : Numbered
 unfolding says
 says-apart xs v o q apart = ap (λ x. holds x q.negated) (get_or-set_other xs v q.variable o None apart)
 
-pub Agree-push : (values : List (Option Bool)) (list : List NumberedLiteral) (l : NumberedLiteral) → Agree values list → l.variable < length values → has list l ≡ false → has list (negation l) ≡ false → Agree (set values l.variable (Some l.negated)) (list ++ (l ∷ []))
+pub Agree-push : (values : List (Option Bool)) (list : List NumberedLiteral) (l : NumberedLiteral) → Agree values list → l.variable < length values → has list l ≡ false → has list (negation l) ≡ false → Agree (set values l.variable (Some (not l.negated))) (list ++ (l ∷ []))
 Agree-push values list l a inside absent open' k =
     elim (cases_eq k.variable l.variable) [
       | inl e ↦
-          let written : get_or (set values l.variable (Some l.negated)) k.variable None ≡ Some l.negated =
-          rw e (get_or-set_same values l.variable (Some l.negated) None inside) in
+          let written : get_or (set values l.variable (Some (not l.negated))) k.variable None ≡ Some (not l.negated) =
+          rw e (get_or-set_same values l.variable (Some (not l.negated)) None inside) in
           has-push list l k
           ∙ ap (λ b. b || same l k) (has-neither list l k absent open' e)
           ∙ same-here l k e
-          ∙ sym (says-some _ k l.negated written)
+          ∙ ap (λ b. beq b k.negated) (sym (not-not l.negated))
+          ∙ sym (says-some _ k (not l.negated) written)
       | inr ne ↦
           has-push list l k
           ∙ ap (λ b. has list k || b) (same-other l k ne)
           ∙ or-false (has list k)
           ∙ a k
-          ∙ sym (says-apart values l.variable (Some l.negated) k ne)
+          ∙ sym (says-apart values l.variable (Some (not l.negated)) k ne)
     ]
 
-pub vacancy-push : (values : List (Option Bool)) (list : List NumberedLiteral) (l : NumberedLiteral) → Agree values list → l.variable < length values → has list l ≡ false → has list (negation l) ≡ false → sum_by vacancy (set values l.variable (Some l.negated)) + 1 ≡ sum_by vacancy values
+pub vacancy-push : (values : List (Option Bool)) (list : List NumberedLiteral) (l : NumberedLiteral) → Agree values list → l.variable < length values → has list l ≡ false → has list (negation l) ≡ false → sum_by vacancy (set values l.variable (Some (not l.negated))) + 1 ≡ sum_by vacancy values
 vacancy-push values list l a inside absent open' =
-    let change = sum_by-set vacancy values l.variable (Some l.negated) None inside in
+    let change = sum_by-set vacancy values l.variable (Some (not l.negated)) None inside in
     let was = rw (vacant values list l a absent open') at change in
     omega (arith, was)
 
@@ -167,8 +168,8 @@ forget-none values list i all f k = none_from (get_or values k None) refl
     none_from : (o : Option Bool) → get_or values k None ≡ o → get_or values k None ≡ None
     none_from None h = h
     none_from (Some m) h =
-        let l : NumberedLiteral = record { variable = k; negated = m } in
-        let on : has (drop i list) l ≡ true = f l (says-some values l m h ∙ beq-refl m) in
+        let l : NumberedLiteral = record { variable = k; negated = not m } in
+        let on : has (drop i list) l ≡ true = f l (says-some values l m h ∙ beq-refl (not m)) in
         absurd (both_ways _ (ap (λ ys. has ys l) (drop_all i list all) ∙ has-none l) on)
 
 pub forget-inside : (values0 values : List (Option Bool)) (list : List NumberedLiteral) (i : ℕ) (d : NumberedLiteral) → i < length list → length values ≡ length values0 → Agree values0 list → (get_or list i d).variable < length values

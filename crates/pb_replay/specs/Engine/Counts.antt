@@ -55,10 +55,10 @@ IsAbsent work from s = (i : ℕ) → from ≤ i → i < length work → slice_in
 pub record IsCounted (forms : List Shape) (opens : List ℕ) (list : List NumberedLiteral) (rest : List Occurrence) : Type 0 where
   pub each : (s : ℕ) (d : Shape) → s < length forms → slice_index opens s ≡ open_sum list (slice_index_or forms s d).terms + weight_in s rest
 
--- each form is calm but for the one that is looked at (none where `busy` is no form's number) and those that wait on the
--- work list from `next` on; a form that does not stand on the work list is as it was made
-pub record IsTidy (forms : List Shape) (opens candidates : List ℕ) (list : List NumberedLiteral) (work : List ℕ) (next busy : ℕ) : Type 0 where
-  pub calm : (s : ℕ) (d : Shape) → s < length forms → (s ≡ busy → ⊥) → IsAbsent work next s → IsCalm (slice_index_or forms s d) (slice_index opens s) (slice_index candidates s)
+-- each form is calm but for those that are set aside, the one that is looked at (none where `busy` is no form's number)
+-- and those that wait on the work list from `next` on; a form that does not stand on the work list is as it was made
+pub record IsTidy (aside : List ℕ) (forms : List Shape) (opens candidates : List ℕ) (list : List NumberedLiteral) (work : List ℕ) (next busy : ℕ) : Type 0 where
+  pub calm : (s : ℕ) (d : Shape) → s < length forms → (s ≡ busy → ⊥) → IsAbsent aside 0 s → IsAbsent work next s → IsCalm (slice_index_or forms s d) (slice_index opens s) (slice_index candidates s)
   pub passed : (s : ℕ) (d : Shape) → s < length forms → ArePassed (slice_index_or forms s d).terms (slice_index candidates s) list
   pub bounded : (s : ℕ) (d : Shape) → s < length forms → slice_index candidates s ≤ length (slice_index_or forms s d).terms
   pub clean : (s : ℕ) (d : Shape) → s < length forms → IsAbsent work 0 s → (slice_index opens s ≡ size (slice_index_or forms s d).terms) × (slice_index candidates s ≡ 0)
@@ -68,10 +68,14 @@ pub record IsTidy (forms : List Shape) (opens candidates : List ℕ) (list : Lis
 abbrev pub spent : List (List Occurrence) → List NumberedLiteral → ℕ
 spent lists list = sum_by (λ l. length (slice_index_or lists (place (negation l)) [])) list
 
--- what a part of a propagation costs: each look is paid by an entry that was taken, a term that was passed, or is one of
--- `looks`; each entry that was taken put a form on the work list
+-- each look is paid by an entry that was taken, a term that was passed, or is one of `looks`
+abbrev pub AreCovered : List (List Occurrence) → List NumberedLiteral → List NumberedLiteral → List ℕ → List ℕ → ℕ → ℕ → ℕ → Type 0
+AreCovered lists list0 list1 cands0 cands1 visits0 visits1 looks =
+    visits1 + sum cands0 + spent lists list0 ≤ visits0 + looks + sum cands1 + spent lists list1
+
+-- what a part of a propagation costs: its looks, and each entry that was taken put a form on the work list
 pub record IsPaid (lists : List (List Occurrence)) (list0 list1 : List NumberedLiteral) (cands0 cands1 work0 work1 : List ℕ) (visits0 visits1 looks : ℕ) : Type 0 where
-  pub upper : visits1 + sum cands0 + spent lists list0 ≤ visits0 + looks + sum cands1 + spent lists list1
+  pub upper : AreCovered lists list0 list1 cands0 cands1 visits0 visits1 looks
   pub work : length work1 + spent lists list0 ≡ length work0 + spent lists list1
   pub rising : visits0 ≤ visits1
 

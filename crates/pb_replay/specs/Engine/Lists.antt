@@ -49,12 +49,6 @@ pub data Conflicts (forms : List Shape) (list : List NumberedLiteral) : Type 0 w
   opposed : (l : NumberedLiteral) → has list l ≡ true → has list (negation l) ≡ true → Conflicts forms list
   broken : (form : Shape) → Contains forms form → open_sum list form.terms < form.degree → Conflicts forms list
 
--- some derivation has a conflict
-pub record FindsConflict (forms : List Shape) (given : List NumberedLiteral) : Type 0 where
-  pub list : List NumberedLiteral
-  pub derived : Derives forms given list
-  pub conflict : Conflicts forms list
-
 -- no literal may be put on the list
 abbrev pub IsClosed : List Shape → List NumberedLiteral → Type 0
 IsClosed forms list = (l : NumberedLiteral) → Puts forms list l → ⊥
@@ -63,19 +57,10 @@ IsClosed forms list = (l : NumberedLiteral) → Puts forms list l → ⊥
 abbrev pub IsWithin : List NumberedLiteral → List NumberedLiteral → Type 0
 IsWithin a b = (l : NumberedLiteral) → has a l ≡ true → has b l ≡ true
 
--- the list has the literals of a derivation that cannot be made longer, and no conflict
-pub record Completes (forms : List Shape) (given list : List NumberedLiteral) : Type 0 where
-  pub whole : List NumberedLiteral
-  pub derived : Derives forms given whole
-  pub closed : IsClosed forms whole
-  pub no_conflict : Conflicts forms whole → ⊥
-  pub within : IsWithin whole list
-  pub covers : IsWithin list whole
-
--- whether a variable's value puts this literal on the list
+-- whether a variable's value is that of this literal
 abbrev pub holds : Option Bool → Bool → Bool
 holds None n = false
-holds (Some m) n = beq m n
+holds (Some m) n = beq (not m) n
 
 unfoldable pub says : List (Option Bool) → NumberedLiteral → Bool
 says values l = holds (slice_index_or values l.variable None) l.negated

@@ -15,12 +15,12 @@ pub record Standing : Type 0 where
 abbrev pub Live : List (Option Form) → Form → Type 0
 Live forms f = Contains forms (Some f)
 
--- a value of a variable, as its literals have it
+-- whether a literal of a variable, negated or not, is true at its value
 abbrev pub value_says : Option Bool → Bool → Bool
 value_says None n = false
-value_says (Some m) n = if m then n else not n
+value_says (Some m) n = if n then not m else m
 
--- the list gives these values: the literal itself, `true` where it is negated
+-- a literal stands on the list exactly where its variable has a value and the literal is true at it
 abbrev pub Gives : List NumberedLiteral → List (Option Bool) → Type 0
 Gives list values = (v : ℕ) (n : Bool) → on list v n ≡ value_says (slice_index_or values v None) n
 

@@ -10,7 +10,7 @@ use std::alloc::{AllocError, Global};
 /// A list of literals, with the value that it gives each variable.
 #[derive(Drop)]
 pub struct Assignment {
-    // `Some(negated)` where the literal is on the list.
+    // The truth value of each variable with a literal on the list.
     pub values: Vec<Option<bool>>,
     pub list: Vec<NumberedLiteral>,
     ghost agrees: { (l : NumberedLiteral) → has list.items l ≡ says values.items l },
@@ -63,7 +63,7 @@ impl Assignment {
         ensures { result ≡ has self.now.list.items literal }
     {
         match self.values[literal.variable] {
-            Some(negated) => negated == literal.negated,
+            Some(value) => value != literal.negated,
             None => false,
         }
     }
@@ -78,7 +78,7 @@ impl Assignment {
         ensures err { OnErr result (self.new.list.items ≡ self.old.list.items) }
     {
         self.list.push(literal)?;
-        self.values[literal.variable] = Some(literal.negated);
+        self.values[literal.variable] = Some(!literal.negated);
         Ok(())
     }
 }

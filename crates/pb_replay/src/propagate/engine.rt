@@ -15,7 +15,7 @@ ghost use Rattle.pb_replay.specs.Engine.Rest.{AreAtRest, waits, IsRefuted, IsEnd
 use crate::numbered::NumberedLiteral;
 use crate::propagate::assignment::Assignment;
 use crate::propagate::links::{enter, leave, vacate};
-use crate::propagate::run::{Run, propagate, try_put, undo_forms};
+use crate::propagate::run::{Run, choose, propagate, try_put, undo_forms};
 use crate::propagate::store::Store;
 use pb_normal::{Normal, NormalFault};
 use std::alloc::{AllocError, Global};
@@ -46,31 +46,30 @@ impl Model for Engine {
     ghost invariant = { λ e. e.spent ≡ false → IsAtRest e.store e.run e.eager.items e.forms.items };
 }
 
-// Puts a form to work if it is eager.
-fn choose(store: &Store, form: usize, work: &mut Vec<usize>) -> Result<(), AllocError>
-    requires { form < length store.now.kept.items }
-    ensures { OnOk result (work.new.items ≡ work.old.items ++ filter (waits store.now.kept.items) (form ∷ [])) }
+// Whether a number is that of a form that may put a literal on the empty list.
+fn is_waiting(store: &Store, form: usize) -> bool
+    ensures { result ≡ waits store.now.kept.items form }
 {
-    if !store.kept[form].eager {
-        return Ok(());
+    match store.kept.get(form) {
+        Some(kept) => kept.eager,
+        None => false,
     }
-    work.push(form)?;
-    Ok(())
 }
 
-// Keeps of the forms in a list those that are eager, and puts them to work.
-fn gather(store: &Store, eager: &mut Vec<usize>, work: &mut Vec<usize>) -> Result<(), AllocError>
-    requires named { All (λ s. s < length store.now.kept.items) eager.old.items }
-    requires empty { work.old.items ≡ [] }
-    ensures eager { OnOk result (eager.new.items ≡ filter (waits store.now.kept.items) eager.old.items) }
-    ensures work { OnOk result (work.new.items ≡ eager.new.items) }
+// Keeps of the forms in a list those that may put a literal on the empty list.
+fn prune(store: &Store, eager: &mut Vec<usize>)
+    ensures { eager.new.items ≡ filter (waits store.now.kept.items) eager.old.items }
 {
+    let mut kept = 0;
     'forms: for i in 0..eager.len() {
-        choose(store, eager[i], work)?;
+        let form = eager[i];
+        if !is_waiting(store, form) {
+            continue;
+        }
+        eager[kept] = form;
+        kept += 1;
     }
-    eager.clear();
-    eager.extend_from_slice(work.as_slice())?;
-    Ok(())
+    eager.truncate(kept);
 }
 
 // Puts the given literals on the list; whether two of them are opposite.
@@ -82,7 +81,6 @@ fn assume(store: &Store, run: &mut Run, given: &[NumberedLiteral]) -> Result<boo
     requires next { run.old.next ≤ length run.old.work.items }
     requires empty { run.old.assignment.list.items ≡ [] }
     requires counted { IsCounted (shapes_of store.now.kept.items) run.old.opens.items run.old.assignment.list.items [] }
-    requires tidy { IsTidy (shapes_of store.now.kept.items) run.old.opens.items run.old.candidates.items run.old.assignment.list.items run.old.work.items run.old.next (length store.now.kept.items) }
     ensures values { OnOk result (length run.new.assignment.values.items ≡ length run.old.assignment.values.items) }
     ensures opens { OnOk result (length run.new.opens.items ≡ length run.old.opens.items) }
     ensures candidates { OnOk result (run.new.candidates ≡ run.old.candidates) }
@@ -90,7 +88,7 @@ fn assume(store: &Store, run: &mut Run, given: &[NumberedLiteral]) -> Result<boo
     ensures within { OnOk result (length run.old.work.items ≤ length run.new.work.items) }
     ensures single { OnOk result (AreSingle run.new.assignment.list.items) }
     ensures counted { OnOk result (IsCounted (shapes_of store.now.kept.items) run.new.opens.items run.new.assignment.list.items []) }
-    ensures tidy { OnOk result (IsTidy (shapes_of store.now.kept.items) run.new.opens.items run.new.candidates.items run.new.assignment.list.items run.new.work.items run.new.next (length store.now.kept.items)) }
+    ensures tidy { OnOk result ((aside : List ℕ) (busy : ℕ) → IsTidy aside (shapes_of store.now.kept.items) run.old.opens.items run.old.candidates.items run.old.assignment.list.items run.old.work.items run.old.next busy → IsTidy aside (shapes_of store.now.kept.items) run.new.opens.items run.new.candidates.items run.new.assignment.list.items run.new.work.items run.new.next busy) }
     ensures opposite { IfOk result (λ found. found ≡ true → (l : NumberedLiteral) × (has given.now l ≡ true) × (has given.now (negation l) ≡ true)) }
     ensures same { IfOk result (λ found. found ≡ false → IsWithin run.new.assignment.list.items given.now × IsWithin given.now run.new.assignment.list.items) }
 {
@@ -105,16 +103,22 @@ fn assume(store: &Store, run: &mut Run, given: &[NumberedLiteral]) -> Result<boo
 }
 
 // Propagates from the given literals; whether a conflict is met.
-fn settle(store: &Store, run: &mut Run, given: &[NumberedLiteral]) -> Result<bool, AllocError>
+fn settle(
+    store: &Store,
+    run: &mut Run,
+    given: &[NumberedLiteral],
+    waiting: &[usize],
+) -> Result<bool, AllocError>
     requires store { IsSound store.now }
     requires inside { All (λ l. l.variable < store.now.variables) given.now }
     requires values { length run.old.assignment.values.items ≡ store.now.variables }
     requires opens { length run.old.opens.items ≡ length store.now.kept.items }
     requires candidates { length run.old.candidates.items ≡ length store.now.kept.items }
     requires next { run.old.next ≤ length run.old.work.items }
+    requires waiting { All (λ s. s < length store.now.kept.items) waiting.now }
     requires empty { run.old.assignment.list.items ≡ [] }
     requires counted { IsCounted (shapes_of store.now.kept.items) run.old.opens.items run.old.assignment.list.items [] }
-    requires tidy { IsTidy (shapes_of store.now.kept.items) run.old.opens.items run.old.candidates.items run.old.assignment.list.items run.old.work.items run.old.next (length store.now.kept.items) }
+    requires tidy { IsTidy (filter (waits store.now.kept.items) waiting.now) (shapes_of store.now.kept.items) run.old.opens.items run.old.candidates.items run.old.assignment.list.items run.old.work.items run.old.next (length store.now.kept.items) }
     ensures values { OnOk result (length run.new.assignment.values.items ≡ length run.old.assignment.values.items) }
     ensures opens { OnOk result (length run.new.opens.items ≡ length store.now.kept.items) }
     ensures candidates { OnOk result (length run.new.candidates.items ≡ length store.now.kept.items) }
@@ -125,7 +129,7 @@ fn settle(store: &Store, run: &mut Run, given: &[NumberedLiteral]) -> Result<boo
     if assume(store, run, given)? {
         return Ok(true);
     }
-    let found = propagate(store, run)?;
+    let found = propagate(store, run, waiting)?;
     Ok(found)
 }
 
@@ -259,7 +263,7 @@ impl Engine {
 
         // How often the propagation looked, from above and from below.
         ensures unasked { OnOk result (goal.now.degree ≡ 0 → self.new.visits ≡ 0) }
-        ensures most { OnOk result (self.new.visits ≤ 3 * (sum_by terms_in self.old.forms + length goal.now.terms) + (sum_by one_in self.old.forms + 1)) }
+        ensures most { self.new.visits ≤ 3 * (sum_by terms_in self.old.forms + length goal.now.terms) + (sum_by one_in self.old.forms + 1) }
         ensures conflict { IfOk result (λ found. found ≡ true → (goal.now.degree ≡ 0) ⊎ ((m : MeetsConflict (With (Live self.old.forms) (negation_of goal.now)) []) × (length m.list ≤ self.new.visits))) }
         ensures completion { IfOk result (λ found. found ≡ false → (list : List NumberedLiteral) × IsCompletion (With (Live self.old.forms) (negation_of goal.now)) [] list × (length list ≤ self.new.visits)) }
     {
@@ -272,18 +276,21 @@ impl Engine {
             return Err(AllocError);
         };
         let number = self.forms.len();
-        gather(&self.store, &mut self.eager, &mut self.run.work)?;
         enter(&mut self.store, &mut self.run, &negation)?;
         choose(&self.store, number, &mut self.run.work)?;
-        let found = propagate(&self.store, &mut self.run)?;
+        let found = propagate(&self.store, &mut self.run, self.eager.as_slice())?;
         rest(&self.store, &mut self.run);
         leave(&mut self.store, &mut self.run);
         self.spent = false;
-        Ok(found)
+        if found {
+            return Ok(true);
+        }
+        prune(&self.store, &mut self.eager);
+        Ok(false)
     }
 
     /// The values of the completion of given literals over the live forms, or `None` where a conflict is met.
-    /// A value is `true` where the variable's negation is on the list.
+    /// There is one for each variable: `Some(true)` where the variable is true, `None` where it is open.
     pub fn complete(
         &mut self,
         given: &[NumberedLiteral],
@@ -296,12 +303,13 @@ impl Engine {
         ensures ready { OnOk result (self.new.spent ≡ false) }
         ensures conflict { IfOk result (λ found. IfNone found (MeetsConflict (Live self.old.forms) given.now)) }
         ensures no_conflict { IfOk result (λ found. IfSome found (λ values. MeetsConflict (Live self.old.forms) given.now → ⊥)) }
+        ensures count { IfOk result (λ found. IfSome found (λ values. length values.items ≡ self.old.variables)) }
         ensures completed { IfOk result (λ found. IfSome found (λ values. (list : List NumberedLiteral) × IsCompletion (Live self.old.forms) given.now list × Gives list values.items)) }
     {
         let visits = self.run.visits;
         self.spent = true;
-        gather(&self.store, &mut self.eager, &mut self.run.work)?;
-        let found = settle(&self.store, &mut self.run, given)?;
+        prune(&self.store, &mut self.eager);
+        let found = settle(&self.store, &mut self.run, given, self.eager.as_slice())?;
         let mut values = Vec::new(*self.forms.allocator());
         values.extend_from_slice(self.run.assignment.values.as_slice())?;
         rest(&self.store, &mut self.run);

@@ -1,7 +1,10 @@
-ghost use Rattle.std.specs.Prelude.{◌≡◌, ℕ, ◌≤◌, ◌+◌, ◌-◌, ◌*◌, ◌^◌, ◌<◌, ◌++◌, ◌∷◌, [], true, false, List, length, map, OnOk, IfOk, slice_index, slice_index_or, slice_set, sum, sum_by, Contains};
+//! Literals are put, and the constraints that they touch are looked at.
+
+ghost use Rattle.std.specs.Prelude.{◌≡◌, ℕ, ◌≤◌, ◌+◌, ◌-◌, ◌*◌, ◌^◌, ◌<◌, ◌++◌, ◌∷◌, [], true, false, List, All, filter, length, map, OnOk, IfOk, slice_index, slice_index_or, slice_set, sum, sum_by, Contains};
 ghost use Rattle.pb_replay.specs.declared.numbered.NumberedLiteral.{NumberedLiteral};
 ghost use Rattle.pb_replay.specs.Engine.Lists.{negation, has, Derives, Conflicts, Shape, IsSettled};
-ghost use Rattle.pb_replay.specs.Engine.Counts.{place, IsCounted, IsTidy, IsPaid, IsAbsent, Adopted, AreFound, AreSingle, IsUndone};
+ghost use Rattle.pb_replay.specs.Engine.Counts.{place, IsCounted, IsTidy, IsPaid, IsAbsent, Adopted, AreFound, AreSingle, IsUndone, AreCovered};
+ghost use Rattle.pb_replay.specs.Engine.Rest.{waits};
 ghost use Rattle.pb_replay.specs.Engine.Fields.{shapes_of, entries_of, IsSound};
 
 use crate::numbered::NumberedLiteral;
@@ -62,10 +65,12 @@ pub fn put(store: &Store, run: &mut Run, literal: NumberedLiteral) -> Result<(),
     ensures values { OnOk result (length run.new.assignment.values.items ≡ length run.old.assignment.values.items) }
     ensures opens { OnOk result (length run.new.opens.items ≡ length run.old.opens.items) }
     ensures next { OnOk result (run.new.next ≡ run.old.next) }
-    ensures candidates { OnOk result (run.new.candidates ≡ run.old.candidates) }
+    ensures candidates { run.new.candidates ≡ run.old.candidates }
+    ensures covered { AreCovered (entries_of store.now.occurrences.items) run.old.assignment.list.items run.new.assignment.list.items run.old.candidates.items run.new.candidates.items run.old.visits run.new.visits 0 }
+    ensures single { AreSingle run.old.assignment.list.items → AreSingle run.new.assignment.list.items }
     ensures list { OnOk result (run.new.assignment.list.items ≡ run.old.assignment.list.items ++ literal ∷ []) }
     ensures counted { OnOk result (IsCounted (shapes_of store.now.kept.items) run.new.opens.items run.new.assignment.list.items []) }
-    ensures tidy { OnOk result ((busy : ℕ) → IsTidy (shapes_of store.now.kept.items) run.old.opens.items run.old.candidates.items run.old.assignment.list.items run.old.work.items run.old.next busy → IsTidy (shapes_of store.now.kept.items) run.new.opens.items run.new.candidates.items run.new.assignment.list.items run.new.work.items run.new.next busy) }
+    ensures tidy { OnOk result ((aside : List ℕ) (busy : ℕ) → IsTidy aside (shapes_of store.now.kept.items) run.old.opens.items run.old.candidates.items run.old.assignment.list.items run.old.work.items run.old.next busy → IsTidy aside (shapes_of store.now.kept.items) run.new.opens.items run.new.candidates.items run.new.assignment.list.items run.new.work.items run.new.next busy) }
     ensures paid { OnOk result (IsPaid (entries_of store.now.occurrences.items) run.old.assignment.list.items run.new.assignment.list.items run.old.candidates.items run.new.candidates.items run.old.work.items run.new.work.items run.old.visits run.new.visits 0) }
     ensures kept_work { OnOk result ((s : ℕ) → IsAbsent run.new.work.items 0 s → IsAbsent run.old.work.items 0 s) }
     ensures longer_work { OnOk result (length run.old.work.items ≤ length run.new.work.items) }
@@ -90,10 +95,12 @@ pub fn try_put(store: &Store, run: &mut Run, literal: NumberedLiteral) -> Result
     ensures values { OnOk result (length run.new.assignment.values.items ≡ length run.old.assignment.values.items) }
     ensures opens { OnOk result (length run.new.opens.items ≡ length run.old.opens.items) }
     ensures next { OnOk result (run.new.next ≡ run.old.next) }
-    ensures candidates { OnOk result (run.new.candidates ≡ run.old.candidates) }
+    ensures candidates { run.new.candidates ≡ run.old.candidates }
+    ensures covered { AreCovered (entries_of store.now.occurrences.items) run.old.assignment.list.items run.new.assignment.list.items run.old.candidates.items run.new.candidates.items run.old.visits run.new.visits 0 }
+    ensures single { AreSingle run.old.assignment.list.items → AreSingle run.new.assignment.list.items }
     ensures adopted { OnOk result (Adopted literal run.old.assignment.list.items run.new.assignment.list.items) }
     ensures counted { OnOk result (IsCounted (shapes_of store.now.kept.items) run.new.opens.items run.new.assignment.list.items []) }
-    ensures tidy { OnOk result ((busy : ℕ) → IsTidy (shapes_of store.now.kept.items) run.old.opens.items run.old.candidates.items run.old.assignment.list.items run.old.work.items run.old.next busy → IsTidy (shapes_of store.now.kept.items) run.new.opens.items run.new.candidates.items run.new.assignment.list.items run.new.work.items run.new.next busy) }
+    ensures tidy { OnOk result ((aside : List ℕ) (busy : ℕ) → IsTidy aside (shapes_of store.now.kept.items) run.old.opens.items run.old.candidates.items run.old.assignment.list.items run.old.work.items run.old.next busy → IsTidy aside (shapes_of store.now.kept.items) run.new.opens.items run.new.candidates.items run.new.assignment.list.items run.new.work.items run.new.next busy) }
     ensures paid { OnOk result (IsPaid (entries_of store.now.occurrences.items) run.old.assignment.list.items run.new.assignment.list.items run.old.candidates.items run.new.candidates.items run.old.work.items run.new.work.items run.old.visits run.new.visits 0) }
     ensures kept_work { OnOk result ((s : ℕ) → IsAbsent run.new.work.items 0 s → IsAbsent run.old.work.items 0 s) }
     ensures longer_work { OnOk result (length run.old.work.items ≤ length run.new.work.items) }
@@ -108,8 +115,8 @@ pub fn try_put(store: &Store, run: &mut Run, literal: NumberedLiteral) -> Result
     Ok(())
 }
 
-/// Looks at a form until its candidate demands nothing; whether it is falsified.
-fn look(store: &Store, run: &mut Run, form: usize) -> Result<bool, AllocError>
+/// Looks at a form until its candidate demands nothing; whether it is falsified. Those that wait are looked at later.
+fn look(store: &Store, run: &mut Run, form: usize, waiting: &[usize]) -> Result<bool, AllocError>
     requires store { IsSound store.now }
     requires form { form < length store.now.kept.items }
     requires values { length run.old.assignment.values.items ≡ store.now.variables }
@@ -117,7 +124,7 @@ fn look(store: &Store, run: &mut Run, form: usize) -> Result<bool, AllocError>
     requires candidates { length run.old.candidates.items ≡ length store.now.kept.items }
     requires next { run.old.next ≤ length run.old.work.items }
     requires counted { IsCounted (shapes_of store.now.kept.items) run.old.opens.items run.old.assignment.list.items [] }
-    requires tidy { IsTidy (shapes_of store.now.kept.items) run.old.opens.items run.old.candidates.items run.old.assignment.list.items run.old.work.items run.old.next form }
+    requires tidy { IsTidy (filter (waits store.now.kept.items) waiting.now) (shapes_of store.now.kept.items) run.old.opens.items run.old.candidates.items run.old.assignment.list.items run.old.work.items run.old.next form }
     requires there { IsAbsent run.old.work.items 0 form → ⊥ }
     ensures values { OnOk result (length run.new.assignment.values.items ≡ length run.old.assignment.values.items) }
     ensures opens { OnOk result (length run.new.opens.items ≡ length run.old.opens.items) }
@@ -126,10 +133,12 @@ fn look(store: &Store, run: &mut Run, form: usize) -> Result<bool, AllocError>
     ensures within { OnOk result (run.new.next ≤ length run.new.work.items) }
     ensures derived { OnOk result (Derives (shapes_of store.now.kept.items) run.old.assignment.list.items run.new.assignment.list.items) }
     ensures counted { OnOk result (IsCounted (shapes_of store.now.kept.items) run.new.opens.items run.new.assignment.list.items []) }
-    ensures bounded { OnOk result (sum run.new.candidates.items ≤ sum_by (λ f. length f.terms) (shapes_of store.now.kept.items)) }
+    ensures bounded { sum run.new.candidates.items ≤ sum_by (λ f. length f.terms) (shapes_of store.now.kept.items) }
+    ensures covered { AreCovered (entries_of store.now.occurrences.items) run.old.assignment.list.items run.new.assignment.list.items run.old.candidates.items run.new.candidates.items run.old.visits run.new.visits 1 }
+    ensures single { AreSingle run.old.assignment.list.items → AreSingle run.new.assignment.list.items }
     ensures undone { OnOk result (IsUndone (shapes_of store.now.kept.items) run.new.opens.items run.new.candidates.items run.new.work.items 0) }
     ensures conflict { IfOk result (λ found. found ≡ true → Conflicts (shapes_of store.now.kept.items) run.new.assignment.list.items) }
-    ensures tidy { IfOk result (λ found. found ≡ false → IsTidy (shapes_of store.now.kept.items) run.new.opens.items run.new.candidates.items run.new.assignment.list.items run.new.work.items run.new.next (length store.now.kept.items)) }
+    ensures tidy { IfOk result (λ found. found ≡ false → IsTidy (filter (waits store.now.kept.items) waiting.now) (shapes_of store.now.kept.items) run.new.opens.items run.new.candidates.items run.new.assignment.list.items run.new.work.items run.new.next (length store.now.kept.items)) }
     ensures paid { OnOk result (IsPaid (entries_of store.now.occurrences.items) run.old.assignment.list.items run.new.assignment.list.items run.old.candidates.items run.new.candidates.items run.old.work.items run.new.work.items run.old.visits run.new.visits 1) }
     ensures found { OnOk result (AreFound (length run.old.assignment.list.items) (length run.new.assignment.list.items) run.old.visits run.new.visits) }
 {
@@ -152,35 +161,56 @@ fn look(store: &Store, run: &mut Run, form: usize) -> Result<bool, AllocError>
     }
 }
 
-/// Looks at the forms of the work list until none is left; whether a conflict was met.
-pub fn propagate(store: &Store, run: &mut Run) -> Result<bool, AllocError>
+/// Puts a form to work if it may put a literal on the empty list.
+pub fn choose(store: &Store, form: usize, work: &mut Vec<usize>) -> Result<(), AllocError>
+    requires { form < length store.now.kept.items }
+    ensures { OnOk result (work.new.items ≡ work.old.items ++ filter (waits store.now.kept.items) (form ∷ [])) }
+{
+    if !store.kept[form].eager {
+        return Ok(());
+    }
+    work.push(form)?;
+    Ok(())
+}
+
+/// Looks at the forms of the work list until none is left, and then at one that waits and at those that it touches, until
+/// none waits; whether a conflict was met.
+pub fn propagate(store: &Store, run: &mut Run, waiting: &[usize]) -> Result<bool, AllocError>
     requires store { IsSound store.now }
     requires values { length run.old.assignment.values.items ≡ store.now.variables }
     requires opens { length run.old.opens.items ≡ length store.now.kept.items }
     requires candidates { length run.old.candidates.items ≡ length store.now.kept.items }
     requires next { run.old.next ≤ length run.old.work.items }
+    requires waiting { All (λ s. s < length store.now.kept.items) waiting.now }
     requires single { AreSingle run.old.assignment.list.items }
     requires counted { IsCounted (shapes_of store.now.kept.items) run.old.opens.items run.old.assignment.list.items [] }
-    requires tidy { IsTidy (shapes_of store.now.kept.items) run.old.opens.items run.old.candidates.items run.old.assignment.list.items run.old.work.items run.old.next (length store.now.kept.items) }
+    requires tidy { IsTidy (filter (waits store.now.kept.items) waiting.now) (shapes_of store.now.kept.items) run.old.opens.items run.old.candidates.items run.old.assignment.list.items run.old.work.items run.old.next (length store.now.kept.items) }
     ensures values { OnOk result (length run.new.assignment.values.items ≡ length run.old.assignment.values.items) }
     ensures opens { OnOk result (length run.new.opens.items ≡ length store.now.kept.items) }
     ensures candidates { OnOk result (length run.new.candidates.items ≡ length store.now.kept.items) }
     ensures derived { OnOk result (Derives (shapes_of store.now.kept.items) run.old.assignment.list.items run.new.assignment.list.items) }
-    ensures bounded { OnOk result (sum run.new.candidates.items ≤ sum_by (λ f. length f.terms) (shapes_of store.now.kept.items)) }
+    ensures bounded { sum run.new.candidates.items ≤ sum_by (λ f. length f.terms) (shapes_of store.now.kept.items) }
     ensures undone { OnOk result (IsUndone (shapes_of store.now.kept.items) run.new.opens.items run.new.candidates.items run.new.work.items 0) }
     ensures conflict { IfOk result (λ found. found ≡ true → Conflicts (shapes_of store.now.kept.items) run.new.assignment.list.items) }
     ensures settled { IfOk result (λ found. found ≡ false → (f : Shape) → Contains (shapes_of store.now.kept.items) f → IsSettled f run.new.assignment.list.items) }
-    ensures upper { OnOk result (run.new.visits + sum run.old.candidates.items ≤ run.old.visits + (length run.old.work.items - run.old.next) + 2 * sum_by length (entries_of store.now.occurrences.items) + sum run.new.candidates.items) }
+    ensures upper { run.new.visits + sum run.old.candidates.items ≤ run.old.visits + ((length run.old.work.items + length (filter (waits store.now.kept.items) waiting.now)) - run.old.next) + 2 * sum_by length (entries_of store.now.occurrences.items) + sum run.new.candidates.items }
     ensures found { OnOk result (AreFound (length run.old.assignment.list.items) (length run.new.assignment.list.items) run.old.visits run.new.visits) }
 {
-    'work: while run.next < run.work.len() {
-        let form = run.work[run.next];
-        run.next += 1;
-        if look(store, run, form)? {
-            return Ok(true);
+    let mut taken = 0;
+    'work: loop {
+        if run.next < run.work.len() {
+            let form = run.work[run.next];
+            run.next += 1;
+            if look(store, run, form, &waiting[taken..])? {
+                return Ok(true);
+            }
+        } else if taken < waiting.len() {
+            choose(store, waiting[taken], &mut run.work)?;
+            taken += 1;
+        } else {
+            return Ok(false);
         }
     }
-    Ok(false)
 }
 
 /// Makes the forms that were touched what they were before the propagation; no other form is looked at, and no memory is taken.

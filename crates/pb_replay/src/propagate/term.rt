@@ -5,14 +5,14 @@ ghost use Rattle.std.specs.Prelude.{◌≡◌};
 use crate::numbered::NumberedLiteral;
 
 /// A literal with its coefficient.
-#[derive(Clone, Copy, Debug, PartialEq, Eq)]
+#[derive(Clone, Copy)]
 pub struct Term {
     pub literal: NumberedLiteral,
     pub coefficient: u128,
 }
 
 /// A form in which a literal stands, the place of its term there, and its coefficient.
-#[derive(Clone, Copy, Debug, PartialEq, Eq)]
+#[derive(Clone, Copy)]
 pub struct Occurrence {
     pub form: usize,
     pub index: usize,

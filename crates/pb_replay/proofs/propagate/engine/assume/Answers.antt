@@ -1,4 +1,4 @@
-use Rattle.std.proofs.Common.{◌≡◌, [], get_or, true, false, refl, ◌∙◌, arith, length}
+use Rattle.std.proofs.Common.{◌≡◌, [], get_or, true, false, refl, ◌∙◌, arith}
 use Rattle.pb_replay.specs.declared.numbered.NumberedLiteral.{NumberedLiteral}
 use Rattle.pb_replay.specs.Engine.Lists.{has, negation}
 use Rattle.pb_replay.specs.Engine.Counts.{none}
@@ -15,7 +15,7 @@ given-init c = record {
   longer = omega arith;
   single = rw c.requires.empty none;
   counted = c.requires.counted;
-  tidy = c.requires.tidy;
+  tidy = λ aside busy t. t;
   within = within-none c.args.run.now.assignment.list.items c.args.given.now c.requires.empty;
   covers = within-none [] c.args.run.now.assignment.list.items refl;
 }
@@ -43,7 +43,7 @@ given-preserved c =
       longer = omega (arith, i.longer, told.longer_work);
       single = a.single;
       counted = told.counted;
-      tidy = told.tidy (length c.args.store.now.kept.items) i.tidy;
+      tidy = λ aside busy t. told.tidy aside busy (i.tidy aside busy t);
       within = a.within;
       covers = a.covers;
     }

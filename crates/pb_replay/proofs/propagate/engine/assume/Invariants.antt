@@ -1,4 +1,4 @@
-use Rattle.std.proofs.Common.{◌≡◌, ◌≤◌, [], length, take}
+use Rattle.std.proofs.Common.{◌≡◌, ◌≤◌, ℕ, List, [], length, take}
 use Rattle.pb_replay.specs.Engine.Lists.{IsWithin}
 use Rattle.pb_replay.specs.Engine.Counts.{IsCounted, IsTidy, AreSingle}
 use Rattle.pb_replay.specs.Engine.Fields.{shapes_of}
@@ -13,7 +13,7 @@ invariant-given l = record {
   longer : length l.initial.run.work.items ≤ length l.run.work.items;
   single : AreSingle l.run.assignment.list.items;
   counted : IsCounted (shapes_of l.store.kept.items) l.run.opens.items l.run.assignment.list.items [];
-  tidy : IsTidy (shapes_of l.store.kept.items) l.run.opens.items l.run.candidates.items l.run.assignment.list.items l.run.work.items l.run.next (length l.store.kept.items);
+  tidy : (aside : List ℕ) (busy : ℕ) → IsTidy aside (shapes_of l.store.kept.items) l.initial.run.opens.items l.initial.run.candidates.items l.initial.run.assignment.list.items l.initial.run.work.items l.initial.run.next busy → IsTidy aside (shapes_of l.store.kept.items) l.run.opens.items l.run.candidates.items l.run.assignment.list.items l.run.work.items l.run.next busy;
   within : IsWithin l.run.assignment.list.items l.given;
   covers : IsWithin (take l.i l.given) l.run.assignment.list.items;
 }

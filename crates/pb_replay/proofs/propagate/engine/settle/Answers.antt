@@ -1,3 +1,6 @@
+use Rattle.std.specs.Prelude.{filter}
+use Rattle.std.proofs.Common.{length}
+use Rattle.pb_replay.specs.Engine.Rest.{waits}
 use Rattle.pb_replay.specs.Engine.Rest.{opposite, derived}
 use Rattle.pb_replay.proofs.propagate.engine.settle.Goals as goal
 
@@ -18,3 +21,11 @@ returns-clause-ended c = λ found.
       derived = record { first = c.assume.new.run.assignment.list.items; within = same.0; covers = same.1; derived = c.in_ok-found.ensures.derived };
       settled = c.in_ok-found.ensures.settled found;
     }
+
+pub propagate-requires-clause-tidy : goal.propagate-requires-clause-tidy
+propagate-requires-clause-tidy c = c.in_ok-assume.ensures.tidy (filter (waits c.args.store.now.kept.items) c.args.waiting.now) (length c.args.store.now.kept.items) c.requires.tidy
+
+pub returns-then-branch-clause-undone : goal.returns-then-branch-clause-undone
+returns-then-branch-clause-undone c =
+    let t = c.in_ok-assume.ensures.tidy (filter (waits c.args.store.now.kept.items) c.args.waiting.now) (length c.args.store.now.kept.items) c.requires.tidy in
+    record { clean = t.clean; named = t.named }

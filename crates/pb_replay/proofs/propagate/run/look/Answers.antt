@@ -1,8 +1,10 @@
+use Rattle.std.specs.Prelude.{filter, sum}
+use Rattle.pb_replay.specs.Engine.Rest.{waits}
 use Rattle.std.proofs.Common.{ℕ, ◌<◌, ◌+◌, Vec, Global, set, length, get_or, refl, ap, sym, ◌∙◌, arith}
 use Rattle.std.proofs.lemmas.List.{length-map, get_or_read}
 use Rattle.pb_replay.specs.Engine.Fields.{shapes_of, entries_of, kept_shape}
 use Rattle.pb_replay.proofs.Engine.Looks.{Looking-start, Looking-next_by, calm-by, waiting-by, Looking-settled_by, Looking-conflict, shape-at, term-inside}
-use Rattle.pb_replay.proofs.Engine.Spent.{sum-bounded}
+use Rattle.pb_replay.proofs.Engine.Spent.{sum-bounded, derivation-single}
 use Rattle.pb_replay.proofs.propagate.run.look.Goals as goal
 
 pub terms-init : goal.terms-init
@@ -12,7 +14,7 @@ terms-init c =
     record {
       values = refl;
       next = refl;
-      looking = Looking-start (shapes_of store.kept.items) (entries_of store.occurrences.items) c.args.form run.opens.items run.candidates.items run.assignment.list.items run.work.items run.next run.visits c.requires.counted c.requires.tidy c.requires.there
+      looking = Looking-start (filter (waits store.kept.items) c.args.waiting.now) (shapes_of store.kept.items) (entries_of store.occurrences.items) c.args.form run.opens.items run.candidates.items run.assignment.list.items run.work.items run.next run.visits c.requires.counted c.requires.tidy c.requires.there
           (c.requires.opens ∙ sym (length-map store.kept.items kept_shape)) (c.requires.candidates ∙ sym (length-map store.kept.items kept_shape)) c.requires.next;
     }
 
@@ -38,7 +40,7 @@ returns-then-candidate-len-clause-tidy c = λ found.
     let roomc : c.args.form < length run.candidates.items = omega (arith, c.terms.invariant.looking.candidate_sizes, sizes, c.requires.form) in
     let calm = calm-by c.index-kept.result.now run.opens.items run.candidates.items c.args.form c.index-opened.result.now c.index-candidate.result.now room roomc c.index-opened.ensures c.index-candidate.ensures c.if-opened-kept.false
     (λ d less. absurd (omega (arith, less, c.len.ensures, c.if-candidate-len.true, c.index-kept.result.now.terms.ok.0))) in
-    Looking-settled_by (shapes_of store.kept.items) (entries_of store.occurrences.items) c.args.form start.assignment.list.items start.candidates.items start.work.items start.visits run.opens.items run.candidates.items run.assignment.list.items run.work.items run.next run.visits (kept_shape c.index-kept.result.now) (length store.kept.items) sizes
+    Looking-settled_by (filter (waits store.kept.items) c.args.waiting.now) (shapes_of store.kept.items) (entries_of store.occurrences.items) c.args.form start.assignment.list.items start.candidates.items start.work.items start.visits run.opens.items run.candidates.items run.assignment.list.items run.work.items run.next run.visits (kept_shape c.index-kept.result.now) (length store.kept.items) sizes
     (shape-at store.kept.items c.args.form c.index-kept.result.now c.requires.form c.index-kept.ensures) calm c.terms.invariant.looking
 
 pub returns-then-kept-term-clause-tidy : goal.returns-then-kept-term-clause-tidy
@@ -51,7 +53,7 @@ returns-then-kept-term-clause-tidy c = λ found.
     let roomc : c.args.form < length run.candidates.items = omega (arith, c.terms.invariant.looking.candidate_sizes, sizes, c.requires.form) in
     let calm = calm-by c.index-kept.result.now run.opens.items run.candidates.items c.args.form c.index-opened.result.now c.index-candidate.result.now room roomc c.index-opened.ensures c.index-candidate.ensures c.if-opened-kept.false
     (waiting-by c.index-kept.result.now c.deref.result.now c.index-opened.result.now c.index-candidate.result.now c.visit-term.result c.deref.ensures.value c.visit-term.ensures.item c.if-kept-term.true) in
-    Looking-settled_by (shapes_of store.kept.items) (entries_of store.occurrences.items) c.args.form start.assignment.list.items start.candidates.items start.work.items start.visits run.opens.items run.candidates.items run.assignment.list.items run.work.items run.next run.visits (kept_shape c.index-kept.result.now) (length store.kept.items) sizes
+    Looking-settled_by (filter (waits store.kept.items) c.args.waiting.now) (shapes_of store.kept.items) (entries_of store.occurrences.items) c.args.form start.assignment.list.items start.candidates.items start.work.items start.visits run.opens.items run.candidates.items run.assignment.list.items run.work.items run.next run.visits (kept_shape c.index-kept.result.now) (length store.kept.items) sizes
     (shape-at store.kept.items c.args.form c.index-kept.result.now c.requires.form c.index-kept.ensures) calm c.terms.invariant.looking
 
 pub terms-preserved : goal.terms-preserved
@@ -64,12 +66,12 @@ terms-preserved c =
     record {
       values = told.values ∙ c.terms.invariant.values;
       next = told.next ∙ c.terms.invariant.next;
-      looking = Looking-next_by store.kept.items (entries_of store.occurrences.items) c.args.form start.assignment.list.items start.candidates.items start.work.items start.visits run.opens.items run.candidates.items run.assignment.list.items run.work.items run.next run.visits c.visit-term.new.visits
+      looking = Looking-next_by (filter (waits store.kept.items) c.args.waiting.now) store.kept.items (entries_of store.occurrences.items) c.args.form start.assignment.list.items start.candidates.items start.work.items start.visits run.opens.items run.candidates.items run.assignment.list.items run.work.items run.next run.visits c.visit-term.new.visits
           done.opens.items done.candidates.items (set done.candidates.items c.args.form (c.index-candidate.result.now + 1)) done.assignment.list.items done.work.items done.next done.visits
           c.index-kept.result.now c.deref.result.now c.index-opened.result.now c.index-candidate.result.now c.visit-term.result
           c.requires.form c.index-kept.ensures c.index-opened.ensures c.index-candidate.ensures c.deref.ensures.value (omega (arith, c.if-candidate-len.false, c.len.ensures, c.deref.ensures.len)) c.visit-term.ensures.item
           c.visit-term.ensures.count c.visit-term.ensures.rising c.if-kept-term.false
-          (ap (λ (v : Vec ℕ Global). v.items) told.candidates) told.next told.adopted told.counted told.tidy told.paid told.kept_work told.longer_work told.opens refl c.terms.invariant.looking;
+          (ap (λ (v : Vec ℕ Global). v.items) told.candidates) told.next told.adopted told.counted (told.tidy (filter (waits store.kept.items) c.args.waiting.now)) told.paid told.kept_work told.longer_work told.opens refl c.terms.invariant.looking;
     }
 
 pub returns-then-opened-kept-clause-bounded : goal.returns-then-opened-kept-clause-bounded
@@ -86,3 +88,20 @@ try_put-requires-clause-inside c =
     let store = c.args.store.now in
     term-inside store.kept.items store.variables c.args.form c.index-kept.result.now c.deref.result.now c.index-candidate.result.now c.visit-term.result c.requires.form c.index-kept.ensures c.deref.ensures.value
     (omega (arith, c.if-candidate-len.false, c.len.ensures, c.deref.ensures.len)) c.visit-term.ensures.item c.requires.store.inside
+
+pub returns-then-opened-kept-clause-single : goal.returns-then-opened-kept-clause-single
+returns-then-opened-kept-clause-single c = λ s. derivation-single (shapes_of c.args.store.now.kept.items) _ _ s c.terms.invariant.looking.derived
+
+pub returns-then-candidate-len-clause-single : goal.returns-then-candidate-len-clause-single
+returns-then-candidate-len-clause-single c = λ s. derivation-single (shapes_of c.args.store.now.kept.items) _ _ s c.terms.invariant.looking.derived
+
+pub returns-then-kept-term-clause-single : goal.returns-then-kept-term-clause-single
+returns-then-kept-term-clause-single c = λ s. derivation-single (shapes_of c.args.store.now.kept.items) _ _ s c.terms.invariant.looking.derived
+
+pub returns-in_err-try_put-clause-single : goal.returns-in_err-try_put-clause-single
+returns-in_err-try_put-clause-single c = λ s. c.try_put.ensures.single (derivation-single (shapes_of c.args.store.now.kept.items) _ _ s c.terms.invariant.looking.derived)
+
+pub returns-in_err-try_put-clause-bounded : goal.returns-in_err-try_put-clause-bounded
+returns-in_err-try_put-clause-bounded c =
+    let same = ap (λ (v : Vec ℕ Global). sum v.items) c.try_put.ensures.candidates in
+    omega (arith, same, sum-bounded (shapes_of c.args.store.now.kept.items) c.terms.run.candidates.items c.terms.invariant.looking.candidate_sizes c.terms.invariant.looking.tidy.bounded)

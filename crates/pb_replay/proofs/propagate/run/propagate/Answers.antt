@@ -1,8 +1,10 @@
-use Rattle.std.proofs.Common.{◌<◌, ◌≤◌, length, refl, sym, ◌∙◌, arith}
-use Rattle.std.proofs.lemmas.List.{length-map}
+use Rattle.std.specs.Prelude.{filter}
+use Rattle.std.proofs.Common.{◌+◌, ◌<◌, ◌≤◌, length, drop, get_or, refl, sym, ◌∙◌, arith}
+use Rattle.std.proofs.lemmas.List.{length-map, get_or_default}
 use Rattle.pb_replay.specs.Engine.Fields.{shapes_of, entries_of, kept_shape}
+use Rattle.pb_replay.specs.Engine.Rest.{waits}
 use Rattle.pb_replay.proofs.Engine.Derivations.{derivation-then}
-use Rattle.pb_replay.proofs.Engine.Propagated.{Propagating-start, Propagating-look, Propagating-paid, Propagating-next, Propagating-bound, Propagating-settled, Propagating-upper}
+use Rattle.pb_replay.proofs.Engine.Propagated.{Propagating-start, Propagating-look, Propagating-next, Propagating-bound, Propagating-choose, Propagating-settled, Propagating-upper, tail-all}
 use Rattle.pb_replay.proofs.Engine.Spent.{sum-bounded}
 use Rattle.pb_replay.proofs.propagate.run.propagate.Goals as goal
 
@@ -12,15 +14,18 @@ work-init c =
     let run = c.args.run.now in
     record {
       values = refl;
-      state = Propagating-start (shapes_of store.kept.items) (entries_of store.occurrences.items) (length store.kept.items) run.opens.items run.candidates.items run.assignment.list.items run.work.items run.next run.visits c.requires.counted c.requires.tidy c.requires.opens c.requires.candidates c.requires.next;
+      taken = omega arith;
+      state = Propagating-start (waits store.kept.items) c.args.waiting.now (shapes_of store.kept.items) (entries_of store.occurrences.items) (length store.kept.items) run.opens.items run.candidates.items run.assignment.list.items run.work.items run.next run.visits c.requires.counted c.requires.tidy c.requires.opens c.requires.candidates c.requires.next;
     }
 
 pub look-requires-clause-tidy : goal.look-requires-clause-tidy
 look-requires-clause-tidy c =
     let keep = c.args.store.now.kept.items in
     let run = c.work.run in
-    let inside : run.next < length run.work.items = omega (arith, c.work-test.true, c.len.ensures, run.work.ok.0) in
-    Propagating-look (shapes_of keep) (length keep) run.opens.items run.candidates.items run.assignment.list.items run.work.items run.next c.index-form.result.now (length-map keep kept_shape) inside c.index-form.ensures c.work.invariant.state.tidy
+    let inside : run.next < length run.work.items = omega (arith, c.if-run-len.true, c.len.ensures, run.work.ok.0) in
+    let p = waits keep in
+    let all = tail-all c.args.waiting.now c.work.taken in
+    rw all (Propagating-look (filter p (drop c.work.taken c.args.waiting.now)) (shapes_of keep) (length keep) run.opens.items run.candidates.items run.assignment.list.items run.work.items run.next c.index-form.result.now (length-map keep kept_shape) inside c.index-form.ensures c.work.invariant.state.tidy)
 
 pub returns-then-branch-clause-derived : goal.returns-then-branch-clause-derived
 returns-then-branch-clause-derived c =
@@ -35,50 +40,91 @@ returns-then-branch-clause-upper c =
     let start = c.args.run.now in
     let run = c.work.run in
     let done = c.look.new.run in
+    let inside : run.next + 1 ≤ length run.work.items = omega (arith, c.if-run-len.true, c.len.ensures, run.work.ok.0) in
+    Propagating-upper (waits store.kept.items) c.args.waiting.now (shapes_of store.kept.items) (entries_of store.occurrences.items) (length store.kept.items) start.assignment.list.items start.candidates.items start.work.items start.next start.visits c.work.taken run.opens.items run.candidates.items run.assignment.list.items run.work.items run.next run.visits done.assignment.list.items done.candidates.items done.visits 1 c.requires.single c.requires.next c.work.invariant.state c.look.ensures.single inside c.look.ensures.covered
+
+pub returns-in_err-look-clause-upper : goal.returns-in_err-look-clause-upper
+returns-in_err-look-clause-upper c =
+    let store = c.args.store.now in
+    let start = c.args.run.now in
+    let run = c.work.run in
+    let done = c.look.new.run in
+    let inside : run.next + 1 ≤ length run.work.items = omega (arith, c.if-run-len.true, c.len.ensures, run.work.ok.0) in
+    Propagating-upper (waits store.kept.items) c.args.waiting.now (shapes_of store.kept.items) (entries_of store.occurrences.items) (length store.kept.items) start.assignment.list.items start.candidates.items start.work.items start.next start.visits c.work.taken run.opens.items run.candidates.items run.assignment.list.items run.work.items run.next run.visits done.assignment.list.items done.candidates.items done.visits 1 c.requires.single c.requires.next c.work.invariant.state c.look.ensures.single inside c.look.ensures.covered
+
+pub work-smaller-else-branch : goal.work-smaller-else-branch
+work-smaller-else-branch c =
+    let store = c.args.store.now in
+    let start = c.args.run.now in
+    let run = c.work.run in
+    let bound = Propagating-bound (waits store.kept.items) c.args.waiting.now (shapes_of store.kept.items) (entries_of store.occurrences.items) (length store.kept.items) start.assignment.list.items start.candidates.items start.work.items start.next start.visits c.work.taken run.opens.items run.candidates.items run.assignment.list.items run.work.items run.next run.visits c.requires.single c.work.invariant.state in
+    omega (arith, bound, c.in_ok-look.ensures.next, c.if-run-len.true, c.len.ensures, run.work.ok.0, c.work.invariant.taken)
+
+pub work-preserved-else-branch : goal.work-preserved-else-branch
+work-preserved-else-branch c =
+    let store = c.args.store.now in
+    let start = c.args.run.now in
+    let run = c.work.run in
+    let done = c.look.new.run in
     let told = c.in_ok-look.ensures in
+    let tidy = rw (tail-all c.args.waiting.now c.work.taken) at (told.tidy c.if-branch.false) in
+    record {
+      values = told.values ∙ c.work.invariant.values;
+      taken = c.work.invariant.taken;
+      state = Propagating-next (waits store.kept.items) c.args.waiting.now (shapes_of store.kept.items) (entries_of store.occurrences.items) (length store.kept.items) start.assignment.list.items start.candidates.items start.work.items start.next start.visits c.work.taken run.opens.items run.candidates.items run.assignment.list.items run.work.items run.next run.visits done.opens.items done.candidates.items done.assignment.list.items done.work.items done.next done.visits
+          told.next told.derived told.counted tidy told.paid told.found told.opens told.candidates told.within c.work.invariant.state;
+    }
+
+pub returns-in_err-choose-clause-upper : goal.returns-in_err-choose-clause-upper
+returns-in_err-choose-clause-upper c =
+    let store = c.args.store.now in
+    let start = c.args.run.now in
+    let run = c.work.run in
     let state = c.work.invariant.state in
-    Propagating-upper (shapes_of store.kept.items) (entries_of store.occurrences.items) (length store.kept.items) start.assignment.list.items start.candidates.items start.work.items start.next start.visits done.opens.items done.candidates.items done.assignment.list.items done.work.items done.next done.visits c.requires.single c.requires.next
-    (derivation-then (shapes_of store.kept.items) start.assignment.list.items run.assignment.list.items done.assignment.list.items state.derived told.derived)
-    (omega (arith, told.next, state.started)) told.within
-    (Propagating-paid (entries_of store.occurrences.items) start.assignment.list.items run.assignment.list.items done.assignment.list.items start.candidates.items run.candidates.items done.candidates.items start.work.items run.work.items done.work.items start.next run.next done.next start.visits run.visits done.visits told.next state.started state.paid told.paid)
+    Propagating-upper (waits store.kept.items) c.args.waiting.now (shapes_of store.kept.items) (entries_of store.occurrences.items) (length store.kept.items) start.assignment.list.items start.candidates.items start.work.items start.next start.visits c.work.taken run.opens.items run.candidates.items run.assignment.list.items run.work.items run.next run.visits run.assignment.list.items run.candidates.items run.visits 0 c.requires.single c.requires.next state (λ s. s) (omega (arith, state.within)) (omega arith)
+
+pub returns-in_err-choose-clause-bounded : goal.returns-in_err-choose-clause-bounded
+returns-in_err-choose-clause-bounded c =
+    sum-bounded (shapes_of c.args.store.now.kept.items) c.work.run.candidates.items (c.work.invariant.state.candidate_sizes ∙ sym (length-map c.args.store.now.kept.items kept_shape)) c.work.invariant.state.tidy.bounded
+
+pub returns-else-taken-waiting-clause-upper : goal.returns-else-taken-waiting-clause-upper
+returns-else-taken-waiting-clause-upper c =
+    let store = c.args.store.now in
+    let start = c.args.run.now in
+    let run = c.work.run in
+    let state = c.work.invariant.state in
+    Propagating-upper (waits store.kept.items) c.args.waiting.now (shapes_of store.kept.items) (entries_of store.occurrences.items) (length store.kept.items) start.assignment.list.items start.candidates.items start.work.items start.next start.visits c.work.taken run.opens.items run.candidates.items run.assignment.list.items run.work.items run.next run.visits run.assignment.list.items run.candidates.items run.visits 0 c.requires.single c.requires.next state (λ s. s) (omega (arith, state.within)) (omega arith)
+
+pub returns-else-taken-waiting-clause-bounded : goal.returns-else-taken-waiting-clause-bounded
+returns-else-taken-waiting-clause-bounded c =
+    sum-bounded (shapes_of c.args.store.now.kept.items) c.work.run.candidates.items (c.work.invariant.state.candidate_sizes ∙ sym (length-map c.args.store.now.kept.items kept_shape)) c.work.invariant.state.tidy.bounded
+
+pub returns-else-taken-waiting-clause-settled : goal.returns-else-taken-waiting-clause-settled
+returns-else-taken-waiting-clause-settled c = λ found f has.
+    let store = c.args.store.now in
+    let start = c.args.run.now in
+    let run = c.work.run in
+    let all : length run.work.items ≤ run.next = omega (arith, c.if-run-len.false, c.len.ensures, run.work.ok.0) in
+    let none_waits : length c.args.waiting.now ≤ c.work.taken = omega (arith, c.if-taken-waiting.false) in
+    Propagating-settled (waits store.kept.items) c.args.waiting.now store.kept.items (entries_of store.occurrences.items) start.assignment.list.items start.candidates.items start.work.items start.next start.visits c.work.taken run.opens.items run.candidates.items run.assignment.list.items run.work.items run.next run.visits all none_waits c.work.invariant.state f has
 
 pub work-smaller : goal.work-smaller
 work-smaller c =
     let store = c.args.store.now in
     let start = c.args.run.now in
     let run = c.work.run in
-    let bound = Propagating-bound (shapes_of store.kept.items) (entries_of store.occurrences.items) (length store.kept.items) start.assignment.list.items start.candidates.items start.work.items start.next start.visits run.opens.items run.candidates.items run.assignment.list.items run.work.items run.next run.visits c.requires.single c.work.invariant.state in
-    omega (arith, bound, c.in_ok-look.ensures.next, c.work-test.true, c.len.ensures, run.work.ok.0)
+    let bound = Propagating-bound (waits store.kept.items) c.args.waiting.now (shapes_of store.kept.items) (entries_of store.occurrences.items) (length store.kept.items) start.assignment.list.items start.candidates.items start.work.items start.next start.visits c.work.taken run.opens.items run.candidates.items run.assignment.list.items run.work.items run.next run.visits c.requires.single c.work.invariant.state in
+    omega (arith, bound, c.work.invariant.state.within, c.if-taken-waiting.true)
 
 pub work-preserved : goal.work-preserved
 work-preserved c =
     let store = c.args.store.now in
     let start = c.args.run.now in
     let run = c.work.run in
-    let done = c.look.new.run in
-    let told = c.in_ok-look.ensures in
+    let less : c.work.taken < length c.args.waiting.now = omega (arith, c.if-taken-waiting.true) in
     record {
-      values = told.values ∙ c.work.invariant.values;
-      state = Propagating-next (shapes_of store.kept.items) (entries_of store.occurrences.items) (length store.kept.items) start.assignment.list.items start.candidates.items start.work.items start.next start.visits run.opens.items run.candidates.items run.assignment.list.items run.work.items run.next run.visits done.opens.items done.candidates.items done.assignment.list.items done.work.items done.next done.visits
-          told.next told.derived told.counted (told.tidy c.if-branch.false) told.paid told.found told.opens told.candidates told.within c.work.invariant.state;
+      values = c.work.invariant.values;
+      taken = omega (arith, less);
+      state = Propagating-choose (waits store.kept.items) c.args.waiting.now (shapes_of store.kept.items) (entries_of store.occurrences.items) (length store.kept.items) start.assignment.list.items start.candidates.items start.work.items start.next start.visits c.work.taken run.opens.items run.candidates.items run.assignment.list.items run.work.items run.next run.visits (get_or c.args.waiting.now c.work.taken 0) c.choose.new.work.items less (get_or_default c.args.waiting.now c.work.taken 0 _ less)
+          (omega (arith, c.requires.waiting c.work.taken 0 less, length-map store.kept.items kept_shape)) c.in_ok-choose.ensures c.work.invariant.state;
     }
-
-pub returns-clause-settled : goal.returns-clause-settled
-returns-clause-settled c = λ found f has.
-    let store = c.args.store.now in
-    let start = c.args.run.now in
-    let run = c.work.run in
-    let all : length run.work.items ≤ run.next = omega (arith, c.work-test.false, c.len.ensures, run.work.ok.0) in
-    Propagating-settled store.kept.items (entries_of store.occurrences.items) start.assignment.list.items start.candidates.items start.work.items start.next start.visits run.opens.items run.candidates.items run.assignment.list.items run.work.items run.next run.visits all c.work.invariant.state f has
-
-pub returns-clause-upper : goal.returns-clause-upper
-returns-clause-upper c =
-    let store = c.args.store.now in
-    let start = c.args.run.now in
-    let run = c.work.run in
-    let state = c.work.invariant.state in
-    Propagating-upper (shapes_of store.kept.items) (entries_of store.occurrences.items) (length store.kept.items) start.assignment.list.items start.candidates.items start.work.items start.next start.visits run.opens.items run.candidates.items run.assignment.list.items run.work.items run.next run.visits c.requires.single c.requires.next
-    state.derived state.started state.within state.paid
-
-pub returns-clause-bounded : goal.returns-clause-bounded
-returns-clause-bounded c = sum-bounded (shapes_of c.args.store.now.kept.items) c.work.run.candidates.items (c.work.invariant.state.candidate_sizes ∙ sym (length-map c.args.store.now.kept.items kept_shape)) c.work.invariant.state.tidy.bounded

@@ -1,5 +1,6 @@
-use Rattle.std.specs.Prelude.{sum_by}
-use Rattle.std.proofs.Common.{◌≡◌, ◌+◌, ◌-◌, length}
+use Rattle.std.specs.Prelude.{sum_by, filter}
+use Rattle.std.proofs.Common.{◌≡◌, ◌+◌, ◌-◌, ◌≤◌, length}
+use Rattle.pb_replay.specs.Engine.Rest.{waits}
 use Rattle.pb_replay.specs.Engine.Fields.{shapes_of, entries_of}
 use Rattle.pb_replay.proofs.Engine.Propagated.{IsPropagating}
 use Rattle.pb_replay.proofs.propagate.run.propagate.Given as goal
@@ -7,8 +8,9 @@ use Rattle.pb_replay.proofs.propagate.run.propagate.Given as goal
 abbrev pub invariant-work : goal.invariant-work
 invariant-work l = record {
   values : length l.run.assignment.values.items ≡ length l.initial.run.assignment.values.items;
-  state : IsPropagating (shapes_of l.store.kept.items) (entries_of l.store.occurrences.items) (length l.store.kept.items) l.initial.run.assignment.list.items l.initial.run.candidates.items l.initial.run.work.items l.initial.run.next l.initial.run.visits l.run.opens.items l.run.candidates.items l.run.assignment.list.items l.run.work.items l.run.next l.run.visits;
+  taken : l.taken ≤ length l.waiting;
+  state : IsPropagating (waits l.store.kept.items) l.waiting (shapes_of l.store.kept.items) (entries_of l.store.occurrences.items) (length l.store.kept.items) l.initial.run.assignment.list.items l.initial.run.candidates.items l.initial.run.work.items l.initial.run.next l.initial.run.visits l.taken l.run.opens.items l.run.candidates.items l.run.assignment.list.items l.run.work.items l.run.next l.run.visits;
 }
 
 abbrev pub decreases-work : goal.decreases-work
-decreases-work l = (length l.initial.run.work.items + sum_by length (entries_of l.store.occurrences.items)) - l.run.next
+decreases-work l = (length l.initial.run.work.items + length (filter (waits l.store.kept.items) l.waiting) + sum_by length (entries_of l.store.occurrences.items) + length l.waiting) - (l.run.next + l.taken)

@@ -2,8 +2,9 @@ use Rattle.std.specs.Prelude.{All}
 use Rattle.std.proofs.Common.{Vec, Global, ◌<◌, [], get_or, length, refl, ap, sym, ◌∙◌, arith}
 use Rattle.std.proofs.lemmas.List.{length-map}
 use Rattle.pb_replay.specs.declared.propagate.term.Occurrence.{Occurrence}
+use Rattle.pb_replay.specs.declared.propagate.assignment.Assignment.{Assignment}
 use Rattle.pb_replay.specs.Engine.Lists.{negation}
-use Rattle.pb_replay.specs.Engine.Counts.{place}
+use Rattle.pb_replay.specs.Engine.Counts.{place, more}
 use Rattle.pb_replay.specs.Engine.Fields.{shapes_of, entries_of, kept_shape}
 use Rattle.pb_replay.proofs.Engine.Runs.{Counted-put, Tidy-put}
 use Rattle.pb_replay.proofs.Engine.Puts.{Putting-start, Putting-fits_at, Putting-next_at, entries-at, place-read, place-inside}
@@ -49,9 +50,9 @@ entries-preserved c =
     }
 
 pub returns-clause-tidy : goal.returns-clause-tidy
-returns-clause-tidy c = λ busy t.
+returns-clause-tidy c = λ aside busy t.
     let run = c.args.run.now in
-    let after = c.entries.invariant.putting.tidy busy (Tidy-put (shapes_of c.args.store.now.kept.items) run.opens.items run.candidates.items run.assignment.list.items c.put.new.self.list.items run.work.items run.next busy c.args.literal c.in_ok-put.ensures.ok t) in
+    let after = c.entries.invariant.putting.tidy aside busy (Tidy-put aside (shapes_of c.args.store.now.kept.items) run.opens.items run.candidates.items run.assignment.list.items c.put.new.self.list.items run.work.items run.next busy c.args.literal c.in_ok-put.ensures.ok t) in
     rw (c.entries.invariant.candidates, c.entries.invariant.assignment, c.entries.invariant.next) after
 
 pub place_of-requires : goal.place_of-requires
@@ -66,3 +67,11 @@ index-entries-requires c =
     let store = c.args.store.now in
     let read = place-read store.occurrences.items store.variables c.args.literal c.place_of.result c.requires.inside (c.place_of.ensures.place ∙ ap place c.negation.ensures) c.requires.store.places in
     omega (arith, read, store.occurrences.ok.0)
+
+pub returns-in_err-lower-clause-single : goal.returns-in_err-lower-clause-single
+returns-in_err-lower-clause-single c = λ s.
+    rw (ap (λ (a : Assignment). a.list.items) (c.lower.ensures.assignment ∙ c.entries.invariant.assignment), c.in_ok-put.ensures.ok) (more c.args.literal s c.requires.absent)
+
+pub returns-clause-single : goal.returns-clause-single
+returns-clause-single c = λ s.
+    rw (ap (λ (a : Assignment). a.list.items) c.entries.invariant.assignment, c.in_ok-put.ensures.ok) (more c.args.literal s c.requires.absent)

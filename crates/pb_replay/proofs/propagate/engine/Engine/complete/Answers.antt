@@ -1,9 +1,8 @@
 use Rattle.std.proofs.Common.{◌++◌, ◌∙◌, ap}
-use Rattle.std.proofs.lemmas.List.{length-map}
 use Rattle.pb_replay.specs.Engine.Live.{Standing, Live}
-use Rattle.pb_replay.specs.Engine.Fields.{shapes_of, kept_shape}
-use Rattle.pb_replay.proofs.Engine.Rested.{rest-counted, rest-tidy}
-use Rattle.pb_replay.proofs.Engine.Rests.{rest-undone, eager-filter, calm-but, slots-kept}
+use Rattle.pb_replay.specs.Engine.Fields.{shapes_of}
+use Rattle.pb_replay.proofs.Engine.Rested.{rest-counted}
+use Rattle.pb_replay.proofs.Engine.Rests.{rest-undone, rest-tidy-all, eager-filter, slots-kept}
 use Rattle.pb_replay.proofs.Engine.Assumed.{refuted-meets, ended-free, ended-completion}
 use Rattle.pb_replay.proofs.propagate.engine.Engine.complete.Goals as goal
 
@@ -18,10 +17,17 @@ settle-requires-clause-tidy c =
     let e = c.self.inside in
     let r = c.self.invariant (ap (λ (v : Standing). v.spent) c.self.view_is ∙ c.requires.ready) in
     let keep = e.store.kept.items in
-    let eager = rw (← c.in_ok-gather.ensures.eager) at (eager-filter keep e.eager.items r.eager) in
-    let waiting = rw (← c.in_ok-gather.ensures.work) at eager in
-    let tidy = rest-tidy (shapes_of keep) e.run.opens.items e.run.candidates.items c.gather.new.work.items (rest-undone keep e.run.opens.items e.run.candidates.items r.rest) (calm-but keep c.gather.new.work.items waiting) in
-    rw (r.list, r.next) (rw (length-map keep kept_shape) at tidy)
+    let eager = rw (← c.prune.ensures) at (eager-filter keep e.eager.items r.eager) in
+    let tidy = rest-tidy-all keep c.prune.new.eager.items e.run.opens.items e.run.candidates.items r.rest eager in
+    rw (c.as_slice.ensures.value, r.list, r.work, r.next) tidy
+
+pub settle-requires-clause-waiting : goal.settle-requires-clause-waiting
+settle-requires-clause-waiting c =
+    let e = c.self.inside in
+    let r = c.self.invariant (ap (λ (v : Standing). v.spent) c.self.view_is ∙ c.requires.ready) in
+    let keep = e.store.kept.items in
+    let eager = rw (← c.prune.ensures) at (eager-filter keep e.eager.items r.eager) in
+    rw c.as_slice.ensures.value eager.named
 
 pub invariant_of-self-then-found : goal.invariant_of-self-then-found
 invariant_of-self-then-found c = λ ready.
@@ -36,7 +42,7 @@ invariant_of-self-then-found c = λ ready.
       list = c.rest.ensures.list;
       work = c.rest.ensures.work;
       next = c.rest.ensures.next;
-      eager = rw (← c.in_ok-gather.ensures.eager) at (eager-filter keep e.eager.items r.eager);
+      eager = rw (← c.prune.ensures) at (eager-filter keep e.eager.items r.eager);
     }
 
 pub returns-then-found-clause-conflict : goal.returns-then-found-clause-conflict
@@ -59,7 +65,7 @@ invariant_of-self-2 c = λ ready.
       list = c.rest.ensures.list;
       work = c.rest.ensures.work;
       next = c.rest.ensures.next;
-      eager = rw (← c.in_ok-gather.ensures.eager) at (eager-filter keep e.eager.items r.eager);
+      eager = rw (← c.prune.ensures) at (eager-filter keep e.eager.items r.eager);
     }
 
 pub returns-clause-no_conflict : goal.returns-clause-no_conflict
@@ -76,4 +82,4 @@ returns-clause-completed c =
     let r = c.self.invariant (ap (λ (v : Standing). v.spent) c.self.view_is ∙ c.requires.ready) in
     let shapes = shapes_of e.store.kept.items in
     let done = c.settle.new.run.assignment in
-    rw (← c.self.view_is) (ended-completion (Live e.forms.items) shapes c.args.given.now done.list.items done.values.items _ (slots-kept e.forms.items shapes r.slots) done.agrees (c.in_ok-extend_from_slice.ensures.items ∙ ap (λ xs. xs ++ c.as_slice.result.now) c.new-values.ensures.items ∙ c.as_slice.ensures.value) (c.in_ok-found.ensures.ended c.if-found.false))
+    rw (← c.self.view_is) (ended-completion (Live e.forms.items) shapes c.args.given.now done.list.items done.values.items _ (slots-kept e.forms.items shapes r.slots) done.agrees (c.in_ok-extend_from_slice.ensures.items ∙ ap (λ xs. xs ++ c.as_slice-2.result.now) c.new-values.ensures.items ∙ c.as_slice-2.ensures.value) (c.in_ok-found.ensures.ended c.if-found.false))

@@ -1,5 +1,5 @@
 use Rattle.std.specs.Prelude.{filter, pos, All, Some, sum, sum_by}
-use Rattle.std.proofs.Common.{of_z, inl, inr, Vec, Global, ℕ, subst, ◌≡◌, ◌≤◌, ◌<◌, ◌+◌, ◌++◌, ◌∷◌, [], List, sym, ◌∙◌, ap, length, length-append, arith}
+use Rattle.std.proofs.Common.{of_z, inl, inr, Vec, Global, ℕ, subst, ◌≡◌, ◌≤◌, ◌<◌, ◌+◌, ◌++◌, ◌∷◌, [], List, refl, sym, ◌∙◌, ap, length, length-append, arith}
 use Rattle.std.specs.Int.{w128}
 use Rattle.std.proofs.lemmas.List.{length-map}
 use Rattle.pb_normal.specs.Form.{Form}
@@ -12,16 +12,16 @@ use Rattle.pb_replay.specs.Propagation.{With, MeetsConflict, IsCompletion}
 use Rattle.pb_replay.specs.Engine.Fields.{shapes_of, kept_shape, entries_of}
 use Rattle.pb_normal.specs.declared.entry.Entry.{Entry}
 use Rattle.pb_replay.specs.Engine.Rest.{waits}
-use Rattle.pb_replay.proofs.Engine.Rested.{rest-counted, rest-tidy}
+use Rattle.pb_replay.proofs.Engine.Rested.{rest-counted}
 use Rattle.pb_replay.proofs.Engine.Literals.{has-none as on-none}
 use Rattle.pb_replay.proofs.Engine.Values.{opposite}
 use Rattle.pb_replay.proofs.Engine.Bridge.{derives, conflicts, is-closed, has-none}
 use Rattle.std.proofs.lemmas.List.Sums.{sum_by_push}
 use Rattle.pb_normal.specs.Rules.{opposite as opposite_entry}
 use Rattle.pb_replay.specs.Engine.Lists.{Shape}
-use Rattle.pb_replay.proofs.Engine.Bounds.{slots-terms, eager-count, filter-one, found-least, most-looks}
+use Rattle.pb_replay.proofs.Engine.Bounds.{slots-terms, eager-count, found-least, most-looks}
 use Rattle.pb_replay.proofs.Engine.Completions.{closed-none}
-use Rattle.pb_replay.proofs.Engine.Rests.{slots-length, slots-entered, rest-entered, rest-undone, rest-left, eager-filter, eager-entered, calm-but, with-kept, opposite-inside}
+use Rattle.pb_replay.proofs.Engine.Rests.{first-count, slots-length, slots-entered, rest-entered, rest-tidy-first, rest-undone, rest-left, eager-filter, eager-entered, with-kept, opposite-inside}
 use Rattle.pb_replay.proofs.propagate.engine.Engine.rup.Goals as goal
 
 pub enter-requires-clause-inside : goal.enter-requires-clause-inside
@@ -63,13 +63,35 @@ propagate-requires-clause-tidy c =
     let h = c.in_ok-enter.ensures.entered in
     let rest = rest-entered c.in-Ok.negation keep new.store.kept.items e.run.opens.items new.run.opens.items e.run.candidates.items new.run.candidates.items h r.rest in
     let number_is : c.len-number.result ≡ length keep = omega (arith, c.len-number.ensures, e.forms.ok.0, slots-length e.forms.items (shapes_of keep) r.slots, length-map keep kept_shape) in
-    let work_is = ap (λ (v : Vec ℕ Global). v.items) c.enter.ensures.rest.1 ∙ c.in_ok-gather.ensures.work in
-    let eager = eager-filter keep e.eager.items r.eager in
-    let eager_now = rw (← c.in_ok-gather.ensures.eager) at eager in
-    let more = c.in_ok-choose.ensures ∙ ap (λ (xs : List ℕ). xs ++ filter (waits new.store.kept.items) (c.len-number.result ∷ [])) work_is in
-    let waiting = eager-entered keep new.store.kept.items h.kept c.gather.new.eager.items c.choose.new.work.items c.len-number.result h.keeps number_is more eager_now in
-    let tidy = rest-tidy (shapes_of new.store.kept.items) new.run.opens.items new.run.candidates.items c.choose.new.work.items (rest-undone new.store.kept.items new.run.opens.items new.run.candidates.items rest) (calm-but new.store.kept.items c.choose.new.work.items waiting) in
-    rw (ap (λ (a : Assignment). a.list.items) c.enter.ensures.rest.0, r.list, c.enter.ensures.rest.2, r.next) (rw (length-map new.store.kept.items kept_shape) at tidy)
+    let inside : c.len-number.result < length new.store.kept.items = omega (arith, number_is, ap length h.keeps, length-append keep (h.kept ∷ [])) in
+    let work_is = ap (λ (v : Vec ℕ Global). v.items) c.enter.ensures.rest.1 ∙ r.work in
+    let first = c.in_ok-choose.ensures ∙ ap (λ (xs : List ℕ). xs ++ filter (waits new.store.kept.items) (c.len-number.result ∷ [])) work_is in
+    let waiting = eager-entered keep new.store.kept.items h.kept e.eager.items _ c.len-number.result h.keeps number_is refl r.eager in
+    let tidy = rest-tidy-first new.store.kept.items e.eager.items new.run.opens.items new.run.candidates.items c.choose.new.work.items c.len-number.result inside first rest waiting in
+    rw (c.as_slice.ensures.value, ap (λ (a : Assignment). a.list.items) c.enter.ensures.rest.0, r.list, c.enter.ensures.rest.2, r.next) tidy
+
+pub invariant_of-self-then-found : goal.invariant_of-self-then-found
+invariant_of-self-then-found c = λ ready.
+    let e = c.self.inside in
+    let r = c.self.invariant (ap (λ (v : Standing). v.spent) c.self.view_is ∙ c.requires.ready) in
+    let keep = e.store.kept.items in
+    let new = c.enter.new in
+    let h = c.in_ok-enter.ensures.entered in
+    let done = c.rest.new.run in
+    let last = c.leave.new in
+    let left = rest-left c.in-Ok.negation keep new.store.kept.items last.store.kept.items e.run.opens.items new.run.opens.items e.run.candidates.items new.run.candidates.items done.opens.items last.run.opens.items done.candidates.items last.run.candidates.items h c.rest.ensures.rest c.leave.ensures.kept c.leave.ensures.opens c.leave.ensures.candidates in
+    let same = c.leave.ensures.rest in
+    let entered = c.enter.ensures.rest in
+    record {
+      sound = c.leave.ensures.sound;
+      slots = rw left.0 r.slots;
+      rest = left.1;
+      values = ap (λ (a : Assignment). length a.values.items) same.0 ∙ c.rest.ensures.values ∙ c.in_ok-found.ensures.values ∙ ap (λ (a : Assignment). length a.values.items) entered.0 ∙ r.values ∙ sym c.in_ok-enter.ensures.variables ∙ sym c.leave.ensures.variables;
+      list = ap (λ (a : Assignment). a.list.items) same.0 ∙ c.rest.ensures.list;
+      work = ap (λ (v : Vec ℕ Global). v.items) same.1 ∙ c.rest.ensures.work;
+      next = same.2 ∙ c.rest.ensures.next;
+      eager = rw left.0 r.eager;
+    }
 
 pub invariant_of-self-2 : goal.invariant_of-self-2
 invariant_of-self-2 c = λ ready.
@@ -81,8 +103,6 @@ invariant_of-self-2 c = λ ready.
     let done = c.rest.new.run in
     let last = c.leave.new in
     let left = rest-left c.in-Ok.negation keep new.store.kept.items last.store.kept.items e.run.opens.items new.run.opens.items e.run.candidates.items new.run.candidates.items done.opens.items last.run.opens.items done.candidates.items last.run.candidates.items h c.rest.ensures.rest c.leave.ensures.kept c.leave.ensures.opens c.leave.ensures.candidates in
-    let eager = eager-filter keep e.eager.items r.eager in
-    let eager_now = rw (← c.in_ok-gather.ensures.eager) at eager in
     let same = c.leave.ensures.rest in
     let entered = c.enter.ensures.rest in
     record {
@@ -93,11 +113,11 @@ invariant_of-self-2 c = λ ready.
       list = ap (λ (a : Assignment). a.list.items) same.0 ∙ c.rest.ensures.list;
       work = ap (λ (v : Vec ℕ Global). v.items) same.1 ∙ c.rest.ensures.work;
       next = same.2 ∙ c.rest.ensures.next;
-      eager = rw left.0 eager_now;
+      eager = rw (← c.prune.ensures) at (eager-filter last.store.kept.items e.eager.items (rw left.0 r.eager));
     }
 
-pub returns-clause-implied : goal.returns-clause-implied
-returns-clause-implied c = λ found.
+pub returns-then-found-clause-implied : goal.returns-then-found-clause-implied
+returns-then-found-clause-implied c = λ found.
     let e = c.self.inside in
     let r = c.self.invariant (ap (λ (v : Standing). v.spent) c.self.view_is ∙ c.requires.ready) in
     let keep = e.store.kept.items in
@@ -110,7 +130,7 @@ returns-clause-implied c = λ found.
     let a = with-kept forms g shapes (slots-entered forms g keep new.store.kept.items e.run.opens.items new.run.opens.items e.run.candidates.items new.run.candidates.items h r.slots) in
     let empty = ap (λ (x : Assignment). x.list.items) c.enter.ensures.rest.0 ∙ r.list in
     let d = derives (With (Live forms) g) shapes [] [] c.propagate.new.run.assignment.list.items a (λ v n. sym (on-none (record { variable = v; negated = n }))) (rw empty at told.derived) in
-    let meets : MeetsConflict (With (Live forms) g) [] = record { list = d.list; derived = d.derived; conflict = conflicts (With (Live forms) g) shapes d.list c.propagate.new.run.assignment.list.items a d.matches (told.conflict found) } in
+    let meets : MeetsConflict (With (Live forms) g) [] = record { list = d.list; derived = d.derived; conflict = conflicts (With (Live forms) g) shapes d.list c.propagate.new.run.assignment.list.items a d.matches (told.conflict c.if-found.true) } in
     rw (← c.self.view_is) (inr (rw c.in-Ok.ensures.negation at meets))
 
 pub returns-clause-not_implied : goal.returns-clause-not_implied
@@ -129,14 +149,42 @@ returns-clause-not_implied c = λ found rup.
     let empty = ap (λ (x : Assignment). x.list.items) c.enter.ensures.rest.0 ∙ r.list in
     let d = derives (With (Live forms) g) shapes [] [] run.assignment.list.items a (λ v n. sym (on-none (record { variable = v; negated = n }))) (rw empty at told.derived) in
     let free : MeetsConflict (With (Live forms) g) [] → ⊥ = closed-none (With (Live forms) g) [] d.list d.derived
-    (is-closed (With (Live forms) g) shapes d.list run.assignment.list.items a d.matches (told.settled found))
-    (has-none (With (Live forms) g) shapes d.list run.assignment.list.items a d.matches (λ l on. opposite run.assignment.values.items run.assignment.list.items l run.assignment.agrees on) (told.settled found)) in
+    (is-closed (With (Live forms) g) shapes d.list run.assignment.list.items a d.matches (told.settled c.if-found.false))
+    (has-none (With (Live forms) g) shapes d.list run.assignment.list.items a d.matches (λ l on. opposite run.assignment.values.items run.assignment.list.items l run.assignment.agrees on) (told.settled c.if-found.false)) in
     let free_goal : MeetsConflict (With (Live forms) (negation_of c.args.goal.now)) [] → ⊥ = rw c.in-Ok.ensures.negation at free in
     let same : forms ≡ c.args.self.now.forms = ap (λ (v : Standing). v.forms) c.self.view_is in
     elim rup [
       | inl nothing ↦ c.if-degree-eq0.false (ap (of_z w128) (c.degree.ensures.degree ∙ ap pos nothing))
       | inr m ↦ free_goal (rw (← same) at m)
     ]
+
+pub returns-then-found-clause-most : goal.returns-then-found-clause-most
+returns-then-found-clause-most c =
+    let e = c.self.inside in
+    let r = c.self.invariant (ap (λ (v : Standing). v.spent) c.self.view_is ∙ c.requires.ready) in
+    let keep = e.store.kept.items in
+    let new = c.enter.new in
+    let h = c.in_ok-enter.ensures.entered in
+    let g = c.in-Ok.negation in
+    let forms = e.forms.items in
+    let number = c.len-number.result in
+    let shapes = shapes_of new.store.kept.items in
+    let slots = slots-entered forms g keep new.store.kept.items e.run.opens.items new.run.opens.items e.run.candidates.items new.run.candidates.items h r.slots in
+    let terms = slots-terms (forms ++ (Some g ∷ [])) shapes slots in
+    let more = sum_by_push terms_in forms (Some g) in
+    let one = sum_by_push one_in forms (Some g) in
+    let goal_terms : length g.terms ≡ length c.args.goal.now.terms = ap (λ (f : Form). length f.terms) c.in-Ok.ensures.negation ∙ length-map c.args.goal.now.terms opposite_entry in
+    let number_is : number ≡ length keep = omega (arith, c.len-number.ensures, e.forms.ok.0, slots-length forms (shapes_of keep) r.slots, length-map keep kept_shape) in
+    let eager = eager-entered keep new.store.kept.items h.kept e.eager.items _ number h.keeps number_is refl r.eager in
+    let few = eager-count (forms ++ (Some g ∷ [])) new.store.kept.items _ slots eager in
+    let parts = first-count (waits new.store.kept.items) e.eager.items number in
+    let work_is : length new.run.work.items ≡ 0 = ap (λ (v : Vec ℕ Global). length v.items) c.enter.ensures.rest.1 ∙ ap length r.work in
+    let work = ap length c.in_ok-choose.ensures ∙ length-append new.run.work.items (filter (waits new.store.kept.items) (number ∷ [])) in
+    let waiting = ap (λ (xs : List ℕ). length (filter (waits new.store.kept.items) xs)) c.as_slice.ensures.value in
+    let same : forms ≡ c.args.self.now.forms = ap (λ (v : Standing). v.forms) c.self.view_is in
+    let looks = most-looks c.propagate.new.run.visits (sum new.run.candidates.items) new.run.visits (length c.choose.new.work.items + length (filter (waits new.store.kept.items) c.as_slice.result.now)) new.run.next (sum_by length (entries_of new.store.occurrences.items)) (sum c.propagate.new.run.candidates.items) (sum_by (λ (f : Shape). length f.terms) shapes) (sum_by one_in forms + 1)
+    c.propagate.ensures.upper c.enter.ensures.rest.3 c.propagate.ensures.bounded c.in_ok-enter.ensures.sound.whole.totals (omega (arith, few, parts, work_is, work, waiting, one)) in
+    rw (← same) (omega (arith, looks, terms, more, goal_terms, c.leave.ensures.rest.3, c.rest.ensures.visits))
 
 pub returns-clause-most : goal.returns-clause-most
 returns-clause-most c =
@@ -147,24 +195,55 @@ returns-clause-most c =
     let h = c.in_ok-enter.ensures.entered in
     let g = c.in-Ok.negation in
     let forms = e.forms.items in
-    let told = c.in_ok-found.ensures in
+    let number = c.len-number.result in
     let shapes = shapes_of new.store.kept.items in
     let slots = slots-entered forms g keep new.store.kept.items e.run.opens.items new.run.opens.items e.run.candidates.items new.run.candidates.items h r.slots in
     let terms = slots-terms (forms ++ (Some g ∷ [])) shapes slots in
     let more = sum_by_push terms_in forms (Some g) in
+    let one = sum_by_push one_in forms (Some g) in
     let goal_terms : length g.terms ≡ length c.args.goal.now.terms = ap (λ (f : Form). length f.terms) c.in-Ok.ensures.negation ∙ length-map c.args.goal.now.terms opposite_entry in
-    let few = eager-count forms keep e.eager.items r.slots r.eager in
-    let waiting : length new.run.work.items ≡ length (filter (waits keep) e.eager.items) = ap (λ (v : Vec ℕ Global). length v.items) c.enter.ensures.rest.1 ∙ ap length c.in_ok-gather.ensures.work ∙ ap length c.in_ok-gather.ensures.eager in
-    let work = ap length c.in_ok-choose.ensures in
-    let longer = length-append new.run.work.items (filter (waits new.store.kept.items) (c.len-number.result ∷ [])) in
-    let one = filter-one (waits new.store.kept.items) c.len-number.result in
+    let number_is : number ≡ length keep = omega (arith, c.len-number.ensures, e.forms.ok.0, slots-length forms (shapes_of keep) r.slots, length-map keep kept_shape) in
+    let eager = eager-entered keep new.store.kept.items h.kept e.eager.items _ number h.keeps number_is refl r.eager in
+    let few = eager-count (forms ++ (Some g ∷ [])) new.store.kept.items _ slots eager in
+    let parts = first-count (waits new.store.kept.items) e.eager.items number in
+    let work_is : length new.run.work.items ≡ 0 = ap (λ (v : Vec ℕ Global). length v.items) c.enter.ensures.rest.1 ∙ ap length r.work in
+    let work = ap length c.in_ok-choose.ensures ∙ length-append new.run.work.items (filter (waits new.store.kept.items) (number ∷ [])) in
+    let waiting = ap (λ (xs : List ℕ). length (filter (waits new.store.kept.items) xs)) c.as_slice.ensures.value in
     let same : forms ≡ c.args.self.now.forms = ap (λ (v : Standing). v.forms) c.self.view_is in
-    let looks = most-looks c.propagate.new.run.visits (sum new.run.candidates.items) new.run.visits (length c.choose.new.work.items) new.run.next (sum_by length (entries_of new.store.occurrences.items)) (sum c.propagate.new.run.candidates.items) (sum_by (λ (f : Shape). length f.terms) shapes) (sum_by one_in forms + 1)
-    told.upper c.enter.ensures.rest.3 told.bounded c.in_ok-enter.ensures.sound.whole.totals (omega (arith, few, waiting, work, longer, one)) in
+    let looks = most-looks c.propagate.new.run.visits (sum new.run.candidates.items) new.run.visits (length c.choose.new.work.items + length (filter (waits new.store.kept.items) c.as_slice.result.now)) new.run.next (sum_by length (entries_of new.store.occurrences.items)) (sum c.propagate.new.run.candidates.items) (sum_by (λ (f : Shape). length f.terms) shapes) (sum_by one_in forms + 1)
+    c.propagate.ensures.upper c.enter.ensures.rest.3 c.propagate.ensures.bounded c.in_ok-enter.ensures.sound.whole.totals (omega (arith, few, parts, work_is, work, waiting, one)) in
     rw (← same) (omega (arith, looks, terms, more, goal_terms, c.leave.ensures.rest.3, c.rest.ensures.visits))
 
-pub returns-clause-conflict : goal.returns-clause-conflict
-returns-clause-conflict c = λ found.
+pub returns-in_err-found-clause-most : goal.returns-in_err-found-clause-most
+returns-in_err-found-clause-most c =
+    let e = c.self.inside in
+    let r = c.self.invariant (ap (λ (v : Standing). v.spent) c.self.view_is ∙ c.requires.ready) in
+    let keep = e.store.kept.items in
+    let new = c.enter.new in
+    let h = c.in_ok-enter.ensures.entered in
+    let g = c.in-Ok.negation in
+    let forms = e.forms.items in
+    let number = c.len-number.result in
+    let shapes = shapes_of new.store.kept.items in
+    let slots = slots-entered forms g keep new.store.kept.items e.run.opens.items new.run.opens.items e.run.candidates.items new.run.candidates.items h r.slots in
+    let terms = slots-terms (forms ++ (Some g ∷ [])) shapes slots in
+    let more = sum_by_push terms_in forms (Some g) in
+    let one = sum_by_push one_in forms (Some g) in
+    let goal_terms : length g.terms ≡ length c.args.goal.now.terms = ap (λ (f : Form). length f.terms) c.in-Ok.ensures.negation ∙ length-map c.args.goal.now.terms opposite_entry in
+    let number_is : number ≡ length keep = omega (arith, c.len-number.ensures, e.forms.ok.0, slots-length forms (shapes_of keep) r.slots, length-map keep kept_shape) in
+    let eager = eager-entered keep new.store.kept.items h.kept e.eager.items _ number h.keeps number_is refl r.eager in
+    let few = eager-count (forms ++ (Some g ∷ [])) new.store.kept.items _ slots eager in
+    let parts = first-count (waits new.store.kept.items) e.eager.items number in
+    let work_is : length new.run.work.items ≡ 0 = ap (λ (v : Vec ℕ Global). length v.items) c.enter.ensures.rest.1 ∙ ap length r.work in
+    let work = ap length c.in_ok-choose.ensures ∙ length-append new.run.work.items (filter (waits new.store.kept.items) (number ∷ [])) in
+    let waiting = ap (λ (xs : List ℕ). length (filter (waits new.store.kept.items) xs)) c.as_slice.ensures.value in
+    let same : forms ≡ c.args.self.now.forms = ap (λ (v : Standing). v.forms) c.self.view_is in
+    let looks = most-looks c.propagate.new.run.visits (sum new.run.candidates.items) new.run.visits (length c.choose.new.work.items + length (filter (waits new.store.kept.items) c.as_slice.result.now)) new.run.next (sum_by length (entries_of new.store.occurrences.items)) (sum c.propagate.new.run.candidates.items) (sum_by (λ (f : Shape). length f.terms) shapes) (sum_by one_in forms + 1)
+    c.propagate.ensures.upper c.enter.ensures.rest.3 c.propagate.ensures.bounded c.in_ok-enter.ensures.sound.whole.totals (omega (arith, few, parts, work_is, work, waiting, one)) in
+    rw (← same) (omega (arith, looks, terms, more, goal_terms))
+
+pub returns-then-found-clause-conflict : goal.returns-then-found-clause-conflict
+returns-then-found-clause-conflict c = λ found.
     let e = c.self.inside in
     let r = c.self.invariant (ap (λ (v : Standing). v.spent) c.self.view_is ∙ c.requires.ready) in
     let keep = e.store.kept.items in
@@ -180,7 +259,7 @@ returns-clause-conflict c = λ found.
     let d = derives (With (Live forms) g) shapes [] [] run.assignment.list.items a (λ v n. sym (on-none (record { variable = v; negated = n }))) (rw empty at told.derived) in
     let least = found-least (length run.assignment.list.items) run.visits (length new.run.assignment.list.items) new.run.visits (ap length empty) c.enter.ensures.rest.3 told.found (omega (arith, run.assignment.list.ok.0, run.assignment.list.ok.1)) in
     let small : length d.list ≤ c.leave.new.run.visits = omega (arith, least, d.count, c.leave.ensures.rest.3, c.rest.ensures.visits) in
-    let meets : (m : MeetsConflict (With (Live forms) g) []) × (length m.list ≤ c.leave.new.run.visits) = (record { list = d.list; derived = d.derived; conflict = conflicts (With (Live forms) g) shapes d.list run.assignment.list.items a d.matches (told.conflict found) }, small) in
+    let meets : (m : MeetsConflict (With (Live forms) g) []) × (length m.list ≤ c.leave.new.run.visits) = (record { list = d.list; derived = d.derived; conflict = conflicts (With (Live forms) g) shapes d.list run.assignment.list.items a d.matches (told.conflict c.if-found.true) }, small) in
     rw (← c.self.view_is) (inr (rw c.in-Ok.ensures.negation at meets))
 
 pub returns-clause-completion : goal.returns-clause-completion
@@ -200,6 +279,13 @@ returns-clause-completion c = λ found.
     let d = derives (With (Live forms) g) shapes [] [] run.assignment.list.items a (λ v n. sym (on-none (record { variable = v; negated = n }))) (rw empty at told.derived) in
     let least = found-least (length run.assignment.list.items) run.visits (length new.run.assignment.list.items) new.run.visits (ap length empty) c.enter.ensures.rest.3 told.found (omega (arith, run.assignment.list.ok.0, run.assignment.list.ok.1)) in
     let small : length d.list ≤ c.leave.new.run.visits = omega (arith, least, d.count, c.leave.ensures.rest.3, c.rest.ensures.visits) in
-    let done : IsCompletion (With (Live forms) g) [] d.list = record { derived = d.derived; closed = is-closed (With (Live forms) g) shapes d.list run.assignment.list.items a d.matches (told.settled found) } in
+    let done : IsCompletion (With (Live forms) g) [] d.list = record { derived = d.derived; closed = is-closed (With (Live forms) g) shapes d.list run.assignment.list.items a d.matches (told.settled c.if-found.false) } in
     let whole : (list : List NumberedLiteral) × IsCompletion (With (Live forms) g) [] list × (length list ≤ c.leave.new.run.visits) = (d.list, done, small) in
     rw (← c.self.view_is) (rw c.in-Ok.ensures.negation at whole)
+
+pub propagate-requires-clause-waiting : goal.propagate-requires-clause-waiting
+propagate-requires-clause-waiting c =
+    let e = c.self.inside in
+    let r = c.self.invariant (ap (λ (v : Standing). v.spent) c.self.view_is ∙ c.requires.ready) in
+    let h = c.in_ok-enter.ensures.entered in
+    rw c.as_slice.ensures.value (λ k d less. omega (arith, r.eager.named k d less, ap length h.keeps, length-append e.store.kept.items (h.kept ∷ [])))

@@ -1,0 +1,76 @@
+#!/usr/bin/env python3
+"""Writes an instance and a proof whose steps are tests by unit propagation, or deletions:
+
+    bench/propagation.py KIND COUNT FOLDER
+
+writes FOLDER/KIND.opb and FOLDER/KIND.pbp. The kinds:
+
+    chain   so many clauses ~x(i) or x(i+1), and one step that follows through all of them
+    units   such a chain with its first variable, and so many steps, each a unit that follows from the one before
+    common  so many clauses with one common literal, which are deleted one by one in any order
+    long    2,000 clauses of 20 literals, and so many steps, each of them one of the clauses with a literal more
+
+The same kind and count give the same bytes: what is random comes from a fixed seed. Every step is accepted.
+"""
+import os
+import random
+import sys
+
+LONG_CLAUSES = 2_000
+LONG_VARIABLES = 1_000
+LONG_LITERALS = 20
+
+
+def clause(*literals):
+    return " ".join(f"+1 {literal}" for literal in literals) + " >= 1 ;\n"
+
+
+def links(count):
+    return [clause(f"~x{i}", f"x{i + 1}") for i in range(1, count + 1)]
+
+
+def chain(count, rng):
+    return count + 1, links(count), ["rup " + clause("~x1", f"x{count + 1}")]
+
+
+def units(count, rng):
+    steps = ["rup " + clause(f"x{i}") for i in range(2, count + 2)]
+    return count + 1, [clause("x1")] + links(count), steps
+
+
+def common(count, rng):
+    order = list(range(1, count + 1))
+    rng.shuffle(order)
+    clauses = [clause("x1", f"x{i + 1}") for i in range(1, count + 1)]
+    return count + 1, clauses, [f"del id {number}\n" for number in order]
+
+
+def long(count, rng):
+    clauses = [literals(rng) for _ in range(LONG_CLAUSES)]
+    fresh = f"x{LONG_VARIABLES + 1}"
+    steps = ["rup " + clause(*rng.choice(clauses), fresh) for _ in range(count)]
+    return LONG_VARIABLES + 1, [clause(*one) for one in clauses], steps
+
+
+def literals(rng):
+    variables = rng.sample(range(1, LONG_VARIABLES + 1), LONG_LITERALS)
+    return [("~" if rng.random() < 0.5 else "") + f"x{variable}" for variable in variables]
+
+
+def write(folder, name, head, lines):
+    with open(os.path.join(folder, name), "w", encoding="ascii") as file:
+        file.write(head)
+        file.writelines(lines)
+
+
+def main():
+    kind, count, folder = sys.argv[1], int(sys.argv[2]), sys.argv[3]
+    kinds = {"chain": chain, "units": units, "common": common, "long": long}
+    variables, constraints, steps = kinds[kind](count, random.Random(2012))
+    write(folder, f"{kind}.opb", f"* #variable= {variables} #constraint= {len(constraints)}\n", constraints)
+    end = ["output NONE\n", "conclusion NONE\n", "end pseudo-Boolean proof\n"]
+    write(folder, f"{kind}.pbp", f"pseudo-Boolean proof version 2.0\nf {len(constraints)}\n", steps + end)
+
+
+if __name__ == "__main__":
+    main()

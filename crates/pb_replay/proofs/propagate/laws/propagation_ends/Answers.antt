@@ -1,0 +1,5 @@
+use Rattle.pb_replay.proofs.Engine.Ends.{completions-exist}
+use Rattle.pb_replay.proofs.propagate.laws.propagation_ends.Goals as goal
+
+pub returns : goal.returns
+returns c = completions-exist
