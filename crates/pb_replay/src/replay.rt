@@ -1,12 +1,13 @@
 //! The replay of a proof.
 
-ghost use Rattle.std.specs.Prelude.{◌≡◌, Ok, Err, None, Some, OnOk, IfOk, IfErr, IfSome, ◌⊎◌, length, slice_get};
+ghost use Rattle.pb_opb.specs.declared.Instance.{Instance as AnInstance};
+ghost use Rattle.std.specs.Prelude.{ℕ, ◌≡◌, Ok, Err, None, Some, OnOk, IfOk, IfErr, IfSome, ◌⊎◌, length, slice_get};
 ghost use Rattle.std.specs.Option.{option_copied};
 ghost use Rattle.pb_text.specs.Limits.{largest, top_of};
 ghost use Rattle.pb_proof.specs.Values.{IsStatementValue};
 ghost use Rattle.pb_replay.specs.Loading.{Opened};
 ghost use Rattle.pb_replay.specs.Replay.{first_state};
-ghost use Rattle.pb_replay.specs.Meaning.{IsFront, Means};
+ghost use Rattle.pb_replay.specs.Meaning.{IsFront, Means, MeansWritten};
 ghost use Rattle.pb_replay.specs.Running.{StandsFor, StepsAs, verdict_in, constraint_in};
 ghost use Rattle.pb_replay.specs.Visits.{LooksOf};
 ghost use Rattle.pb_replay.specs.declared.fault.Fault.{Fault as AFault};
@@ -97,6 +98,7 @@ impl Replay {
     pub fn verdict(&self) -> Option<Verdict>
         ensures verdict { result ≡ verdict_in self.now }
         ensures means { IfSome result (λ w. Means self.now.problem w) }
+        ensures written { IfSome result (λ w. (limit : ℕ) (i : AnInstance) → Opened limit i (Ok self.now.problem) → MeansWritten i w) }
     {
         if self.fault.is_some() {
             return None;

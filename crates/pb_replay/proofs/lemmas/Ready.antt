@@ -23,11 +23,11 @@ use Rattle.pb_replay.specs.Replay.{Logged, State}
 use Rattle.pb_replay.specs.declared.fault.Fault.TheVariants.{Memory}
 use Rattle.pb_replay.specs.Statements.{Outcome}
 use Rattle.pb_replay.proofs.lemmas.States.{same-state}
-use Rattle.pb_replay.specs.Meaning.{IsFront, IsSound, Means}
+use Rattle.pb_replay.specs.Meaning.{IsFront, IsSound, Means, MeansWritten}
 use Rattle.pb_replay.specs.Running.{Comes, Keeps, IsBest, IsFirst, IsInside, IsLinked, IsProper, IsReady, problem_of, state_of}
 use Rattle.pb_text.specs.declared.Limits.{Limits}
 use Rattle.pb_replay.proofs.lemmas.Concluded.{contains-none}
-use Rattle.pb_replay.proofs.lemmas.Loads.{problems-proper, loaded-inside}
+use Rattle.pb_replay.proofs.lemmas.Loads.{problems-proper, loaded-inside, meanings-agree}
 use Rattle.pb_replay.proofs.lemmas.Sound.{first-sound, statements-sound}
 
 pub meant : (v : Problem) (s : State) (o : Option Verdict) → IsSound v s → o ≡ s.concluded → IfSome o (Means v)
@@ -132,3 +132,8 @@ own-length r p = at r.own r.names p.own
     at zero ns le = refl
     at (suc k) [] le = absurd (omega (arith, le))
     at (suc k) (n ∷ ns) le = ap suc (at k ns (omega (arith, le)))
+
+-- what a verdict means of each instance that opens as the problem
+pub meant-written : (v : Problem) (o : Option Verdict) → IfSome o (Means v) → IfSome o (λ w. (limit : ℕ) (i : Instance) → Opened limit i (Ok v) → MeansWritten i w)
+meant-written v None h = tt
+meant-written v (Some w) h = λ limit i opened. meanings-agree limit i v w opened h
