@@ -1,7 +1,7 @@
 //! The replay of a proof.
 
 ghost use Rattle.pb_opb.specs.declared.Instance.{Instance as AnInstance};
-ghost use Rattle.std.specs.Prelude.{ℕ, ◌≡◌, Ok, Err, None, Some, OnOk, IfOk, IfErr, IfSome, ◌⊎◌, length, slice_get};
+ghost use Rattle.std.specs.Prelude.{ℕ, ◌<◌, ◌≡◌, Ok, Err, None, Some, OnOk, IfOk, IfErr, IfSome, ◌⊎◌, length, slice_get};
 ghost use Rattle.std.specs.Option.{option_copied};
 ghost use Rattle.pb_text.specs.Limits.{largest, top_of};
 ghost use Rattle.pb_proof.specs.Values.{IsStatementValue};
@@ -80,6 +80,7 @@ impl Replay {
         ensures limits { self.new.limits ≡ self.old.limits }
         ensures problem { self.new.problem ≡ self.old.problem }
         ensures names { IsFront self.old.names self.new.names }
+        ensures unvalued { self.old.fault ≡ None → (n : ℕ) → result ≡ Err (Fault.NotTotal n) → n < length self.old.names }
         ensures looks { self.old.fault ≡ None → LooksOf self.old.live self.old.names statement.now result self.old.visits self.new.visits }
     {
         if let Some(fault) = self.fault {
