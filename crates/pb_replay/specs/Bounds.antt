@@ -87,10 +87,10 @@ Demands old z (Ok _) new = (before : List Logged) (g : Logged) (o : List Term) �
 Demands old z (Err e) new = (e ≡ Memory) ⊎ ((before : List Logged) (g : Logged) (o : List Term) → g.value ≡ z → (problem_of old).objective ≡ Some o
     → normal_form (largest old.limits) old.names most (objective_with o (g.value -ℤ pos 1)) (added (top_of old.limits) (state_of old before) (before ++ g ∷ [])) (Err e))
 
--- what is answered of both bounds, of each objective and whatever was logged
-abbrev pub both_of : Running → List Logged → List Term → Bound → Option ℤ → Bound → Option (List NumberedLiteral) → Answer (Unit {0})
-both_of r logged o lower id upper given = lower_bound (largest r.limits) (state_of r logged) o lower id (upper_of (problem_of r) logged upper given)
-
+-- what is answered of both bounds, of each objective and whatever was logged: the lower one comes first
 abbrev pub Both : Running → Bound → Option ℤ → Bound → Option (List NumberedLiteral) → Result Unit Fault → Type 0
-Both r lower id upper given (Ok u) = (logged : List Logged) (o : List Term) → IsBest logged r.best → (problem_of r).objective ≡ Some o → both_of r logged o lower id upper given (Ok (tt {0}))
-Both r lower id upper given (Err e) = (e ≡ Memory) ⊎ ((logged : List Logged) (o : List Term) → IsBest logged r.best → (problem_of r).objective ≡ Some o → both_of r logged o lower id upper given (Err e))
+Both r lower id upper given (Ok u) = (logged : List Logged) (o : List Term) → IsBest logged r.best → (problem_of r).objective ≡ Some o
+    → lower_bound (largest r.limits) (state_of r logged) o lower id (gives (tt {0})) (Ok (tt {0})) × upper_of (problem_of r) logged upper given (Ok (tt {0}))
+Both r lower id upper given (Err e) = (e ≡ Memory) ⊎ ((logged : List Logged) (o : List Term) → IsBest logged r.best → (problem_of r).objective ≡ Some o
+    → lower_bound (largest r.limits) (state_of r logged) o lower id (gives (tt {0})) (Err e)
+    ⊎ (lower_bound (largest r.limits) (state_of r logged) o lower id (gives (tt {0})) (Ok (tt {0})) × upper_of (problem_of r) logged upper given (Err e)))

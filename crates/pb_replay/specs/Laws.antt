@@ -9,7 +9,7 @@ use Rattle.pb_normal.specs.Names.{AreDistinct}
 use Rattle.pb_replay.specs.declared.fault.Fault.TheVariants.{NotTotal}
 use Rattle.pb_replay.specs.declared.numbered.NumberedLiteral.{NumberedLiteral}
 use Rattle.pb_replay.specs.declared.state.phase.Phase.{Phase}
-use Rattle.pb_replay.specs.declared.state.phase.Phase.TheVariants.{Ending, Done}
+use Rattle.pb_replay.specs.declared.state.phase.Phase.TheVariants.{Beginning, Ending, Done}
 use Rattle.pb_replay.specs.declared.verdict.Verdict.{Verdict}
 use Rattle.pb_replay.specs.Answer.{Answer}
 use Rattle.pb_replay.specs.Loading.{Problem, Opened, Solves}
@@ -81,11 +81,11 @@ abbrev pub UnvaluedAreOld : Type 0
 UnvaluedAreOld = (limit top : ℕ) (v : Problem) (s : State) (st : Statement) (n : ℕ) → AreDistinct s.names →
     Outcome limit top v s st (Err (NotTotal n)) → n < length s.names
 
--- once a proof has concluded there is a verdict
+-- once a proof has concluded there is a verdict; so it is from any state before the header
 abbrev pub HasClaim : Phase → Option Verdict → Type 0
 HasClaim Ending concluded = IsSome concluded
 HasClaim Done concluded = IsSome concluded
 HasClaim _ concluded = Unit {0}
 
 abbrev pub VerdictsAreThere : Type 0
-VerdictsAreThere = (limit top : ℕ) (v : Problem) (sts : List Statement) (t : State) → Accepts limit top v (first_state v) sts t → HasClaim t.next t.concluded
+VerdictsAreThere = (limit top : ℕ) (v : Problem) (sts : List Statement) (s t : State) → s.next ≡ Beginning → Accepts limit top v s sts t → HasClaim t.next t.concluded

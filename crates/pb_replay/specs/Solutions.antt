@@ -1,5 +1,5 @@
 -- What values of the names are a solution, as the code tests it
-use Rattle.std.specs.Prelude.{◌≡◌, ℕ, ◌+◌, ◌<◌, Bool, false, not, List, length, get_or, Option, Some, None, IsSome}
+use Rattle.std.specs.Prelude.{◌≡◌, ℕ, ◌+◌, ◌<◌, Bool, false, List, length, get_or, Option, Some, None, IsSome}
 use Rattle.pb_normal.specs.Form.{Form, Holds}
 use Rattle.pb_normal.specs.Rules.{assignment}
 use Rattle.pb_replay.specs.declared.fault.Fault.TheVariants.{NotTotal, Violates}
@@ -7,10 +7,10 @@ use Rattle.pb_replay.specs.Answer.{Answer, gives, each_below, some, after}
 use Rattle.pb_replay.specs.Loading.{Problem}
 use Rattle.pb_replay.specs.Replay.{Logged, no_form, logged_of}
 
--- Each of so many names has this value. A given one is `true` where the negation of the name is.
+-- each of so many names has this value
 pub record AreTotal (given : List (Option Bool)) (names : ℕ) (values : List Bool) : Type 0 where
   pub count : length values ≡ names
-  pub each : (k : ℕ) → k < names → get_or given k None ≡ Some (not (get_or values k false))
+  pub each : (k : ℕ) → k < names → get_or given k None ≡ Some (get_or values k false)
 
 -- the values, where each of so many names has one
 abbrev pub Given : List (Option Bool) → ℕ → Answer (List Bool)

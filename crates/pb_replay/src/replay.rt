@@ -1,12 +1,13 @@
 //! The replay of a proof.
 
-ghost use Rattle.std.specs.Prelude.{◌≡◌, Ok, Err, None, Some, OnOk, IfOk, IfErr, IfSome, ◌⊎◌, length, slice_get};
+ghost use Rattle.pb_opb.specs.declared.Instance.{Instance as AnInstance};
+ghost use Rattle.std.specs.Prelude.{ℕ, ◌<◌, ◌≡◌, Ok, Err, None, Some, OnOk, IfOk, IfErr, IfSome, ◌⊎◌, length, slice_get};
 ghost use Rattle.std.specs.Option.{option_copied};
 ghost use Rattle.pb_text.specs.Limits.{largest, top_of};
 ghost use Rattle.pb_proof.specs.Values.{IsStatementValue};
 ghost use Rattle.pb_replay.specs.Loading.{Opened};
 ghost use Rattle.pb_replay.specs.Replay.{first_state};
-ghost use Rattle.pb_replay.specs.Meaning.{IsFront, Means};
+ghost use Rattle.pb_replay.specs.Meaning.{IsFront, Means, MeansWritten};
 ghost use Rattle.pb_replay.specs.Running.{StandsFor, StepsAs, verdict_in, constraint_in};
 ghost use Rattle.pb_replay.specs.Visits.{LooksOf};
 ghost use Rattle.pb_replay.specs.declared.fault.Fault.{Fault as AFault};
@@ -79,6 +80,7 @@ impl Replay {
         ensures limits { self.new.limits ≡ self.old.limits }
         ensures problem { self.new.problem ≡ self.old.problem }
         ensures names { IsFront self.old.names self.new.names }
+        ensures unvalued { self.old.fault ≡ None → (n : ℕ) → result ≡ Err (Fault.NotTotal n) → n < length self.old.names }
         ensures looks { self.old.fault ≡ None → LooksOf self.old.live self.old.names statement.now result self.old.visits self.new.visits }
     {
         if let Some(fault) = self.fault {
@@ -97,6 +99,7 @@ impl Replay {
     pub fn verdict(&self) -> Option<Verdict>
         ensures verdict { result ≡ verdict_in self.now }
         ensures means { IfSome result (λ w. Means self.now.problem w) }
+        ensures written { IfSome result (λ w. (limit : ℕ) (i : AnInstance) → Opened limit i (Ok self.now.problem) → MeansWritten i w) }
     {
         if self.fault.is_some() {
             return None;

@@ -7,6 +7,7 @@ ghost use Rattle.pb_replay.specs.Running.{Keeps, Goes, Comes, IsLinked, IsReady}
 ghost use Rattle.pb_replay.specs.Statements.{IsCount, comes};
 ghost use Rattle.pb_replay.specs.Visits.{LooksOf, counted_from};
 
+mod bounds;
 mod conclude;
 mod contradiction;
 mod delete;

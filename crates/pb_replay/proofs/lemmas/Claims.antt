@@ -1,6 +1,6 @@
 -- Once a proof has concluded there is a verdict.
 use Rattle.std.specs.Prelude.{Option, Some, None, Ok, ℤ}
-use Rattle.std.proofs.Common.{◌≡◌, ℕ, List, [], ◌∷◌, refl}
+use Rattle.std.proofs.Common.{subst, sym, ◌≡◌, ℕ, List, [], ◌∷◌, refl}
 use Rattle.pb_sums.specs.declared.Literal.{Literal}
 use Rattle.pb_sums.specs.declared.Term.{Term}
 use Rattle.pb_proof.specs.declared.Bound.{Bound}
@@ -79,4 +79,4 @@ run limit top v s t (st ∷ sts) p h =
     ending x e k = rw e at k
 
 pub verdicts-there : VerdictsAreThere
-verdicts-there limit top v sts t h = run limit top v (first_state v) t sts tt h
+verdicts-there limit top v sts s t begins h = run limit top v s t sts (subst (λ (x : Phase). HasClaim x s.concluded) (sym begins) tt) h

@@ -1,7 +1,7 @@
 -- What is true before each statement
 use Rattle.std.specs.Prelude.{Result, Ok, Err, Contains, Option, Some, None, IfSome, is_some, option_map}
 use Rattle.std.specs.List.{All as AllOf}
-use Rattle.std.proofs.Common.{◌≡◌, ℕ, zero, suc, ◌∷◌, ◌≤◌, List, [], ◌++◌, length, take, refl, sym, ◌∙◌, ap, subst, arith, inl, inr, ◌⊎◌, length-append, false}
+use Rattle.std.proofs.Common.{◌≡◌, ℕ, zero, suc, ◌∷◌, ◌<◌, ◌≤◌, List, [], ◌++◌, length, take, refl, sym, ◌∙◌, ap, subst, arith, inl, inr, ◌⊎◌, length-append, false}
 use Rattle.std.proofs.lemmas.List.{take-append-le}
 use Rattle.std.proofs.Math.Seq.{take-length}
 use Rattle.std.proofs.lemmas.List.Elements.{All-contains}
@@ -20,14 +20,15 @@ use Rattle.pb_replay.specs.declared.state.Running.{Running}
 use Rattle.pb_replay.specs.declared.verdict.Verdict.{Verdict}
 use Rattle.pb_replay.specs.Loading.{Problem, Opened, AreFormsOf, Fits, names_in, sides_in, objective_of, constraint_names}
 use Rattle.pb_replay.specs.Replay.{Logged, State}
-use Rattle.pb_replay.specs.declared.fault.Fault.TheVariants.{Memory}
+use Rattle.pb_replay.specs.declared.fault.Fault.TheVariants.{Memory, NotTotal}
+use Rattle.pb_replay.proofs.lemmas.Unvalued.{unvalued-old}
 use Rattle.pb_replay.specs.Statements.{Outcome}
 use Rattle.pb_replay.proofs.lemmas.States.{same-state}
-use Rattle.pb_replay.specs.Meaning.{IsFront, IsSound, Means}
+use Rattle.pb_replay.specs.Meaning.{IsFront, IsSound, Means, MeansWritten}
 use Rattle.pb_replay.specs.Running.{Comes, Keeps, IsBest, IsFirst, IsInside, IsLinked, IsProper, IsReady, problem_of, state_of}
 use Rattle.pb_text.specs.declared.Limits.{Limits}
 use Rattle.pb_replay.proofs.lemmas.Concluded.{contains-none}
-use Rattle.pb_replay.proofs.lemmas.Loads.{problems-proper, loaded-inside}
+use Rattle.pb_replay.proofs.lemmas.Loads.{problems-proper, loaded-inside, meanings-agree}
 use Rattle.pb_replay.proofs.lemmas.Sound.{first-sound, statements-sound}
 
 pub meant : (v : Problem) (s : State) (o : Option Verdict) → IsSound v s → o ≡ s.concluded → IfSome o (Means v)
@@ -132,3 +133,19 @@ own-length r p = at r.own r.names p.own
     at zero ns le = refl
     at (suc k) [] le = absurd (omega (arith, le))
     at (suc k) (n ∷ ns) le = ap suc (at k ns (omega (arith, le)))
+
+-- what a verdict means of each instance that opens as the problem
+pub meant-written : (v : Problem) (o : Option Verdict) → IfSome o (Means v) → IfSome o (λ w. (limit : ℕ) (i : Instance) → Opened limit i (Ok v) → MeansWritten i w)
+meant-written v None h = tt
+meant-written v (Some w) h = λ limit i opened. meanings-agree limit i v w opened h
+
+err-fault : {d e : Fault} → (let r : Result Unit Fault = Err d in r) ≡ Err e → d ≡ e
+err-fault h = cc
+
+-- a name that gets no value was there before
+pub step-unvalued : (old new : Running) (st : Statement) (d : Fault) (n : ℕ) → IsReady old → Comes old st (Err d) new → (let r : Result Unit Fault = Err d in r) ≡ Err (NotTotal n) → n < length old.names
+step-unvalued old new st d n ready (inl memory) e = absurd (let bad = sym memory ∙ err-fault e in cc)
+step-unvalued old new st d n ready (inr h) e =
+    let s = ready.sound in
+    unvalued-old (largest old.limits) (top_of old.limits) (problem_of old) (state_of old s.0) st n (s.2).distinct
+    (subst (λ (f : Fault). Outcome (largest old.limits) (top_of old.limits) (problem_of old) (state_of old s.0) st (Err f)) (err-fault e) (h s.0 s.1))

@@ -17,7 +17,7 @@ some-none : {A B : Type 0} {x : A} → Some x ≡ (let o : Option A = None in o)
 some-none h = absurd cc
 
 -- what a value says of the plain literal and of its negation
-says-some : (o : Option Bool) (m : Bool) → o ≡ Some m → (value_says o false ≡ not m) × (value_says o true ≡ m)
+says-some : (o : Option Bool) (m : Bool) → o ≡ Some m → (value_says o false ≡ m) × (value_says o true ≡ not m)
 says-some (Some true) true e = (refl, refl)
 says-some (Some true) false e = absurd cc
 says-some (Some false) true e = absurd cc
@@ -28,17 +28,13 @@ says-none : (o : Option Bool) → o ≡ None → (value_says o false ≡ false) 
 says-none None e = (refl, refl)
 says-none (Some m) e = some-none e
 
-not_not : (b : Bool) → not (not b) ≡ b
-not_not true = refl
-not_not false = refl
-
 is-some : (o : Option Bool) (b : Bool) → o ≡ Some b → IsSome o
 is-some (Some c) b e = search rules
 is-some None b e = absurd cc
 
 has-value : (list : List NumberedLiteral) (k : ℕ) (o : Option Bool) → ((n : Bool) → on list k n ≡ value_says o n) → IsSome o → HasValue list k
-has-value list k (Some true) h s = inr (h true)
-has-value list k (Some false) h s = inl (h false)
+has-value list k (Some true) h s = inl (h false)
+has-value list k (Some false) h s = inr (h true)
 has-value list k None h s = absurd (search rules)
 
 has-none : (list : List NumberedLiteral) (k : ℕ) (o : Option Bool) → ((n : Bool) → on list k n ≡ value_says o n) → (IsSome o → ⊥) → HasValue list k → ⊥
@@ -75,7 +71,7 @@ module _ (v : Problem) (list : List NumberedLiteral) (given : List (Option Bool)
   values-of : (values : List Bool) → AreTotal given names values → AreValues list names values
   values-of values t = record {
     count = t.count;
-    each = λ k lt. let here = says-some (get_or given k None) (not (get_or values k false)) (t.each k lt) in sym (says k false ∙ here.0 ∙ not_not (get_or values k false));
+    each = λ k lt. let here = says-some (get_or given k None) (get_or values k false) (t.each k lt) in sym (says k false ∙ here.0);
   }
 
   pub judged-solution : (r : Result Logged Fault) → Judged v names given r → Solution v names list r
@@ -131,11 +127,11 @@ conflicting v F names given m = inr (λ free. free m, refl)
 -- the parts of a judgement
 pub judged-ok : (v : Problem) (names : ℕ) (given : List (Option Bool)) (values : List Bool) (u : Unit {0}) (z : ℤ) → AreTotal given names values → AllHold v.loaded values (Ok u) → z ≡ value v (assignment values) → (g : Logged) × Judged v names given (Ok g) × (g.value ≡ z)
 judged-ok v names given values u z total holds is =
-    (logged_of v values, inl (values, inl (λ k lt. is-some (get_or given k None) (not (get_or values k false)) (total.each k lt), (values, total, refl)), inl (u, holds, refl)), sym is)
+    (logged_of v values, inl (values, inl (λ k lt. is-some (get_or given k None) (get_or values k false) (total.each k lt), (values, total, refl)), inl (u, holds, refl)), sym is)
 
 pub judged-err : (v : Problem) (names : ℕ) (given : List (Option Bool)) (values : List Bool) (e : Fault) → AreTotal given names values → AllHold v.loaded values (Err e) → Judged v names given (Err e)
 judged-err v names given values e total holds =
-    inl (values, inl (λ k lt. is-some (get_or given k None) (not (get_or values k false)) (total.each k lt), (values, total, refl)), inr (e, holds, refl))
+    inl (values, inl (λ k lt. is-some (get_or given k None) (get_or values k false) (total.each k lt), (values, total, refl)), inr (e, holds, refl))
 
 module _ (v : Problem) (F : Form → Type 0) (names : ℕ) (given : List NumberedLiteral) (values : List (Option Bool)) (result : Result ℤ Fault) (free : MeetsConflict F given → ⊥) (done : (list : List NumberedLiteral) × IsCompletion F given list × Gives list values) where
   pub completed-ok : IfOk result (λ z. (g : Logged) × Judged v names values (Ok g) × (g.value ≡ z)) → IfOk result (λ z. (g : Logged) × Completed v F names given (Ok g) × (g.value ≡ z))

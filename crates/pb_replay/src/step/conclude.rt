@@ -2,6 +2,7 @@
 
 ghost use Rattle.std.specs.Prelude.{◌≡◌, ◌<◌, All, IfSome, IsSome, List, OnOk, Option, Some, [], length, option_map};
 ghost use Rattle.pb_sums.specs.declared.values.Literal.{Literal as Written};
+ghost use Rattle.pb_replay.specs.Bounds.{Both};
 ghost use Rattle.pb_replay.specs.Replay.{numbered};
 ghost use Rattle.pb_replay.specs.Running.{Keeps, Goes, GoesAt, HasNamed, IsLinked, IsProper, IsReady};
 
@@ -9,8 +10,9 @@ use crate::fault::Fault;
 use crate::numbered::NumberedLiteral;
 use crate::state::Running;
 use crate::state::phase::Phase;
+use crate::step::bounds::{shows_lower, shows_upper};
 use crate::step::contradiction::none_is_left;
-use crate::step::shown::shown;
+use crate::step::shown::{shown, take_shown};
 use crate::step::solution::take_literals;
 use crate::verdict::Verdict;
 use pb_proof::{Bound, Conclusion, Statement};
@@ -97,6 +99,56 @@ fn sat(running: &mut Running, shown: &Option<Sequence<Literal>>) -> Result<(), F
     }
 }
 
+/// Whether both bounds are shown.
+fn are_shown(
+    running: &mut Running,
+    lower: Bound,
+    id: Option<i64>,
+    upper: Bound,
+    given: &Option<Vec<NumberedLiteral>>,
+) -> Result<(), Fault>
+    requires proper { IsProper running.old }
+    requires linked { IsLinked running.old }
+    requires inside { IfSome given.now (λ v. All (λ l. l.variable < length running.old.names) v.items) }
+    ensures both { Both running.old lower id upper (option_map (λ v. v.items) given.now) result }
+    ensures same { OnOk result (HasNamed [] running.old running.new) }
+    ensures linked { OnOk result (IsLinked running.new) }
+    ensures kept { Keeps running.old running.new }
+    ensures visits { running.new.visits ≡ running.old.visits }
+{
+    match shows_lower(running, lower, id) {
+        Ok(()) => shows_upper(running, upper, given),
+        Err(fault) => Err(fault),
+    }
+}
+
+/// `BOUNDS`, once the names of its literals have numbers.
+fn claim_bounds(
+    running: &mut Running,
+    lower: Bound,
+    id: Option<i64>,
+    upper: Bound,
+    given: &Option<Vec<NumberedLiteral>>,
+) -> Result<(), Fault>
+    requires proper { IsProper running.old }
+    requires linked { IsLinked running.old }
+    requires objective { IsSome running.old.objective }
+    requires inside { IfSome given.now (λ v. All (λ l. l.variable < length running.old.names) v.items) }
+    ensures goes { (written : Option (List Written)) → option_map (λ v. v.items) given.now ≡ option_map (numbered running.old.names) written → GoesAt running.old (Statement.Conclude (Conclusion.Bounds lower id upper written)) result running.new }
+    ensures linked { OnOk result (IsLinked running.new) }
+    ensures kept { Keeps running.old running.new }
+    ensures visits { running.new.visits ≡ running.old.visits }
+{
+    match are_shown(running, lower, id, upper, given) {
+        Ok(()) => {
+            running.next = Phase::Ending;
+            running.concluded = Some(Verdict::Bounds(lower, upper));
+            Ok(())
+        }
+        Err(fault) => Err(fault),
+    }
+}
+
 /// `BOUNDS`.
 fn bounds(
     running: &mut Running,
@@ -111,8 +163,11 @@ fn bounds(
     ensures kept { Keeps running.old running.new }
     ensures visits { running.new.visits ≡ running.old.visits }
 {
-    let _ = shown.is_some();
-    Err(Fault::Memory)
+    if running.objective.is_none() {
+        return Err(Fault::NoObjective);
+    }
+    let numbers = take_shown(running, shown)?;
+    claim_bounds(running, lower, id, upper, &numbers)
 }
 
 /// `NONE`.

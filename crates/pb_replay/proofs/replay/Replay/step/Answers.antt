@@ -1,7 +1,7 @@
 use Rattle.std.specs.Prelude.{None}
 use Rattle.std.proofs.Common.{◌≡◌, inl, inr, refl}
 use Rattle.pb_replay.specs.Running.{state_of}
-use Rattle.pb_replay.proofs.lemmas.Ready.{ready_after, step-ok, step-err}
+use Rattle.pb_replay.proofs.lemmas.Ready.{ready_after, step-ok, step-err, step-unvalued}
 use Rattle.pb_replay.proofs.replay.Replay.step.Goals as goal
 
 pub invariant_of-self : goal.invariant_of-self
@@ -25,3 +25,8 @@ pub returns-in-Err-clause-steps : goal.returns-in-Err-clause-steps
 returns-in-Err-clause-steps c = λ free_before.
     let h = step-err c.self.inside.running c.take.new.running c.args.statement.now c.in-Err.fault (rw c.in-Err.is at c.take.ensures.comes) in
     rw (← c.self.view_is) (elim h [ inl memory ↦ inl memory | inr k ↦ inr (λ s f. k s f.live f.names f.logged f.next f.concluded) ], refl)
+
+pub returns-in-Err-clause-unvalued : goal.returns-in-Err-clause-unvalued
+returns-in-Err-clause-unvalued c = λ free_before n is.
+    let free : c.self.inside.fault ≡ None = rw (← c.self.view_is) at free_before in
+    rw (← c.self.view_is) (step-unvalued c.self.inside.running c.take.new.running c.args.statement.now c.in-Err.fault n (c.self.invariant free) (rw c.in-Err.is at c.take.ensures.comes) is)

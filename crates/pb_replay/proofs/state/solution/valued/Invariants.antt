@@ -1,6 +1,6 @@
-use Rattle.std.proofs.Common.{◌≡◌, ◌<◌, ℕ, not, false, length, get_or, Some, None}
+use Rattle.std.proofs.Common.{◌≡◌, ◌<◌, ℕ, false, length, get_or, Some, None}
 use Rattle.pb_replay.proofs.state.solution.valued.Given as goal
 
 -- each name so far has its value
 abbrev pub invariant-loop-number : goal.invariant-loop-number
-invariant-loop-number l = (length l.values.items ≡ l.number) × ((k : ℕ) → k < l.number → get_or l.given k None ≡ Some (not (get_or l.values.items k false)))
+invariant-loop-number l = (length l.values.items ≡ l.number) × ((k : ℕ) → k < l.number → get_or l.given k None ≡ Some (get_or l.values.items k false))

@@ -1,0 +1,13 @@
+use Rattle.std.specs.Int.{w128}
+use Rattle.std.proofs.Common.{rules, FitsSigned, subst}
+use Rattle.std.proofs.lemmas.Int.{to_z-of_z}
+use Rattle.pb_replay.specs.Bounds.{IsNamed, ShownAs}
+use Rattle.pb_replay.specs.Engine.Live.{Standing}
+use Rattle.pb_replay.proofs.lemmas.Bounding.{objective-ok}
+use Rattle.pb_replay.proofs.step.bounds.objective_shown.Goals as goal
+
+pub returns-in-Ok-clause-shown : goal.returns-in-Ok-clause-shown
+returns-in-Ok-clause-shown c =
+    let fits : FitsSigned w128 c.args.bound = search rules in
+    λ f n. objective-ok c.args.running.now c.args.bound f c.in-Ok.goal c.goal_shown.result (rw (to_z-of_z w128 c.args.bound fits) at c.in-Ok.ensures.ok)
+    (subst (λ (e : Standing). IsNamed e.forms c.args.id f → ShownAs e.forms f c.in-Ok.goal c.goal_shown.result) c.objective_form.ensures.engine (c.goal_shown.ensures.shown f) n)

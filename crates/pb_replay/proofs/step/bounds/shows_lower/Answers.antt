@@ -1,0 +1,13 @@
+use Rattle.std.specs.Int.{w128}
+use Rattle.std.proofs.Common.{rules, FitsSigned}
+use Rattle.std.proofs.lemmas.Int.{to_z-of_z}
+use Rattle.pb_replay.proofs.lemmas.Bounding.{lower-infinite}
+use Rattle.pb_replay.proofs.step.bounds.shows_lower.Goals as goal
+
+pub returns-in-Infinite-clause-lower : goal.returns-in-Infinite-clause-lower
+returns-in-Infinite-clause-lower c = rw c.in-Infinite.is (lower-infinite c.args.running.now c.args.id c.none_is_left.result c.none_is_left.ensures)
+
+pub returns-in-Finite-clause-lower : goal.returns-in-Finite-clause-lower
+returns-in-Finite-clause-lower c =
+    let fits : FitsSigned w128 c.in-Finite.bound = search rules in
+    rw c.in-Finite.is (rw (to_z-of_z w128 c.in-Finite.bound fits) at c.shows_finite.ensures.lower)

@@ -1,0 +1,9 @@
+use Rattle.pb_proof.specs.declared.Conclusion.TheVariants.{Bounds}
+use Rattle.pb_proof.specs.declared.Statement.TheVariants.{Conclude}
+use Rattle.pb_replay.proofs.lemmas.Going.{goes-from}
+use Rattle.pb_replay.proofs.step.conclude.bounds.Goals as goal
+
+pub returns-clause-goes : goal.returns-clause-goes
+returns-clause-goes c =
+    goes-from c.args.running.now c.take_shown.new.running (Conclude (Bounds c.args.lower c.args.id c.args.upper c.args.shown.now)) c.in_ok-numbers.ensures.named c.requires.proper c.take_shown.ensures.kept c.claim_bounds.result c.claim_bounds.new.running
+    (c.claim_bounds.ensures.goes c.args.shown.now c.in_ok-numbers.ensures.literals)

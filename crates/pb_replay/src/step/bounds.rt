@@ -1,0 +1,204 @@
+//! `BOUNDS`.
+
+ghost use Rattle.std.specs.Prelude.{◌≡◌, ◌<◌, ◌⊎◌, ◌↔◌, All, Contains, IfOk, IfErr, IfSome, IsTrue, List, OnOk, Ok, Err, length, option_map, [], ◌≤ℤ◌, false, Option, ℤ};
+ghost use Rattle.pb_text.specs.Limits.{largest};
+ghost use Rattle.pb_sums.specs.declared.values.Term.{Term};
+ghost use Rattle.pb_normal.specs.Form.{Form};
+ghost use Rattle.pb_replay.specs.Bounds.{IsBelow, IsNamed, IsReached, Lower, ObjectiveShown, Refutes, ShownAs, ShownReaches, Upper};
+ghost use Rattle.pb_replay.specs.Conclusions.{IsShownBy};
+ghost use Rattle.pb_replay.specs.Replay.{Live, Logged, IsLive};
+ghost use Rattle.pb_replay.specs.Running.{IsBest, IsInside, IsLinked, IsProper, Keeps, HasNamed, problem_of, state_of};
+
+use crate::fault::Fault;
+use crate::numbered::NumberedLiteral;
+use crate::propagate::engine::Engine;
+use crate::state::Running;
+use crate::state::find::find;
+use crate::state::objective::objective_form;
+use crate::step::contradiction::none_is_left;
+use crate::step::shown::shown;
+use pb_normal::{Normal, NormalFault, Side};
+use pb_proof::Bound;
+use std::alloc::AllocError;
+
+/// Whether the form of the id is a contradiction, or its sum with the negation of the goal is one.
+fn is_refuted(engine: &Engine, id: Option<i64>, goal: &Normal) -> Result<bool, Fault>
+    requires { 0 < goal.now.degree }
+    ensures ok { IfOk result (λ b. (f : Option Form) → IsNamed engine.now.forms id f → (IsTrue b ↔ Refutes f goal.now)) }
+    ensures err { IfErr result (λ e. e ≡ Fault.Memory) }
+{
+    let Some(id) = id else {
+        return Ok(false);
+    };
+    match find(engine, id) {
+        None => Ok(false),
+        Some(form) => {
+            let negation = goal.negation()?;
+            Ok(form.is_contradiction() || form.refutes(&negation))
+        }
+    }
+}
+
+/// Whether the goal is shown in one of the four ways.
+fn is_shown(engine: &mut Engine, id: Option<i64>, goal: &Normal) -> Result<bool, Fault>
+    requires ready { engine.old.spent ≡ false }
+    requires inside { IsInside engine.old.variables goal.now }
+    ensures ok { IfOk result (λ b. (f : Option Form) → IsNamed engine.old.forms id f → (IsTrue b ↔ IsShownBy engine.old.forms f goal.now)) }
+    ensures err { IfErr result (λ e. e ≡ Fault.Memory) }
+    ensures forms { OnOk result (engine.new.forms ≡ engine.old.forms) }
+    ensures variables { OnOk result (engine.new.variables ≡ engine.old.variables) }
+    ensures ready { OnOk result (engine.new.spent ≡ false) }
+{
+    if goal.degree() == 0 {
+        return Ok(true);
+    }
+    if is_refuted(engine, id, goal)? {
+        return Ok(true);
+    }
+    let implied = engine.rup(goal)?;
+    Ok(implied)
+}
+
+/// Whether the bound is at most the best logged value.
+fn is_below_best(best: Option<i128>, bound: i128) -> bool
+    ensures { IsTrue result ↔ IsBelow best bound }
+{
+    match best {
+        None => true,
+        Some(best) => bound <= best,
+    }
+}
+
+/// Whether the id, where there is one, is that of a live form.
+fn is_found(engine: &Engine, id: Option<i64>) -> Result<(), Fault>
+    ensures ok { OnOk result ((f : Option Form) × IsNamed engine.now.forms id f) }
+    ensures err { IfErr result (λ e. (i : ℤ) × (id ≡ Some i) × (e ≡ Fault.NoSuchId i) × ((f : Form) → IsLive engine.now.forms i f → ⊥)) }
+{
+    match id {
+        None => Ok(()),
+        Some(id) => match find(engine, id) {
+            None => Err(Fault::NoSuchId(id)),
+            Some(_) => Ok(()),
+        },
+    }
+}
+
+/// Whether the goal is shown.
+fn goal_shown(engine: &mut Engine, id: Option<i64>, goal: &Normal) -> Result<(), Fault>
+    requires ready { engine.old.spent ≡ false }
+    requires inside { IsInside engine.old.variables goal.now }
+    ensures shown { (f : Option Form) → IsNamed engine.old.forms id f → ShownAs engine.old.forms f goal.now result }
+    ensures forms { OnOk result (engine.new.forms ≡ engine.old.forms) }
+    ensures variables { OnOk result (engine.new.variables ≡ engine.old.variables) }
+    ensures ready { OnOk result (engine.new.spent ≡ false) }
+{
+    match is_shown(engine, id, goal) {
+        Ok(true) => Ok(()),
+        Ok(false) => Err(Fault::NotBound),
+        Err(fault) => Err(fault),
+    }
+}
+
+/// Whether the objective is shown to be at least the bound.
+fn objective_shown(running: &mut Running, bound: i128, id: Option<i64>) -> Result<(), Fault>
+    requires proper { IsProper running.old }
+    requires linked { IsLinked running.old }
+    ensures shown { (f : Option Form) → IsNamed running.old.engine.forms id f → ObjectiveShown running.old f bound result }
+    ensures same { OnOk result (HasNamed [] running.old running.new) }
+    ensures linked { OnOk result (IsLinked running.new) }
+    ensures kept { Keeps running.old running.new }
+    ensures visits { running.new.visits ≡ running.old.visits }
+{
+    match objective_form(running, bound, Side::AtLeast) {
+        Ok(goal) => goal_shown(&mut running.engine, id, &goal),
+        Err(fault) => Err(fault),
+    }
+}
+
+/// Whether a finite lower bound is shown.
+fn shows_finite(running: &mut Running, bound: i128, id: Option<i64>) -> Result<(), Fault>
+    requires proper { IsProper running.old }
+    requires linked { IsLinked running.old }
+    ensures lower { Lower running.old (Bound.Finite bound) id result }
+    ensures same { OnOk result (HasNamed [] running.old running.new) }
+    ensures linked { OnOk result (IsLinked running.new) }
+    ensures kept { Keeps running.old running.new }
+    ensures visits { running.new.visits ≡ running.old.visits }
+{
+    if !is_below_best(running.best, bound) {
+        return Err(Fault::NotBound);
+    }
+    match is_found(&running.engine, id) {
+        Ok(()) => objective_shown(running, bound, id),
+        Err(fault) => Err(fault),
+    }
+}
+
+/// Whether a lower bound is shown.
+pub(crate) fn shows_lower(running: &mut Running, lower: Bound, id: Option<i64>) -> Result<(), Fault>
+    requires proper { IsProper running.old }
+    requires linked { IsLinked running.old }
+    ensures lower { Lower running.old lower id result }
+    ensures same { OnOk result (HasNamed [] running.old running.new) }
+    ensures linked { OnOk result (IsLinked running.new) }
+    ensures kept { Keeps running.old running.new }
+    ensures visits { running.new.visits ≡ running.old.visits }
+{
+    match lower {
+        Bound::Infinite => none_is_left(running, id),
+        Bound::Finite(bound) => shows_finite(running, bound, id),
+    }
+}
+
+/// Whether the value of a logged solution is at most the bound.
+fn is_reached(best: Option<i128>, bound: i128) -> Result<(), Fault>
+    ensures { IsReached best bound result }
+{
+    match best {
+        None => Err(Fault::NoSolution),
+        Some(best) => {
+            if best <= bound {
+                Ok(())
+            } else {
+                Err(Fault::NotBound)
+            }
+        }
+    }
+}
+
+/// Whether a shown solution reaches the bound.
+fn shown_reaches(running: &Running, bound: i128, given: &[NumberedLiteral]) -> Result<(), Fault>
+    requires proper { IsProper running.now }
+    requires inside { All (λ l. l.variable < length running.now.names) given.now }
+    ensures { ShownReaches (problem_of running.now) given.now bound result }
+{
+    match shown(running, given) {
+        Ok(value) => {
+            if value <= bound {
+                Ok(())
+            } else {
+                Err(Fault::NotBound)
+            }
+        }
+        Err(fault) => Err(fault),
+    }
+}
+
+/// Whether an upper bound is shown.
+pub(crate) fn shows_upper(
+    running: &Running,
+    upper: Bound,
+    given: &Option<Vec<NumberedLiteral>>,
+) -> Result<(), Fault>
+    requires proper { IsProper running.now }
+    requires inside { IfSome given.now (λ v. All (λ l. l.variable < length running.now.names) v.items) }
+    ensures { Upper running.now upper (option_map (λ v. v.items) given.now) result }
+{
+    match upper {
+        Bound::Infinite => Ok(()),
+        Bound::Finite(bound) => match given {
+            None => is_reached(running.best, bound),
+            Some(given) => shown_reaches(running, bound, given.as_slice()),
+        },
+    }
+}
