@@ -16,3 +16,6 @@ returns-in-Err-clause-tidies g c =
     let t = rw c.in-Err.is at c.format_of.ensures in
     let u = c.unread_file.ensures in
     rw c.if-normal.false (tidies_unread c.args.limits _ _ c.unwrap_or-longest.ensures g.W.Sink.contents g.W.Sink.faults _ _ t.left c.args.out.now (some_of c.args.longest _ c.unwrap_or-longest.ensures c.requires) u.instance u.proof _ u.fault)
+
+pub returns-then-normal-clause-tidies : goal.returns-then-normal-clause-tidies
+returns-then-normal-clause-tidies g c = rw (c.if-normal.true, ← c.unwrap_or-longest.ensures) c.tidy_instance.ensures.tidies
