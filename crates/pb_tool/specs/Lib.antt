@@ -1,5 +1,6 @@
 pub mod Faults
 pub mod Files
+pub mod Given
 pub mod Normalised
 mod Opening
 pub mod Showing
