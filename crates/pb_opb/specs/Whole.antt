@@ -42,3 +42,8 @@ module _ {E : Type 0} (format : List (Item E) → Type 0) (longest : ℕ) where
     abbrev pub ReadsValue : Option (List ℕ) → Result (Spanned V) Stop → Option (List ℕ) → Type 0
     ReadsValue before (Ok m) after = (used : List ℕ) × (seen : List ℕ) × Took before used seen after × IsRead used m
     ReadsValue before (Err s) after = (used : List ℕ) × (seen : List ℕ) × Took before used seen after × StopsIn used seen s
+
+    -- The same of the bytes that the source's calls have given, before and after.
+    abbrev pub GivesValue : List ℕ → Result (Spanned V) Stop → List ℕ → Type 0
+    GivesValue before (Ok m) after = (used : List ℕ) × (after ≡ before ++ used) × IsRead used m
+    GivesValue before (Err s) after = (used : List ℕ) × (seen : List ℕ) × (after ≡ before ++ used) × StopsIn used seen s

@@ -9,7 +9,7 @@ ghost use Rattle.pb_opb.specs.Asking.{Asks};
 ghost use Rattle.pb_opb.specs.Building.{MayKeep};
 ghost use Rattle.pb_opb.specs.Instances.{IsInstance};
 ghost use Rattle.pb_opb.specs.Values.{IsValueOf};
-ghost use Rattle.pb_opb.specs.Whole.{ReadsValue, WantsMemory};
+ghost use Rattle.pb_opb.specs.Whole.{ReadsValue, GivesValue, WantsMemory};
 
 use crate::building::Building;
 use crate::instance::Instance;
@@ -29,6 +29,8 @@ pub fn read_instance<S: Source>(
     limits: Limits,
 ) -> Result<Spanned<Instance>, Stop>
     ensures reads { ReadsValue (IsInstance (largest limits) (top_of limits)) BYTE_LIMIT IsValueOf (S.left input.old) result (S.left input.new) }
+    // Of any source, a file too: what was read is a spelling of the bytes that its calls have given.
+    ensures given { GivesValue (IsInstance (largest limits) (top_of limits)) BYTE_LIMIT IsValueOf (S.history input.old) result (S.history input.new) }
     // Memory runs out only at a byte of a tail, a comment or a name, at one that ends a literal, and behind a statement
     // that is to be kept.
     ensures memory { WantsMemory (IsInstance (largest limits) (top_of limits)) BYTE_LIMIT (AsksOnly (IsInstance (largest limits) (top_of limits)) (Asks (top_of limits))) MayKeep (S.left input.old) result (S.left input.new) }
@@ -49,6 +51,8 @@ pub fn read_instance_within<S: Source>(
 ) -> Result<Spanned<Instance>, Stop>
     requires { 0 < longest }
     ensures reads { ReadsValue (IsInstance (largest limits) (top_of limits)) longest IsValueOf (S.left input.old) result (S.left input.new) }
+    // Of any source, a file too: what was read is a spelling of the bytes that its calls have given.
+    ensures given { GivesValue (IsInstance (largest limits) (top_of limits)) longest IsValueOf (S.history input.old) result (S.history input.new) }
     // Memory runs out only at a byte of a tail, a comment or a name, at one that ends a literal, and behind a statement
     // that is to be kept.
     ensures memory { WantsMemory (IsInstance (largest limits) (top_of limits)) longest (AsksOnly (IsInstance (largest limits) (top_of limits)) (Asks (top_of limits))) MayKeep (S.left input.old) result (S.left input.new) }

@@ -10,7 +10,7 @@ ghost use Rattle.pb_text.specs.Spelling.{Item};
 ghost use Rattle.pb_proof.specs.Asking.{Asks};
 ghost use Rattle.pb_proof.specs.Building.{MayKeep};
 ghost use Rattle.pb_proof.specs.Proofs.{IsProof, IsProofOf};
-ghost use Rattle.pb_proof.specs.Whole.{ReadsValue, WantsMemory};
+ghost use Rattle.pb_proof.specs.Whole.{ReadsValue, GivesValue, WantsMemory};
 
 use crate::building::Building;
 use crate::machine::ProofMachine;
@@ -31,6 +31,8 @@ pub fn read_proof<S: Source>(
     limits: Limits,
 ) -> Result<Spanned<Proof>, Stop>
     ensures reads { ReadsValue (IsProof (largest limits) (top_of limits)) BYTE_LIMIT IsProofOf (S.left input.old) result (S.left input.new) }
+    // Of any source, a file too: what was read is a spelling of the bytes that its calls have given.
+    ensures given { GivesValue (IsProof (largest limits) (top_of limits)) BYTE_LIMIT IsProofOf (S.history input.old) result (S.history input.new) }
     // Memory runs out only at a byte of a name or of an operator of `pol`, at one that ends a literal, an id or a word of
     // `pol`, and behind a step, which is to be kept.
     ensures memory { WantsMemory (IsProof (largest limits) (top_of limits)) BYTE_LIMIT (AsksOnly (IsProof (largest limits) (top_of limits)) Asks) MayKeep (S.left input.old) result (S.left input.new) }
@@ -51,6 +53,8 @@ pub fn read_proof_within<S: Source>(
 ) -> Result<Spanned<Proof>, Stop>
     requires { 0 < longest }
     ensures reads { ReadsValue (IsProof (largest limits) (top_of limits)) longest IsProofOf (S.left input.old) result (S.left input.new) }
+    // Of any source, a file too: what was read is a spelling of the bytes that its calls have given.
+    ensures given { GivesValue (IsProof (largest limits) (top_of limits)) longest IsProofOf (S.history input.old) result (S.history input.new) }
     // Memory runs out only at a byte of a name or of an operator of `pol`, at one that ends a literal, an id or a word of
     // `pol`, and behind a step, which is to be kept.
     ensures memory { WantsMemory (IsProof (largest limits) (top_of limits)) longest (AsksOnly (IsProof (largest limits) (top_of limits)) Asks) MayKeep (S.left input.old) result (S.left input.new) }
@@ -75,6 +79,8 @@ fn read_by<S: Source, M: Machine<Event = Statement> + Drop>(
     requires between { M.automaton.begun machine ≡ false }
     requires some { 0 < longest }
     ensures reads { ReadsValue (IsProof (largest limits) (top_of limits)) longest IsProofOf (S.left input.old) result (S.left input.new) }
+    // Of any source, a file too: what was read is a spelling of the bytes that its calls have given.
+    ensures given { GivesValue (IsProof (largest limits) (top_of limits)) longest IsProofOf (S.history input.old) result (S.history input.new) }
     ensures memory { WantsMemory (IsProof (largest limits) (top_of limits)) longest (AsksOnly (IsProof (largest limits) (top_of limits)) Asks) MayKeep (S.left input.old) result (S.left input.new) }
     ensures past { IfOk result (λ m. IsInReach m.past) }
     ensures faults { S.faults input.new ≡ faults_after None result (S.faults input.old) }

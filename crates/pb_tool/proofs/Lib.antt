@@ -6,6 +6,7 @@ mod Feeds
 mod Shown
 mod ShownLine
 mod Chosen
+mod Given
 mod Loads
 mod Solutions
 mod Stays

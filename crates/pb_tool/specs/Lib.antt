@@ -3,6 +3,7 @@ pub mod Checks
 pub mod Faults
 pub mod Files
 pub mod Headline
+pub mod Given
 pub mod Normalised
 mod Opening
 pub mod Pieces

@@ -26,6 +26,7 @@ pub(crate) enum Format {
 pub(crate) fn format_of<S: Source>(input: &mut S) -> Result<Format, Failed>
     ensures format { IfOk result (IsReadAs (S.left input.old)) }
     ensures left { Keeps (S.left input.old) (S.left input.new) }
+    ensures history { S.history input.new ≡ S.history input.old }
     ensures calm { OnOk result (S.faults input.new ≡ S.faults input.old) }
     ensures faulty { OnErr result (S.faults input.new ≡ one_more (S.faults input.old)) }
 {

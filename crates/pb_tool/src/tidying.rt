@@ -6,6 +6,7 @@ ghost use Rattle.pb_text.specs.Pulling.{faults_after};
 ghost use Rattle.pb_text.specs.Writing.{Writes};
 ghost use Rattle.pb_tool.specs.Faults.{faults_told};
 ghost use Rattle.pb_tool.specs.Files.{TidiesFile};
+ghost use Rattle.pb_tool.specs.Given.{OfGiven, TidiesGiven};
 ghost use Rattle.pb_tool.specs.Tidying.{is_bare, tidied, IsAsked, IsDenied, IsNoOpbFile, IsOpbFile, Tidies};
 
 use crate::fault::{Input, ToolFault, refused};
@@ -37,6 +38,8 @@ pub fn tidy<S: Source, W: Sink>(
 ) -> Result<(), ToolFault>
     requires { IfSome longest (λ n. 0 < n) }
     ensures tidies { TidiesFile limits (unwrap_or longest (2 ^ 40)) W.contents W.faults normal (S.left input.old) out.old result (S.left input.new) out.new }
+    // Of any source, a file too: the answer is right for the bytes that its calls have given.
+    ensures given { TidiesGiven limits (unwrap_or longest (2 ^ 40)) W.contents W.faults normal (S.history input.old) out.old result (S.history input.new) out.new }
     // `Read` comes only where the source failed.
     ensures faults { S.faults input.new ≡ faults_told result (S.faults input.old) }
 {
@@ -55,6 +58,8 @@ pub fn tidy_with_hasher<S: Source, W: Sink>(
 ) -> Result<(), ToolFault>
     requires { IfSome longest (λ n. 0 < n) }
     ensures tidies { TidiesFile limits (unwrap_or longest (2 ^ 40)) W.contents W.faults normal (S.left input.old) out.old result (S.left input.new) out.new }
+    // Of any source, a file too: the answer is right for the bytes that its calls have given.
+    ensures given { TidiesGiven limits (unwrap_or longest (2 ^ 40)) W.contents W.faults normal (S.history input.old) out.old result (S.history input.new) out.new }
     // `Read` comes only where the source failed.
     ensures faults { S.faults input.new ≡ faults_told result (S.faults input.old) }
 {
@@ -81,6 +86,7 @@ fn tidy_instance<S: Source, W: Sink>(
 ) -> Result<(), ToolFault>
     requires { 0 < longest }
     ensures tidies { Tidies limits longest normal W.contents W.faults (S.left input.old) out.old result (S.left input.new) out.new }
+    ensures given { OfGiven (λ left rest. Tidies limits longest normal W.contents W.faults left out.old result rest out.new) (S.history input.old) (S.history input.new) }
     ensures faults { S.faults input.new ≡ faults_told result (S.faults input.old) }
 {
     let instance = match read_file(alloc, input, longest, limits) {
@@ -107,6 +113,8 @@ pub(crate) fn read_file<S: Source>(
     requires { 0 < longest }
     ensures file { IfOk result (IsOpbFile limits longest (S.left input.old) (S.left input.new)) }
     ensures refused { IfErr result (IsNoOpbFile limits longest (S.left input.old) (S.left input.new)) }
+    ensures given { IfOk result (λ v. OfGiven (λ left rest. IsOpbFile limits longest left rest v) (S.history input.old) (S.history input.new)) }
+    ensures refused_given { IfErr result (λ s. OfGiven (λ left rest. IsNoOpbFile limits longest left rest s) (S.history input.old) (S.history input.new)) }
     ensures faults { S.faults input.new ≡ faults_after None result (S.faults input.old) }
 {
     let read = match read_instance_within(alloc, input, longest, limits) {

@@ -11,9 +11,19 @@ returns-in-Ok-clause-reads g c =
     let r = c.in-Ok.ensures.reads in
     (r.0, r.1, r.2, is_read (largest c.args.limits) (top_of c.args.limits) c.args.longest (Accepts g.M.Machine.automaton c.args.machine) c.requires.accepts r.0 c.new.result c.new.ensures c.in-Ok.read r.3)
 
+pub returns-in-Ok-clause-given : goal.returns-in-Ok-clause-given
+returns-in-Ok-clause-given g c =
+    let r = c.in-Ok.ensures.given in
+    (r.0, r.1, is_read (largest c.args.limits) (top_of c.args.limits) c.args.longest (Accepts g.M.Machine.automaton c.args.machine) c.requires.accepts r.0 c.new.result c.new.ensures c.in-Ok.read r.2)
+
 pub returns-in-Err-clause-reads : goal.returns-in-Err-clause-reads
 returns-in-Err-clause-reads g c =
     let r = c.in-Err.ensures.reads in
+    (r.0, r.1, r.2, stops_in (largest c.args.limits) (top_of c.args.limits) c.args.longest (Accepts g.M.Machine.automaton c.args.machine) c.requires.accepts r.0 c.new.result (MayAsk g.M.Machine.automaton c.args.machine) r.1 c.in-Err.stop r.3)
+
+pub returns-in-Err-clause-given : goal.returns-in-Err-clause-given
+returns-in-Err-clause-given g c =
+    let r = c.in-Err.ensures.given in
     (r.0, r.1, r.2, stops_in (largest c.args.limits) (top_of c.args.limits) c.args.longest (Accepts g.M.Machine.automaton c.args.machine) c.requires.accepts r.0 c.new.result (MayAsk g.M.Machine.automaton c.args.machine) r.1 c.in-Err.stop r.3)
 
 pub returns-in-Err-clause-memory : goal.returns-in-Err-clause-memory

@@ -1,7 +1,11 @@
 use Rattle.std.proofs.Common.{[], refl, ap, ◌∙◌, ◌≤◌, ◌++◌, length, length-append, arith}
 use Rattle.pb_text.specs.Reading.{byte_limit}
 use Rattle.pb_text.specs.declared.Place.{Place}
-use Rattle.pb_tool.specs.Tidying.IsRefused.{InRest}
+use Rattle.pb_tool.specs.Files.{IsVeri}
+use Rattle.pb_tool.specs.Tidying.IsRefused.{InText, InRest}
+use Rattle.pb_proof.specs.Proofs.{IsProofOf}
+use Rattle.pb_proof.specs.Whole.{IsRead, ReadsValue}
+use Rattle.pb_tool.proofs.Given.{given_file, given_stray}
 use Rattle.pb_tool.proofs.Feeds.{took_join}
 use Rattle.pb_tool.proofs.Shown.{after_offset}
 use Rattle.pb_tool.proofs.proof_tidying.read_proof_file.Goals as goal
@@ -17,3 +21,18 @@ returns-in-Ok-rest_is_blank-clause-file g c =
 pub returns-in-Err-rest_is_blank-clause-refused : goal.returns-in-Err-rest_is_blank-clause-refused
 returns-in-Err-rest_is_blank-clause-refused g c =
     InRest c.in-Ok.read (g.S.Source.left c.read_proof_within.new.input) c.in-Ok.ensures.reads c.in-Err-rest_is_blank.ensures.blank
+
+pub returns-in-Err-clause-refused_given : goal.returns-in-Err-clause-refused_given
+returns-in-Err-clause-refused_given g c =
+    let (used, seen, e, stops) = c.in-Err.ensures.given in
+    (used, seen, e, InText (used, seen, (refl, refl), stops))
+
+pub returns-in-Ok-rest_is_blank-clause-given : goal.returns-in-Ok-rest_is_blank-clause-given
+returns-in-Ok-rest_is_blank-clause-given g c =
+    let (used, e, read) = c.in-Ok.ensures.given in
+    given_file (IsRead (IsVeri c.args.limits) c.args.longest IsProofOf) c.in-Ok.read _ _ _ used e read read.past c.in-Ok-rest_is_blank.ensures.given
+
+pub returns-in-Err-rest_is_blank-clause-refused_given : goal.returns-in-Err-rest_is_blank-clause-refused_given
+returns-in-Err-rest_is_blank-clause-refused_given g c =
+    let (used, e, read) = c.in-Ok.ensures.given in
+    given_stray (ReadsValue (IsVeri c.args.limits) c.args.longest IsProofOf) c.in-Ok.read c.in-Err-rest_is_blank.stop _ _ _ used e (λ seen. (used, seen, (refl, refl), read)) c.in-Err-rest_is_blank.ensures.given

@@ -1,4 +1,5 @@
 use Rattle.std.proofs.Common.{refl}
+use Rattle.pb_tool.proofs.Given.{given_denied}
 use Rattle.pb_tool.proofs.tidying.tidy_instance.Goals as goal
 
 pub returns-in-Err-clause-tidies : goal.returns-in-Err-clause-tidies
@@ -6,3 +7,17 @@ returns-in-Err-clause-tidies g c = rw c.refused.ensures (c.in-Err.ensures.refuse
 
 pub returns-clause-tidies : goal.returns-clause-tidies
 returns-clause-tidies g c = (c.in-Ok.instance, c.in-Ok.ensures.file, c.in-Ok-asked.written, c.in-Ok-asked.ensures.asked, c.in-Err-write_tidied.ensures)
+
+pub returns-in-Err-clause-given : goal.returns-in-Err-clause-given
+returns-in-Err-clause-given g c =
+    let (given, seen, e, refused) = c.in-Err.ensures.refused_given in
+    rw c.refused.ensures (given, seen, e, (refused, refl))
+
+pub returns-clause-given : goal.returns-clause-given
+returns-clause-given g c =
+    let (given, seen, e, file) = c.in-Ok.ensures.given in
+    (given, seen, e, (c.in-Ok.instance, file, c.in-Ok-asked.written, c.in-Ok-asked.ensures.asked, c.in-Err-write_tidied.ensures))
+
+pub returns-in-Err-asked-clause-given : goal.returns-in-Err-asked-clause-given
+returns-in-Err-asked-clause-given g c =
+    given_denied c.args.limits c.args.longest g.W.Sink.contents g.W.Sink.faults c.in-Ok.instance c.args.out.now c.args.normal c.in-Err-asked.fault _ _ c.in-Err-asked.ensures.denied c.in-Ok.ensures.given

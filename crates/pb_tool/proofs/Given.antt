@@ -1,0 +1,87 @@
+-- What is owed of the bytes that a source's calls have given.
+use Rattle.std.proofs.Common.{◌≡◌, ℕ, ◌≤◌, ◌<◌, ◌++◌, Bool, true, false, List, [], Option, Some, Result, Ok, Err, inl, inr, refl, sym, ap, subst, ◌∙◌, append_assoc, append-nil, length, length-append, arith}
+use Rattle.pb_text.specs.Blank.{GivesBlank}
+use Rattle.pb_text.specs.Limits.{largest}
+use Rattle.pb_text.specs.NothingRead.{ReadsNothing, first_fault}
+use Rattle.pb_text.specs.Reading.{byte_limit}
+use Rattle.pb_text.specs.Spelling.{place_after}
+use Rattle.pb_text.specs.declared.Limits.{Limits}
+use Rattle.pb_text.specs.declared.Place.{Place}
+use Rattle.pb_text.specs.declared.Spanned.{Spanned}
+use Rattle.pb_text.specs.declared.Stop.{Stop}
+use Rattle.pb_opb.specs.declared.Instance as opb
+use Rattle.pb_tool.specs.Files.{IsVeri, TidiesProof}
+use Rattle.pb_tool.specs.Given.{OfGiven, TidiesGiven}
+use Rattle.pb_tool.specs.Tidying.{IsFile, IsOpbFile, IsDenied, IsRefused, Tidies}
+use Rattle.pb_tool.specs.Tidying.IsRefused.{InRest}
+use Rattle.pb_tool.specs.declared.fault.ToolFault.{ToolFault}
+use Rattle.pb_tool.specs.declared.fault.ToolFault.TheVariants.{Text, Open, Overflow, Memory, Write}
+use Rattle.pb_tool.specs.declared.fault.Input.TheVariants.{File, Instance, Proof}
+use Rattle.pb_tool.proofs.Chosen.{tidies_no_proof}
+use Rattle.pb_tool.proofs.Shown.{after_offset}
+
+-- what was given by one call, and then by the next
+given_both : (before mid after used rest : List ℕ) → mid ≡ before ++ used → after ≡ mid ++ rest → after ≡ before ++ (used ++ rest)
+given_both before mid after used rest e f = f ∙ (ap (λ (x : List ℕ). x ++ rest) e ∙ append_assoc before used rest)
+
+-- a spelling and then a blank rest
+pub given_file : {V : Type 0} (IsReadOf : List ℕ → Spanned V → Type 0) (read : Spanned V) (before mid after used : List ℕ) → mid ≡ before ++ used → IsReadOf used read → read.past ≡ place_after used
+    → GivesBlank read.past mid (Ok tt) after → OfGiven (λ left end. IsFile IsReadOf left end read.event) before after
+given_file IsReadOf read before mid after used e is past (rest, f, blank, bound) =
+    let at = ap (λ (q : Place). q.offset) past ∙ after_offset used in
+    let within : length (used ++ rest) ≤ byte_limit = omega (arith, bound, at, length-append used rest) in (
+      used ++ rest,
+      [],
+      given_both before mid after used rest e f,
+      record { used = used; rest = rest; took = (refl, refl); read = read; spelled = is; blank = blank; within = within; value = refl },
+    )
+
+-- a spelling and then a rest that is not blank
+pub given_stray : {V : Type 0} (Reads : Option (List ℕ) → Result (Spanned V) Stop → Option (List ℕ) → Type 0) (read : Spanned V) (s : Stop) (before mid after used : List ℕ) → mid ≡ before ++ used
+    → ((seen : List ℕ) → Reads (Some (used ++ seen)) (Ok read) (Some seen)) → GivesBlank read.past mid (Err s) after → OfGiven (λ left end. IsRefused Reads left end s) before after
+given_stray Reads read s before mid after used e reads (rest, seen, f, blank, place, stray) = (
+  used ++ rest,
+  seen,
+  given_both before mid after used rest e f,
+  InRest read (Some (rest ++ seen)) (subst (λ (x : List ℕ). Reads (Some x) (Ok read) (Some (rest ++ seen))) (sym (append_assoc used rest seen)) (reads (rest ++ seen))) (rest, seen, (refl, refl), blank, place, stray),
+)
+
+-- a file that was denied, and nothing was written
+module _ (limits : Limits) (longest : ℕ) {W : Type 0} (contents : W → Option (List ℕ)) (faults : W → ℕ) (v : opb.Instance) (old : W) where
+  denied : (normal : Bool) (e : ToolFault) (left rest : Option (List ℕ)) → IsOpbFile limits longest left rest v → IsDenied normal (largest limits) v e → Tidies limits longest normal contents faults left old (Err e) rest old
+  denied false e left rest f d = absurd d
+  denied true (Overflow File) left rest f d = (v, f, d, refl)
+  denied true (Memory File) left rest f d = (v, f, d, refl)
+  denied true (Text i s) left rest f d = absurd d
+  denied true (Open i) left rest f d = absurd d
+  denied true (Overflow Instance) left rest f d = absurd d
+  denied true (Overflow Proof) left rest f d = absurd d
+  denied true (Memory Instance) left rest f d = absurd d
+  denied true (Memory Proof) left rest f d = absurd d
+  denied true Write left rest f d = absurd d
+
+  pub given_denied : (normal : Bool) (e : ToolFault) (before after : List ℕ) → IsDenied normal (largest limits) v e → OfGiven (λ left rest. IsOpbFile limits longest left rest v) before after
+      → OfGiven (λ left rest. Tidies limits longest normal contents faults left old (Err e) rest old) before after
+  given_denied normal e before after d (given, seen, is, f) = (given, seen, is, denied normal e (Some (given ++ seen)) (Some seen) f d)
+
+module _ (limits : Limits) (longest n : ℕ) (is : longest ≡ n) {W : Type 0} (contents : W → Option (List ℕ)) (faults : W → ℕ) (before mid : List ℕ) (k : mid ≡ before) (old : W) where
+  module _ (result : Result (Unit {0}) ToolFault) (after : List ℕ) (new : W) where
+    tidies_either : TidiesGiven limits longest contents faults false mid old result after new → TidiesGiven limits n contents faults false before old result after new
+    tidies_either t =
+        subst (λ (m : ℕ). TidiesGiven limits m contents faults false before old result after new) is (subst (λ (h : List ℕ). TidiesGiven limits longest contents faults false h old result after new) k t)
+
+    pub given_proof : OfGiven (λ left rest. TidiesProof limits longest contents faults left old result rest new) mid after → TidiesGiven limits n contents faults false before old result after new
+    given_proof t = tidies_either (inl t)
+
+    pub given_instance : OfGiven (λ left rest. Tidies limits longest false contents faults left old result rest new) mid after → TidiesGiven limits n contents faults false before old result after new
+    given_instance t = tidies_either (inr t)
+
+  -- nothing, where the source failed at its first byte
+  pub given_unread : 0 < longest → ((m : ℕ) → 0 < m → ReadsNothing (IsVeri limits) m) → (f : ToolFault) → f ≡ Text File first_fault → TidiesGiven limits n contents faults false before old (Err f) mid old
+  given_unread some reads f fault =
+      given_proof (Err f) mid old (
+        [],
+        [],
+        sym (append-nil mid),
+        subst (λ (x : ToolFault). TidiesProof limits longest contents faults (Some []) old (Err x) (Some []) old) (sym fault) (tidies_no_proof (Some []) (Some []) refl limits longest contents faults (reads longest some) old),
+      )

@@ -1,0 +1,19 @@
+-- What is owed of any source, a file too: that of a source which tells the bytes that its calls have given.
+use Rattle.std.specs.Prelude.{◌≡◌, ◌⊎◌, ℕ, Bool, true, false, List, ◌++◌, Option, Some, Result}
+use Rattle.pb_text.specs.declared.Limits.{Limits}
+use Rattle.pb_tool.specs.Files.{TidiesProof}
+use Rattle.pb_tool.specs.Tidying.{Tidies}
+use Rattle.pb_tool.specs.declared.fault.ToolFault.{ToolFault}
+
+-- It is owed of the bytes that the calls gave between a history and a later one, with some bytes left behind them.
+abbrev pub OfGiven : (Option (List ℕ) → Option (List ℕ) → Type 0) → List ℕ → List ℕ → Type 0
+OfGiven Owed before after = (given : List ℕ) × (seen : List ℕ) × (after ≡ before ++ given) × Owed (Some (given ++ seen)) (Some seen)
+
+module _ (limits : Limits) (longest : ℕ) {W : Type 0} (contents : W → Option (List ℕ)) (faults : W → ℕ) where
+  -- With `normal` the source is read as an instance. Else it is read as a proof or an instance, and as which is told by
+  -- a look at its first byte, which need not show it as the next call gives it.
+  abbrev pub TidiesGiven : Bool → List ℕ → W → Result Unit ToolFault → List ℕ → W → Type 0
+  TidiesGiven true before old result after new = OfGiven (λ left rest. Tidies limits longest true contents faults left old result rest new) before after
+  TidiesGiven false before old result after new =
+      OfGiven (λ left rest. TidiesProof limits longest contents faults left old result rest new) before after
+      ⊎ OfGiven (λ left rest. Tidies limits longest false contents faults left old result rest new) before after
