@@ -18,7 +18,7 @@ use Rattle.pb_tool.specs.Showing.{Shows}
 use Rattle.pb_tool.specs.Tidying.{IsFile, IsOpb, IsOpbFile, IsDenied, IsRefused, Tidies}
 use Rattle.pb_tool.specs.Tidying.IsRefused.{InRest}
 use Rattle.pb_tool.specs.declared.fault.ToolFault.{ToolFault}
-use Rattle.pb_tool.specs.declared.fault.ToolFault.TheVariants.{Text, Open, Overflow, Memory, Write}
+use Rattle.pb_tool.specs.declared.fault.ToolFault.TheVariants.{Text, Open, Overflow, Memory, Write, Step}
 use Rattle.pb_tool.specs.declared.fault.Input.TheVariants.{File, Instance, Proof}
 use Rattle.pb_tool.proofs.Chosen.{shows_nothing, tidies_no_proof}
 use Rattle.pb_tool.proofs.Shown.{after_offset}
@@ -62,6 +62,7 @@ module _ (limits : Limits) (longest : ℕ) {W : Type 0} (contents : W → Option
   denied true (Memory Instance) left rest f d = absurd d
   denied true (Memory Proof) left rest f d = absurd d
   denied true Write left rest f d = absurd d
+  denied true (Step place fault name) left rest f d = absurd d
 
   pub given_denied : (normal : Bool) (e : ToolFault) (before after : List ℕ) → IsDenied normal (largest limits) v e → OfGiven (λ left rest. IsOpbFile limits longest left rest v) before after
       → OfGiven (λ left rest. Tidies limits longest normal contents faults left old (Err e) rest old) before after
