@@ -9,7 +9,7 @@ use crate::page::{Done, Page, answered, finished, page, tell_count, tell_either}
 use pb_proof::{ProofMachine, Statement, statement_is_value};
 use pb_replay::{Fault, Replay};
 use pb_sums::write_count;
-use pb_text::{Feeder, Place, write_bytes};
+use pb_text::{Feeder, Place, Spanned, write_bytes};
 use pb_tool::ToolFault;
 use std::alloc::Global;
 use std::str::FromStr;
@@ -31,7 +31,8 @@ pub fn run_steps(alloc: Global, call: &Call, text: &[u8]) -> Result<Done, Broken
         return Ok(answered(alloc, told));
     };
     let mut out = page(alloc);
-    match step_all(alloc, call, &mut replay, lines)? {
+    let statements = statements_of(alloc, call, lines)?;
+    match step_all(&mut replay, statements.as_slice())? {
         Ok(()) => {
             write_live(&replay, &mut out)?;
             tell_state(&replay, &mut told)?;
@@ -42,27 +43,37 @@ pub fn run_steps(alloc: Global, call: &Call, text: &[u8]) -> Result<Done, Broken
     Ok(finished(out, told))
 }
 
-/// Steps through each statement, and answers the first that is refused.
-fn step_all(
+/// The statements of a proof, whose header is put before its lines.
+fn statements_of(
     alloc: Global,
     call: &Call,
-    replay: &mut Replay,
     lines: &[u8],
-) -> Result<Result<(), (Place, Fault)>, Broken> {
-    let limits = call.limits()?;
-    let mut feeder = Feeder::new(ProofMachine::new(alloc, limits));
+) -> Result<Vec<Spanned<Statement>>, Broken> {
+    let mut feeder = Feeder::new(ProofMachine::new(alloc, call.limits()?));
     let mut text = Vec::new(alloc);
     text.extend_from_slice(b"pseudo-Boolean proof version 2.0\n")?;
     text.extend_from_slice(lines)?;
+    let mut statements = Vec::new(alloc);
     let mut rest = text.as_slice();
     for _ in 0..text.len() {
         let Ok(fed) = feeder.feed(rest) else {
             return Err(Broken::Value);
         };
         rest = &rest[fed.used.min(rest.len())..];
-        let Some(read) = fed.event else {
-            return Ok(Ok(()));
-        };
+        match fed.event {
+            Some(read) => statements.push(read)?,
+            None => break,
+        }
+    }
+    Ok(statements)
+}
+
+/// Steps through each statement, and answers the first that is refused.
+fn step_all(
+    replay: &mut Replay,
+    statements: &[Spanned<Statement>],
+) -> Result<Result<(), (Place, Fault)>, Broken> {
+    for read in statements {
         if let Err(fault) = step_one(replay, &read.event)? {
             return Ok(Err((read.first, fault)));
         }
@@ -106,16 +117,22 @@ fn tell_refusal(
     fault: Fault,
     told: &mut Page,
 ) -> Result<(), Broken> {
-    let name = match fault {
-        Fault::NotTotal(number) => replay.name_of(number).unwrap_or("?"),
-        _ => "",
-    };
-    let name = String::from_str(alloc, name)?;
+    let name = unvalued(alloc, replay, fault)?;
     tell_fault(&ToolFault::Step { place, fault, name }, told)?;
     if replay.step(&Statement::End) != Err(fault) || replay.verdict().is_some() {
         write_bytes(b"not again\n", told)?;
     }
     Ok(())
+}
+
+/// The name that has no value, where that is the fault.
+fn unvalued(alloc: Global, replay: &Replay, fault: Fault) -> Result<String, Broken> {
+    if let Fault::NotTotal(number) = fault
+        && let Some(name) = replay.name_of(number)
+    {
+        return Ok(String::from_str(alloc, name)?);
+    }
+    Ok(String::new(alloc))
 }
 
 fn tell_looks(call: &Call, looks: u64, told: &mut Page) -> Result<(), Broken> {
