@@ -46,21 +46,28 @@ fn add_group(bytes: &mut Vec<u8>, group: &str) -> Result<(), Broken> {
     Ok(())
 }
 
-/// Adds what a text without groups spells, where `\#` is the number of the turn, counted from 0.
+/// Adds what a text without groups spells, where `\#` is the number of the turn, counted from 0, and `\+` the next one.
 fn add_turn(bytes: &mut Vec<u8>, text: &str, turn: u32) -> Result<(), Broken> {
     let mut parts = text.split('\\');
     if let Some(part) = parts.next() {
         bytes.extend_from_slice(part.as_bytes())?;
     }
     for part in parts {
-        match part.strip_prefix('#') {
-            Some(rest) => {
-                bytes.extend_from_slice(Buffer::new().format(turn).as_bytes())?;
-                bytes.extend_from_slice(rest.as_bytes())?;
-            }
-            None => add_escaped(bytes, part)?,
+        if let Some(rest) = part.strip_prefix('#') {
+            add_number(bytes, turn, rest)?;
+        } else if let Some(rest) = part.strip_prefix('+') {
+            add_number(bytes, turn.saturating_add(1), rest)?;
+        } else {
+            add_escaped(bytes, part)?;
         }
     }
+    Ok(())
+}
+
+/// Adds a number and what stands behind it.
+fn add_number(bytes: &mut Vec<u8>, number: u32, rest: &str) -> Result<(), Broken> {
+    bytes.extend_from_slice(Buffer::new().format(number).as_bytes())?;
+    bytes.extend_from_slice(rest.as_bytes())?;
     Ok(())
 }
 

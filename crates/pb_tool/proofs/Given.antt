@@ -11,17 +11,20 @@ use Rattle.pb_text.specs.declared.Spanned.{Spanned}
 use Rattle.pb_text.specs.declared.Stop.{Stop}
 use Rattle.pb_opb.specs.declared.Instance as opb
 use Rattle.pb_tool.specs.Files.{IsVeri, TidiesProof}
-use Rattle.pb_tool.specs.Given.{OfGiven, TidiesGiven}
-use Rattle.pb_tool.specs.Tidying.{IsFile, IsOpbFile, IsDenied, IsRefused, Tidies}
+use Rattle.pb_tool.specs.Given.{OfGiven, ShowsGiven, TidiesGiven}
+use Rattle.pb_opb.specs.Canonical.{event_bytes}
+use Rattle.pb_proof.specs.Canonical.{statement_bytes}
+use Rattle.pb_tool.specs.Showing.{Shows}
+use Rattle.pb_tool.specs.Tidying.{IsFile, IsOpb, IsOpbFile, IsDenied, IsRefused, Tidies}
 use Rattle.pb_tool.specs.Tidying.IsRefused.{InRest}
 use Rattle.pb_tool.specs.declared.fault.ToolFault.{ToolFault}
-use Rattle.pb_tool.specs.declared.fault.ToolFault.TheVariants.{Text, Open, Overflow, Memory, Write}
+use Rattle.pb_tool.specs.declared.fault.ToolFault.TheVariants.{Text, Open, Overflow, Memory, Write, Step}
 use Rattle.pb_tool.specs.declared.fault.Input.TheVariants.{File, Instance, Proof}
-use Rattle.pb_tool.proofs.Chosen.{tidies_no_proof}
+use Rattle.pb_tool.proofs.Chosen.{shows_nothing, tidies_no_proof}
 use Rattle.pb_tool.proofs.Shown.{after_offset}
 
 -- what was given by one call, and then by the next
-given_both : (before mid after used rest : List ℕ) → mid ≡ before ++ used → after ≡ mid ++ rest → after ≡ before ++ (used ++ rest)
+pub given_both : (before mid after used rest : List ℕ) → mid ≡ before ++ used → after ≡ mid ++ rest → after ≡ before ++ (used ++ rest)
 given_both before mid after used rest e f = f ∙ (ap (λ (x : List ℕ). x ++ rest) e ∙ append_assoc before used rest)
 
 -- a spelling and then a blank rest
@@ -59,6 +62,7 @@ module _ (limits : Limits) (longest : ℕ) {W : Type 0} (contents : W → Option
   denied true (Memory Instance) left rest f d = absurd d
   denied true (Memory Proof) left rest f d = absurd d
   denied true Write left rest f d = absurd d
+  denied true (Step place fault name) left rest f d = absurd d
 
   pub given_denied : (normal : Bool) (e : ToolFault) (before after : List ℕ) → IsDenied normal (largest limits) v e → OfGiven (λ left rest. IsOpbFile limits longest left rest v) before after
       → OfGiven (λ left rest. Tidies limits longest normal contents faults left old (Err e) rest old) before after
@@ -76,7 +80,26 @@ module _ (limits : Limits) (longest n : ℕ) (is : longest ≡ n) {W : Type 0} (
     pub given_instance : OfGiven (λ left rest. Tidies limits longest false contents faults left old result rest new) mid after → TidiesGiven limits n contents faults false before old result after new
     given_instance t = tidies_either (inr t)
 
+    shows_either : ShowsGiven limits longest contents faults mid old result after new → ShowsGiven limits n contents faults before old result after new
+    shows_either t = subst (λ (m : ℕ). ShowsGiven limits m contents faults before old result after new) is (subst (λ (h : List ℕ). ShowsGiven limits longest contents faults h old result after new) k t)
+
+    pub given_shown_proof : OfGiven (λ left rest. Shows (IsVeri limits) longest statement_bytes contents faults left old result rest new) mid after → ShowsGiven limits n contents faults before old result after new
+    given_shown_proof t = shows_either (inl t)
+
+    pub given_shown_instance : OfGiven (λ left rest. Shows (IsOpb limits) longest event_bytes contents faults left old result rest new) mid after → ShowsGiven limits n contents faults before old result after new
+    given_shown_instance t = shows_either (inr t)
+
   -- nothing, where the source failed at its first byte
+  pub given_unshown : 0 < longest → ((m : ℕ) → 0 < m → ReadsNothing (IsVeri limits) m) → (f : ToolFault) → f ≡ Text File first_fault → ShowsGiven limits n contents faults before old (Err f) mid old
+  given_unshown some reads f fault =
+      given_shown_proof (Err f) mid old (
+        [],
+        [],
+        sym (append-nil mid),
+        subst (λ (x : ToolFault). Shows (IsVeri limits) longest statement_bytes contents faults (Some []) old (Err x) (Some []) old) (sym fault)
+            (shows_nothing (IsVeri limits) longest (Some []) (Some []) refl statement_bytes contents faults (reads longest some) old),
+      )
+
   pub given_unread : 0 < longest → ((m : ℕ) → 0 < m → ReadsNothing (IsVeri limits) m) → (f : ToolFault) → f ≡ Text File first_fault → TidiesGiven limits n contents faults false before old (Err f) mid old
   given_unread some reads f fault =
       given_proof (Err f) mid old (

@@ -7,6 +7,7 @@ mod Shown
 mod ShownLine
 mod Chosen
 mod Given
+mod GivenRow
 mod Loads
 mod Solutions
 mod Stays

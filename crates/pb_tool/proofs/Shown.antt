@@ -78,6 +78,7 @@ module _ {E : Type 0} (format : List (Item E) → Type 0) (longest : ℕ) where
     shows_end before mid after marks place old new (Err (Overflow i)) t e w = e
     shows_end before mid after marks place old new (Err (Memory i)) t e w = e
     shows_end before mid after marks place old new (Err Write) t e w = absurd e
+    shows_end before mid after marks place old new (Err (Step begins fault name)) t e w = absurd e
 
 -- what is shown of a read under a format, where a read under it is one under another
 module _ {E : Type 0} (one other : List (Item E) → Type 0) (longest : ℕ)

@@ -1,8 +1,11 @@
 -- What is owed of any source, a file too: that of a source which tells the bytes that its calls have given.
 use Rattle.std.specs.Prelude.{◌≡◌, ◌⊎◌, ℕ, Bool, true, false, List, ◌++◌, Option, Some, Result}
 use Rattle.pb_text.specs.declared.Limits.{Limits}
-use Rattle.pb_tool.specs.Files.{TidiesProof}
-use Rattle.pb_tool.specs.Tidying.{Tidies}
+use Rattle.pb_opb.specs.Canonical.{event_bytes}
+use Rattle.pb_proof.specs.Canonical.{statement_bytes}
+use Rattle.pb_tool.specs.Files.{IsVeri, TidiesProof}
+use Rattle.pb_tool.specs.Showing.{Shows}
+use Rattle.pb_tool.specs.Tidying.{IsOpb, Tidies}
 use Rattle.pb_tool.specs.declared.fault.ToolFault.{ToolFault}
 
 -- It is owed of the bytes that the calls gave between a history and a later one, with some bytes left behind them.
@@ -17,3 +20,9 @@ module _ (limits : Limits) (longest : ℕ) {W : Type 0} (contents : W → Option
   TidiesGiven false before old result after new =
       OfGiven (λ left rest. TidiesProof limits longest contents faults left old result rest new) before after
       ⊎ OfGiven (λ left rest. Tidies limits longest false contents faults left old result rest new) before after
+
+  -- The same of what is shown: the source is read as a proof or as an instance.
+  abbrev pub ShowsGiven : List ℕ → W → Result Unit ToolFault → List ℕ → W → Type 0
+  ShowsGiven before old result after new =
+      OfGiven (λ left rest. Shows (IsVeri limits) longest statement_bytes contents faults left old result rest new) before after
+      ⊎ OfGiven (λ left rest. Shows (IsOpb limits) longest event_bytes contents faults left old result rest new) before after

@@ -8,6 +8,7 @@ ghost use Rattle.pb_opb.specs.Canonical.{event_bytes};
 ghost use Rattle.pb_proof.specs.Canonical.{statement_bytes};
 ghost use Rattle.pb_tool.specs.Faults.{faults_told};
 ghost use Rattle.pb_tool.specs.Files.{IsVeri, ShowsFile};
+ghost use Rattle.pb_tool.specs.Given.{OfGiven, ShowsGiven};
 ghost use Rattle.pb_tool.specs.Showing.{shown_line, EndsAt, Shows};
 ghost use Rattle.pb_tool.specs.Tidying.{IsOpb};
 
@@ -38,6 +39,8 @@ pub fn show<S: Source, W: Sink>(
 ) -> Result<(), ToolFault>
     requires { IfSome longest (λ n. 0 < n) }
     ensures shows { ShowsFile limits (unwrap_or longest (2 ^ 40)) W.contents W.faults (S.left input.old) out.old result (S.left input.new) out.new }
+    // Of any source, a file too: the answer is right for the bytes that its calls have given.
+    ensures given { ShowsGiven limits (unwrap_or longest (2 ^ 40)) W.contents W.faults (S.history input.old) out.old result (S.history input.new) out.new }
     // `Read` comes only where the source failed.
     ensures faults { S.faults input.new ≡ faults_told result (S.faults input.old) }
 {
@@ -59,6 +62,7 @@ fn show_proof<S: Source, W: Sink>(
 ) -> Result<(), ToolFault>
     requires { 0 < longest }
     ensures shows { Shows (IsVeri limits) longest statement_bytes W.contents W.faults (S.left input.old) out.old result (S.left input.new) out.new }
+    ensures given { OfGiven (λ left rest. Shows (IsVeri limits) longest statement_bytes W.contents W.faults left out.old result rest out.new) (S.history input.old) (S.history input.new) }
     ensures faults { S.faults input.new ≡ faults_told result (S.faults input.old) }
 {
     show_each(ProofMachine::new(alloc, limits), longest, input, out)
@@ -74,6 +78,7 @@ fn show_instance<S: Source, W: Sink>(
 ) -> Result<(), ToolFault>
     requires { 0 < longest }
     ensures shows { Shows (IsOpb limits) longest event_bytes W.contents W.faults (S.left input.old) out.old result (S.left input.new) out.new }
+    ensures given { OfGiven (λ left rest. Shows (IsOpb limits) longest event_bytes W.contents W.faults left out.old result rest out.new) (S.history input.old) (S.history input.new) }
     ensures faults { S.faults input.new ≡ faults_told result (S.faults input.old) }
 {
     show_each(OpbMachine::new(alloc, limits), longest, input, out)
@@ -89,6 +94,7 @@ fn show_each<S: Source, W: Sink, E: Statement + Drop, M: Machine<Event = E> + Dr
     requires between { M.automaton.begun machine ≡ false }
     requires some { 0 < longest }
     ensures shows { Shows (Accepts M.automaton machine) longest E.text W.contents W.faults (S.left input.old) out.old result (S.left input.new) out.new }
+    ensures given { OfGiven (λ left rest. Shows (Accepts M.automaton machine) longest E.text W.contents W.faults left out.old result rest out.new) (S.history input.old) (S.history input.new) }
     ensures faults { S.faults input.new ≡ faults_told result (S.faults input.old) }
 {
     let mut feeder = Feeder::within(machine, longest);
@@ -109,6 +115,7 @@ fn show_each<S: Source, W: Sink, E: Statement + Drop, M: Machine<Event = E> + Dr
 fn end_of<S: Source>(input: &mut S, place: Place) -> Result<(), ToolFault>
     requires { IsInReach place }
     ensures ends { EndsAt place (S.left input.old) result (S.left input.new) }
+    ensures given { OfGiven (λ left rest. EndsAt place left result rest) (S.history input.old) (S.history input.new) }
     ensures faults { S.faults input.new ≡ faults_told result (S.faults input.old) }
 {
     match rest_is_blank(input, place) {

@@ -4,12 +4,15 @@ use Rattle.pb_text.specs.Rows.{HasPulled}
 use Rattle.pb_text.specs.Writing.{Wrote}
 use Rattle.pb_text.specs.declared.Spanned.{Spanned}
 use Rattle.pb_tool.specs.Showing.{shown}
+use Rattle.pb_tool.proofs.GivenRow.{HasGiven}
 use Rattle.pb_tool.proofs.showing.show_each.Given as goal
 
--- the lines of the statements so far went out, and the source has not failed
+-- the lines of the statements so far went out, and the source has not failed: of what it tells, and of what its calls have given
 abbrev pub invariant-loop-read : goal.invariant-loop-read
 invariant-loop-read g l = record {
   faults : g.S.Source.faults l.input ≡ g.S.Source.faults l.fn.input;
+  given : (marks : List (Spanned _)) × HasGiven {g = g.M.Machine} l.fn.longest l.fn.machine (g.S.Source.history l.fn.input) marks l.feeder (g.S.Source.history l.input)
+      × Wrote g.W.Sink.contents g.W.Sink.faults l.fn.out (shown g.E.Statement.text marks) l.out;
   shown : (marks : List (Spanned _)) × HasPulled {g = g.M.Machine} l.fn.longest l.fn.machine (g.S.Source.left l.fn.input) marks l.feeder (g.S.Source.left l.input)
       × Wrote g.W.Sink.contents g.W.Sink.faults l.fn.out (shown g.E.Statement.text marks) l.out;
 }

@@ -21,3 +21,8 @@ returns-clause-given g c =
 pub returns-in-Err-asked-clause-given : goal.returns-in-Err-asked-clause-given
 returns-in-Err-asked-clause-given g c =
     given_denied c.args.limits c.args.longest g.W.Sink.contents g.W.Sink.faults c.in-Ok.instance c.args.out.now c.args.normal c.in-Err-asked.fault _ _ c.in-Err-asked.ensures.denied c.in-Ok.ensures.given
+
+pub returns-in-Ok-write_tidied-clause-given : goal.returns-in-Ok-write_tidied-clause-given
+returns-in-Ok-write_tidied-clause-given g c =
+    let (given, seen, e, file) = c.in-Ok.ensures.given in
+    (given, seen, e, (c.in-Ok.instance, file, c.in-Ok-asked.written, c.in-Ok-asked.ensures.asked, c.in-Ok-write_tidied.ensures))
