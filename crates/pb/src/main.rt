@@ -11,8 +11,8 @@ use clap::error::ErrorKind;
 use pb_normal::HashKeys;
 use pb_text::{Limits, Over};
 use pb_tool::{
-    Input, Job, ToolFault, WordsFault, limits_of, read_words, show, status, tidy_with_hasher,
-    write_fault,
+    Input, Job, ToolFault, WordsFault, check, limits_of, read_words, show, status,
+    tidy_with_hasher, write_fault,
 };
 use std::alloc::Global;
 use std::cell::RefCell;
@@ -109,47 +109,99 @@ fn answer_fault<E: Write>(fault: &ToolFault, errors: &mut E) -> u8 {
     status(fault)
 }
 
-/// Opens the job's file, or takes standard input, and does the job over it.
+/// Opens the files of a job and does it.
 fn do_job<R: Files + io::Input + Print + RandomSource + AllocGlobal>(
     rt: &R,
     job: &Job,
 ) -> Result<(), ToolFault>
     requires { HasRanges job.now }
 {
-    match file_of(job) {
-        Some(path) => match fs::open(rt, path) {
-            Ok(file) => do_over(rt, job, file),
-            Err(_) => Err(ToolFault::Open(Input::File)),
-        },
-        None => do_over(rt, job, rt.reader()),
-    }
-}
-
-fn file_of(job: &Job) -> Option<&str> {
     match job {
-        Job::Show { file, .. } | Job::Tidy { file, .. } => match file {
-            Some(path) => Some(path.as_str()),
-            None => None,
-        },
-    }
-}
-
-/// Does the job from a reader to standard output.
-fn do_over<R: Print + RandomSource + AllocGlobal, I: Read + Drop>(
-    rt: &R,
-    job: &Job,
-    input: I,
-) -> Result<(), ToolFault>
-    requires { HasRanges job.now }
-{
-    match job {
-        Job::Show { longest, bits, .. } => show_over(rt, input, *longest, limits_of(*bits)),
-        Job::Tidy {
-            normal,
+        Job::Show {
+            file,
             longest,
             bits,
-            ..
-        } => tidy_over(rt, input, *normal, *longest, limits_of(*bits)),
+        } => show_file(rt, file, *longest, limits_of(*bits)),
+        Job::Tidy {
+            normal,
+            file,
+            longest,
+            bits,
+        } => tidy_file(rt, file, *normal, *longest, limits_of(*bits)),
+        Job::Check {
+            instance,
+            proof,
+            longest,
+            bits,
+        } => check_files(rt, instance.as_str(), proof, *longest, limits_of(*bits)),
+    }
+}
+
+/// Opens a file that is to be read.
+fn opened<R: Files>(rt: &R, path: &str, input: Input) -> Result<R::File, ToolFault> {
+    match fs::open(rt, path) {
+        Ok(file) => Ok(file),
+        Err(_) => Err(ToolFault::Open(input)),
+    }
+}
+
+/// Shows a file, or standard input.
+fn show_file<R: Files + io::Input + Print + AllocGlobal>(
+    rt: &R,
+    file: &Option<String>,
+    longest: Option<u64>,
+    limits: Limits,
+) -> Result<(), ToolFault>
+    requires { IfSome longest (λ n. 0 < n) }
+{
+    match file {
+        Some(path) => match opened(rt, path.as_str(), Input::File) {
+            Ok(file) => show_over(rt, file, longest, limits),
+            Err(fault) => Err(fault),
+        },
+        None => show_over(rt, rt.reader(), longest, limits),
+    }
+}
+
+/// Tidies a file, or standard input.
+fn tidy_file<R: Files + io::Input + Print + RandomSource + AllocGlobal>(
+    rt: &R,
+    file: &Option<String>,
+    normal: bool,
+    longest: Option<u64>,
+    limits: Limits,
+) -> Result<(), ToolFault>
+    requires { IfSome longest (λ n. 0 < n) }
+{
+    match file {
+        Some(path) => match opened(rt, path.as_str(), Input::File) {
+            Ok(file) => tidy_over(rt, file, normal, longest, limits),
+            Err(fault) => Err(fault),
+        },
+        None => tidy_over(rt, rt.reader(), normal, longest, limits),
+    }
+}
+
+/// Checks a proof, or standard input, of an instance. Both files are opened before either is read.
+fn check_files<R: Files + io::Input + Print + AllocGlobal>(
+    rt: &R,
+    instance: &str,
+    proof: &Option<String>,
+    longest: Option<u64>,
+    limits: Limits,
+) -> Result<(), ToolFault>
+    requires { IfSome longest (λ n. 0 < n) }
+{
+    let instance = match opened(rt, instance, Input::Instance) {
+        Ok(instance) => instance,
+        Err(fault) => return Err(fault),
+    };
+    match proof {
+        Some(path) => match opened(rt, path.as_str(), Input::Proof) {
+            Ok(proof) => check_over(rt, instance, proof, longest, limits),
+            Err(fault) => Err(fault),
+        },
+        None => check_over(rt, instance, rt.reader(), longest, limits),
     }
 }
 
@@ -204,6 +256,40 @@ fn tidy_over<R: Print + RandomSource + AllocGlobal, I: Read + Drop>(
         longest,
         limits,
     );
+    flushed(done, &mut out)
+}
+
+/// Checks the proof that a reader has, of the instance that another has.
+fn check_over<R: Print + AllocGlobal, I: Read + Drop, P: Read + Drop>(
+    rt: &R,
+    instance: I,
+    proof: P,
+    longest: Option<u64>,
+    limits: Limits,
+) -> Result<(), ToolFault>
+    requires { IfSome longest (λ n. 0 < n) }
+{
+    let Ok(mut out) = BufWriter::with_capacity(rt.alloc(), CAPACITY, io::writer(rt)) else {
+        return Err(ToolFault::Memory(Input::Instance));
+    };
+    let Ok(instance) = BufReader::with_capacity(rt.alloc(), CAPACITY, instance) else {
+        return Err(ToolFault::Memory(Input::Instance));
+    };
+    let Ok(proof) = BufReader::with_capacity(rt.alloc(), CAPACITY, proof) else {
+        return Err(ToolFault::Memory(Input::Proof));
+    };
+    let checked = check(
+        rt.alloc(),
+        &mut Over::new(instance),
+        &mut Over::new(proof),
+        &mut Over::new(&mut out),
+        longest,
+        limits,
+    );
+    let done = match checked {
+        Ok(_) => Ok(()),
+        Err(fault) => Err(fault),
+    };
     flushed(done, &mut out)
 }
 

@@ -29,7 +29,8 @@ fn tell_job(job: &Job, told: &mut Page) -> Result<(), Broken> {
             bits,
         } => {
             write_bytes(b"show", told)?;
-            tell_parts(file, *longest, *bits, told)
+            tell_name(b" file=", file, told)?;
+            tell_numbers(*longest, *bits, told)
         }
         Job::Tidy {
             normal,
@@ -38,22 +39,34 @@ fn tell_job(job: &Job, told: &mut Page) -> Result<(), Broken> {
             bits,
         } => {
             tell_either(*normal, b"tidy normal", b"tidy", told)?;
-            tell_parts(file, *longest, *bits, told)
+            tell_name(b" file=", file, told)?;
+            tell_numbers(*longest, *bits, told)
+        }
+        Job::Check {
+            instance,
+            proof,
+            longest,
+            bits,
+        } => {
+            write_bytes(b"check instance=", told)?;
+            write_bytes(instance.as_bytes(), told)?;
+            tell_name(b" proof=", proof, told)?;
+            tell_numbers(*longest, *bits, told)
         }
     }
 }
 
-/// Tells the file and the numbers of a job.
-fn tell_parts(
-    file: &Option<String>,
-    longest: Option<u64>,
-    bits: u32,
-    told: &mut Page,
-) -> Result<(), Broken> {
-    if let Some(file) = file {
-        write_bytes(b" file=", told)?;
-        write_bytes(file.as_bytes(), told)?;
+/// Tells the name of a file behind a label, where there is one.
+fn tell_name(label: &[u8], name: &Option<String>, told: &mut Page) -> Result<(), Broken> {
+    if let Some(name) = name {
+        write_bytes(label, told)?;
+        write_bytes(name.as_bytes(), told)?;
     }
+    Ok(())
+}
+
+/// Tells the numbers of a job.
+fn tell_numbers(longest: Option<u64>, bits: u32, told: &mut Page) -> Result<(), Broken> {
     if let Some(longest) = longest {
         write_bytes(b" longest=", told)?;
         tell_count(longest, b"", told)?;
@@ -90,6 +103,7 @@ fn kind_text(kind: ErrorKind) -> &'static [u8] {
         ErrorKind::InvalidSubcommand => b"no such command\n",
         ErrorKind::ArgumentConflict => b"twice\n",
         ErrorKind::InvalidValue => b"no value\n",
+        ErrorKind::MissingRequiredArgument => b"missing\n",
         ErrorKind::ValueValidation => b"wrong value\n",
         ErrorKind::OutOfMemory => b"out of memory\n",
         _ => b"another fault\n",

@@ -1,11 +1,13 @@
 -- The number of a flag, by its text.
-use Rattle.std.proofs.Common.{◌≡◌, ◌↔◌, ℕ, Bool, true, false, List, Option, Some, None, IsTrue, codes, ap, sym, ◌∙◌, subst, refl}
+use Rattle.std.proofs.Common.{◌≡◌, ◌↔◌, ℕ, Bool, true, false, List, Option, Some, None, IsTrue, codes, ap, sym, ◌∙◌, subst, refl, inl, inr}
 use Rattle.std.specs.Prelude.{IsSomeAnd}
 use Rattle.std.specs.Str.{bytes_eq}
 use Rattle.std.proofs.lemmas.Slice.Eq.{bytes_eq-Decides}
 use Rattle.std.specs.Str.Parse.{digits_value, without_leading_plus}
 use Rattle.clap.specs.Words.{IsUnsignedIn}
-use Rattle.pb_tool.specs.Words.{IsFlag, IsSwitch}
+use Rattle.clap.specs.Walk.{Row}
+use Rattle.pb_tool.specs.declared.words.WordsFault.{WordsFault}
+use Rattle.pb_tool.specs.Words.{IsEntryFault, IsFlag, IsInstanceFault, IsNumberFault, IsSwitch}
 
 pub absent : (low high : ℕ) (found : Option (List ℕ)) → None ≡ found → IsFlag low high found None
 absent low high found e = subst (λ (t : Option (List ℕ)). IsFlag low high t None) e refl
@@ -29,3 +31,11 @@ switched on text found e is = subst (λ (t : Option (List ℕ)). IsTrue on ↔ (
 
 pub not_switched : (found : Option (List ℕ)) → None ≡ found → IsSwitch found false
 not_switched found e = subst (λ (t : Option (List ℕ)). IsTrue false ↔ (t ≡ Some (codes "true"))) e (λ (t : false ≡ true). absurd cc, λ k. absurd cc)
+
+-- ---- a fault of one entry is one of the entries
+
+pub wrong_number : (name : List ℕ) (rows : List Row) (fault : WordsFault) → IsNumberFault rows fault → IsEntryFault (name, rows) fault
+wrong_number name rows fault is = inl is
+
+pub lacks_instance : (name : List ℕ) (rows : List Row) (fault : WordsFault) → name ≡ codes "check" → IsInstanceFault rows fault → IsEntryFault (name, rows) fault
+lacks_instance name rows fault named is = inr (named, is)

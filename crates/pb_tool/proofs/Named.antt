@@ -128,15 +128,17 @@ walk_named s names w (word ∷ more) q is on none met right =
 abbrev finds : Text → Shape → Bool
 finds name s = answers_to name (label_of s)
 
--- the first of three that answers to a name
-first_of_three : (x y z s : Shape) (name : Text) → find (finds name) (x ∷ y ∷ z ∷ []) ≡ Some s → (s ≡ x) ⊎ ((s ≡ y) ⊎ ((s ≡ z) × (finds name z ≡ true)))
-first_of_three x y z s name = go (finds name x) (finds name y) (finds name z) refl
+-- the first of four that answers to a name
+first_of_four : (x y z t s : Shape) (name : Text) → find (finds name) (x ∷ y ∷ z ∷ t ∷ []) ≡ Some s → (s ≡ x) ⊎ ((s ≡ y) ⊎ ((s ≡ z) ⊎ ((s ≡ t) × (finds name t ≡ true))))
+first_of_four x y z t s name = go (finds name x) (finds name y) (finds name z) (finds name t) refl
   where
-    go : (a b c : Bool) → finds name z ≡ c → cond a (Some x) (cond b (Some y) (cond c (Some z) None)) ≡ Some s → (s ≡ x) ⊎ ((s ≡ y) ⊎ ((s ≡ z) × (finds name z ≡ true)))
-    go true b c e met = inl (cc)
-    go false true c e met = inr (inl (cc))
-    go false false true e met = inr (inr (cc, e))
-    go false false false e met = absurd (cc)
+    go : (a b c d : Bool) → finds name t ≡ d → cond a (Some x) (cond b (Some y) (cond c (Some z) (cond d (Some t) None))) ≡ Some s
+        → (s ≡ x) ⊎ ((s ≡ y) ⊎ ((s ≡ z) ⊎ ((s ≡ t) × (finds name t ≡ true))))
+    go true b c d e met = inl (cc)
+    go false true c d e met = inr (inl (cc))
+    go false false true d e met = inr (inr (inl (cc)))
+    go false false false true e met = inr (inr (inr (cc, e)))
+    go false false false false e met = absurd (cc)
 
 abbrev commands : App
 commands = built pb_command
@@ -145,7 +147,7 @@ or_false : (b : Bool) → (b || false) ≡ true → b ≡ true
 or_false true e = refl
 or_false false e = e
 
--- right words name `show` or `tidy`, where they name a subcommand
+-- right words name `show`, `tidy` or `check`, where they name a subcommand
 pub reader_named : (words : List Text) (named : Text × List Row) → fault_of pb_command words ≡ [] → subcommand_of pb_command words ≡ Some named → IsReader named.0
 reader_named words named right met = at_stop (walk commands.top.rules (names_of commands) nothing_held (argument_words pb_command words)).stopped refl met
   where
@@ -159,10 +161,11 @@ reader_named words named right met = at_stop (walk commands.top.rules (names_of 
     at_shape p (Some s) e found met =
         let same : rows_at s p.1 ≡ named = cc in
         let name : named.0 ≡ s.name = sym (ap (λ (n : Text × List Row). n.0) same) in
-        elim (first_of_three (get_or commands.subs 0 s) (get_or commands.subs 1 s) (get_or commands.subs 2 s) s p.0 found) [
+        elim (first_of_four (get_or commands.subs 0 s) (get_or commands.subs 1 s) (get_or commands.subs 2 s) (get_or commands.subs 3 s) s p.0 found) [
           | inl h ↦ inl (name ∙ ap (λ (x : Shape). x.name) h)
-          | inr (inl h) ↦ inr (name ∙ ap (λ (x : Shape). x.name) h)
-          | inr (inr h) ↦ absurd (is_help p e ((bytes_eq-Decides (codes "help") p.0).0 (or_false (bytes_eq (codes "help") p.0) h.1)))
+          | inr (inl h) ↦ inr (inl (name ∙ ap (λ (x : Shape). x.name) h))
+          | inr (inr (inl h)) ↦ inr (inr (name ∙ ap (λ (x : Shape). x.name) h))
+          | inr (inr (inr h)) ↦ absurd (is_help p e ((bytes_eq-Decides (codes "help") p.0).0 (or_false (bytes_eq (codes "help") p.0) h.1)))
         ]
 
     at_stop : (o : Option (Text × List Text)) → (walk commands.top.rules (names_of commands) nothing_held (argument_words pb_command words)).stopped ≡ o → entered commands o ≡ Some named → IsReader named.0

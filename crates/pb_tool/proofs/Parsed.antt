@@ -37,8 +37,8 @@ explained_by_clap a words e (Err fault) app kind is =
 
 -- an error of the entries of right words
 pub explained_by_entry : {T : Type 0} (words : List Text) (n : Text) (rows : List Row) (r : Result T WordsFault) → fault_of pb_command words ≡ [] → subcommand_of pb_command words ≡ Some (n, rows)
-    → IfErr r (IsEntryFault rows) → IfErr r (ExplainsWords words)
+    → IfErr r (IsEntryFault (n, rows)) → IfErr r (ExplainsWords words)
 explained_by_entry words n rows (Ok x) right named is = tt
 explained_by_entry words n rows (Err Memory) right named is = right
 explained_by_entry words n rows (Err (Words e)) right named is =
-    inr (right, subst (λ (o : Option (Text × List Row)). IsSomeAnd o (λ entry. IsEntryFault entry.1 (Words e))) (sym named) is)
+    inr (right, subst (λ (o : Option (Text × List Row)). IsSomeAnd o (λ entry. IsEntryFault entry (Words e))) (sym named) is)

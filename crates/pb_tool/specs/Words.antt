@@ -4,17 +4,24 @@ use Rattle.std.specs.Str.Parse.{digits_value, without_leading_plus}
 use Rattle.std.specs.declared.alloc.Global.{Global}
 use Rattle.clap.specs.Words.{App, HasKind, IsUnsignedIn, Row, Rule, Text, fault_of, first_of, kind_of, new_app, new_rule, subcommand_of, with_rule, with_subcommand}
 use Rattle.clap.specs.Simple.{on_top}
-use Rattle.clap.specs.declared.error.ErrorKind.TheVariants.{ValueValidation}
+use Rattle.clap.specs.declared.error.ErrorKind.TheVariants.{ValueValidation, MissingRequiredArgument}
 use Rattle.clap.specs.declared.builder.action.ArgAction.TheVariants.{SetTrue}
 use Rattle.pb_tool.specs.declared.words.Job.{Job}
-use Rattle.pb_tool.specs.declared.words.Job.TheVariants.{Show, Tidy}
+use Rattle.pb_tool.specs.declared.words.Job.TheVariants.{Show, Tidy, Check}
 use Rattle.pb_tool.specs.declared.words.WordsFault.{WordsFault}
 use Rattle.pb_tool.specs.declared.words.WordsFault.TheVariants.{Words, Memory}
 
--- ---- the command: `pb show` and `pb tidy`, each with FILE, `--longest` and `--bits`, and `tidy` with `--normal`
+-- ---- the command: `pb show` and `pb tidy`, each with FILE, `--longest` and `--bits`, and `tidy` with `--normal`;
+-- ---- `pb check` with INSTANCE, PROOF, `--longest` and `--bits`
 
 abbrev pub file_rule : Rule
 file_rule = record (new_rule (codes "file")) { value_names = 1 }
+
+abbrev pub instance_rule : Rule
+instance_rule = record (new_rule (codes "instance")) { value_names = 1; required = true }
+
+abbrev pub proof_rule : Rule
+proof_rule = record (new_rule (codes "proof")) { value_names = 1 }
 
 abbrev pub flag_rule : Text → Rule
 flag_rule name = record (new_rule name) { long = Some name; value_names = 1 }
@@ -22,9 +29,11 @@ flag_rule name = record (new_rule name) { long = Some name; value_names = 1 }
 abbrev pub normal_rule : Rule
 normal_rule = record (new_rule (codes "normal")) { long = Some (codes "normal"); action = Some SetTrue }
 
+abbrev pub with_numbers : App → App
+with_numbers command = with_rule (with_rule command (flag_rule (codes "longest"))) (flag_rule (codes "bits"))
+
 abbrev pub reader_command : Text → App
-reader_command name =
-    with_rule (with_rule (with_rule (new_app name) file_rule) (flag_rule (codes "longest"))) (flag_rule (codes "bits"))
+reader_command name = with_numbers (with_rule (new_app name) file_rule)
 
 abbrev pub show_command : App
 show_command = reader_command (codes "show")
@@ -32,12 +41,15 @@ show_command = reader_command (codes "show")
 abbrev pub tidy_command : App
 tidy_command = with_rule (reader_command (codes "tidy")) normal_rule
 
+abbrev pub check_command : App
+check_command = with_numbers (with_rule (with_rule (new_app (codes "check")) instance_rule) proof_rule)
+
 -- the program without its subcommands
 abbrev pub pb_program : App
 pb_program = on_top (λ s. record s { has_version = true; subcommand_required = true; arg_required_else_help = true }) (new_app (codes "pb"))
 
 abbrev pub pb_command : App
-pb_command = with_subcommand (with_subcommand pb_program show_command.top) tidy_command.top
+pb_command = with_subcommand (with_subcommand (with_subcommand pb_program show_command.top) tidy_command.top) check_command.top
 
 -- ---- what it finds
 
@@ -64,9 +76,14 @@ pub record HasEntries (rows : List Row) (file : Option (String Global)) (longest
   pub file_is : option_map string_bytes file ≡ first_of (codes "file") rows
   pub numbers_are : AreNumbersOf rows longest bits
 
--- the name of a subcommand that reads a file
+-- the files of `check`: INSTANCE is given, and PROOF may be
+abbrev pub AreFilesOf : List Row → String Global → Option (String Global) → Type 0
+AreFilesOf rows instance proof =
+    (Some (string_bytes instance) ≡ first_of (codes "instance") rows) × (option_map string_bytes proof ≡ first_of (codes "proof") rows)
+
+-- the name of a subcommand, each of which reads files
 abbrev pub IsReader : Text → Type 0
-IsReader name = (name ≡ codes "show") ⊎ (name ≡ codes "tidy")
+IsReader name = (name ≡ codes "show") ⊎ ((name ≡ codes "tidy") ⊎ (name ≡ codes "check"))
 
 -- the subcommand that the words name, with its entries, asks for the job
 abbrev pub AsksFor : Option (Text × List Row) → Job → Type 0
@@ -74,6 +91,8 @@ AsksFor None job = ⊥
 AsksFor (Some named) (Show file longest bits) = (named.0 ≡ codes "show") × HasEntries named.1 file longest bits
 AsksFor (Some named) (Tidy normal file longest bits) =
     (named.0 ≡ codes "tidy") × IsSwitch (first_of (codes "normal") named.1) normal × HasEntries named.1 file longest bits
+AsksFor (Some named) (Check instance proof longest bits) =
+    (named.0 ≡ codes "check") × AreFilesOf named.1 instance proof × AreNumbersOf named.1 longest bits
 
 abbrev pub AreInRange : Option ℕ → ℕ → Type 0
 AreInRange longest bits = IfSome longest (λ n. (1 ≤ n) × (n ≤ 2 ^ 40)) × (31 ≤ bits) × (bits ≤ 127)
@@ -81,6 +100,7 @@ AreInRange longest bits = IfSome longest (λ n. (1 ≤ n) × (n ≤ 2 ^ 40)) × 
 abbrev pub HasRanges : Job → Type 0
 HasRanges (Show file longest bits) = AreInRange longest bits
 HasRanges (Tidy normal file longest bits) = AreInRange longest bits
+HasRanges (Check instance proof longest bits) = AreInRange longest bits
 
 -- ---- why it finds nothing
 
@@ -94,15 +114,24 @@ HasWrongNumber rows =
     IsSomeAnd (first_of (codes "longest") rows) (λ t. ¬ IsUnsignedIn 1 (2 ^ 40) t)
     ⊎ IsSomeAnd (first_of (codes "bits") rows) (λ t. ¬ IsUnsignedIn 31 127 t)
 
-abbrev pub IsEntryFault : List Row → WordsFault → Type 0
-IsEntryFault rows (Words e) = (kind_of e ≡ ValueValidation) × HasWrongNumber rows
-IsEntryFault rows Memory = Unit {0}
+abbrev pub IsNumberFault : List Row → WordsFault → Type 0
+IsNumberFault rows (Words e) = (kind_of e ≡ ValueValidation) × HasWrongNumber rows
+IsNumberFault rows Memory = Unit {0}
 
--- The words ask for help, are no words of the command or give a wrong number; or memory ran out, as
+-- memory ran out, or INSTANCE is not given
+abbrev pub IsInstanceFault : List Row → WordsFault → Type 0
+IsInstanceFault rows (Words e) = (kind_of e ≡ MissingRequiredArgument) × (first_of (codes "instance") rows ≡ None)
+IsInstanceFault rows Memory = Unit {0}
+
+-- a number of the subcommand is wrong, or `check` has no INSTANCE, or memory ran out
+abbrev pub IsEntryFault : Text × List Row → WordsFault → Type 0
+IsEntryFault named fault = IsNumberFault named.1 fault ⊎ ((named.0 ≡ codes "check") × IsInstanceFault named.1 fault)
+
+-- The words ask for help, are no words of the command, or give a wrong number or no instance; or memory ran out, as
 -- `Memory` after they were found to be words of the command.
 abbrev pub ExplainsWords : List Text → WordsFault → Type 0
 ExplainsWords words (Words e) =
     HasKind (fault_of pb_command words) e
     ⊎ ((fault_of pb_command words ≡ [])
-    × IsSomeAnd (subcommand_of pb_command words) (λ named. IsEntryFault named.1 (Words e)))
+    × IsSomeAnd (subcommand_of pb_command words) (λ named. IsEntryFault named (Words e)))
 ExplainsWords words Memory = fault_of pb_command words ≡ []

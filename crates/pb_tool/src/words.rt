@@ -8,10 +8,12 @@ ghost use Rattle.clap.specs.Words.{IsUnsignedIn, app_of, fault_of, first_of, fou
 ghost use Rattle.clap.specs.Words.{rows_of, rule_of, subcommand_of};
 ghost use Rattle.clap.specs.Walk.{texts};
 ghost use Rattle.clap.specs.declared.builder.Command.TheViews.{out-Command as fields_of};
-ghost use Rattle.pb_tool.specs.Words.{AreInRange, AreNumbersOf, AsksFor, ExplainsWords, HasRanges};
-ghost use Rattle.pb_tool.specs.Words.{IsEntryFault, IsFlag, IsFlagFault, IsReader, IsSwitch};
-ghost use Rattle.pb_tool.specs.Words.{file_rule, flag_rule, normal_rule, pb_command, pb_program};
-ghost use Rattle.pb_tool.specs.Words.{reader_command, show_command, tidy_command};
+ghost use Rattle.pb_tool.specs.Words.{AreFilesOf, AreInRange, AreNumbersOf, AsksFor, ExplainsWords};
+ghost use Rattle.pb_tool.specs.Words.{HasRanges, IsEntryFault, IsFlag, IsFlagFault, IsInstanceFault};
+ghost use Rattle.pb_tool.specs.Words.{IsNumberFault, IsReader, IsSwitch, check_command, file_rule};
+ghost use Rattle.pb_tool.specs.Words.{flag_rule, instance_rule, normal_rule, pb_command, pb_program};
+ghost use Rattle.pb_tool.specs.Words.{proof_rule, reader_command, show_command, tidy_command};
+ghost use Rattle.pb_tool.specs.Words.{with_numbers as with_number_rules};
 
 use clap::error::ErrorKind;
 use clap::{Arg, ArgAction, ArgMatches, Command};
@@ -34,6 +36,28 @@ Exit status:
   1  the file was refused: standard error has the place and the reason
   2  wrong words
   3  the file could not be opened or read, the output could not be written, or memory ran out";
+
+const CHECK_HELP: &str = "\
+Example: where instance.opb has the lines
+  * #variable= 1 #constraint= 2
+  +1 x1 >= 1 ;
+  +1 ~x1 >= 1 ;
+and proof.pbp has the lines
+  pseudo-Boolean proof version 2.0
+  f 2
+  pol 1 2 +
+  output NONE
+  conclusion UNSAT : 3
+  end pseudo-Boolean proof
+pb check instance.opb proof.pbp prints
+  verified UNSAT
+
+Exit status:
+  0  the proof was verified
+  1  the instance or the proof was refused: standard error has the reason, and the place where
+     there is one, and nothing was printed
+  2  wrong words
+  3  a file could not be opened or read, the output could not be written, or memory ran out";
 
 const SHOW_HELP: &str = "\
 Example: where instance.opb has the lines
@@ -87,6 +111,13 @@ pub enum Job {
         longest: Option<u64>,
         bits: u32,
     },
+    /// Whether the proof, or standard input, proves what it claims of the instance.
+    Check {
+        instance: String,
+        proof: Option<String>,
+        longest: Option<u64>,
+        bits: u32,
+    },
 }
 
 /// Why the words ask for nothing.
@@ -136,26 +167,35 @@ pub fn read_words(alloc: Global, words: &[&str]) -> Result<Job, WordsFault>
 }
 
 /// What a subcommand asks for with its entries.
+#[tactic(auto, using(crate::proofs::Entries::wrong_number, crate::proofs::Entries::lacks_instance))]
 fn job_of(alloc: Global, name: &str, given: &ArgMatches<'_>) -> Result<Job, WordsFault>
     requires { IsReader name.now }
     ensures ok { IfOk result (AsksFor (Some (name.now, rows_of (found_of given.now)))) }
     ensures ranges { IfOk result HasRanges }
-    ensures err { IfErr result (IsEntryFault (rows_of (found_of given.now))) }
+    ensures err { IfErr result (IsEntryFault (name.now, rows_of (found_of given.now))) }
 {
     let (longest, bits) = numbers_of(alloc, name, given)?;
-    let file = file_name(alloc, given)?;
     match name {
         "show" => Ok(Job::Show {
-            file,
+            file: file_name(alloc, given, "file")?,
             longest,
             bits,
         }),
-        _ => Ok(Job::Tidy {
+        "tidy" => Ok(Job::Tidy {
             normal: is_given(given, "normal"),
-            file,
+            file: file_name(alloc, given, "file")?,
             longest,
             bits,
         }),
+        _ => {
+            let (instance, proof) = files_of(alloc, given)?;
+            Ok(Job::Check {
+                instance,
+                proof,
+                longest,
+                bits,
+            })
+        }
     }
 }
 
@@ -167,19 +207,41 @@ fn numbers_of(
 ) -> Result<(Option<u64>, u32), WordsFault>
     ensures ok { IfOk result (λ r. AreNumbersOf (rows_of (found_of given.now)) r.0 r.1) }
     ensures ranges { IfOk result (λ r. AreInRange r.0 r.1) }
-    ensures err { IfErr result (IsEntryFault (rows_of (found_of given.now))) }
+    ensures err { IfErr result (IsNumberFault (rows_of (found_of given.now))) }
 {
     let longest = number(alloc, name, given, "longest", 1, MOST_BYTES)?;
     let bits = number(alloc, name, given, "bits", 31, 127)?;
     Ok((longest, bits.unwrap_or(127) as u32))
 }
 
-/// The file's name, where one is given.
-fn file_name(alloc: Global, given: &ArgMatches<'_>) -> Result<Option<String>, AllocError>
-    ensures { IfOk result (λ name.
-        option_map string_bytes name ≡ first_of (codes "file") (rows_of (found_of given.now))) }
+/// The names of the instance and, where one is given, of the proof.
+fn files_of(alloc: Global, given: &ArgMatches<'_>) -> Result<(String, Option<String>), WordsFault>
+    ensures ok { IfOk result (λ r. AreFilesOf (rows_of (found_of given.now)) r.0 r.1) }
+    ensures err { IfErr result (IsInstanceFault (rows_of (found_of given.now))) }
 {
-    match given.get_str("file") {
+    let Some(instance) = file_name(alloc, given, "instance")? else {
+        let error = wrong_words(
+            alloc,
+            "check",
+            ErrorKind::MissingRequiredArgument,
+            "no instance is given",
+        )?;
+        return Err(WordsFault::Words(error));
+    };
+    let proof = file_name(alloc, given, "proof")?;
+    Ok((instance, proof))
+}
+
+/// The name of the file that an argument gives, where it is given.
+fn file_name(
+    alloc: Global,
+    given: &ArgMatches<'_>,
+    argument: &str,
+) -> Result<Option<String>, AllocError>
+    ensures { IfOk result (λ name.
+        option_map string_bytes name ≡ first_of argument.now (rows_of (found_of given.now))) }
+{
+    match given.get_str(argument) {
         Some(name) => Ok(Some(String::from_str(alloc, name)?)),
         None => Ok(None),
     }
@@ -217,19 +279,25 @@ fn number(
     let message = format!(in alloc;
         "invalid value '{text}' for '--{flag}': it takes a number from {low} to {high}"
     )?;
-    let error = wrong_number(alloc, name, message.as_str())?;
+    let error = wrong_words(alloc, name, ErrorKind::ValueValidation, message.as_str())?;
     Err(WordsFault::Words(error))
 }
 
-/// The error of a number that a flag does not take, with the usage of its subcommand.
-fn wrong_number(alloc: Global, name: &str, message: &str) -> Result<clap::Error, AllocError>
-    ensures { IfOk result (λ e. kind_of e ≡ ErrorKind.ValueValidation) }
+/// The error of wrong words of a kind, with the usage of the subcommand.
+fn wrong_words(
+    alloc: Global,
+    name: &str,
+    kind: ErrorKind,
+    message: &str,
+) -> Result<clap::Error, AllocError>
+    ensures { IfOk result (λ e. kind_of e ≡ kind) }
 {
     let mut subcommand = match name {
         "show" => show(alloc)?.bin_name("pb show")?,
-        _ => tidy(alloc)?.bin_name("pb tidy")?,
+        "tidy" => tidy(alloc)?.bin_name("pb tidy")?,
+        _ => check(alloc)?.bin_name("pb check")?,
     };
-    subcommand.error(ErrorKind::ValueValidation, message)
+    subcommand.error(kind, message)
 }
 
 /// The number that a text spells, where it lies from `low` to `high`.
@@ -250,7 +318,11 @@ fn command<'a>(alloc: Global) -> Result<Command<'a>, clap::Error>
 {
     let show = show(alloc)?;
     let tidy = tidy(alloc)?;
-    let command = program(alloc).subcommand(show)?.subcommand(tidy)?;
+    let check = check(alloc)?;
+    let command = program(alloc)
+        .subcommand(show)?
+        .subcommand(tidy)?
+        .subcommand(check)?;
     Ok(command)
 }
 
@@ -262,7 +334,7 @@ fn program<'a>(alloc: Global) -> Command<'a>
     Command::new(alloc, "pb")
         .version(VERSION)
         .about(
-            "Reads and writes pseudo-Boolean instances in the OPB format, and proofs in VeriPB 2.0",
+            "Reads and writes pseudo-Boolean instances in the OPB format and proofs in VeriPB 2.0, and checks such proofs",
         )
         .after_help(PB_HELP)
         .subcommand_required(true)
@@ -296,6 +368,19 @@ fn tidy<'a>(alloc: Global) -> Result<Command<'a>, AllocError>
     .arg(normal(alloc))
 }
 
+/// The subcommand `check`.
+fn check<'a>(alloc: Global) -> Result<Command<'a>, AllocError>
+    ensures app { IfOk result (λ c. app_of c ≡ check_command) }
+    ensures local { IfOk result (λ c. (fields_of c).has_globals ≡ false) }
+{
+    let command = Command::new(alloc, "check")
+        .about("Check a proof of an instance, and print what it shows")
+        .after_help(CHECK_HELP)
+        .arg(instance(alloc))?
+        .arg(proof(alloc))?;
+    with_numbers(alloc, command)
+}
+
 /// A subcommand that reads one file.
 fn reader<'a>(
     alloc: Global,
@@ -306,10 +391,20 @@ fn reader<'a>(
     ensures app { IfOk result (λ c. app_of c ≡ reader_command name.entry.now) }
     ensures local { IfOk result (λ c. (fields_of c).has_globals ≡ false) }
 {
-    Command::new(alloc, name)
+    let command = Command::new(alloc, name)
         .about(about)
         .after_help(help)
-        .arg(file(alloc))?
+        .arg(file(alloc))?;
+    with_numbers(alloc, command)
+}
+
+/// A subcommand with the flags `--longest` and `--bits` behind what it takes.
+fn with_numbers<'a>(alloc: Global, command: Command<'a>) -> Result<Command<'a>, AllocError>
+    requires { (fields_of command).has_globals ≡ false }
+    ensures app { IfOk result (λ c. app_of c ≡ with_number_rules (app_of command.entry)) }
+    ensures local { IfOk result (λ c. (fields_of c).has_globals ≡ false) }
+{
+    command
         .arg(flag(
             alloc,
             "longest",
@@ -332,6 +427,27 @@ fn file<'a>(alloc: Global) -> Arg<'a>
     Arg::new(alloc, "file")
         .value_name("FILE")
         .help("The file to read; standard input if absent")
+}
+
+/// The instance that `check` reads.
+fn instance<'a>(alloc: Global) -> Arg<'a>
+    ensures rule { rule_of result ≡ instance_rule }
+    ensures local { result.global ≡ false }
+{
+    Arg::new(alloc, "instance")
+        .value_name("INSTANCE")
+        .required(true)
+        .help("The instance, in the OPB format")
+}
+
+/// The proof that `check` reads.
+fn proof<'a>(alloc: Global) -> Arg<'a>
+    ensures rule { rule_of result ≡ proof_rule }
+    ensures local { result.global ≡ false }
+{
+    Arg::new(alloc, "proof")
+        .value_name("PROOF")
+        .help("The proof, in VeriPB 2.0; standard input if absent")
 }
 
 /// The flag of `tidy` that asks for normal forms.
