@@ -45,7 +45,7 @@ no_proof limit top (v, (steps, are, first, spelled)) = first
 
 -- ---- what a look leaves
 
-took_before : (before mid after : Option (List ℕ)) (used seen : List ℕ) → Keeps before mid → Took mid used seen after → Took before used seen after
+pub took_before : (before mid after : Option (List ℕ)) (used seen : List ℕ) → Keeps before mid → Took mid used seen after → Took before used seen after
 took_before None mid after used seen k t = tt
 took_before (Some bytes) None after used seen k t = absurd k
 took_before (Some bytes) (Some more) after used seen k t = (sym k ∙ t.0, t.1)
@@ -158,7 +158,7 @@ by_byte : (b : ℕ) (text : List ℕ) → ((eqb b 112 ≡ true) × (b ≡ 112)) 
 by_byte b text (inl h) = inl (text, ap (λ (x : ℕ). x ∷ text) h.1)
 by_byte b text (inr h) = inr (λ k. h.1 (let e = k.1 in cc))
 
-may_be : (before : Option (List ℕ)) → MayBeProof before ⊎ MayBeInstance before
+pub may_be : (before : Option (List ℕ)) → MayBeProof before ⊎ MayBeInstance before
 may_be None = inr tt
 may_be (Some []) = inr (λ h. let e = h.1 in cc)
 may_be (Some (b ∷ text)) = by_byte b text (eqb_tells b 112)

@@ -6,6 +6,7 @@ mod Feeds
 mod Shown
 mod ShownLine
 mod Chosen
+mod Wanted
 mod Given
 mod GivenRow
 mod Loads

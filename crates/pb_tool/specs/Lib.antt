@@ -13,4 +13,5 @@ pub mod Showing
 pub mod Staying
 pub mod Tidying
 pub mod Verified
+pub mod Wants
 pub mod Words

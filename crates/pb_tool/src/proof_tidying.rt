@@ -6,6 +6,7 @@ ghost use Rattle.pb_text.specs.Writing.{Writes};
 ghost use Rattle.pb_tool.specs.Faults.{faults_told};
 ghost use Rattle.pb_tool.specs.Files.{tidied_proof, IsNoProofFile, IsProofFile, TidiesProof};
 ghost use Rattle.pb_tool.specs.Given.{OfGiven};
+ghost use Rattle.pb_tool.specs.Wants.{IfStopped, WantsProof};
 
 use crate::fault::{ToolFault, refused};
 use pb_proof::{Proof, read_proof_within, write_proof};
@@ -24,6 +25,7 @@ pub(crate) fn tidy_proof<S: Source, W: Sink>(
     requires { 0 < longest }
     ensures tidies { TidiesProof limits longest W.contents W.faults (S.left input.old) out.old result (S.left input.new) out.new }
     ensures given { OfGiven (λ left rest. TidiesProof limits longest W.contents W.faults left out.old result rest out.new) (S.history input.old) (S.history input.new) }
+    ensures memory { IfStopped result (WantsProof limits longest (S.left input.old) (S.left input.new)) }
     ensures faults { S.faults input.new ≡ faults_told result (S.faults input.old) }
 {
     let proof = match read_proof_file(alloc, input, longest, limits) {
@@ -48,6 +50,7 @@ fn read_proof_file<S: Source>(
     ensures refused { IfErr result (IsNoProofFile limits longest (S.left input.old) (S.left input.new)) }
     ensures given { IfOk result (λ v. OfGiven (λ left rest. IsProofFile limits longest left rest v) (S.history input.old) (S.history input.new)) }
     ensures refused_given { IfErr result (λ s. OfGiven (λ left rest. IsNoProofFile limits longest left rest s) (S.history input.old) (S.history input.new)) }
+    ensures memory { IfErr result (WantsProof limits longest (S.left input.old) (S.left input.new)) }
     ensures faults { S.faults input.new ≡ faults_after None result (S.faults input.old) }
 {
     let read = match read_proof_within(alloc, input, longest, limits) {

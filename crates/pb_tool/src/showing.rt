@@ -1,7 +1,7 @@
 //! `pb show`: the statements of a text, each with its place.
 
 ghost use Rattle.std.specs.Prelude.{◌≡◌, ◌<◌, ◌^◌, false, unwrap_or, IfSome};
-ghost use Rattle.pb_text.specs.Automaton.{Accepts};
+ghost use Rattle.pb_text.specs.Automaton.{Accepts, MayAsk};
 ghost use Rattle.pb_text.specs.Blank.{IsInReach};
 ghost use Rattle.pb_text.specs.Writing.{Writes};
 ghost use Rattle.pb_opb.specs.Canonical.{event_bytes};
@@ -11,6 +11,7 @@ ghost use Rattle.pb_tool.specs.Files.{IsVeri, ShowsFile};
 ghost use Rattle.pb_tool.specs.Given.{OfGiven, ShowsGiven};
 ghost use Rattle.pb_tool.specs.Showing.{shown_line, EndsAt, Shows};
 ghost use Rattle.pb_tool.specs.Tidying.{IsOpb};
+ghost use Rattle.pb_tool.specs.Wants.{AsksOpb, AsksVeri, IfStopped, WantsEach, WantsShowing};
 
 use crate::fault::{ToolFault, refused};
 use crate::opening::{Format, format_of, unread_file};
@@ -41,6 +42,8 @@ pub fn show<S: Source, W: Sink>(
     ensures shows { ShowsFile limits (unwrap_or longest (2 ^ 40)) W.contents W.faults (S.left input.old) out.old result (S.left input.new) out.new }
     // Of any source, a file too: the answer is right for the bytes that its calls have given.
     ensures given { ShowsGiven limits (unwrap_or longest (2 ^ 40)) W.contents W.faults (S.history input.old) out.old result (S.history input.new) out.new }
+    // Memory runs out only at a byte that may ask for some.
+    ensures memory { IfStopped result (WantsShowing limits (unwrap_or longest (2 ^ 40)) (S.left input.old) (S.left input.new)) }
     // `Read` comes only where the source failed.
     ensures faults { S.faults input.new ≡ faults_told result (S.faults input.old) }
 {
@@ -63,6 +66,7 @@ fn show_proof<S: Source, W: Sink>(
     requires { 0 < longest }
     ensures shows { Shows (IsVeri limits) longest statement_bytes W.contents W.faults (S.left input.old) out.old result (S.left input.new) out.new }
     ensures given { OfGiven (λ left rest. Shows (IsVeri limits) longest statement_bytes W.contents W.faults left out.old result rest out.new) (S.history input.old) (S.history input.new) }
+    ensures memory { IfStopped result (WantsEach (IsVeri limits) longest (AsksVeri limits) (S.left input.old) (S.left input.new)) }
     ensures faults { S.faults input.new ≡ faults_told result (S.faults input.old) }
 {
     show_each(ProofMachine::new(alloc, limits), longest, input, out)
@@ -79,6 +83,7 @@ fn show_instance<S: Source, W: Sink>(
     requires { 0 < longest }
     ensures shows { Shows (IsOpb limits) longest event_bytes W.contents W.faults (S.left input.old) out.old result (S.left input.new) out.new }
     ensures given { OfGiven (λ left rest. Shows (IsOpb limits) longest event_bytes W.contents W.faults left out.old result rest out.new) (S.history input.old) (S.history input.new) }
+    ensures memory { IfStopped result (WantsEach (IsOpb limits) longest (AsksOpb limits) (S.left input.old) (S.left input.new)) }
     ensures faults { S.faults input.new ≡ faults_told result (S.faults input.old) }
 {
     show_each(OpbMachine::new(alloc, limits), longest, input, out)
@@ -95,6 +100,7 @@ fn show_each<S: Source, W: Sink, E: Statement + Drop, M: Machine<Event = E> + Dr
     requires some { 0 < longest }
     ensures shows { Shows (Accepts M.automaton machine) longest E.text W.contents W.faults (S.left input.old) out.old result (S.left input.new) out.new }
     ensures given { OfGiven (λ left rest. Shows (Accepts M.automaton machine) longest E.text W.contents W.faults left out.old result rest out.new) (S.history input.old) (S.history input.new) }
+    ensures memory { IfStopped result (WantsEach (Accepts M.automaton machine) longest (MayAsk M.automaton machine) (S.left input.old) (S.left input.new)) }
     ensures faults { S.faults input.new ≡ faults_told result (S.faults input.old) }
 {
     let mut feeder = Feeder::within(machine, longest);

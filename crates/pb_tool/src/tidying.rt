@@ -8,6 +8,7 @@ ghost use Rattle.pb_tool.specs.Faults.{faults_told};
 ghost use Rattle.pb_tool.specs.Files.{TidiesFile};
 ghost use Rattle.pb_tool.specs.Given.{OfGiven, TidiesGiven};
 ghost use Rattle.pb_tool.specs.Tidying.{is_bare, tidied, IsAsked, IsDenied, IsNoOpbFile, IsOpbFile, Tidies};
+ghost use Rattle.pb_tool.specs.Wants.{IfStopped, WantsInstance, WantsTidying};
 
 use crate::fault::{Input, ToolFault, refused};
 use crate::normalising::{normalised, overflows};
@@ -40,6 +41,8 @@ pub fn tidy<S: Source, W: Sink>(
     ensures tidies { TidiesFile limits (unwrap_or longest (2 ^ 40)) W.contents W.faults normal (S.left input.old) out.old result (S.left input.new) out.new }
     // Of any source, a file too: the answer is right for the bytes that its calls have given.
     ensures given { TidiesGiven limits (unwrap_or longest (2 ^ 40)) W.contents W.faults normal (S.history input.old) out.old result (S.history input.new) out.new }
+    // Memory runs out for the text only at a byte that may ask for some, and behind a statement that is to be kept.
+    ensures memory { IfStopped result (WantsTidying limits (unwrap_or longest (2 ^ 40)) normal (S.left input.old) (S.left input.new)) }
     // `Read` comes only where the source failed.
     ensures faults { S.faults input.new ≡ faults_told result (S.faults input.old) }
 {
@@ -60,6 +63,8 @@ pub fn tidy_with_hasher<S: Source, W: Sink>(
     ensures tidies { TidiesFile limits (unwrap_or longest (2 ^ 40)) W.contents W.faults normal (S.left input.old) out.old result (S.left input.new) out.new }
     // Of any source, a file too: the answer is right for the bytes that its calls have given.
     ensures given { TidiesGiven limits (unwrap_or longest (2 ^ 40)) W.contents W.faults normal (S.history input.old) out.old result (S.history input.new) out.new }
+    // Memory runs out for the text only at a byte that may ask for some, and behind a statement that is to be kept.
+    ensures memory { IfStopped result (WantsTidying limits (unwrap_or longest (2 ^ 40)) normal (S.left input.old) (S.left input.new)) }
     // `Read` comes only where the source failed.
     ensures faults { S.faults input.new ≡ faults_told result (S.faults input.old) }
 {
@@ -87,6 +92,7 @@ fn tidy_instance<S: Source, W: Sink>(
     requires { 0 < longest }
     ensures tidies { Tidies limits longest normal W.contents W.faults (S.left input.old) out.old result (S.left input.new) out.new }
     ensures given { OfGiven (λ left rest. Tidies limits longest normal W.contents W.faults left out.old result rest out.new) (S.history input.old) (S.history input.new) }
+    ensures memory { IfStopped result (WantsInstance limits longest (S.left input.old) (S.left input.new)) }
     ensures faults { S.faults input.new ≡ faults_told result (S.faults input.old) }
 {
     let instance = match read_file(alloc, input, longest, limits) {
@@ -115,6 +121,7 @@ pub(crate) fn read_file<S: Source>(
     ensures refused { IfErr result (IsNoOpbFile limits longest (S.left input.old) (S.left input.new)) }
     ensures given { IfOk result (λ v. OfGiven (λ left rest. IsOpbFile limits longest left rest v) (S.history input.old) (S.history input.new)) }
     ensures refused_given { IfErr result (λ s. OfGiven (λ left rest. IsNoOpbFile limits longest left rest s) (S.history input.old) (S.history input.new)) }
+    ensures memory { IfErr result (WantsInstance limits longest (S.left input.old) (S.left input.new)) }
     ensures faults { S.faults input.new ≡ faults_after None result (S.faults input.old) }
 {
     let read = match read_instance_within(alloc, input, longest, limits) {

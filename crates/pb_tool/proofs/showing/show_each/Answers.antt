@@ -1,5 +1,5 @@
 use Rattle.std.proofs.Common.{ℕ, ◌+◌, ◌-◌, ◌^◌, ◌<◌, ◌≤◌, [], ◌∷◌, ◌++◌, ap, ◌∙◌, arith, append-nil, refl, subst, sym, Some, None, Ok, Err}
-use Rattle.pb_text.specs.Automaton.{Accepts}
+use Rattle.pb_text.specs.Automaton.{Accepts, MayAsk}
 use Rattle.pb_text.specs.Feeding.{place_of}
 use Rattle.pb_text.specs.declared.Place.{Place}
 use Rattle.pb_text.proofs.Parts.{part_wrote}
@@ -8,6 +8,7 @@ use Rattle.pb_tool.specs.Given.{OfGiven}
 use Rattle.pb_tool.specs.Showing.{EndsAt, InText}
 use Rattle.pb_tool.proofs.GivenRow.{given_broken, given_next, given_refused, given_row, given_shown, given_so_far}
 use Rattle.pb_tool.proofs.Shown.{first_pull, shown_more, shows_end, so_far_within}
+use Rattle.pb_tool.proofs.Wanted.{end_asking, pull_asking}
 use Rattle.pb_tool.proofs.showing.show_each.Goals as goal
 
 pub loop-read-init : goal.loop-read-init
@@ -97,3 +98,13 @@ returns-clause-given g c =
     given_shown (Accepts g.M.Machine.automaton c.args.machine) c.args.longest g.E.Statement.text g.W.Sink.contents g.W.Sink.faults (g.S.Source.history c.args.input.now) (g.S.Source.history c.pull.new.source) (g.S.Source.history c.end_of.new.input) marks (place_of c.pull.new.feeder) c.args.out.now c.loop-read.out c.end_of.result
     (given_row {g = g.M.Machine} c.args.longest c.args.machine (g.S.Source.history c.args.input.now) (g.S.Source.history c.loop-read.input) (g.S.Source.history c.pull.new.source) marks c.loop-read.feeder c.pull.new.feeder has (g.S.Source.left c.loop-read.input) (g.S.Source.left c.pull.new.source) (Ok None) (t.pulls c.args.longest c.args.machine has.0 marks (rw has.4 tt) has.3) t.stop t.last t.past)
     ends wrote
+
+pub returns-in-Err-clause-memory : goal.returns-in-Err-clause-memory
+returns-in-Err-clause-memory g c =
+    let (marks, pulled, wrote) = c.loop-read.invariant.shown in
+    let t = rw c.in-Err.is at c.pull.ensures in
+    rw c.refused.ensures (pull_asking {g = g.M.Machine} c.args.longest c.args.machine (g.S.Source.left c.args.input.now) (g.S.Source.left c.loop-read.input) (g.S.Source.left c.pull.new.source) marks c.loop-read.feeder c.pull.new.feeder pulled c.in-Err.stop _ _ (t.pulls c.args.longest c.args.machine pulled.used marks (rw pulled.running tt) pulled.stands) t.stop)
+
+pub returns-clause-memory : goal.returns-clause-memory
+returns-clause-memory g c =
+    end_asking (Accepts g.M.Machine.automaton c.args.machine) c.args.longest (MayAsk g.M.Machine.automaton c.args.machine) _ (g.S.Source.left c.args.input.now) (g.S.Source.left c.pull.new.source) (g.S.Source.left c.end_of.new.input) c.end_of.result c.end_of.ensures.ends
