@@ -1,4 +1,4 @@
--- The result of a rule has no other variables than its operands, and a form holds alike where its variables do.
+-- The result of a rule has no other variables than its operands, and a form holds alike where its variables do. Offered to other crates.
 use Rattle.std.proofs.Common.{◌≡◌, ℕ, ◌+◌, ◌<◌, ◌↔◌, nat_lt, Bool, true, false, not, ◌&&◌, cond, eqb, List, [], ◌∷◌, All, map, filter, refl, ap, arith}
 use Rattle.std.proofs.lemmas.Bool.Decides.{nat_tests}
 use Rattle.std.proofs.lemmas.Int.{ints}

@@ -1,4 +1,4 @@
--- What a change of every term, and a filter, keep
+-- What a change of every term, and a filter, keep. Offered to other crates.
 use Rattle.std.proofs.Common.{zero, suc, inl, inr, ◌⊎◌, ◌≡◌, ℕ, ◌+◌, ◌*◌, ◌/◌, ◌%◌, min, ◌<◌, ◌≤◌, Bool, true, false, not, cond, eqb, List, [], ◌∷◌, map, refl, arith}
 use Rattle.std.specs.List.{filter}
 use Rattle.pb_normal.specs.declared.entry.Entry.{Entry}

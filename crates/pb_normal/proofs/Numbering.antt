@@ -1,4 +1,4 @@
--- A number once given stays, and names appear one by one.
+-- A number once given stays, and names appear one by one. Offered to other crates.
 use Rattle.std.proofs.Common.{◌≡◌, ℕ, zero, suc, ◌+◌, ◌<◌, Bool, true, false, not, ◌||◌, cond, List, [], ◌∷◌, ◌++◌, length, take, get_or, map, refl, sym, ◌∙◌, ap, arith, Option, Some, None, slice_get, Result, Ok, Err, OnErr, nat_lt}
 use Rattle.std.specs.List.{list_any, position, position_or_len}
 use Rattle.std.specs.Str.{bytes_eq}

@@ -1,4 +1,4 @@
--- The sum of two forms: that a merge gives it, and that it holds where both forms hold
+-- The sum of two forms: that a merge gives it, and that it holds where both forms hold. Offered to other crates.
 use Rattle.std.proofs.Common.{◌≡◌, ℕ, ◌+◌, ◌-◌, ◌≤◌, max, Bool, true, false, not, ◌&&◌, cond, eqb, List, refl, sym, arith, ℤ, pos, negsuc, ◌+ℤ◌}
 use Rattle.std.proofs.lemmas.Int.{ints}
 use Rattle.pb_normal.specs.declared.entry.Entry.{Entry}

@@ -1,4 +1,4 @@
--- Where a machine of sums asks, the next byte is one of a name, or ends a literal.
+-- Where a machine of sums asks, the next byte is one of a name, or ends a literal. Offered to other crates.
 use Rattle.std.proofs.Common.{◌≡◌, ℕ, ◌+◌, ◌-◌, ◌*◌, Bool, true, false, cond, ◌||◌, List, [], ◌∷◌, ◌++◌, refl, sym, ap, subst, ◌∙◌, append_assoc, append-nil, inl, inr}
 use Rattle.std.proofs.lemmas.Bool.{false≢true}
 use Rattle.std.specs.Prelude.{IsTrue, Option, Some, None, nat_le, nat_eq}

@@ -1,4 +1,4 @@
--- A spelling stays one where numbers may be larger.
+-- A spelling stays one where numbers may be larger. Offered to other crates.
 use Rattle.std.proofs.Common.{ℕ, ◌≤◌, List, [], ◌∷◌}
 use Rattle.pb_text.specs.Languages.{Language, ◌⋅◌, Byte}
 use Rattle.pb_text.specs.Numbers.{Number}

@@ -1,4 +1,4 @@
--- What an automaton of sums reads is what its machine over letters ends with.
+-- What an automaton of sums reads is what its machine over letters ends with. Offered to other crates.
 use Rattle.std.proofs.Common.{◌≡◌, ℕ, Bool, true, false, List, [], ◌∷◌, refl, sym, ap, subst, ◌⊎◌, inl, inr, ◌∙◌, ◌↔◌}
 use Rattle.pb_text.proofs.Runs.{run, run-refuse}
 use Rattle.pb_text.specs.Automaton.{Next, Go, End, Refuse, Reads}

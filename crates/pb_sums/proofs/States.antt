@@ -1,4 +1,4 @@
--- What holds of each state of a machine, and what its first state accepts.
+-- What holds of each state of a machine, and what its first state accepts. Offered to other crates.
 use Rattle.std.proofs.Common.{◌≡◌, ℕ, ◌+◌, ◌≤◌, ◌^◌, ◌-◌, min, Bool, true, false, List, [], ◌∷◌, ◌++◌, length, refl, sym, ap, subst, arith, ◌∙◌, ◌↔◌}
 use Rattle.std.proofs.Math.Nat.{min-le_left}
 use Rattle.pb_text.specs.Automaton.{Next, Go, End, Refuse, Reads, Skips, Accepts, Admits, IsState}

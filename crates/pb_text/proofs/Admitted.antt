@@ -1,4 +1,4 @@
--- A byte that is taken is admitted.
+-- A byte that is taken is admitted. Offered to other crates.
 use Rattle.std.proofs.Common.{◌≡◌, ℕ, ◌∷◌, true, false, ap}
 use Rattle.pb_text.specs.Spelling.{Letter, bytes, letters_of}
 use Rattle.pb_text.specs.Automaton.{Automaton, Go, Admits, IsState}

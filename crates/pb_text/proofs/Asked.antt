@@ -1,4 +1,4 @@
--- Where an automaton asks, the next byte of any spelling stands in a statement at a place that asks.
+-- Where an automaton asks, the next byte of any spelling stands in a statement at a place that asks. Offered to other crates.
 use Rattle.std.proofs.Common.{◌≡◌, ℕ, List, [], ◌∷◌, ◌++◌, true, false, IsTrue, Some, refl, sym, ap, ap₂, ◌∙◌, subst, append_assoc, append-nil, ◌⊎◌, inl, inr}
 use Rattle.std.proofs.lemmas.Bool.{false≢true}
 use Rattle.pb_text.specs.Automaton.{Automaton, Next, Go, End, Skips, Reads, Accepts, behind, Leads}

@@ -1,4 +1,4 @@
--- White space and comments, byte by byte.
+-- White space and comments, byte by byte. Offered to other crates.
 use Rattle.std.proofs.Common.{cond, ◌==◌, ◌^◌, ◌≢◌, ◌≡◌, ℕ, ◌+◌, ◌<◌, ◌≤◌, List, [], ◌∷◌, ◌++◌, length, take, get_or, Bool, true, false, not, ◌&&◌, ◌||◌, nat_eq, IsTrue, refl, sym, ap, ap₂, subst, arith, length-append, below_more}
 use Rattle.std.proofs.lemmas.List.{reverse-append, take-append-le, get_or_append_left}
 use Rattle.std.proofs.Math.Seq.{get_or-append_seam, take-append_seam}

@@ -1,4 +1,4 @@
--- A text spells one row of statements, and where nothing may follow a complete one, none is a front of another.
+-- A text spells one row of statements, and where nothing may follow a complete one, none is a front of another. Offered to other crates.
 use Rattle.std.proofs.Common.{◌≡◌, ℕ, List, [], ◌∷◌, ◌++◌, Bool, true, false, IsTrue, refl, sym, ap, ap₂, ◌∙◌, subst}
 use Rattle.std.proofs.lemmas.List.{append-nil}
 use Rattle.pb_text.specs.Spelling.{Letter, Item, bytes_of}

@@ -1,4 +1,4 @@
--- In any spelling that begins with a front, the marks that end within it are the same.
+-- In any spelling that begins with a front, the marks that end within it are the same. Offered to other crates.
 use Rattle.std.proofs.Common.{◌≡◌, ℕ, ◌+◌, List, [], ◌∷◌, ◌++◌, length, nat_le, Bool, true, false, cond, Option, Some, None, refl, sym, ap, ◌∙◌, subst, arith, length-append}
 use Rattle.pb_text.specs.Spelling.{Letter, Item, bytes_of, place_after, place_or, marks_since}
 use Rattle.pb_text.specs.Reading.{ended_within, HasFixedMarks}

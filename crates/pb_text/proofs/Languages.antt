@@ -1,4 +1,4 @@
--- Texts that grow at their end, within languages.
+-- Texts that grow at their end, within languages. Offered to other crates.
 use Rattle.std.proofs.Common.{◌≡◌, ℕ, List, [], ◌∷◌, ◌++◌, map, refl, sym, ap, subst, append_assoc, ◌∙◌}
 use Rattle.std.proofs.lemmas.List.{append-nil}
 use Rattle.pb_text.specs.Spelling.{Letter, plain, digits_of, bytes}

@@ -1,4 +1,4 @@
--- Lists, letters and marks.
+-- Lists, letters and marks. Offered to other crates.
 use Rattle.std.proofs.Common.{◌≡◌, ℕ, List, [], ◌∷◌, ◌++◌, length, Bool, true, false, Option, Some, None, refl, sym, ap, ◌∙◌, append_assoc}
 use Rattle.std.proofs.lemmas.List.{map-append, length-map, append-nil}
 use Rattle.pb_text.specs.Spelling.{Letter, Item, plain, bytes, letters_of, place_after, place_or, marks_since}

@@ -1,4 +1,4 @@
--- Digits that grow at their end, and those that are written.
+-- Digits that grow at their end, and those that are written. Offered to other crates.
 use Rattle.std.proofs.Common.{◌≡◌, ℕ, suc, ◌+◌, ◌*◌, ◌/◌, ◌%◌, ◌^◌, ◌<◌, ◌≤◌, List, [], ◌∷◌, ◌++◌, length, map, refl, sym, ap, subst, arith, ◌∙◌, length-append, true}
 use Rattle.std.specs.Prelude.{ℤ, decimal}
 use Rattle.std.proofs.Math.Nat.{pow-succ'}

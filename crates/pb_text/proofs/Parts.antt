@@ -1,4 +1,4 @@
--- Texts that are written in parts.
+-- Texts that are written in parts. Offered to other crates.
 use Rattle.std.proofs.Common.{◌≡◌, ℕ, List, ◌++◌, Option, Result, Ok, Err, sym, subst}
 use Rattle.std.specs.Prelude.{IsErr}
 use Rattle.pb_text.specs.Writing.{Wrote, Broke, Writes}

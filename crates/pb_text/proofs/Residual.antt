@@ -1,4 +1,4 @@
--- What a state accepts after a byte is what it accepted before with that byte in front.
+-- What a state accepts after a byte is what it accepted before with that byte in front. Offered to other crates.
 use Rattle.std.proofs.Common.{◌≡◌, ◌≢◌, ℕ, List, [], ◌∷◌, Bool, true, false, IsTrue, refl, sym, ap, ap₂, ◌∙◌, subst}
 use Rattle.std.proofs.lemmas.Bool.{false≢true}
 use Rattle.pb_text.specs.Spelling.{Letter, Item, bytes_of}

@@ -1,4 +1,4 @@
--- Pulls in a row are a read.
+-- Pulls in a row are a read. Offered to other crates.
 use Rattle.std.proofs.Common.{◌≡◌, ℕ, List, [], ◌∷◌, ◌++◌, length, true, false, Option, Some, None, Result, Ok, Err, refl, sym, ap, ◌∙◌, subst, subst₂, append-nil, append_assoc, arith, length-append}
 use Rattle.pb_text.specs.Automaton.{Accepts}
 use Rattle.pb_text.specs.Spelling.{bytes}

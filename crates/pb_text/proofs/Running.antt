@@ -1,4 +1,4 @@
--- Bytes of a statement, one after another.
+-- Bytes of a statement, one after another. Offered to other crates.
 use Rattle.std.proofs.Common.{◌≡◌, ◌≢◌, ℕ, suc, ap, ap₂, eqb-true, ◌+◌, ◌<◌, ◌≤◌, List, [], ◌∷◌, ◌++◌, length, take, get_or, Bool, true, false, cond, ◌==◌, Option, Some, None, refl, sym, subst, ◌∙◌, arith, append-nil, append_assoc}
 use Rattle.std.proofs.lemmas.List.{take_more}
 use Rattle.std.specs.Option.{is_some}

@@ -1,4 +1,4 @@
--- What a machine over letters does with a text.
+-- What a machine over letters does with a text. Offered to other crates.
 use Rattle.std.proofs.Common.{◌≡◌, List, [], ◌∷◌, ◌++◌, refl, sym, Bool, true, false, cond, subst, append_assoc}
 use Rattle.std.proofs.lemmas.List.{append-nil}
 use Rattle.pb_text.specs.Automaton.{Next, Go, End, Refuse}

@@ -1,4 +1,4 @@
--- Where a whole read stands that could not keep an event.
+-- Where a whole read stands that could not keep an event. Offered to other crates.
 use Rattle.std.proofs.Common.{◌≡◌, ℕ, List, [], Bool, true, false, None, sym, ap, ◌∙◌, append-nil}
 use Rattle.pb_text.specs.Spelling.{Item, place_after}
 use Rattle.pb_text.specs.Reading.{Reads, Viable}
