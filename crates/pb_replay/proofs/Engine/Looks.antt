@@ -6,17 +6,17 @@ use Rattle.std.proofs.lemmas.List.Elements.{Contains-get_or}
 use Rattle.pb_replay.specs.declared.numbered.NumberedLiteral.{NumberedLiteral}
 use Rattle.pb_replay.specs.declared.propagate.term.Term.{Term}
 use Rattle.pb_replay.specs.declared.propagate.term.Occurrence.{Occurrence}
-use Rattle.pb_replay.specs.Engine.Lists.{Shape, AreInside, open_sum, Derives, begin, put, Conflicts, broken}
-use Rattle.pb_replay.specs.Engine.Counts.{IsCounted, IsTidy, IsPaid, IsAbsent, Adopted, kept, added, IsCalm, IsDone, AreFound, spent, weight_in}
+use Rattle.pb_replay.specs.Engine.Lists.{Shape, AreInside, open_sum, size, Derives, begin, put, Conflicts, broken}
+use Rattle.pb_replay.specs.Engine.Counts.{IsCounted, IsTidy, IsPaid, IsAbsent, Adopted, kept, added, IsCalm, IsDone, AreFound, Grown, pushed, spared, spent, weight_in}
 use Rattle.pb_replay.specs.declared.propagate.kept.Kept.{Kept}
 use Rattle.pb_replay.specs.Engine.Fields.{shapes_of, kept_shape}
 use Rattle.pb_replay.proofs.Engine.Runs.{Tidy-pass, Tidy-settle, done-new}
 
 -- a form's terms are being passed; the second state is that before the first of them
-pub record IsLooking (aside : List ℕ) (forms : List Shape) (lists : List (List Occurrence)) (form : ℕ) (list0 : List NumberedLiteral) (cands0 work0 : List ℕ) (visits0 : ℕ) (opens cands : List ℕ) (list : List NumberedLiteral) (work : List ℕ) (next visits : ℕ) : Type 0 where
+pub record IsLooking (aside : List ℕ) (forms : List Shape) (lists : List (List Occurrence)) (form : ℕ) (list0 : List NumberedLiteral) (cands0 work0 : List ℕ) (visits0 : ℕ) (opens cands : List ℕ) (list : List NumberedLiteral) (work trail : List ℕ) (next visits : ℕ) : Type 0 where
   pub derived : Derives forms list0 list
   pub counted : IsCounted forms opens list []
-  pub tidy : IsTidy aside forms opens cands list work next form
+  pub tidy : IsTidy aside forms opens cands list work trail next form
   pub there : IsAbsent work 0 form → ⊥
   pub paid : IsPaid lists list0 list cands0 cands work0 work visits0 visits 0
   pub found : AreFound (length list0) (length list) visits0 visits
@@ -56,17 +56,17 @@ open-now forms opens list form d inside c =
     let none : weight_in form [] ≡ 0 = refl in
     omega (arith, all, none)
 
-pub Looking-next : (aside : List ℕ) (forms : List Shape) (lists : List (List Occurrence)) (form : ℕ) (list0 : List NumberedLiteral) (cands0 work0 : List ℕ) (visits0 : ℕ) (opens cands : List ℕ) (list : List NumberedLiteral) (work : List ℕ) (next visits seen : ℕ) (opens' cands' : List ℕ) (list' : List NumberedLiteral) (work' : List ℕ) (visits' : ℕ) (f : Shape) (c : ℕ) (t : Term) →
+pub Looking-next : (aside : List ℕ) (forms : List Shape) (lists : List (List Occurrence)) (form : ℕ) (list0 : List NumberedLiteral) (cands0 work0 : List ℕ) (visits0 : ℕ) (opens cands : List ℕ) (list : List NumberedLiteral) (work trail : List ℕ) (next visits seen : ℕ) (opens' cands' : List ℕ) (list' : List NumberedLiteral) (work' trail' : List ℕ) (visits' : ℕ) (f : Shape) (c : ℕ) (t : Term) →
     form < length forms → ((d : Shape) → get_or forms form d ≡ f) → c ≡ get_or cands form 0 → c < length f.terms → t ≡ get_or f.terms c t →
     seen ≡ min (visits + 1) (2 ^ 64 - 1) → visits ≤ seen → get_or opens form 0 < f.degree + t.coefficient →
     Adopted t.literal list list' → IsCounted forms opens' list' [] →
-    ((busy : ℕ) → IsTidy aside forms opens cands list work next busy → IsTidy aside forms opens' cands list' work' next busy) →
+    ((busy : ℕ) → IsTidy aside forms opens cands list work trail next busy → IsTidy aside forms opens' cands list' work' trail' next busy) →
     IsPaid lists list list' cands cands work work' seen visits' 0 →
     ((s : ℕ) → IsAbsent work' 0 s → IsAbsent work 0 s) → length work ≤ length work' → length opens' ≡ length opens →
     cands' ≡ set cands form (c + 1) →
-    IsLooking aside forms lists form list0 cands0 work0 visits0 opens cands list work next visits →
-    IsLooking aside forms lists form list0 cands0 work0 visits0 opens' cands' list' work' next visits'
-Looking-next aside forms lists form list0 cands0 work0 visits0 opens cands list work next visits seen opens' cands' list' work' visits' f c t inside is at here item counted_visit rising low adopted counted tidy paid gone longer sizes passed p =
+    IsLooking aside forms lists form list0 cands0 work0 visits0 opens cands list work trail next visits →
+    IsLooking aside forms lists form list0 cands0 work0 visits0 opens' cands' list' work' trail' next visits'
+Looking-next aside forms lists form list0 cands0 work0 visits0 opens cands list work trail next visits seen opens' cands' list' work' trail' visits' f c t inside is at here item counted_visit rising low adopted counted tidy paid gone longer sizes passed p =
     let room : form < length cands = omega (arith, inside, p.candidate_sizes) in
     let now : get_or opens form 0 ≡ open_sum list (get_or forms form f).terms = open-now forms opens list form f inside p.counted in
     let now_f : get_or opens form 0 ≡ open_sum list f.terms = rw (is f) at now in
@@ -80,7 +80,7 @@ Looking-next aside forms lists form list0 cands0 work0 visits0 opens cands list 
     record {
       derived = adopted-derived forms list0 list list' form f c t inside here_is low_is adopted_is p.derived;
       counted = counted;
-      tidy = Tidy-pass aside forms opens' cands cands' list' work' next form c f.terms t passed at room (λ d h. ap (λ (x : Shape). x.terms) (is d)) here (adopted-done (get_or f.terms c t).literal list list' adopted_f) (λ a. p.there (gone form a)) (tidy form p.tidy);
+      tidy = Tidy-pass aside forms opens' cands cands' list' work' trail' next form c f.terms t passed at room (λ d h. ap (λ (x : Shape). x.terms) (is d)) here (adopted-done (get_or f.terms c t).literal list list' adopted_f) (λ a. p.there (gone form a)) (tidy form p.tidy);
       there = λ a. p.there (gone form a);
       paid = record {
         upper = paid_upper visits seen visits' visits0 (sum cands0) (sum cands) (sum cands') (spent lists list0) (spent lists list) (spent lists list') p.paid.upper paid.upper counted_visit raised;
@@ -102,9 +102,9 @@ Looking-next aside forms lists form list0 cands0 work0 visits0 opens cands list 
         let old = before small in
         omega (arith, e, up, few, old, one)
 
-pub Looking-settled : (aside : List ℕ) (forms : List Shape) (lists : List (List Occurrence)) (form : ℕ) (list0 : List NumberedLiteral) (cands0 work0 : List ℕ) (visits0 : ℕ) (opens cands : List ℕ) (list : List NumberedLiteral) (work : List ℕ) (next visits : ℕ) (f : Shape) → ((d : Shape) → get_or forms form d ≡ f) → IsCalm f (get_or opens form 0) (get_or cands form 0) → IsLooking aside forms lists form list0 cands0 work0 visits0 opens cands list work next visits → IsTidy aside forms opens cands list work next (length forms)
-Looking-settled aside forms lists form list0 cands0 work0 visits0 opens cands list work next visits f is calm p =
-    Tidy-settle aside forms opens cands list work next form f (rw (is f) calm) p.tidy
+pub Looking-settled : (aside : List ℕ) (forms : List Shape) (lists : List (List Occurrence)) (form : ℕ) (list0 : List NumberedLiteral) (cands0 work0 : List ℕ) (visits0 : ℕ) (opens cands : List ℕ) (list : List NumberedLiteral) (work trail : List ℕ) (next visits : ℕ) (f : Shape) → ((d : Shape) → get_or forms form d ≡ f) → IsCalm f (get_or opens form 0) (get_or cands form 0) → IsLooking aside forms lists form list0 cands0 work0 visits0 opens cands list work trail next visits → IsTidy aside forms opens cands list work trail next (length forms)
+Looking-settled aside forms lists form list0 cands0 work0 visits0 opens cands list work trail next visits f is calm p =
+    Tidy-settle aside forms opens cands list work trail next form f (rw (is f) calm) p.tidy
 
 pub Looking-conflict : (forms : List Shape) (opens : List ℕ) (list : List NumberedLiteral) (form : ℕ) (f : Shape) → form < length forms → ((d : Shape) → get_or forms form d ≡ f) → IsCounted forms opens list [] → get_or opens form 0 < f.degree → Conflicts forms list
 Looking-conflict forms opens list form f inside is c low =
@@ -116,35 +116,35 @@ Looking-conflict forms opens list form f inside is c low =
 pub shape-at : (keep : List Kept) (form : ℕ) (k : Kept) → form < length keep → k ≡ get_or keep form k → (d : Shape) → get_or (shapes_of keep) form d ≡ kept_shape k
 shape-at keep form k inside is d = get_or-map kept_shape keep form k d inside ∙ ap kept_shape (sym is)
 
-pub Looking-start : (aside : List ℕ) (forms : List Shape) (lists : List (List Occurrence)) (form : ℕ) (opens cands : List ℕ) (list : List NumberedLiteral) (work : List ℕ) (next visits : ℕ) → IsCounted forms opens list [] → IsTidy aside forms opens cands list work next form → (IsAbsent work 0 form → ⊥) → length opens ≡ length forms → length cands ≡ length forms → next ≤ length work → IsLooking aside forms lists form list cands work visits opens cands list work next visits
-Looking-start aside forms lists form opens cands list work next visits counted tidy there o c within = record {
+pub Looking-start : (aside : List ℕ) (forms : List Shape) (lists : List (List Occurrence)) (form : ℕ) (opens cands : List ℕ) (list : List NumberedLiteral) (work trail : List ℕ) (next visits : ℕ) → IsCounted forms opens list [] → IsTidy aside forms opens cands list work trail next form → (IsAbsent work 0 form → ⊥) → length opens ≡ length forms → length cands ≡ length forms → next ≤ length work → IsLooking aside forms lists form list cands work visits opens cands list work trail next visits
+Looking-start aside forms lists form opens cands list work trail next visits counted tidy there o c within = record {
   derived = begin;
   counted = counted;
   tidy = tidy;
   there = there;
-  paid = record { upper = omega arith; work = refl; rising = omega arith };
+  paid = record { upper = omega arith; work = omega arith; rising = omega arith };
   found = λ few. omega arith;
   open_sizes = o;
   candidate_sizes = c;
   within = within;
 }
 
-pub Looking-settled_by : (aside : List ℕ) (forms : List Shape) (lists : List (List Occurrence)) (form : ℕ) (list0 : List NumberedLiteral) (cands0 work0 : List ℕ) (visits0 : ℕ) (opens cands : List ℕ) (list : List NumberedLiteral) (work : List ℕ) (next visits : ℕ) (f : Shape) (n : ℕ) → length forms ≡ n → ((d : Shape) → get_or forms form d ≡ f) → IsCalm f (get_or opens form 0) (get_or cands form 0) → IsLooking aside forms lists form list0 cands0 work0 visits0 opens cands list work next visits → IsTidy aside forms opens cands list work next n
-Looking-settled_by aside forms lists form list0 cands0 work0 visits0 opens cands list work next visits f n e is calm p =
-    rw (← e) (Looking-settled aside forms lists form list0 cands0 work0 visits0 opens cands list work next visits f is calm p)
+pub Looking-settled_by : (aside : List ℕ) (forms : List Shape) (lists : List (List Occurrence)) (form : ℕ) (list0 : List NumberedLiteral) (cands0 work0 : List ℕ) (visits0 : ℕ) (opens cands : List ℕ) (list : List NumberedLiteral) (work trail : List ℕ) (next visits : ℕ) (f : Shape) (n : ℕ) → length forms ≡ n → ((d : Shape) → get_or forms form d ≡ f) → IsCalm f (get_or opens form 0) (get_or cands form 0) → IsLooking aside forms lists form list0 cands0 work0 visits0 opens cands list work trail next visits → IsTidy aside forms opens cands list work trail next n
+Looking-settled_by aside forms lists form list0 cands0 work0 visits0 opens cands list work trail next visits f n e is calm p =
+    rw (← e) (Looking-settled aside forms lists form list0 cands0 work0 visits0 opens cands list work trail next visits f is calm p)
 
-pub Looking-next_by : (aside : List ℕ) (keep : List Kept) (lists : List (List Occurrence)) (form : ℕ) (list0 : List NumberedLiteral) (cands0 work0 : List ℕ) (visits0 : ℕ) (opens cands : List ℕ) (list : List NumberedLiteral) (work : List ℕ) (next visits seen : ℕ) (opens' mid cands' : List ℕ) (list' : List NumberedLiteral) (work' : List ℕ) (next' visits' : ℕ) (k : Kept) (items : List Term) (o c : ℕ) (t : Term) →
+pub Looking-next_by : (aside : List ℕ) (keep : List Kept) (lists : List (List Occurrence)) (form : ℕ) (list0 : List NumberedLiteral) (cands0 work0 : List ℕ) (visits0 : ℕ) (opens cands : List ℕ) (list : List NumberedLiteral) (work trail : List ℕ) (next visits seen : ℕ) (opens' mid cands' : List ℕ) (list' : List NumberedLiteral) (work' trail' : List ℕ) (next' visits' : ℕ) (k : Kept) (items : List Term) (o c : ℕ) (t : Term) →
     form < length keep → k ≡ get_or keep form k → o ≡ get_or opens form o → c ≡ get_or cands form c → items ≡ k.terms.items → c < length items → t ≡ get_or items c t →
     seen ≡ min (visits + 1) (2 ^ 64 - 1) → visits ≤ seen → o < k.degree + t.coefficient →
     mid ≡ cands → next' ≡ next →
     Adopted t.literal list list' → IsCounted (shapes_of keep) opens' list' [] →
-    ((busy : ℕ) → IsTidy aside (shapes_of keep) opens cands list work next busy → IsTidy aside (shapes_of keep) opens' mid list' work' next' busy) →
+    ((busy : ℕ) → IsTidy aside (shapes_of keep) opens cands list work trail next busy → IsTidy aside (shapes_of keep) opens' mid list' work' trail' next' busy) →
     IsPaid lists list list' cands mid work work' seen visits' 0 →
     ((s : ℕ) → IsAbsent work' 0 s → IsAbsent work 0 s) → length work ≤ length work' → length opens' ≡ length opens →
     cands' ≡ set mid form (c + 1) →
-    IsLooking aside (shapes_of keep) lists form list0 cands0 work0 visits0 opens cands list work next visits →
-    IsLooking aside (shapes_of keep) lists form list0 cands0 work0 visits0 opens' cands' list' work' next' visits'
-Looking-next_by aside keep lists form list0 cands0 work0 visits0 opens cands list work next visits seen opens' mid cands' list' work' next' visits' k items o c t inside is open_is cand_is items_is here item counted_visit rising low mid_is next_is adopted counted tidy paid gone longer sizes passed p =
+    IsLooking aside (shapes_of keep) lists form list0 cands0 work0 visits0 opens cands list work trail next visits →
+    IsLooking aside (shapes_of keep) lists form list0 cands0 work0 visits0 opens' cands' list' work' trail' next' visits'
+Looking-next_by aside keep lists form list0 cands0 work0 visits0 opens cands list work trail next visits seen opens' mid cands' list' work' trail' next' visits' k items o c t inside is open_is cand_is items_is here item counted_visit rising low mid_is next_is adopted counted tidy paid gone longer sizes passed p =
     let forms_size = length-map keep kept_shape in
     let inside_f : form < length (shapes_of keep) = omega (arith, inside, forms_size) in
     let room : form < length opens = omega (arith, inside_f, p.open_sizes) in
@@ -154,10 +154,10 @@ Looking-next_by aside keep lists form list0 cands0 work0 visits0 opens cands lis
     let low_0 : get_or opens form 0 < k.degree + t.coefficient = omega (arith, open_0, low) in
     let here_k : c < length k.terms.items = omega (arith, ap length items_is, here) in
     let item_k : t ≡ get_or k.terms.items c t = rw (← items_is) item in
-    let tidy_c : (busy : ℕ) → IsTidy aside (shapes_of keep) opens cands list work next busy → IsTidy aside (shapes_of keep) opens' cands list' work' next busy = λ busy d. rw (← mid_is, ← next_is) (tidy busy d) in
+    let tidy_c : (busy : ℕ) → IsTidy aside (shapes_of keep) opens cands list work trail next busy → IsTidy aside (shapes_of keep) opens' cands list' work' trail' next busy = λ busy d. rw (← mid_is, ← next_is) (tidy busy d) in
     let paid_c : IsPaid lists list list' cands cands work work' seen visits' 0 = subst (λ (x : List ℕ). IsPaid lists list list' cands x work work' seen visits' 0) mid_is paid in
     let passed_c : cands' ≡ set cands form (c + 1) = passed ∙ ap (λ (x : List ℕ). set x form (c + 1)) mid_is in
-    rw next_is (Looking-next aside (shapes_of keep) lists form list0 cands0 work0 visits0 opens cands list work next visits seen opens' cands' list' work' visits' (kept_shape k) c t inside_f (shape-at keep form k inside is) cand_0 here_k item_k counted_visit rising low_0 adopted counted tidy_c paid_c gone longer sizes passed_c p)
+    rw next_is (Looking-next aside (shapes_of keep) lists form list0 cands0 work0 visits0 opens cands list work trail next visits seen opens' cands' list' work' trail' visits' (kept_shape k) c t inside_f (shape-at keep form k inside is) cand_0 here_k item_k counted_visit rising low_0 adopted counted tidy_c paid_c gone longer sizes passed_c p)
 
 pub calm-by : (k : Kept) (opens cands : List ℕ) (form o c : ℕ) → form < length opens → form < length cands → o ≡ get_or opens form o → c ≡ get_or cands form c → k.degree ≤ o → ((d : Term) → c < length k.terms.items → k.degree + (get_or k.terms.items c d).coefficient ≤ o) → IsCalm (kept_shape k) (get_or opens form 0) (get_or cands form 0)
 calm-by k opens cands form o c room roomc open_is cand_is met waiting =
@@ -178,3 +178,19 @@ term-inside keep n form k items c t inside is items_is here item all =
     let item_k : t ≡ get_or k.terms.items c t = rw (← items_is) item in
     let of_term = of_kept c t (omega (arith, here, ap length items_is)) in
     rw (← item_k) at of_term
+
+-- a number that need not be put behind a list
+pub grown-by : {P Q : Type 0} (x : ℕ) (old new : List ℕ) → (P → Q) → Grown P x old new → Grown Q x old new
+grown-by x old _ f pushed = pushed
+grown-by x old _ f (spared p) = spared (f p)
+
+pub idle-at : (keep : List Kept) (opens : List ℕ) (form : ℕ) (k : Kept) (o e : ℕ) → form < length keep → k ≡ get_or keep form k → form < length opens → o ≡ get_or opens form o → k.bound ≤ o - e → (d : Shape) (c : ℕ) → IsCalm (get_or (shapes_of keep) form d) (get_or opens form 0 - e) c
+idle-at keep opens form k o e inside is room open_is low d c =
+    let open_0 = get_or_read opens form o room open_is 0 in
+    rw (shape-at keep form k inside is d, ← open_0) (k.idle (o - e) c low)
+
+pub changed-at : (keep : List Kept) (opens : List ℕ) (form : ℕ) (k : Kept) (o : ℕ) → form < length keep → k ≡ get_or keep form k → form < length opens → o ≡ get_or opens form o → (o ≡ k.total → ⊥) → (d : Shape) → get_or opens form 0 ≡ size (get_or (shapes_of keep) form d).terms → ⊥
+changed-at keep opens form k o inside is room open_is other d e =
+    let open_0 = get_or_read opens form o room open_is 0 in
+    let shape : size (get_or (shapes_of keep) form d).terms ≡ size k.terms.items = ap (λ (f : Shape). size f.terms) (shape-at keep form k inside is d) in
+    other (open_0 ∙ e ∙ shape ∙ sym k.sum)

@@ -1,48 +1,51 @@
 use Rattle.std.specs.Prelude.{All, Bool, true, false, if◌then◌else◌}
-use Rattle.std.proofs.Common.{◌≡◌, ℕ, ◌+◌, ◌-◌, ◌*◌, ◌^◌, ◌<◌, ◌≤◌, ◌++◌, ◌∷◌, [], List, sym, ◌∙◌, ap, subst, arith, length, get_or, set, drop, min, length-append, length-set, Vec, Global}
+use Rattle.std.proofs.Common.{◌≡◌, ℕ, ◌+◌, ◌-◌, ◌*◌, ◌^◌, ◌<◌, ◌≤◌, [], List, sym, ◌∙◌, ap, subst, arith, length, get_or, set, drop, min, length-set, Vec, Global}
 use Rattle.std.proofs.lemmas.List.{drop_more, get_or-map, length-map}
 use Rattle.pb_replay.specs.declared.numbered.NumberedLiteral.{NumberedLiteral}
 use Rattle.pb_replay.specs.declared.propagate.term.Occurrence.{Occurrence}
-use Rattle.pb_replay.specs.Engine.Lists.{Shape, negation}
-use Rattle.pb_replay.specs.Engine.Counts.{place, IsCounted, IsTidy, IsAbsent}
+use Rattle.pb_replay.specs.Engine.Lists.{Shape, negation, size}
+use Rattle.pb_replay.specs.Engine.Counts.{place, IsCounted, IsTidy, IsAbsent, IsCalm, Grown}
 use Rattle.pb_replay.specs.Engine.Fields.{entries_of}
-use Rattle.pb_replay.proofs.Engine.Runs.{Counted-fits, Counted-lower, Tidy-lower, absent-push}
+use Rattle.pb_replay.proofs.Engine.Runs.{Counted-fits, Counted-lower, Tidy-lower, grown-before, grown-length}
 
 -- the first j entries were taken from the open sums
-pub record IsPutting (forms : List Shape) (es : List Occurrence) (opens0 cands : List ℕ) (list : List NumberedLiteral) (work0 : List ℕ) (next visits0 : ℕ) (opens work : List ℕ) (visits j : ℕ) : Type 0 where
+pub record IsPutting (forms : List Shape) (es : List Occurrence) (opens0 cands : List ℕ) (list : List NumberedLiteral) (work0 trail0 : List ℕ) (next visits0 : ℕ) (opens work trail : List ℕ) (visits j : ℕ) : Type 0 where
   pub counted : IsCounted forms opens list (drop j es)
-  pub tidy : (aside : List ℕ) (busy : ℕ) → IsTidy aside forms opens0 cands list work0 next busy → IsTidy aside forms opens cands list work next busy
+  pub tidy : (aside : List ℕ) (busy : ℕ) → IsTidy aside forms opens0 cands list work0 trail0 next busy → IsTidy aside forms opens cands list work trail next busy
   pub longer : (s : ℕ) → IsAbsent work 0 s → IsAbsent work0 0 s
   pub sizes : length opens ≡ length forms
-  pub grown : length work ≡ length work0 + j
+  pub grown : length work ≤ length work0 + j
+  pub kept : length work0 ≤ length work
   pub upper : visits ≤ visits0 + j
   pub rising : visits0 ≤ visits
 
-pub Putting-start : (forms : List Shape) (es : List Occurrence) (opens cands : List ℕ) (list : List NumberedLiteral) (work : List ℕ) (next visits : ℕ) → IsCounted forms opens list es → length opens ≡ length forms → IsPutting forms es opens cands list work next visits opens work visits 0
-Putting-start forms es opens cands list work next visits c s = record {
+pub Putting-start : (forms : List Shape) (es : List Occurrence) (opens cands : List ℕ) (list : List NumberedLiteral) (work trail : List ℕ) (next visits : ℕ) → IsCounted forms opens list es → length opens ≡ length forms → IsPutting forms es opens cands list work trail next visits opens work trail visits 0
+Putting-start forms es opens cands list work trail next visits c s = record {
   counted = c;
   tidy = λ aside busy t. t;
   longer = λ s gone. gone;
   sizes = s;
   grown = omega arith;
+  kept = omega arith;
   upper = omega arith;
   rising = omega arith;
 }
 
-pub Putting-fits : (forms : List Shape) (es : List Occurrence) (opens0 cands : List ℕ) (list : List NumberedLiteral) (work0 : List ℕ) (next visits0 : ℕ) (opens work : List ℕ) (visits j : ℕ) (d : Occurrence) (f : Shape) → j < length es → (get_or es j d).form < length forms → IsPutting forms es opens0 cands list work0 next visits0 opens work visits j → (get_or es j d).coefficient ≤ get_or opens (get_or es j d).form 0
-Putting-fits forms es opens0 cands list work0 next visits0 opens work visits j d f inside named p =
+pub Putting-fits : (forms : List Shape) (es : List Occurrence) (opens0 cands : List ℕ) (list : List NumberedLiteral) (work0 trail0 : List ℕ) (next visits0 : ℕ) (opens work trail : List ℕ) (visits j : ℕ) (d : Occurrence) (f : Shape) → j < length es → (get_or es j d).form < length forms → IsPutting forms es opens0 cands list work0 trail0 next visits0 opens work trail visits j → (get_or es j d).coefficient ≤ get_or opens (get_or es j d).form 0
+Putting-fits forms es opens0 cands list work0 trail0 next visits0 opens work trail visits j d f inside named p =
     Counted-fits forms opens list (get_or es j d) (drop (j + 1) es) f named (subst (IsCounted forms opens list) (drop_more es j d inside) p.counted)
 
-pub Putting-next : (forms : List Shape) (es : List Occurrence) (opens0 cands : List ℕ) (list : List NumberedLiteral) (work0 : List ℕ) (next visits0 : ℕ) (opens work : List ℕ) (visits j : ℕ) (opens' work' : List ℕ) (visits' : ℕ) (d : Occurrence) → j < length es → (get_or es j d).form < length forms → next ≤ length work0 → opens' ≡ set opens (get_or es j d).form (get_or opens (get_or es j d).form 0 - (get_or es j d).coefficient) → work' ≡ work ++ ((get_or es j d).form ∷ []) → visits' ≡ min (visits + 1) (2 ^ 64 - 1) → visits ≤ visits' → IsPutting forms es opens0 cands list work0 next visits0 opens work visits j → IsPutting forms es opens0 cands list work0 next visits0 opens' work' visits' (j + 1)
-Putting-next forms es opens0 cands list work0 next visits0 opens work visits j opens' work' visits' d inside named within is longer seen small p =
+pub Putting-next : (forms : List Shape) (es : List Occurrence) (opens0 cands : List ℕ) (list : List NumberedLiteral) (work0 trail0 : List ℕ) (next visits0 : ℕ) (opens work trail : List ℕ) (visits j : ℕ) (opens' work' trail' : List ℕ) (visits' : ℕ) (d : Occurrence) → j < length es → (get_or es j d).form < length forms → next ≤ length work0 → opens' ≡ set opens (get_or es j d).form (get_or opens (get_or es j d).form 0 - (get_or es j d).coefficient) → Grown ((f : Shape) (c : ℕ) → IsCalm (get_or forms (get_or es j d).form f) (get_or opens (get_or es j d).form 0 - (get_or es j d).coefficient) c) (get_or es j d).form work work' → Grown ((f : Shape) → get_or opens (get_or es j d).form 0 ≡ size (get_or forms (get_or es j d).form f).terms → ⊥) (get_or es j d).form trail trail' → visits' ≡ min (visits + 1) (2 ^ 64 - 1) → visits ≤ visits' → IsPutting forms es opens0 cands list work0 trail0 next visits0 opens work trail visits j → IsPutting forms es opens0 cands list work0 trail0 next visits0 opens' work' trail' visits' (j + 1)
+Putting-next forms es opens0 cands list work0 trail0 next visits0 opens work trail visits j opens' work' trail' visits' d inside named within is queued noted seen small p =
     let e = get_or es j d in
     let room : e.form < length opens = omega (arith, named, p.sizes) in
     record {
       counted = Counted-lower forms opens opens' list e (drop (j + 1) es) is room (subst (IsCounted forms opens list) (drop_more es j d inside) p.counted);
-      tidy = λ aside busy t. Tidy-lower aside forms opens opens' cands list work work' next busy e.form (get_or opens e.form 0 - e.coefficient) is longer named (omega (arith, p.grown, within)) (p.tidy aside busy t);
-      longer = λ s gone. p.longer s (absent-push work e.form 0 s (let from = rw longer at gone in from));
+      tidy = λ aside busy t. Tidy-lower aside forms opens opens' cands list work work' trail trail' next busy e.form (get_or opens e.form 0 - e.coefficient) is named room (omega (arith, p.kept, within)) queued noted (p.tidy aside busy t);
+      longer = λ s gone. p.longer s (grown-before e.form work work' s queued gone);
       sizes = ap length is ∙ length-set opens e.form (get_or opens e.form 0 - e.coefficient) ∙ p.sizes;
-      grown = omega (arith, ap length longer, length-append work (e.form ∷ []), p.grown);
+      grown = omega (arith, (grown-length e.form work work' queued).1, p.grown);
+      kept = omega (arith, (grown-length e.form work work' queued).0, p.kept);
       upper = least_upper visits visits' visits0 j seen p.upper;
       rising = omega (arith, small, p.rising);
     }
@@ -56,19 +59,20 @@ entries-at occ p q v inside is same =
     let at : get_or (entries_of occ) q [] ≡ (get_or occ q v).items = get_or-map (λ (w : Vec Occurrence Global). w.items) occ q v [] inside in
     rw (← same) (at ∙ ap (λ (w : Vec Occurrence Global). w.items) (sym is))
 
-pub Putting-fits_at : (forms : List Shape) (es items : List Occurrence) (opens0 cands : List ℕ) (list : List NumberedLiteral) (work0 : List ℕ) (next visits0 : ℕ) (opens work : List ℕ) (visits j : ℕ) (e : Occurrence) → es ≡ items → e ≡ get_or items j e → j < length items → All (λ x. x.form < length forms) es → IsPutting forms es opens0 cands list work0 next visits0 opens work visits j → e.coefficient ≤ get_or opens e.form 0
-Putting-fits_at forms es items opens0 cands list work0 next visits0 opens work visits j e same is inside named p =
+pub Putting-fits_at : (forms : List Shape) (es items : List Occurrence) (opens0 cands : List ℕ) (list : List NumberedLiteral) (work0 trail0 : List ℕ) (next visits0 : ℕ) (opens work trail : List ℕ) (visits j : ℕ) (e : Occurrence) → es ≡ items → e ≡ get_or items j e → j < length items → All (λ x. x.form < length forms) es → IsPutting forms es opens0 cands list work0 trail0 next visits0 opens work trail visits j → e.coefficient ≤ get_or opens e.form 0
+Putting-fits_at forms es items opens0 cands list work0 trail0 next visits0 opens work trail visits j e same is inside named p =
     let at : e ≡ get_or es j e = rw same is in
     let inside_es : j < length es = omega (arith, ap length same, inside) in
-    subst (λ (x : Occurrence). x.coefficient ≤ get_or opens x.form 0) (sym at) (Putting-fits forms es opens0 cands list work0 next visits0 opens work visits j e (record { terms = []; degree = 0 }) inside_es (named j e inside_es) p)
+    subst (λ (x : Occurrence). x.coefficient ≤ get_or opens x.form 0) (sym at) (Putting-fits forms es opens0 cands list work0 trail0 next visits0 opens work trail visits j e (record { terms = []; degree = 0 }) inside_es (named j e inside_es) p)
 
-pub Putting-next_at : (forms : List Shape) (es items : List Occurrence) (opens0 cands : List ℕ) (list : List NumberedLiteral) (work0 : List ℕ) (next visits0 : ℕ) (opens work : List ℕ) (visits j : ℕ) (opens' work' : List ℕ) (visits' : ℕ) (e : Occurrence) → es ≡ items → e ≡ get_or items j e → j < length items → All (λ x. x.form < length forms) es → next ≤ length work0 → opens' ≡ set opens e.form (get_or opens e.form 0 - e.coefficient) → work' ≡ work ++ (e.form ∷ []) → visits' ≡ min (visits + 1) (2 ^ 64 - 1) → visits ≤ visits' → IsPutting forms es opens0 cands list work0 next visits0 opens work visits j → IsPutting forms es opens0 cands list work0 next visits0 opens' work' visits' (j + 1)
-Putting-next_at forms es items opens0 cands list work0 next visits0 opens work visits j opens' work' visits' e same is inside named within lower longer seen small p =
+pub Putting-next_at : (forms : List Shape) (es items : List Occurrence) (opens0 cands : List ℕ) (list : List NumberedLiteral) (work0 trail0 : List ℕ) (next visits0 : ℕ) (opens work trail : List ℕ) (visits j : ℕ) (opens' work' trail' : List ℕ) (visits' : ℕ) (e : Occurrence) → es ≡ items → e ≡ get_or items j e → j < length items → All (λ x. x.form < length forms) es → next ≤ length work0 → opens' ≡ set opens e.form (get_or opens e.form 0 - e.coefficient) → Grown ((f : Shape) (c : ℕ) → IsCalm (get_or forms e.form f) (get_or opens e.form 0 - e.coefficient) c) e.form work work' → Grown ((f : Shape) → get_or opens e.form 0 ≡ size (get_or forms e.form f).terms → ⊥) e.form trail trail' → visits' ≡ min (visits + 1) (2 ^ 64 - 1) → visits ≤ visits' → IsPutting forms es opens0 cands list work0 trail0 next visits0 opens work trail visits j → IsPutting forms es opens0 cands list work0 trail0 next visits0 opens' work' trail' visits' (j + 1)
+Putting-next_at forms es items opens0 cands list work0 trail0 next visits0 opens work trail visits j opens' work' trail' visits' e same is inside named within lower queued noted seen small p =
     let at : e ≡ get_or es j e = rw same is in
     let inside_es : j < length es = omega (arith, ap length same, inside) in
-    Putting-next forms es opens0 cands list work0 next visits0 opens work visits j opens' work' visits' e inside_es (named j e inside_es) within
+    Putting-next forms es opens0 cands list work0 trail0 next visits0 opens work trail visits j opens' work' trail' visits' e inside_es (named j e inside_es) within
     (subst (λ (x : Occurrence). opens' ≡ set opens x.form (get_or opens x.form 0 - x.coefficient)) at lower)
-    (subst (λ (x : Occurrence). work' ≡ work ++ (x.form ∷ [])) at longer) seen small p
+    (subst (λ (x : Occurrence). Grown ((f : Shape) (c : ℕ) → IsCalm (get_or forms x.form f) (get_or opens x.form 0 - x.coefficient) c) x.form work work') at queued)
+    (subst (λ (x : Occurrence). Grown ((f : Shape) → get_or opens x.form 0 ≡ size (get_or forms x.form f).terms → ⊥) x.form trail trail') at noted) seen small p
 
 pub place-inside : (l : NumberedLiteral) (n : ℕ) → l.variable < n → place l < 2 * n
 place-inside l n h = by_sign l.negated l.variable h

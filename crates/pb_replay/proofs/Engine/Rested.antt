@@ -39,7 +39,7 @@ rest-counted forms opens cands u = record {
       omega (arith, clean.0, sum, nothing);
 }
 
-pub rest-tidy : (aside : List ℕ) (forms : List Shape) (opens cands work : List ℕ) → IsUndone forms opens cands [] 0 → All (λ s. s < length forms) work → IsEager forms (aside ++ work) → IsTidy aside forms opens cands [] work 0 (length forms)
+pub rest-tidy : (aside : List ℕ) (forms : List Shape) (opens cands work : List ℕ) → IsUndone forms opens cands [] 0 → All (λ s. s < length forms) work → IsEager forms (aside ++ work) → IsTidy aside forms opens cands [] work work 0 (length forms)
 rest-tidy aside forms opens cands work u named e = record {
   calm = λ s d inside idle off gone.
       let clean = u.clean s d inside (λ i from less. absurd (omega (arith, less))) in
@@ -52,4 +52,6 @@ rest-tidy aside forms opens cands work u named e = record {
       omega (arith, clean.1);
   clean = λ s d inside gone. u.clean s d inside (λ i from less. absurd (omega (arith, less)));
   named = named;
+  marked = named;
+  traced = λ s gone. gone;
 }

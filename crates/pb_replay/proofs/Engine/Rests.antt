@@ -81,6 +81,9 @@ undone-rest keep opens cands work from o c all u = record {
         let clean = u.clean s (kept_shape e.value) (omega (arith, inside, length-map keep kept_shape)) (λ i after h. absurd (omega (arith, after, h, all))) in
         clean.1 ∙ sym (mapped (λ (x : Kept). 0) keep s 0 e.value inside)
 
+pub rest-lengths : (keep : List Kept) (opens cands : List ℕ) → AreAtRest keep opens cands → (length opens ≡ length keep) × (length cands ≡ length keep)
+rest-lengths keep opens cands r = (ap length r.opened ∙ length-map keep (λ (k : Kept). k.total), ap length r.passed ∙ length-map {B = ℕ} keep (λ (k : Kept). 0))
+
 -- a form that does not wait is calm
 pub calm-but : (keep : List Kept) (work : List ℕ) → IsEager keep work → IsCalmBut (shapes_of keep) work
 calm-but keep work e = record {
@@ -348,7 +351,7 @@ opposite-inside es n all k d h =
     omega (arith, ap (λ (x : Entry). x.variable) is, ap (λ (x : Entry). x.variable) (e.at e.value), small)
 
 -- what a propagation from no literals needs of its beginning, where all that may put one on the empty list waits
-pub rest-tidy-all : (keep : List Kept) (eager opens cands : List ℕ) → AreAtRest keep opens cands → IsEager keep eager → IsTidy (filter (waits keep) eager) (shapes_of keep) opens cands [] [] 0 (length keep)
+pub rest-tidy-all : (keep : List Kept) (eager opens cands : List ℕ) → AreAtRest keep opens cands → IsEager keep eager → IsTidy (filter (waits keep) eager) (shapes_of keep) opens cands [] [] [] 0 (length keep)
 rest-tidy-all keep eager opens cands rest e =
     let waiting = filter (waits keep) eager in
     let whole : IsEager keep (waiting ++ []) = subst (IsEager keep) (sym (append-nil waiting)) (eager-filter keep eager e) in
@@ -366,8 +369,8 @@ filter-twice p x = at (p x) refl
 pub first-count : (p : ℕ → Bool) (eager : List ℕ) (x : ℕ) → length (filter p (eager ++ filter p (x ∷ []))) ≡ length (filter p eager) + length (filter p (x ∷ []))
 first-count p eager x = ap length (filter-append p eager (filter p (x ∷ [])) ∙ ap (λ (ys : List ℕ). filter p eager ++ ys) (filter-twice p x)) ∙ length-append (filter p eager) (filter p (x ∷ []))
 
-pub rest-tidy-first : (keep : List Kept) (eager opens cands work : List ℕ) (number : ℕ) → number < length keep → work ≡ filter (waits keep) (number ∷ []) → AreAtRest keep opens cands → IsEager keep (eager ++ filter (waits keep) (number ∷ [])) → IsTidy (filter (waits keep) eager) (shapes_of keep) opens cands [] work 0 (length keep)
-rest-tidy-first keep eager opens cands work number inside is rest e =
+pub rest-tidy-first : (keep : List Kept) (eager opens cands work trail : List ℕ) (number : ℕ) → number < length keep → work ≡ filter (waits keep) (number ∷ []) → trail ≡ filter (waits keep) (number ∷ []) → AreAtRest keep opens cands → IsEager keep (eager ++ filter (waits keep) (number ∷ [])) → IsTidy (filter (waits keep) eager) (shapes_of keep) opens cands [] work trail 0 (length keep)
+rest-tidy-first keep eager opens cands work trail number inside is noted rest e =
     let waiting = filter (waits keep) eager in
     let first = filter (waits keep) (number ∷ []) in
     let once : filter (waits keep) first ≡ first = filter-twice (waits keep) number in
@@ -376,7 +379,7 @@ rest-tidy-first keep eager opens cands work number inside is rest e =
     let P : ℕ → Type 0 = λ s. s < length (shapes_of keep) in
     let named = filter-all P (waits keep) (number ∷ []) (All-cons P number [] (omega (arith, inside, length-map keep kept_shape)) (All-nil P)) in
     let tidy = rest-tidy waiting (shapes_of keep) opens cands first (rest-undone keep opens cands rest) named (calm-but keep (waiting ++ first) whole) in
-    rw is (rw (length-map keep kept_shape) at tidy)
+    rw (is, noted) (rw (length-map keep kept_shape) at tidy)
 
 -- the first i numbers of a list were tried, and those that pass stand at its front
 pub record IsPruned (p : ℕ → Bool) (old new : List ℕ) (i kept : ℕ) : Type 0 where

@@ -1,4 +1,4 @@
-use Rattle.std.specs.Prelude.{◌==◌, sum_by}
+use Rattle.std.specs.Prelude.{◌==◌, sum_by, All}
 use Rattle.std.proofs.Common.{◌≡◌, ℕ, zero, suc, ◌+◌, ◌-◌, ◌<◌, ◌≤◌, ◌⊎◌, ◌++◌, ◌∷◌, [], List, true, false, refl, sym, ◌∙◌, ap, inl, inr, arith, length, get_or, set, length-append, get_or-set_same, get_or-set_other}
 use Rattle.std.proofs.lemmas.Bool.{cases_lt, cases_Bool, cases_eq, both_ways, eq-eqb, ne_eqb, or_left, or_right, or_cases}
 use Rattle.std.proofs.lemmas.List.{get_or_append_left, get_or_push, get_or_default}
@@ -7,8 +7,8 @@ use Rattle.std.proofs.lemmas.List.Sums.{sum_by-cons}
 use Rattle.pb_replay.specs.declared.numbered.NumberedLiteral.{NumberedLiteral}
 use Rattle.pb_replay.specs.declared.propagate.term.Term.{Term}
 use Rattle.pb_replay.specs.declared.propagate.term.Occurrence.{Occurrence}
-use Rattle.pb_replay.specs.Engine.Lists.{Shape, negation, same, has, open_part, open_sum, IsSettled}
-use Rattle.pb_replay.specs.Engine.Counts.{entry_weight, weight_in, term_weight, weight_on, AreFalling, IsCalm, IsDone, ArePassed, IsAbsent, IsCounted, IsTidy}
+use Rattle.pb_replay.specs.Engine.Lists.{Shape, negation, same, has, open_part, open_sum, size, IsSettled}
+use Rattle.pb_replay.specs.Engine.Counts.{entry_weight, weight_in, term_weight, weight_on, AreFalling, IsCalm, IsDone, ArePassed, IsAbsent, IsCounted, IsTidy, Grown, pushed, spared}
 use Rattle.pb_replay.proofs.Engine.Derivations.{settled-of_terms}
 use Rattle.pb_replay.proofs.Engine.Literals.{negation-negation, has-push, has-push_old, has-push_new, same-true, same-refl, open_part-falsified, open_part-open}
 
@@ -81,6 +81,12 @@ pub absent-new : (work : List ℕ) (x n s : ℕ) → n ≤ length work → IsAbs
 absent-new work x n s from h e =
     h (length work) from (omega (arith, length-append work (x ∷ []))) (get_or_push work x 0 (length work) refl ∙ sym e)
 
+pub absent-more : (work : List ℕ) (x s : ℕ) → (s ≡ x → ⊥) → IsAbsent work 0 s → IsAbsent (work ++ (x ∷ [])) 0 s
+absent-more work x s apart gone i from less at = elim (cases_lt i (length work)) [
+  | inl before ↦ gone i from before (sym (get_or_append_left work (x ∷ []) 0 i before) ∙ at)
+  | inr after ↦ apart (sym at ∙ get_or_push work x 0 i (omega (arith, after, less, length-append work (x ∷ []))))
+]
+
 pub absent-cons : (x : ℕ) (xs : List ℕ) (s : ℕ) → (x ≡ s → ⊥) → IsAbsent xs 0 s → IsAbsent (x ∷ xs) 0 s
 absent-cons x xs s apart gone zero from less at = apart at
 absent-cons x xs s apart gone (suc i) from less at = gone i (omega arith) (omega (arith, less)) at
@@ -106,13 +112,15 @@ Counted-put forms opens list next l entries e absent linked r = rw e (record {
       omega (arith, before, none, taken, link);
 })
 
-pub Tidy-put : (aside : List ℕ) (forms : List Shape) (opens cands : List ℕ) (list longer : List NumberedLiteral) (work : List ℕ) (next busy : ℕ) (l : NumberedLiteral) → longer ≡ list ++ (l ∷ []) → IsTidy aside forms opens cands list work next busy → IsTidy aside forms opens cands longer work next busy
-Tidy-put aside forms opens cands list longer work next busy l e r = rw e (record {
+pub Tidy-put : (aside : List ℕ) (forms : List Shape) (opens cands : List ℕ) (list longer : List NumberedLiteral) (work trail : List ℕ) (next busy : ℕ) (l : NumberedLiteral) → longer ≡ list ++ (l ∷ []) → IsTidy aside forms opens cands list work trail next busy → IsTidy aside forms opens cands longer work trail next busy
+Tidy-put aside forms opens cands list longer work trail next busy l e r = rw e (record {
   calm = r.calm;
   passed = λ s d inside k f before within. done-push list l (get_or (get_or forms s d).terms k f).literal (r.passed s d inside k f before within);
   bounded = r.bounded;
   clean = r.clean;
   named = r.named;
+  marked = r.marked;
+  traced = r.traced;
 })
 
 -- an entry is taken from its form's open sum
@@ -140,22 +148,61 @@ Counted-lower forms opens lower list e rest is room r = rw is (record { each = �
         let now = get_or-set_other opens e.form s (get_or opens e.form 0 - e.coefficient) 0 other in
         omega (arith, now, total, head, part)
 
-pub Tidy-lower : (aside : List ℕ) (forms : List Shape) (opens lower cands : List ℕ) (list : List NumberedLiteral) (work more : List ℕ) (next busy x y : ℕ) → lower ≡ set opens x y → more ≡ work ++ (x ∷ []) → x < length forms → next ≤ length work → IsTidy aside forms opens cands list work next busy → IsTidy aside forms lower cands list more next busy
-Tidy-lower aside forms opens lower cands list work more next busy x y is longer inside_x within r = rw (is, longer) (record {
-  calm = λ s d inside idle off gone.
-      let apart = absent-new work x next s within gone in
-      rw (get_or-set_other opens x s y 0 apart) (r.calm s d inside idle off (absent-push work x next s gone));
+-- what a list that may grow by a number has
+grown-absent : {needless : Type 0} (x : ℕ) (old new : List ℕ) (n s : ℕ) → Grown needless x old new → IsAbsent new n s → IsAbsent old n s
+grown-absent x old _ n s pushed gone = absent-push old x n s gone
+grown-absent x old _ n s (spared p) gone = gone
+
+grown-new : {needless : Type 0} (x : ℕ) (old new : List ℕ) (n s : ℕ) → n ≤ length old → s ≡ x → Grown needless x old new → IsAbsent new n s → needless
+grown-new x old _ n s within e pushed gone = absurd (absent-new old x n s within gone e)
+grown-new x old _ n s within e (spared p) gone = p
+
+grown-still : {needless : Type 0} (x : ℕ) (old new : List ℕ) (s : ℕ) → (s ≡ x → ⊥) → Grown needless x old new → IsAbsent old 0 s → IsAbsent new 0 s
+grown-still x old _ s apart (spared p) gone = gone
+grown-still x old _ s apart pushed gone = absent-more old x s apart gone
+
+grown-all : {needless : Type 0} (P : ℕ → Type 0) (x : ℕ) (old new : List ℕ) → P x → Grown needless x old new → All P old → All P new
+grown-all P x old _ this pushed all = All-push P old x all this
+grown-all P x old _ this (spared p) all = all
+
+pub grown-length : {needless : Type 0} (x : ℕ) (old new : List ℕ) → Grown needless x old new → (length old ≤ length new) × (length new ≤ length old + 1)
+grown-length x old _ pushed = (omega (arith, length-append old (x ∷ [])), omega (arith, length-append old (x ∷ [])))
+grown-length x old _ (spared p) = (omega arith, omega arith)
+
+pub grown-before : {needless : Type 0} (x : ℕ) (old new : List ℕ) (s : ℕ) → Grown needless x old new → IsAbsent new 0 s → IsAbsent old 0 s
+grown-before x old new s g gone = grown-absent x old new 0 s g gone
+
+pub Tidy-lower : (aside : List ℕ) (forms : List Shape) (opens lower cands : List ℕ) (list : List NumberedLiteral) (work more trail longer : List ℕ) (next busy x y : ℕ) → lower ≡ set opens x y → x < length forms → x < length opens → next ≤ length work →
+    Grown ((d : Shape) (c : ℕ) → IsCalm (get_or forms x d) y c) x work more → Grown ((d : Shape) → get_or opens x 0 ≡ size (get_or forms x d).terms → ⊥) x trail longer →
+    IsTidy aside forms opens cands list work trail next busy → IsTidy aside forms lower cands list more longer next busy
+Tidy-lower aside forms opens lower cands list work more trail longer next busy x y is inside_x room within queued noted r = rw is (record {
+  calm = λ s d inside idle off gone. elim (cases_eq s x) [
+    | inl one ↦
+        let needless = grown-new x work more next s within one queued gone in
+        let now : get_or (set opens x y) s 0 ≡ y = rw one (get_or-set_same opens x y 0 room) in
+        rw (now, one) (needless d (get_or cands x 0))
+    | inr apart ↦ rw (get_or-set_other opens x s y 0 apart) (r.calm s d inside idle off (grown-absent x work more next s queued gone))
+  ];
   passed = r.passed;
   bounded = r.bounded;
-  clean = λ s d inside gone.
-      let apart = absent-new work x 0 s (omega arith) gone in
-      rw (get_or-set_other opens x s y 0 apart) (r.clean s d inside (absent-push work x 0 s gone));
-  named = All-push (λ s. s < length forms) work x r.named inside_x;
+  clean = λ s d inside gone. elim (cases_eq s x) [
+    | inl one ↦ absurd (changed s one gone)
+    | inr apart ↦ rw (get_or-set_other opens x s y 0 apart) (r.clean s d inside (grown-absent x trail longer 0 s noted gone))
+  ];
+  named = grown-all (λ s. s < length forms) x work more inside_x queued r.named;
+  marked = grown-all (λ s. s < length forms) x trail longer inside_x noted r.marked;
+  traced = λ s gone. grown-still x work more s (λ one. changed s one gone) queued (r.traced s (grown-absent x trail longer 0 s noted gone));
 })
+  where
+    changed : (s : ℕ) → s ≡ x → IsAbsent longer 0 s → ⊥
+    changed s one gone =
+        let d : Shape = record { terms = []; degree = 0 } in
+        let before = grown-absent x trail longer 0 s noted gone in
+        grown-new x trail longer 0 s (omega arith) one noted gone d (r.clean x d inside_x (rw one at before)).0
 
 -- the busy form's candidate changes
-pub Tidy-pass : (aside : List ℕ) (forms : List Shape) (opens cands passed : List ℕ) (list : List NumberedLiteral) (work : List ℕ) (next busy c : ℕ) (terms : List Term) (e : Term) → passed ≡ set cands busy (c + 1) → c ≡ get_or cands busy 0 → busy < length cands → ((d : Shape) → busy < length forms → (get_or forms busy d).terms ≡ terms) → c < length terms → IsDone list (get_or terms c e).literal → (IsAbsent work 0 busy → ⊥) → IsTidy aside forms opens cands list work next busy → IsTidy aside forms opens passed list work next busy
-Tidy-pass aside forms opens cands passed list work next busy c terms e is at room same here done there r = rw is (record {
+pub Tidy-pass : (aside : List ℕ) (forms : List Shape) (opens cands passed : List ℕ) (list : List NumberedLiteral) (work trail : List ℕ) (next busy c : ℕ) (terms : List Term) (e : Term) → passed ≡ set cands busy (c + 1) → c ≡ get_or cands busy 0 → busy < length cands → ((d : Shape) → busy < length forms → (get_or forms busy d).terms ≡ terms) → c < length terms → IsDone list (get_or terms c e).literal → (IsAbsent work 0 busy → ⊥) → IsTidy aside forms opens cands list work trail next busy → IsTidy aside forms opens passed list work trail next busy
+Tidy-pass aside forms opens cands passed list work trail next busy c terms e is at room same here done there r = rw is (record {
   calm = λ s d inside idle off gone. rw (get_or-set_other cands busy s (c + 1) 0 idle) (r.calm s d inside idle off gone);
   passed = λ s d inside k f before within. elim (cases_eq s busy) [
     | inr other ↦
@@ -182,17 +229,19 @@ Tidy-pass aside forms opens cands passed list work next busy c terms e is at roo
         omega (arith, now, ap length those, here)
   ];
   clean = λ s d inside gone.
-      let apart : s ≡ busy → ⊥ = λ e. there (rw e at gone) in
+      let apart : s ≡ busy → ⊥ = λ e. there (rw e at (r.traced s gone)) in
       rw (get_or-set_other cands busy s (c + 1) 0 apart) (r.clean s d inside gone);
   named = r.named;
+  marked = r.marked;
+  traced = r.traced;
 })
   where
     last_one : (a b : ℕ) → b ≤ a → a < b + 1 → a ≡ b
     last_one a b h k = grind arith
 
 -- the next form of the work list is looked at
-pub Tidy-next : (aside : List ℕ) (forms : List Shape) (opens cands : List ℕ) (list : List NumberedLiteral) (work : List ℕ) (next : ℕ) → IsTidy aside forms opens cands list work next (length forms) → IsTidy aside forms opens cands list work (next + 1) (get_or work next 0)
-Tidy-next aside forms opens cands list work next r = record {
+pub Tidy-next : (aside : List ℕ) (forms : List Shape) (opens cands : List ℕ) (list : List NumberedLiteral) (work trail : List ℕ) (next : ℕ) → IsTidy aside forms opens cands list work trail next (length forms) → IsTidy aside forms opens cands list work trail (next + 1) (get_or work next 0)
+Tidy-next aside forms opens cands list work trail next r = record {
   calm = λ s d inside idle off gone. r.calm s d inside (λ e. absurd (omega (arith, e, inside))) off (λ i from less at. elim (cases_eq i next) [
     | inl here ↦ idle (sym at ∙ ap (λ j. get_or work j 0) here)
     | inr later ↦ gone i (after i next from later) less at
@@ -201,13 +250,15 @@ Tidy-next aside forms opens cands list work next r = record {
   bounded = r.bounded;
   clean = r.clean;
   named = r.named;
+  marked = r.marked;
+  traced = r.traced;
 }
   where
     after : (i n : ℕ) → n ≤ i → (i ≡ n → ⊥) → n + 1 ≤ i
     after i n from later = grind arith
 
-pub Tidy-settle : (aside : List ℕ) (forms : List Shape) (opens cands : List ℕ) (list : List NumberedLiteral) (work : List ℕ) (next busy : ℕ) (e : Shape) → IsCalm (get_or forms busy e) (get_or opens busy 0) (get_or cands busy 0) → IsTidy aside forms opens cands list work next busy → IsTidy aside forms opens cands list work next (length forms)
-Tidy-settle aside forms opens cands list work next busy e calm r = record {
+pub Tidy-settle : (aside : List ℕ) (forms : List Shape) (opens cands : List ℕ) (list : List NumberedLiteral) (work trail : List ℕ) (next busy : ℕ) (e : Shape) → IsCalm (get_or forms busy e) (get_or opens busy 0) (get_or cands busy 0) → IsTidy aside forms opens cands list work trail next busy → IsTidy aside forms opens cands list work trail next (length forms)
+Tidy-settle aside forms opens cands list work trail next busy e calm r = record {
   calm = λ s d inside idle off gone. elim (cases_eq s busy) [
     | inl one ↦ rw (one, get_or_default forms busy d e (rw one at inside)) calm
     | inr other ↦ r.calm s d inside other off gone
@@ -216,6 +267,8 @@ Tidy-settle aside forms opens cands list work next busy e calm r = record {
   bounded = r.bounded;
   clean = r.clean;
   named = r.named;
+  marked = r.marked;
+  traced = r.traced;
 }
 
 -- a calm form is settled, since its coefficients fall

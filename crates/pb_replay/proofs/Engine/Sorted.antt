@@ -1,7 +1,7 @@
 -- A form's terms, as they are read and put in order.
 use Rattle.std.specs.Prelude.{Bool, ℤ, unsigned_abs, map, sum_by, IsPermutation, slice_get, Some}
 use Rattle.std.proofs.Common.{FitsSigned, pos, to_z, of_z, ◌≡◌, ℕ, ◌+◌, ◌-◌, ◌^◌, ◌<◌, ◌≤◌, ◌++◌, ◌∷◌, [], List, refl, sym, ◌∙◌, ap, arith, length, get_or, take}
-use Rattle.std.proofs.lemmas.List.{take_more, take_all, map-append}
+use Rattle.std.proofs.lemmas.List.{take_more, take_all, map-append, get_or_default}
 use Rattle.std.proofs.lemmas.Option.{slice_get_within, get_or_from_slice_get}
 use Rattle.std.proofs.lemmas.List.Sums.{sum_by-cons, get_or-le-sum_by}
 use Rattle.std.proofs.lemmas.List.Sorted.{IsPermutation-sym, IsPermutation-map, sum_by-IsPermutation}
@@ -12,7 +12,7 @@ use Rattle.pb_normal.specs.declared.entry.Entry.{Entry}
 use Rattle.pb_normal.specs.Form.{total, each}
 use Rattle.pb_replay.specs.declared.propagate.term.Term.{Term}
 use Rattle.pb_replay.specs.Engine.Forms.{entry_of}
-use Rattle.pb_replay.specs.Engine.Counts.{AreFalling}
+use Rattle.pb_replay.specs.Engine.Counts.{AreFalling, IsCalm}
 
 pub collect-next : (done more : List Term) (ts : List Entry) (i : ℕ) (t : Term) → map entry_of done ≡ take i ts → more ≡ done ++ (t ∷ []) → slice_get ts i ≡ Some (entry_of t) → map entry_of more ≡ take (i + 1) ts
 collect-next done more ts i t e m at =
@@ -64,3 +64,16 @@ degree-read u r d e is small =
     let abs : unsigned_abs r ≡ d = ap unsigned_abs is in
     let fits : FitsSigned w128 r = fits_signed_from_abs w128 r (omega (arith, abs, small)) in
     e ∙ ap unsigned_abs (to_z-of_z w128 r fits) ∙ abs
+
+-- with an open sum of its degree and its largest coefficient a form is calm, whatever its candidate
+pub bound-calm : (terms : List Term) (degree bound : ℕ) (e : Term) → AreFalling terms → 0 < length terms → bound ≡ degree + (get_or terms 0 e).coefficient → (opened c : ℕ) → bound ≤ opened → IsCalm (record { terms = terms; degree = degree }) opened c
+bound-calm terms degree bound e falling some is opened c low = record {
+  met = omega (arith, is, low);
+  waiting = λ d here.
+      let less : (get_or terms c d).coefficient ≤ (get_or terms 0 d).coefficient = falling 0 c d (omega arith) here in
+      let first : get_or terms 0 d ≡ get_or terms 0 e = get_or_default terms 0 d e some in
+      omega (arith, is, low, less, ap (λ (x : Term). x.coefficient) first);
+}
+
+pub bound-none : (terms : List Term) (degree : ℕ) → length terms ≡ 0 → (opened c : ℕ) → degree ≤ opened → IsCalm (record { terms = terms; degree = degree }) opened c
+bound-none terms degree none opened c low = record { met = low; waiting = λ d here. absurd (omega (arith, none, here)) }

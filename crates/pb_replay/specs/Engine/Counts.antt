@@ -55,14 +55,21 @@ IsAbsent work from s = (i : ℕ) → from ≤ i → i < length work → slice_in
 pub record IsCounted (forms : List Shape) (opens : List ℕ) (list : List NumberedLiteral) (rest : List Occurrence) : Type 0 where
   pub each : (s : ℕ) (d : Shape) → s < length forms → slice_index opens s ≡ open_sum list (slice_index_or forms s d).terms + weight_in s rest
 
+-- a number is put behind a list, which stays as it is only where it need not be
+pub data Grown (needless : Type 0) (x : ℕ) (old : List ℕ) : List ℕ → Type 0 where
+  pushed : Grown needless x old (old ++ (x ∷ []))
+  spared : needless → Grown needless x old old
+
 -- each form is calm but for those that are set aside, the one that is looked at (none where `busy` is no form's number)
--- and those that wait on the work list from `next` on; a form that does not stand on the work list is as it was made
-pub record IsTidy (aside : List ℕ) (forms : List Shape) (opens candidates : List ℕ) (list : List NumberedLiteral) (work : List ℕ) (next busy : ℕ) : Type 0 where
+-- and those that wait on the work list from `next` on; a form that does not stand on the trail is as it was made
+pub record IsTidy (aside : List ℕ) (forms : List Shape) (opens candidates : List ℕ) (list : List NumberedLiteral) (work trail : List ℕ) (next busy : ℕ) : Type 0 where
   pub calm : (s : ℕ) (d : Shape) → s < length forms → (s ≡ busy → ⊥) → IsAbsent aside 0 s → IsAbsent work next s → IsCalm (slice_index_or forms s d) (slice_index opens s) (slice_index candidates s)
   pub passed : (s : ℕ) (d : Shape) → s < length forms → ArePassed (slice_index_or forms s d).terms (slice_index candidates s) list
   pub bounded : (s : ℕ) (d : Shape) → s < length forms → slice_index candidates s ≤ length (slice_index_or forms s d).terms
-  pub clean : (s : ℕ) (d : Shape) → s < length forms → IsAbsent work 0 s → (slice_index opens s ≡ size (slice_index_or forms s d).terms) × (slice_index candidates s ≡ 0)
+  pub clean : (s : ℕ) (d : Shape) → s < length forms → IsAbsent trail 0 s → (slice_index opens s ≡ size (slice_index_or forms s d).terms) × (slice_index candidates s ≡ 0)
   pub named : All (λ s. s < length forms) work
+  pub marked : All (λ s. s < length forms) trail
+  pub traced : (s : ℕ) → IsAbsent trail 0 s → IsAbsent work 0 s
 
 -- the entries of the list's literals
 abbrev pub spent : List (List Occurrence) → List NumberedLiteral → ℕ
@@ -73,10 +80,10 @@ abbrev pub AreCovered : List (List Occurrence) → List NumberedLiteral → List
 AreCovered lists list0 list1 cands0 cands1 visits0 visits1 looks =
     visits1 + sum cands0 + spent lists list0 ≤ visits0 + looks + sum cands1 + spent lists list1
 
--- what a part of a propagation costs: its looks, and each entry that was taken put a form on the work list
+-- what a part of a propagation costs: its looks, and each entry that was taken put at most one form on the work list
 pub record IsPaid (lists : List (List Occurrence)) (list0 list1 : List NumberedLiteral) (cands0 cands1 work0 work1 : List ℕ) (visits0 visits1 looks : ℕ) : Type 0 where
   pub upper : AreCovered lists list0 list1 cands0 cands1 visits0 visits1 looks
-  pub work : length work1 + spent lists list0 ≡ length work0 + spent lists list1
+  pub work : length work1 + spent lists list0 ≤ length work0 + spent lists list1
   pub rising : visits0 ≤ visits1
 
 -- what trying a literal does to the list
@@ -93,7 +100,7 @@ pub data AreSingle : List NumberedLiteral → Type 0 where
   none : AreSingle []
   more : {list : List NumberedLiteral} (l : NumberedLiteral) → AreSingle list → has list l ≡ false → AreSingle (list ++ (l ∷ []))
 
--- the forms that do not stand on the work list from a place on are as they were made
-pub record IsUndone (forms : List Shape) (opens candidates work : List ℕ) (from : ℕ) : Type 0 where
-  pub clean : (s : ℕ) (d : Shape) → s < length forms → IsAbsent work from s → (slice_index opens s ≡ size (slice_index_or forms s d).terms) × (slice_index candidates s ≡ 0)
-  pub named : All (λ s. s < length forms) work
+-- the forms that do not stand on the trail from a place on are as they were made
+pub record IsUndone (forms : List Shape) (opens candidates trail : List ℕ) (from : ℕ) : Type 0 where
+  pub clean : (s : ℕ) (d : Shape) → s < length forms → IsAbsent trail from s → (slice_index opens s ≡ size (slice_index_or forms s d).terms) × (slice_index candidates s ≡ 0)
+  pub named : All (λ s. s < length forms) trail

@@ -52,6 +52,7 @@ pub record IsAtRest (store : Store) (run : Run) (waiting : List ℕ) (forms : Li
   pub values : length run.assignment.values.items ≡ store.variables
   pub list : run.assignment.list.items ≡ []
   pub work : run.work.items ≡ []
+  pub trail : run.trail.items ≡ []
   pub next : run.next ≡ 0
   pub eager : IsEager store.kept.items waiting
 

@@ -1,6 +1,6 @@
 //! The engine: live forms by number, and what propagation over them answers.
 
-ghost use Rattle.std.specs.Prelude.{◌≡◌, ℕ, List, Option, Some, None, ◌+◌, ◌*◌, ◌<◌, ◌≤◌, ◌++◌, ◌∷◌, [], ◌⊎◌, true, false, All, length, filter, slice_index_or, slice_get, slice_set, sum_by, OnOk, IfOk, IfSome, IfNone, map};
+ghost use Rattle.std.specs.Prelude.{◌≡◌, ℕ, List, Option, Some, None, ◌+◌, ◌*◌, ◌<◌, ◌≤◌, ◌++◌, ◌∷◌, [], ◌⊎◌, true, false, All, length, filter, slice_index_or, slice_get, slice_set, sum_by, OnOk, OnErr, IfOk, IfSome, IfNone, map};
 ghost use Rattle.pb_normal.specs.Form.{Form};
 ghost use Rattle.pb_normal.specs.Rules.{negation_of};
 ghost use Rattle.pb_replay.specs.declared.numbered.NumberedLiteral.{NumberedLiteral};
@@ -88,7 +88,7 @@ fn assume(store: &Store, run: &mut Run, given: &[NumberedLiteral]) -> Result<boo
     ensures within { OnOk result (length run.old.work.items ≤ length run.new.work.items) }
     ensures single { OnOk result (AreSingle run.new.assignment.list.items) }
     ensures counted { OnOk result (IsCounted (shapes_of store.now.kept.items) run.new.opens.items run.new.assignment.list.items []) }
-    ensures tidy { OnOk result ((aside : List ℕ) (busy : ℕ) → IsTidy aside (shapes_of store.now.kept.items) run.old.opens.items run.old.candidates.items run.old.assignment.list.items run.old.work.items run.old.next busy → IsTidy aside (shapes_of store.now.kept.items) run.new.opens.items run.new.candidates.items run.new.assignment.list.items run.new.work.items run.new.next busy) }
+    ensures tidy { OnOk result ((aside : List ℕ) (busy : ℕ) → IsTidy aside (shapes_of store.now.kept.items) run.old.opens.items run.old.candidates.items run.old.assignment.list.items run.old.work.items run.old.trail.items run.old.next busy → IsTidy aside (shapes_of store.now.kept.items) run.new.opens.items run.new.candidates.items run.new.assignment.list.items run.new.work.items run.new.trail.items run.new.next busy) }
     ensures opposite { IfOk result (λ found. found ≡ true → (l : NumberedLiteral) × (has given.now l ≡ true) × (has given.now (negation l) ≡ true)) }
     ensures same { IfOk result (λ found. found ≡ false → IsWithin run.new.assignment.list.items given.now × IsWithin given.now run.new.assignment.list.items) }
 {
@@ -118,11 +118,11 @@ fn settle(
     requires waiting { All (λ s. s < length store.now.kept.items) waiting.now }
     requires empty { run.old.assignment.list.items ≡ [] }
     requires counted { IsCounted (shapes_of store.now.kept.items) run.old.opens.items run.old.assignment.list.items [] }
-    requires tidy { IsTidy (filter (waits store.now.kept.items) waiting.now) (shapes_of store.now.kept.items) run.old.opens.items run.old.candidates.items run.old.assignment.list.items run.old.work.items run.old.next (length store.now.kept.items) }
+    requires tidy { IsTidy (filter (waits store.now.kept.items) waiting.now) (shapes_of store.now.kept.items) run.old.opens.items run.old.candidates.items run.old.assignment.list.items run.old.work.items run.old.trail.items run.old.next (length store.now.kept.items) }
     ensures values { OnOk result (length run.new.assignment.values.items ≡ length run.old.assignment.values.items) }
     ensures opens { OnOk result (length run.new.opens.items ≡ length store.now.kept.items) }
     ensures candidates { OnOk result (length run.new.candidates.items ≡ length store.now.kept.items) }
-    ensures undone { OnOk result (IsUndone (shapes_of store.now.kept.items) run.new.opens.items run.new.candidates.items run.new.work.items 0) }
+    ensures undone { OnOk result (IsUndone (shapes_of store.now.kept.items) run.new.opens.items run.new.candidates.items run.new.trail.items 0) }
     ensures refuted { IfOk result (λ found. found ≡ true → IsRefuted (shapes_of store.now.kept.items) given.now run.new.assignment.list.items) }
     ensures ended { IfOk result (λ found. found ≡ false → IsEnded (shapes_of store.now.kept.items) given.now run.new.assignment.list.items) }
 {
@@ -137,17 +137,19 @@ fn settle(
 fn rest(store: &Store, run: &mut Run)
     requires opens { length run.old.opens.items ≡ length store.now.kept.items }
     requires candidates { length run.old.candidates.items ≡ length store.now.kept.items }
-    requires undone { IsUndone (shapes_of store.now.kept.items) run.old.opens.items run.old.candidates.items run.old.work.items 0 }
+    requires undone { IsUndone (shapes_of store.now.kept.items) run.old.opens.items run.old.candidates.items run.old.trail.items 0 }
     ensures rest { AreAtRest store.now.kept.items run.new.opens.items run.new.candidates.items }
     ensures values { length run.new.assignment.values.items ≡ length run.old.assignment.values.items }
     ensures list { run.new.assignment.list.items ≡ [] }
     ensures work { run.new.work.items ≡ [] }
+    ensures trail { run.new.trail.items ≡ [] }
     ensures next { run.new.next ≡ 0 }
     ensures visits { run.new.visits ≡ run.old.visits }
 {
     undo_forms(store, run);
     run.assignment.clear();
     run.work.clear();
+    run.trail.clear();
     run.next = 0;
 }
 
@@ -171,6 +173,7 @@ impl Engine {
                 assignment: Assignment::new(alloc),
                 work: Vec::new(alloc),
                 next: 0,
+                trail: Vec::new(alloc),
                 visits: 0,
             },
             eager: Vec::new(alloc),
@@ -182,7 +185,7 @@ impl Engine {
     /// One more variable.
     pub fn widen(&mut self) -> Result<(), AllocError>
         requires ready { self.old.spent ≡ false }
-        ensures forms { OnOk result (self.new.forms ≡ self.old.forms) }
+        ensures forms { self.new.forms ≡ self.old.forms }
         ensures variables { OnOk result (self.new.variables ≡ self.old.variables + 1) }
         ensures visits { OnOk result (self.new.visits ≡ self.old.visits) }
         ensures ready { OnOk result (self.new.spent ≡ false) }
@@ -202,6 +205,7 @@ impl Engine {
         requires ready { self.old.spent ≡ false }
         requires inside { All (λ t. t.variable < self.old.variables) form.terms }
         ensures forms { OnOk result (self.new.forms ≡ self.old.forms ++ Some form ∷ []) }
+        ensures unchanged { OnErr result (self.new.forms ≡ self.old.forms) }
         ensures variables { OnOk result (self.new.variables ≡ self.old.variables) }
         ensures visits { OnOk result (self.new.visits ≡ self.old.visits) }
         ensures ready { OnOk result (self.new.spent ≡ false) }
@@ -255,7 +259,7 @@ impl Engine {
     pub fn rup(&mut self, goal: &Normal) -> Result<bool, AllocError>
         requires ready { self.old.spent ≡ false }
         requires inside { All (λ t. t.variable < self.old.variables) goal.now.terms }
-        ensures forms { OnOk result (self.new.forms ≡ self.old.forms) }
+        ensures forms { self.new.forms ≡ self.old.forms }
         ensures variables { OnOk result (self.new.variables ≡ self.old.variables) }
         ensures ready { OnOk result (self.new.spent ≡ false) }
         ensures implied { IfOk result (λ found. found ≡ true → IsRup (Live self.old.forms) goal.now) }
@@ -277,6 +281,7 @@ impl Engine {
         };
         let number = self.forms.len();
         enter(&mut self.store, &mut self.run, &negation)?;
+        choose(&self.store, number, &mut self.run.trail)?;
         choose(&self.store, number, &mut self.run.work)?;
         let found = propagate(&self.store, &mut self.run, self.eager.as_slice())?;
         rest(&self.store, &mut self.run);
@@ -297,7 +302,7 @@ impl Engine {
     ) -> Result<Option<Vec<Option<bool>>>, AllocError>
         requires ready { self.old.spent ≡ false }
         requires inside { All (λ l. l.variable < self.old.variables) given.now }
-        ensures forms { OnOk result (self.new.forms ≡ self.old.forms) }
+        ensures forms { self.new.forms ≡ self.old.forms }
         ensures variables { OnOk result (self.new.variables ≡ self.old.variables) }
         ensures visits { OnOk result (self.new.visits ≡ self.old.visits) }
         ensures ready { OnOk result (self.new.spent ≡ false) }

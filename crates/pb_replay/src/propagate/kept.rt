@@ -1,6 +1,6 @@
 //! A kept form.
 
-ghost use Rattle.std.specs.Prelude.{◌≡◌, ◌+◌, ◌<◌, ◌^◌, false, true, length, sum_by};
+ghost use Rattle.std.specs.Prelude.{◌≡◌, ℕ, ◌+◌, ◌<◌, ◌≤◌, ◌^◌, false, true, length, sum_by};
 ghost use Rattle.pb_replay.specs.Engine.Counts.{AreFalling, IsCalm};
 
 use crate::propagate::term::Term;
@@ -9,14 +9,17 @@ use crate::propagate::term::Term;
 #[derive(Drop)]
 pub struct Kept {
     pub terms: Vec<Term>,
-    pub degree: u128,
-    pub total: u128,
     // Whether it may put a literal on the empty list, or is falsified there.
     pub eager: bool,
+    pub degree: u128,
+    pub total: u128,
+    // With an open sum of that size it puts no literal and is not falsified.
+    pub bound: u128,
     pub ghost falling: { AreFalling terms.items },
     pub ghost sum: { total ≡ sum_by (λ t. t.coefficient) terms.items },
     pub ghost small: { sum_by (λ t. t.coefficient) terms.items < 2 ^ 127 },
     pub ghost low: { degree < 2 ^ 127 },
+    pub ghost idle: { (opened c : ℕ) → bound ≤ opened → IsCalm record { terms = terms.items; degree = degree } opened c },
     pub ghost aside: { eager ≡ false → IsCalm record { terms = terms.items; degree = degree } total 0 },
     pub ghost busy: { eager ≡ true → 0 < degree + length terms.items },
 }

@@ -22,7 +22,7 @@ fn sorted_terms(alloc: Global, form: &Normal) -> Result<Vec<Term>, AllocError>
     ensures same { IfOk result (λ terms. IsPermutation (map entry_of terms.items) form.now.terms) }
     ensures falling { IfOk result (λ terms. AreFalling terms.items) }
 {
-    let mut terms = Vec::new(alloc);
+    let mut terms = Vec::with_capacity(alloc, form.len())?;
     'terms: for i in 0..form.len() {
         let (variable, negated, coefficient) = form.term(i);
         terms.push(Term {
@@ -46,20 +46,27 @@ fn total_of(terms: &[Term]) -> u128
     total
 }
 
-// Whether a form may put a literal on the empty list, or is falsified there.
-fn is_eager(terms: &[Term], degree: u128, total: u128) -> bool
+// The degree and the largest coefficient: with an open sum of that size a form puts no literal and is not falsified.
+fn bound_of(terms: &[Term], degree: u128) -> u128
     requires size { sum_by (λ t. t.coefficient) terms.now < 2 ^ 127 }
     requires small { degree < 2 ^ 127 }
-    ensures calm { result ≡ false → IsCalm record { terms = terms.now; degree = degree } total 0 }
-    ensures busy { result ≡ true → 0 < degree + length terms.now }
+    requires falling { AreFalling terms.now }
+    ensures calm { (opened c : ℕ) → result ≤ opened → IsCalm record { terms = terms.now; degree = degree } opened c }
+    ensures some { 0 < result → 0 < degree + length terms.now }
 {
-    if total < degree {
-        return true;
-    }
     if terms.len() == 0 {
-        return false;
+        return degree;
     }
-    total < degree + terms[0].coefficient
+    let first = terms[0];
+    degree + first.coefficient
+}
+
+// Whether an open sum is below a form's bound.
+fn is_below(total: u128, bound: u128) -> bool
+    ensures below { result ≡ true → total < bound }
+    ensures above { result ≡ false → bound ≤ total }
+{
+    total < bound
 }
 
 // A form as the engine keeps it.
@@ -69,11 +76,13 @@ fn kept_of(alloc: Global, form: &Normal) -> Result<Kept, AllocError>
     let terms = sorted_terms(alloc, form)?;
     let degree = form.degree().unsigned_abs();
     let total = total_of(terms.as_slice());
-    let eager = is_eager(terms.as_slice(), degree, total);
+    let bound = bound_of(terms.as_slice(), degree);
+    let eager = is_below(total, bound);
     Ok(Kept {
         terms,
         degree,
         total,
+        bound,
         eager,
     })
 }
@@ -154,12 +163,13 @@ pub fn enter(store: &mut Store, run: &mut Run, form: &Normal) -> Result<(), Allo
     ensures sound { OnOk result (IsSound store.new) }
     ensures entered { OnOk result (HasEntered form.now store.old.kept.items store.new.kept.items run.old.opens.items run.new.opens.items run.old.candidates.items run.new.candidates.items) }
     ensures variables { store.new.variables ≡ store.old.variables }
+    ensures trail { run.new.trail ≡ run.old.trail }
     ensures rest { (run.new.assignment ≡ run.old.assignment) × (run.new.work ≡ run.old.work) × (run.new.next ≡ run.old.next) × (run.new.visits ≡ run.old.visits) }
 {
     let alloc = *store.kept.allocator();
     let kept = kept_of(alloc, form)?;
     let number = store.kept.len();
-    let mut spots = Vec::new(alloc);
+    let mut spots = Vec::with_capacity(alloc, kept.terms.len())?;
     link(
         kept.terms.as_slice(),
         number,
@@ -182,6 +192,7 @@ pub fn leave(store: &mut Store, run: &mut Run)
     ensures opens { run.new.opens.items ≡ take (length run.old.opens.items - 1) run.old.opens.items }
     ensures candidates { run.new.candidates.items ≡ take (length run.old.candidates.items - 1) run.old.candidates.items }
     ensures variables { store.new.variables ≡ store.old.variables }
+    ensures trail { run.new.trail ≡ run.old.trail }
     ensures rest { (run.new.assignment ≡ run.old.assignment) × (run.new.work ≡ run.old.work) × (run.new.next ≡ run.old.next) × (run.new.visits ≡ run.old.visits) }
 {
     let number = store.kept.len() - 1;
@@ -200,6 +211,7 @@ fn empty_kept(alloc: Global) -> Kept
         terms: Vec::new(alloc),
         degree: 0,
         total: 0,
+        bound: 0,
         eager: false,
     }
 }
@@ -213,6 +225,7 @@ pub fn vacate(store: &mut Store, run: &mut Run, form: usize)
     ensures kept { (k : Kept) × IsEmpty k × (store.new.kept.items ≡ slice_set store.old.kept.items form k) }
     ensures opens { run.new.opens.items ≡ slice_set run.old.opens.items form 0 }
     ensures variables { store.new.variables ≡ store.old.variables }
+    ensures trail { run.new.trail ≡ run.old.trail }
     ensures rest { (run.new.candidates ≡ run.old.candidates) × (run.new.assignment ≡ run.old.assignment) × (run.new.work ≡ run.old.work) × (run.new.next ≡ run.old.next) × (run.new.visits ≡ run.old.visits) }
 {
     let alloc = *store.kept.allocator();

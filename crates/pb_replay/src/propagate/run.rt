@@ -2,8 +2,8 @@
 
 ghost use Rattle.std.specs.Prelude.{◌≡◌, ℕ, ◌≤◌, ◌+◌, ◌-◌, ◌*◌, ◌^◌, ◌<◌, ◌++◌, ◌∷◌, [], true, false, List, All, filter, length, map, OnOk, IfOk, slice_index, slice_index_or, slice_set, sum, sum_by, Contains};
 ghost use Rattle.pb_replay.specs.declared.numbered.NumberedLiteral.{NumberedLiteral};
-ghost use Rattle.pb_replay.specs.Engine.Lists.{negation, has, Derives, Conflicts, Shape, IsSettled};
-ghost use Rattle.pb_replay.specs.Engine.Counts.{place, IsCounted, IsTidy, IsPaid, IsAbsent, Adopted, AreFound, AreSingle, IsUndone, AreCovered};
+ghost use Rattle.pb_replay.specs.Engine.Lists.{negation, has, size, Derives, Conflicts, Shape, IsSettled};
+ghost use Rattle.pb_replay.specs.Engine.Counts.{place, Grown, IsCalm, IsCounted, IsTidy, IsPaid, IsAbsent, Adopted, AreFound, AreSingle, IsUndone, AreCovered};
 ghost use Rattle.pb_replay.specs.Engine.Rest.{waits};
 ghost use Rattle.pb_replay.specs.Engine.Fields.{shapes_of, entries_of, IsSound};
 
@@ -21,22 +21,52 @@ pub struct Run {
     pub assignment: Assignment,
     pub work: Vec<usize>,
     pub next: usize,
+    // The forms that the propagation has changed.
+    pub trail: Vec<usize>,
     pub visits: u64,
 }
 
-/// Takes an entry from its form's open sum, and puts the form on the work list.
-fn lower(run: &mut Run, entry: Occurrence) -> Result<(), AllocError>
+// Puts a form on the trail where its open sum is still the whole one.
+fn note(trail: &mut Vec<usize>, form: usize, opened: u128, total: u128) -> Result<(), AllocError>
+    ensures { OnOk result (Grown (opened ≡ total → ⊥) form trail.old.items trail.new.items) }
+{
+    if opened < total {
+        return Ok(());
+    }
+    trail.push(form)?;
+    Ok(())
+}
+
+// Puts a form on the work list where its open sum is below its bound.
+fn queue(work: &mut Vec<usize>, form: usize, left: u128, bound: u128) -> Result<(), AllocError>
+    ensures { OnOk result (Grown (bound ≤ left) form work.old.items work.new.items) }
+{
+    if left >= bound {
+        return Ok(());
+    }
+    work.push(form)?;
+    Ok(())
+}
+
+/// Takes an entry from its form's open sum, and puts the form on the work list where it then may put a literal or is falsified.
+fn lower(store: &Store, run: &mut Run, entry: Occurrence) -> Result<(), AllocError>
+    requires form { entry.form < length store.now.kept.items }
     requires inside { entry.form < length run.old.opens.items }
     requires fits { entry.coefficient ≤ slice_index run.old.opens.items entry.form }
     ensures opens { OnOk result (run.new.opens.items ≡ slice_set run.old.opens.items entry.form (slice_index run.old.opens.items entry.form - entry.coefficient)) }
-    ensures work { OnOk result (run.new.work.items ≡ run.old.work.items ++ entry.form ∷ []) }
+    ensures work { OnOk result (Grown ((d : Shape) (c : ℕ) → IsCalm (slice_index_or (shapes_of store.now.kept.items) entry.form d) (slice_index run.old.opens.items entry.form - entry.coefficient) c) entry.form run.old.work.items run.new.work.items) }
+    ensures trail { OnOk result (Grown ((d : Shape) → slice_index run.old.opens.items entry.form ≡ size (slice_index_or (shapes_of store.now.kept.items) entry.form d).terms → ⊥) entry.form run.old.trail.items run.new.trail.items) }
     ensures candidates { run.new.candidates ≡ run.old.candidates }
     ensures assignment { run.new.assignment ≡ run.old.assignment }
     ensures next { run.new.next ≡ run.old.next }
     ensures visits { run.new.visits ≡ run.old.visits }
 {
-    run.work.push(entry.form)?;
-    run.opens[entry.form] -= entry.coefficient;
+    let kept = &store.kept[entry.form];
+    let opened = run.opens[entry.form];
+    note(&mut run.trail, entry.form, opened, kept.total)?;
+    let left = opened - entry.coefficient;
+    queue(&mut run.work, entry.form, left, kept.bound)?;
+    run.opens[entry.form] = left;
     Ok(())
 }
 
@@ -70,7 +100,7 @@ pub fn put(store: &Store, run: &mut Run, literal: NumberedLiteral) -> Result<(),
     ensures single { AreSingle run.old.assignment.list.items → AreSingle run.new.assignment.list.items }
     ensures list { OnOk result (run.new.assignment.list.items ≡ run.old.assignment.list.items ++ literal ∷ []) }
     ensures counted { OnOk result (IsCounted (shapes_of store.now.kept.items) run.new.opens.items run.new.assignment.list.items []) }
-    ensures tidy { OnOk result ((aside : List ℕ) (busy : ℕ) → IsTidy aside (shapes_of store.now.kept.items) run.old.opens.items run.old.candidates.items run.old.assignment.list.items run.old.work.items run.old.next busy → IsTidy aside (shapes_of store.now.kept.items) run.new.opens.items run.new.candidates.items run.new.assignment.list.items run.new.work.items run.new.next busy) }
+    ensures tidy { OnOk result ((aside : List ℕ) (busy : ℕ) → IsTidy aside (shapes_of store.now.kept.items) run.old.opens.items run.old.candidates.items run.old.assignment.list.items run.old.work.items run.old.trail.items run.old.next busy → IsTidy aside (shapes_of store.now.kept.items) run.new.opens.items run.new.candidates.items run.new.assignment.list.items run.new.work.items run.new.trail.items run.new.next busy) }
     ensures paid { OnOk result (IsPaid (entries_of store.now.occurrences.items) run.old.assignment.list.items run.new.assignment.list.items run.old.candidates.items run.new.candidates.items run.old.work.items run.new.work.items run.old.visits run.new.visits 0) }
     ensures kept_work { OnOk result ((s : ℕ) → IsAbsent run.new.work.items 0 s → IsAbsent run.old.work.items 0 s) }
     ensures longer_work { OnOk result (length run.old.work.items ≤ length run.new.work.items) }
@@ -79,7 +109,7 @@ pub fn put(store: &Store, run: &mut Run, literal: NumberedLiteral) -> Result<(),
     let entries = &store.occurrences[place_of(literal.negation())];
     'entries: for j in 0..entries.len() {
         let entry = visit(entries, j, &mut run.visits);
-        lower(run, entry)?;
+        lower(store, run, entry)?;
     }
     Ok(())
 }
@@ -100,7 +130,7 @@ pub fn try_put(store: &Store, run: &mut Run, literal: NumberedLiteral) -> Result
     ensures single { AreSingle run.old.assignment.list.items → AreSingle run.new.assignment.list.items }
     ensures adopted { OnOk result (Adopted literal run.old.assignment.list.items run.new.assignment.list.items) }
     ensures counted { OnOk result (IsCounted (shapes_of store.now.kept.items) run.new.opens.items run.new.assignment.list.items []) }
-    ensures tidy { OnOk result ((aside : List ℕ) (busy : ℕ) → IsTidy aside (shapes_of store.now.kept.items) run.old.opens.items run.old.candidates.items run.old.assignment.list.items run.old.work.items run.old.next busy → IsTidy aside (shapes_of store.now.kept.items) run.new.opens.items run.new.candidates.items run.new.assignment.list.items run.new.work.items run.new.next busy) }
+    ensures tidy { OnOk result ((aside : List ℕ) (busy : ℕ) → IsTidy aside (shapes_of store.now.kept.items) run.old.opens.items run.old.candidates.items run.old.assignment.list.items run.old.work.items run.old.trail.items run.old.next busy → IsTidy aside (shapes_of store.now.kept.items) run.new.opens.items run.new.candidates.items run.new.assignment.list.items run.new.work.items run.new.trail.items run.new.next busy) }
     ensures paid { OnOk result (IsPaid (entries_of store.now.occurrences.items) run.old.assignment.list.items run.new.assignment.list.items run.old.candidates.items run.new.candidates.items run.old.work.items run.new.work.items run.old.visits run.new.visits 0) }
     ensures kept_work { OnOk result ((s : ℕ) → IsAbsent run.new.work.items 0 s → IsAbsent run.old.work.items 0 s) }
     ensures longer_work { OnOk result (length run.old.work.items ≤ length run.new.work.items) }
@@ -124,7 +154,7 @@ fn look(store: &Store, run: &mut Run, form: usize, waiting: &[usize]) -> Result<
     requires candidates { length run.old.candidates.items ≡ length store.now.kept.items }
     requires next { run.old.next ≤ length run.old.work.items }
     requires counted { IsCounted (shapes_of store.now.kept.items) run.old.opens.items run.old.assignment.list.items [] }
-    requires tidy { IsTidy (filter (waits store.now.kept.items) waiting.now) (shapes_of store.now.kept.items) run.old.opens.items run.old.candidates.items run.old.assignment.list.items run.old.work.items run.old.next form }
+    requires tidy { IsTidy (filter (waits store.now.kept.items) waiting.now) (shapes_of store.now.kept.items) run.old.opens.items run.old.candidates.items run.old.assignment.list.items run.old.work.items run.old.trail.items run.old.next form }
     requires there { IsAbsent run.old.work.items 0 form → ⊥ }
     ensures values { OnOk result (length run.new.assignment.values.items ≡ length run.old.assignment.values.items) }
     ensures opens { OnOk result (length run.new.opens.items ≡ length run.old.opens.items) }
@@ -136,9 +166,9 @@ fn look(store: &Store, run: &mut Run, form: usize, waiting: &[usize]) -> Result<
     ensures bounded { sum run.new.candidates.items ≤ sum_by (λ f. length f.terms) (shapes_of store.now.kept.items) }
     ensures covered { AreCovered (entries_of store.now.occurrences.items) run.old.assignment.list.items run.new.assignment.list.items run.old.candidates.items run.new.candidates.items run.old.visits run.new.visits 1 }
     ensures single { AreSingle run.old.assignment.list.items → AreSingle run.new.assignment.list.items }
-    ensures undone { OnOk result (IsUndone (shapes_of store.now.kept.items) run.new.opens.items run.new.candidates.items run.new.work.items 0) }
+    ensures undone { OnOk result (IsUndone (shapes_of store.now.kept.items) run.new.opens.items run.new.candidates.items run.new.trail.items 0) }
     ensures conflict { IfOk result (λ found. found ≡ true → Conflicts (shapes_of store.now.kept.items) run.new.assignment.list.items) }
-    ensures tidy { IfOk result (λ found. found ≡ false → IsTidy (filter (waits store.now.kept.items) waiting.now) (shapes_of store.now.kept.items) run.new.opens.items run.new.candidates.items run.new.assignment.list.items run.new.work.items run.new.next (length store.now.kept.items)) }
+    ensures tidy { IfOk result (λ found. found ≡ false → IsTidy (filter (waits store.now.kept.items) waiting.now) (shapes_of store.now.kept.items) run.new.opens.items run.new.candidates.items run.new.assignment.list.items run.new.work.items run.new.trail.items run.new.next (length store.now.kept.items)) }
     ensures paid { OnOk result (IsPaid (entries_of store.now.occurrences.items) run.old.assignment.list.items run.new.assignment.list.items run.old.candidates.items run.new.candidates.items run.old.work.items run.new.work.items run.old.visits run.new.visits 1) }
     ensures found { OnOk result (AreFound (length run.old.assignment.list.items) (length run.new.assignment.list.items) run.old.visits run.new.visits) }
 {
@@ -184,13 +214,13 @@ pub fn propagate(store: &Store, run: &mut Run, waiting: &[usize]) -> Result<bool
     requires waiting { All (λ s. s < length store.now.kept.items) waiting.now }
     requires single { AreSingle run.old.assignment.list.items }
     requires counted { IsCounted (shapes_of store.now.kept.items) run.old.opens.items run.old.assignment.list.items [] }
-    requires tidy { IsTidy (filter (waits store.now.kept.items) waiting.now) (shapes_of store.now.kept.items) run.old.opens.items run.old.candidates.items run.old.assignment.list.items run.old.work.items run.old.next (length store.now.kept.items) }
+    requires tidy { IsTidy (filter (waits store.now.kept.items) waiting.now) (shapes_of store.now.kept.items) run.old.opens.items run.old.candidates.items run.old.assignment.list.items run.old.work.items run.old.trail.items run.old.next (length store.now.kept.items) }
     ensures values { OnOk result (length run.new.assignment.values.items ≡ length run.old.assignment.values.items) }
     ensures opens { OnOk result (length run.new.opens.items ≡ length store.now.kept.items) }
     ensures candidates { OnOk result (length run.new.candidates.items ≡ length store.now.kept.items) }
     ensures derived { OnOk result (Derives (shapes_of store.now.kept.items) run.old.assignment.list.items run.new.assignment.list.items) }
     ensures bounded { sum run.new.candidates.items ≤ sum_by (λ f. length f.terms) (shapes_of store.now.kept.items) }
-    ensures undone { OnOk result (IsUndone (shapes_of store.now.kept.items) run.new.opens.items run.new.candidates.items run.new.work.items 0) }
+    ensures undone { OnOk result (IsUndone (shapes_of store.now.kept.items) run.new.opens.items run.new.candidates.items run.new.trail.items 0) }
     ensures conflict { IfOk result (λ found. found ≡ true → Conflicts (shapes_of store.now.kept.items) run.new.assignment.list.items) }
     ensures settled { IfOk result (λ found. found ≡ false → (f : Shape) → Contains (shapes_of store.now.kept.items) f → IsSettled f run.new.assignment.list.items) }
     ensures upper { run.new.visits + sum run.old.candidates.items ≤ run.old.visits + ((length run.old.work.items + length (filter (waits store.now.kept.items) waiting.now)) - run.old.next) + 2 * sum_by length (entries_of store.now.occurrences.items) + sum run.new.candidates.items }
@@ -205,6 +235,7 @@ pub fn propagate(store: &Store, run: &mut Run, waiting: &[usize]) -> Result<bool
                 return Ok(true);
             }
         } else if taken < waiting.len() {
+            choose(store, waiting[taken], &mut run.trail)?;
             choose(store, waiting[taken], &mut run.work)?;
             taken += 1;
         } else {
@@ -213,20 +244,21 @@ pub fn propagate(store: &Store, run: &mut Run, waiting: &[usize]) -> Result<bool
     }
 }
 
-/// Makes the forms that were touched what they were before the propagation; no other form is looked at, and no memory is taken.
+/// Makes the forms that were changed what they were before the propagation; no other form is looked at, and no memory is taken.
 pub fn undo_forms(store: &Store, run: &mut Run)
     requires opens { length run.old.opens.items ≡ length store.now.kept.items }
     requires candidates { length run.old.candidates.items ≡ length store.now.kept.items }
-    requires undone { IsUndone (shapes_of store.now.kept.items) run.old.opens.items run.old.candidates.items run.old.work.items 0 }
+    requires undone { IsUndone (shapes_of store.now.kept.items) run.old.opens.items run.old.candidates.items run.old.trail.items 0 }
     ensures opens { length run.new.opens.items ≡ length store.now.kept.items }
     ensures candidates { length run.new.candidates.items ≡ length store.now.kept.items }
     ensures work { run.new.work ≡ run.old.work }
+    ensures trail { run.new.trail ≡ run.old.trail }
     ensures assignment { run.new.assignment ≡ run.old.assignment }
     ensures visits { run.new.visits ≡ run.old.visits }
-    ensures undone { IsUndone (shapes_of store.now.kept.items) run.new.opens.items run.new.candidates.items run.new.work.items (length run.new.work.items) }
+    ensures undone { IsUndone (shapes_of store.now.kept.items) run.new.opens.items run.new.candidates.items run.new.trail.items (length run.new.trail.items) }
 {
-    'forms: for i in 0..run.work.len() {
-        let form = run.work[i];
+    'forms: for i in 0..run.trail.len() {
+        let form = run.trail[i];
         let total = store.kept[form].total;
         run.opens[form] = total;
         run.candidates[form] = 0;

@@ -28,4 +28,4 @@ propagate-requires-clause-tidy c = c.in_ok-assume.ensures.tidy (filter (waits c.
 pub returns-then-branch-clause-undone : goal.returns-then-branch-clause-undone
 returns-then-branch-clause-undone c =
     let t = c.in_ok-assume.ensures.tidy (filter (waits c.args.store.now.kept.items) c.args.waiting.now) (length c.args.store.now.kept.items) c.requires.tidy in
-    record { clean = t.clean; named = t.named }
+    record { clean = t.clean; named = t.marked }

@@ -11,16 +11,19 @@ total_of-total-requires c =
     let value = ap (sum_by (λ (t : Term). t.coefficient)) c.as_slice.ensures.value in
     omega (arith, size, value, c.degree.ensures.normal.size_in)
 
-pub is_eager-eager-requires-clause-size : goal.is_eager-eager-requires-clause-size
-is_eager-eager-requires-clause-size c =
+pub bound_of-bound-requires-clause-size : goal.bound_of-bound-requires-clause-size
+bound_of-bound-requires-clause-size c =
     let size = kept-size c.in_ok-terms.terms.items c.args.form.now.terms c.in_ok-terms.ensures.same in
     let value = ap (sum_by (λ (t : Term). t.coefficient)) c.as_slice-2.ensures.value in
     omega (arith, size, value, c.degree.ensures.normal.size_in)
 
-pub is_eager-eager-requires-clause-small : goal.is_eager-eager-requires-clause-small
-is_eager-eager-requires-clause-small c =
+pub bound_of-bound-requires-clause-small : goal.bound_of-bound-requires-clause-small
+bound_of-bound-requires-clause-small c =
     let normal = c.degree.ensures.normal in
     omega (arith, degree-read c.unsigned_abs-degree.result c.degree.result c.args.form.now.degree c.unsigned_abs-degree.ensures.value c.degree.ensures.degree normal.degree_in, normal.degree_in)
+
+pub bound_of-bound-requires-clause-falling : goal.bound_of-bound-requires-clause-falling
+bound_of-bound-requires-clause-falling c = rw c.as_slice-2.ensures.value c.in_ok-terms.ensures.falling
 
 pub invariant_of-result : goal.invariant_of-result
 invariant_of-result c =
@@ -31,8 +34,12 @@ invariant_of-result c =
       sum = c.total_of-total.ensures ∙ ap (sum_by (λ (t : Term). t.coefficient)) c.as_slice.ensures.value;
       small = omega (arith, size, normal.size_in);
       low = omega (arith, degree-read c.unsigned_abs-degree.result c.degree.result c.args.form.now.degree c.unsigned_abs-degree.ensures.value c.degree.ensures.degree normal.degree_in, normal.degree_in);
-      aside = λ h. rw c.as_slice-2.ensures.value at c.is_eager-eager.ensures.calm h;
-      busy = λ h. let some = c.is_eager-eager.ensures.busy h in omega (arith, some, ap length c.as_slice-2.ensures.value);
+      idle = λ opened k h. rw c.as_slice-2.ensures.value at c.bound_of-bound.ensures.calm opened k h;
+      aside = λ h. rw c.as_slice-2.ensures.value at c.bound_of-bound.ensures.calm c.total_of-total.result 0 (c.is_below-eager.ensures.above h);
+      busy = λ h.
+          let low = c.is_below-eager.ensures.below h in
+          let some = c.bound_of-bound.ensures.some (omega (arith, low)) in
+          omega (arith, some, ap length c.as_slice-2.ensures.value);
     }
 
 pub returns : goal.returns

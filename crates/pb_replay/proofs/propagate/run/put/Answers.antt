@@ -18,7 +18,7 @@ entries-init c =
       assignment = refl;
       candidates = refl;
       next = refl;
-      putting = Putting-start (shapes_of store.kept.items) (get_or (entries_of store.occurrences.items) (place (negation c.args.literal)) []) run.opens.items run.candidates.items c.put.new.self.list.items run.work.items run.next run.visits
+      putting = Putting-start (shapes_of store.kept.items) (get_or (entries_of store.occurrences.items) (place (negation c.args.literal)) []) run.opens.items run.candidates.items c.put.new.self.list.items run.work.items run.trail.items run.next run.visits
           (Counted-put (shapes_of store.kept.items) run.opens.items run.assignment.list.items c.put.new.self.list.items c.args.literal _ c.in_ok-put.ensures.ok c.requires.absent (λ s d inside. c.requires.store.whole.linked s d (negation c.args.literal) inside) c.requires.counted)
           (c.requires.opens ∙ sym (length-map store.kept.items kept_shape));
     }
@@ -31,7 +31,7 @@ lower-requires-clause-fits c =
     let named : All (λ (x : Occurrence). x.form < length (shapes_of store.kept.items)) (get_or (entries_of store.occurrences.items) (place (negation c.args.literal)) []) =
     λ k d h. omega (arith, c.requires.store.named (place (negation c.args.literal)) k d h, length-map store.kept.items kept_shape) in
     let inside : c.entries.j < length c.deref.result.now = omega (arith, c.entries-test.true, c.len-j-end.ensures, c.deref.ensures.len) in
-    Putting-fits_at (shapes_of store.kept.items) (get_or (entries_of store.occurrences.items) (place (negation c.args.literal)) []) c.deref.result.now run.opens.items run.candidates.items c.put.new.self.list.items run.work.items run.next run.visits c.entries.run.opens.items c.entries.run.work.items c.entries.run.visits c.entries.j c.visit-entry.result same c.visit-entry.ensures.item inside named c.entries.invariant.putting
+    Putting-fits_at (shapes_of store.kept.items) (get_or (entries_of store.occurrences.items) (place (negation c.args.literal)) []) c.deref.result.now run.opens.items run.candidates.items c.put.new.self.list.items run.work.items run.trail.items run.next run.visits c.entries.run.opens.items c.entries.run.work.items c.entries.run.trail.items c.entries.run.visits c.entries.j c.visit-entry.result same c.visit-entry.ensures.item inside named c.entries.invariant.putting
 
 pub entries-preserved : goal.entries-preserved
 entries-preserved c =
@@ -46,13 +46,13 @@ entries-preserved c =
           let named : All (λ (x : Occurrence). x.form < length (shapes_of store.kept.items)) (get_or (entries_of store.occurrences.items) (place (negation c.args.literal)) []) =
           λ k d h. omega (arith, c.requires.store.named (place (negation c.args.literal)) k d h, length-map store.kept.items kept_shape) in
           let inside : c.entries.j < length c.deref.result.now = omega (arith, c.entries-test.true, c.len-j-end.ensures, c.deref.ensures.len) in
-          Putting-next_at (shapes_of store.kept.items) (get_or (entries_of store.occurrences.items) (place (negation c.args.literal)) []) c.deref.result.now run.opens.items run.candidates.items c.put.new.self.list.items run.work.items run.next run.visits c.entries.run.opens.items c.entries.run.work.items c.entries.run.visits c.entries.j c.lower.new.run.opens.items c.lower.new.run.work.items c.lower.new.run.visits c.visit-entry.result same c.visit-entry.ensures.item inside named c.requires.next c.in_ok-lower.ensures.opens c.in_ok-lower.ensures.work (c.in_ok-lower.ensures.visits ∙ c.visit-entry.ensures.count) (omega (arith, c.in_ok-lower.ensures.visits, c.visit-entry.ensures.rising)) c.entries.invariant.putting;
+          Putting-next_at (shapes_of store.kept.items) (get_or (entries_of store.occurrences.items) (place (negation c.args.literal)) []) c.deref.result.now run.opens.items run.candidates.items c.put.new.self.list.items run.work.items run.trail.items run.next run.visits c.entries.run.opens.items c.entries.run.work.items c.entries.run.trail.items c.entries.run.visits c.entries.j c.lower.new.run.opens.items c.lower.new.run.work.items c.lower.new.run.trail.items c.lower.new.run.visits c.visit-entry.result same c.visit-entry.ensures.item inside named c.requires.next c.in_ok-lower.ensures.opens c.in_ok-lower.ensures.work c.in_ok-lower.ensures.trail (c.in_ok-lower.ensures.visits ∙ c.visit-entry.ensures.count) (omega (arith, c.in_ok-lower.ensures.visits, c.visit-entry.ensures.rising)) c.entries.invariant.putting;
     }
 
 pub returns-clause-tidy : goal.returns-clause-tidy
 returns-clause-tidy c = λ aside busy t.
     let run = c.args.run.now in
-    let after = c.entries.invariant.putting.tidy aside busy (Tidy-put aside (shapes_of c.args.store.now.kept.items) run.opens.items run.candidates.items run.assignment.list.items c.put.new.self.list.items run.work.items run.next busy c.args.literal c.in_ok-put.ensures.ok t) in
+    let after = c.entries.invariant.putting.tidy aside busy (Tidy-put aside (shapes_of c.args.store.now.kept.items) run.opens.items run.candidates.items run.assignment.list.items c.put.new.self.list.items run.work.items run.trail.items run.next busy c.args.literal c.in_ok-put.ensures.ok t) in
     rw (c.entries.invariant.candidates, c.entries.invariant.assignment, c.entries.invariant.next) after
 
 pub place_of-requires : goal.place_of-requires

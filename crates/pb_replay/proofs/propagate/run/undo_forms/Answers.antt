@@ -7,15 +7,16 @@ forms-preserved c =
     let keep = c.args.store.now.kept.items in
     let run = c.forms.run in
     let start = c.args.run.now in
-    let same : run.work.items ≡ start.work.items = ap (λ (v : Vec ℕ Global). v.items) c.forms.invariant.work in
-    let inside : c.forms.i < length start.work.items = omega (arith, c.forms-test.true, c.len-i-end.ensures, start.work.ok.0) in
-    let is : c.index-form.result.now ≡ get_or start.work.items c.forms.i c.index-form.result.now = rw (← same) c.index-form.ensures in
-    let named = undo-form keep run.opens.items run.candidates.items start.work.items c.forms.i c.index-form.result.now inside is c.forms.invariant.undone in
+    let same : run.trail.items ≡ start.trail.items = ap (λ (v : Vec ℕ Global). v.items) c.forms.invariant.trail in
+    let inside : c.forms.i < length start.trail.items = omega (arith, c.forms-test.true, c.len-i-end.ensures, start.trail.ok.0) in
+    let is : c.index-form.result.now ≡ get_or start.trail.items c.forms.i c.index-form.result.now = rw (← same) c.index-form.ensures in
+    let named = undo-form keep run.opens.items run.candidates.items start.trail.items c.forms.i c.index-form.result.now inside is c.forms.invariant.undone in
     record {
       opens = length-set run.opens.items c.index-form.result.now c.index.result.now.total ∙ c.forms.invariant.opens;
       candidates = length-set run.candidates.items c.index-form.result.now 0 ∙ c.forms.invariant.candidates;
       work = c.forms.invariant.work;
+      trail = c.forms.invariant.trail;
       visits = c.forms.invariant.visits;
       assignment = c.forms.invariant.assignment;
-      undone = undo-next keep run.opens.items run.candidates.items (set run.opens.items c.index-form.result.now c.index.result.now.total) (set run.candidates.items c.index-form.result.now 0) start.work.items c.forms.i c.index-form.result.now c.index.result.now.total c.index.result.now inside is named c.index.ensures refl c.forms.invariant.opens c.forms.invariant.candidates refl refl c.forms.invariant.undone;
+      undone = undo-next keep run.opens.items run.candidates.items (set run.opens.items c.index-form.result.now c.index.result.now.total) (set run.candidates.items c.index-form.result.now 0) start.trail.items c.forms.i c.index-form.result.now c.index.result.now.total c.index.result.now inside is named c.index.ensures refl c.forms.invariant.opens c.forms.invariant.candidates refl refl c.forms.invariant.undone;
     }

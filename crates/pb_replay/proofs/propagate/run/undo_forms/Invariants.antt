@@ -8,7 +8,8 @@ invariant-forms l = record {
   opens : length l.run.opens.items ≡ length l.store.kept.items;
   candidates : length l.run.candidates.items ≡ length l.store.kept.items;
   work : l.run.work ≡ l.initial.run.work;
+  trail : l.run.trail ≡ l.initial.run.trail;
   visits : l.run.visits ≡ l.initial.run.visits;
   assignment : l.run.assignment ≡ l.initial.run.assignment;
-  undone : IsUndone (shapes_of l.store.kept.items) l.run.opens.items l.run.candidates.items l.initial.run.work.items l.i;
+  undone : IsUndone (shapes_of l.store.kept.items) l.run.opens.items l.run.candidates.items l.initial.run.trail.items l.i;
 }

@@ -19,7 +19,7 @@ settle-requires-clause-tidy c =
     let keep = e.store.kept.items in
     let eager = rw (← c.prune.ensures) at (eager-filter keep e.eager.items r.eager) in
     let tidy = rest-tidy-all keep c.prune.new.eager.items e.run.opens.items e.run.candidates.items r.rest eager in
-    rw (c.as_slice.ensures.value, r.list, r.work, r.next) tidy
+    rw (c.as_slice.ensures.value, r.list, r.work, r.trail, r.next) tidy
 
 pub settle-requires-clause-waiting : goal.settle-requires-clause-waiting
 settle-requires-clause-waiting c =
@@ -41,6 +41,7 @@ invariant_of-self-then-found c = λ ready.
       values = c.rest.ensures.values ∙ c.in_ok-found.ensures.values ∙ r.values;
       list = c.rest.ensures.list;
       work = c.rest.ensures.work;
+      trail = c.rest.ensures.trail;
       next = c.rest.ensures.next;
       eager = rw (← c.prune.ensures) at (eager-filter keep e.eager.items r.eager);
     }
@@ -64,6 +65,7 @@ invariant_of-self-2 c = λ ready.
       values = c.rest.ensures.values ∙ c.in_ok-found.ensures.values ∙ r.values;
       list = c.rest.ensures.list;
       work = c.rest.ensures.work;
+      trail = c.rest.ensures.trail;
       next = c.rest.ensures.next;
       eager = rw (← c.prune.ensures) at (eager-filter keep e.eager.items r.eager);
     }

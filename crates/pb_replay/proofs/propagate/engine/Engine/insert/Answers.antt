@@ -30,6 +30,7 @@ invariant_of-self-2 c = λ ready.
       values = ap (λ (a : Assignment). length a.values.items) same.0 ∙ r.values ∙ sym c.in_ok-enter.ensures.variables;
       list = ap (λ (a : Assignment). a.list.items) same.0 ∙ r.list;
       work = ap (λ (v : Vec ℕ Global). v.items) same.1 ∙ r.work;
+      trail = ap (λ (v : Vec ℕ Global). v.items) c.enter.ensures.trail ∙ r.trail;
       next = same.2 ∙ r.next;
       eager = eager-entered keep new.store.kept.items h.kept e.eager.items c.choose.new.work.items c.len-number.result h.keeps number_is c.in_ok-choose.ensures r.eager;
     }

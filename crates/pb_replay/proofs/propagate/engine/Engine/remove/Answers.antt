@@ -30,6 +30,7 @@ invariant_of-self c = λ ready.
       values = ap (λ (a : Assignment). length a.values.items) same.1 ∙ r.values ∙ sym c.vacate.ensures.variables;
       list = ap (λ (a : Assignment). a.list.items) same.1 ∙ r.list;
       work = ap (λ (v : Vec ℕ Global). v.items) same.2 ∙ r.work;
+      trail = ap (λ (v : Vec ℕ Global). v.items) c.vacate.ensures.trail ∙ r.trail;
       next = same.3 ∙ r.next;
       eager = eager-vacated keep new.store.kept.items c.args.number k.0 e.eager.items k.1 k.2 r.eager;
     }

@@ -21,7 +21,7 @@ use Rattle.pb_normal.specs.Rules.{opposite as opposite_entry}
 use Rattle.pb_replay.specs.Engine.Lists.{Shape}
 use Rattle.pb_replay.proofs.Engine.Bounds.{slots-terms, eager-count, found-least, most-looks}
 use Rattle.pb_replay.proofs.Engine.Completions.{closed-none}
-use Rattle.pb_replay.proofs.Engine.Rests.{first-count, slots-length, slots-entered, rest-entered, rest-tidy-first, rest-undone, rest-left, eager-filter, eager-entered, with-kept, opposite-inside}
+use Rattle.pb_replay.proofs.Engine.Rests.{first-count, slots-length, slots-entered, rest-entered, rest-tidy-first, rest-undone, rest-lengths, rest-left, eager-filter, eager-entered, with-kept, opposite-inside}
 use Rattle.pb_replay.proofs.propagate.engine.Engine.rup.Goals as goal
 
 pub enter-requires-clause-inside : goal.enter-requires-clause-inside
@@ -40,6 +40,28 @@ choose-requires c =
     let keep = e.store.kept.items in
     let h = c.in_ok-enter.ensures.entered in
     omega (arith, c.len-number.ensures, e.forms.ok.0, slots-length e.forms.items (shapes_of keep) r.slots, length-map keep kept_shape, ap length h.keeps, length-append keep (h.kept ∷ []))
+
+pub choose-requires-2 : goal.choose-requires-2
+choose-requires-2 c =
+    let e = c.self.inside in
+    let r = c.self.invariant (ap (λ (v : Standing). v.spent) c.self.view_is ∙ c.requires.ready) in
+    let keep = e.store.kept.items in
+    let h = c.in_ok-enter.ensures.entered in
+    omega (arith, c.len-number.ensures, e.forms.ok.0, slots-length e.forms.items (shapes_of keep) r.slots, length-map keep kept_shape, ap length h.keeps, length-append keep (h.kept ∷ []))
+
+pub propagate-requires-clause-opens : goal.propagate-requires-clause-opens
+propagate-requires-clause-opens c =
+    let e = c.self.inside in
+    let r = c.self.invariant (ap (λ (v : Standing). v.spent) c.self.view_is ∙ c.requires.ready) in
+    let new = c.enter.new in
+    (rest-lengths new.store.kept.items new.run.opens.items new.run.candidates.items (rest-entered c.in-Ok.negation e.store.kept.items new.store.kept.items e.run.opens.items new.run.opens.items e.run.candidates.items new.run.candidates.items c.in_ok-enter.ensures.entered r.rest)).0
+
+pub propagate-requires-clause-candidates : goal.propagate-requires-clause-candidates
+propagate-requires-clause-candidates c =
+    let e = c.self.inside in
+    let r = c.self.invariant (ap (λ (v : Standing). v.spent) c.self.view_is ∙ c.requires.ready) in
+    let new = c.enter.new in
+    (rest-lengths new.store.kept.items new.run.opens.items new.run.candidates.items (rest-entered c.in-Ok.negation e.store.kept.items new.store.kept.items e.run.opens.items new.run.opens.items e.run.candidates.items new.run.candidates.items c.in_ok-enter.ensures.entered r.rest)).1
 
 pub propagate-requires-clause-single : goal.propagate-requires-clause-single
 propagate-requires-clause-single c =
@@ -65,9 +87,11 @@ propagate-requires-clause-tidy c =
     let number_is : c.len-number.result ≡ length keep = omega (arith, c.len-number.ensures, e.forms.ok.0, slots-length e.forms.items (shapes_of keep) r.slots, length-map keep kept_shape) in
     let inside : c.len-number.result < length new.store.kept.items = omega (arith, number_is, ap length h.keeps, length-append keep (h.kept ∷ [])) in
     let work_is = ap (λ (v : Vec ℕ Global). v.items) c.enter.ensures.rest.1 ∙ r.work in
-    let first = c.in_ok-choose.ensures ∙ ap (λ (xs : List ℕ). xs ++ filter (waits new.store.kept.items) (c.len-number.result ∷ [])) work_is in
+    let first = c.in_ok-choose-2.ensures ∙ ap (λ (xs : List ℕ). xs ++ filter (waits new.store.kept.items) (c.len-number.result ∷ [])) work_is in
     let waiting = eager-entered keep new.store.kept.items h.kept e.eager.items _ c.len-number.result h.keeps number_is refl r.eager in
-    let tidy = rest-tidy-first new.store.kept.items e.eager.items new.run.opens.items new.run.candidates.items c.choose.new.work.items c.len-number.result inside first rest waiting in
+    let trail_is = ap (λ (v : Vec ℕ Global). v.items) c.enter.ensures.trail ∙ r.trail in
+    let noted = c.in_ok-choose.ensures ∙ ap (λ (xs : List ℕ). xs ++ filter (waits new.store.kept.items) (c.len-number.result ∷ [])) trail_is in
+    let tidy = rest-tidy-first new.store.kept.items e.eager.items new.run.opens.items new.run.candidates.items c.choose-2.new.work.items c.choose.new.work.items c.len-number.result inside first noted rest waiting in
     rw (c.as_slice.ensures.value, ap (λ (a : Assignment). a.list.items) c.enter.ensures.rest.0, r.list, c.enter.ensures.rest.2, r.next) tidy
 
 pub invariant_of-self-then-found : goal.invariant_of-self-then-found
@@ -89,6 +113,7 @@ invariant_of-self-then-found c = λ ready.
       values = ap (λ (a : Assignment). length a.values.items) same.0 ∙ c.rest.ensures.values ∙ c.in_ok-found.ensures.values ∙ ap (λ (a : Assignment). length a.values.items) entered.0 ∙ r.values ∙ sym c.in_ok-enter.ensures.variables ∙ sym c.leave.ensures.variables;
       list = ap (λ (a : Assignment). a.list.items) same.0 ∙ c.rest.ensures.list;
       work = ap (λ (v : Vec ℕ Global). v.items) same.1 ∙ c.rest.ensures.work;
+      trail = ap (λ (v : Vec ℕ Global). v.items) c.leave.ensures.trail ∙ c.rest.ensures.trail;
       next = same.2 ∙ c.rest.ensures.next;
       eager = rw left.0 r.eager;
     }
@@ -112,6 +137,7 @@ invariant_of-self-2 c = λ ready.
       values = ap (λ (a : Assignment). length a.values.items) same.0 ∙ c.rest.ensures.values ∙ c.in_ok-found.ensures.values ∙ ap (λ (a : Assignment). length a.values.items) entered.0 ∙ r.values ∙ sym c.in_ok-enter.ensures.variables ∙ sym c.leave.ensures.variables;
       list = ap (λ (a : Assignment). a.list.items) same.0 ∙ c.rest.ensures.list;
       work = ap (λ (v : Vec ℕ Global). v.items) same.1 ∙ c.rest.ensures.work;
+      trail = ap (λ (v : Vec ℕ Global). v.items) c.leave.ensures.trail ∙ c.rest.ensures.trail;
       next = same.2 ∙ c.rest.ensures.next;
       eager = rw (← c.prune.ensures) at (eager-filter last.store.kept.items e.eager.items (rw left.0 r.eager));
     }
@@ -179,10 +205,10 @@ returns-then-found-clause-most c =
     let few = eager-count (forms ++ (Some g ∷ [])) new.store.kept.items _ slots eager in
     let parts = first-count (waits new.store.kept.items) e.eager.items number in
     let work_is : length new.run.work.items ≡ 0 = ap (λ (v : Vec ℕ Global). length v.items) c.enter.ensures.rest.1 ∙ ap length r.work in
-    let work = ap length c.in_ok-choose.ensures ∙ length-append new.run.work.items (filter (waits new.store.kept.items) (number ∷ [])) in
+    let work = ap length c.in_ok-choose-2.ensures ∙ length-append new.run.work.items (filter (waits new.store.kept.items) (number ∷ [])) in
     let waiting = ap (λ (xs : List ℕ). length (filter (waits new.store.kept.items) xs)) c.as_slice.ensures.value in
     let same : forms ≡ c.args.self.now.forms = ap (λ (v : Standing). v.forms) c.self.view_is in
-    let looks = most-looks c.propagate.new.run.visits (sum new.run.candidates.items) new.run.visits (length c.choose.new.work.items + length (filter (waits new.store.kept.items) c.as_slice.result.now)) new.run.next (sum_by length (entries_of new.store.occurrences.items)) (sum c.propagate.new.run.candidates.items) (sum_by (λ (f : Shape). length f.terms) shapes) (sum_by one_in forms + 1)
+    let looks = most-looks c.propagate.new.run.visits (sum new.run.candidates.items) new.run.visits (length c.choose-2.new.work.items + length (filter (waits new.store.kept.items) c.as_slice.result.now)) new.run.next (sum_by length (entries_of new.store.occurrences.items)) (sum c.propagate.new.run.candidates.items) (sum_by (λ (f : Shape). length f.terms) shapes) (sum_by one_in forms + 1)
     c.propagate.ensures.upper c.enter.ensures.rest.3 c.propagate.ensures.bounded c.in_ok-enter.ensures.sound.whole.totals (omega (arith, few, parts, work_is, work, waiting, one)) in
     rw (← same) (omega (arith, looks, terms, more, goal_terms, c.leave.ensures.rest.3, c.rest.ensures.visits))
 
@@ -207,10 +233,10 @@ returns-clause-most c =
     let few = eager-count (forms ++ (Some g ∷ [])) new.store.kept.items _ slots eager in
     let parts = first-count (waits new.store.kept.items) e.eager.items number in
     let work_is : length new.run.work.items ≡ 0 = ap (λ (v : Vec ℕ Global). length v.items) c.enter.ensures.rest.1 ∙ ap length r.work in
-    let work = ap length c.in_ok-choose.ensures ∙ length-append new.run.work.items (filter (waits new.store.kept.items) (number ∷ [])) in
+    let work = ap length c.in_ok-choose-2.ensures ∙ length-append new.run.work.items (filter (waits new.store.kept.items) (number ∷ [])) in
     let waiting = ap (λ (xs : List ℕ). length (filter (waits new.store.kept.items) xs)) c.as_slice.ensures.value in
     let same : forms ≡ c.args.self.now.forms = ap (λ (v : Standing). v.forms) c.self.view_is in
-    let looks = most-looks c.propagate.new.run.visits (sum new.run.candidates.items) new.run.visits (length c.choose.new.work.items + length (filter (waits new.store.kept.items) c.as_slice.result.now)) new.run.next (sum_by length (entries_of new.store.occurrences.items)) (sum c.propagate.new.run.candidates.items) (sum_by (λ (f : Shape). length f.terms) shapes) (sum_by one_in forms + 1)
+    let looks = most-looks c.propagate.new.run.visits (sum new.run.candidates.items) new.run.visits (length c.choose-2.new.work.items + length (filter (waits new.store.kept.items) c.as_slice.result.now)) new.run.next (sum_by length (entries_of new.store.occurrences.items)) (sum c.propagate.new.run.candidates.items) (sum_by (λ (f : Shape). length f.terms) shapes) (sum_by one_in forms + 1)
     c.propagate.ensures.upper c.enter.ensures.rest.3 c.propagate.ensures.bounded c.in_ok-enter.ensures.sound.whole.totals (omega (arith, few, parts, work_is, work, waiting, one)) in
     rw (← same) (omega (arith, looks, terms, more, goal_terms, c.leave.ensures.rest.3, c.rest.ensures.visits))
 
@@ -235,10 +261,10 @@ returns-in_err-found-clause-most c =
     let few = eager-count (forms ++ (Some g ∷ [])) new.store.kept.items _ slots eager in
     let parts = first-count (waits new.store.kept.items) e.eager.items number in
     let work_is : length new.run.work.items ≡ 0 = ap (λ (v : Vec ℕ Global). length v.items) c.enter.ensures.rest.1 ∙ ap length r.work in
-    let work = ap length c.in_ok-choose.ensures ∙ length-append new.run.work.items (filter (waits new.store.kept.items) (number ∷ [])) in
+    let work = ap length c.in_ok-choose-2.ensures ∙ length-append new.run.work.items (filter (waits new.store.kept.items) (number ∷ [])) in
     let waiting = ap (λ (xs : List ℕ). length (filter (waits new.store.kept.items) xs)) c.as_slice.ensures.value in
     let same : forms ≡ c.args.self.now.forms = ap (λ (v : Standing). v.forms) c.self.view_is in
-    let looks = most-looks c.propagate.new.run.visits (sum new.run.candidates.items) new.run.visits (length c.choose.new.work.items + length (filter (waits new.store.kept.items) c.as_slice.result.now)) new.run.next (sum_by length (entries_of new.store.occurrences.items)) (sum c.propagate.new.run.candidates.items) (sum_by (λ (f : Shape). length f.terms) shapes) (sum_by one_in forms + 1)
+    let looks = most-looks c.propagate.new.run.visits (sum new.run.candidates.items) new.run.visits (length c.choose-2.new.work.items + length (filter (waits new.store.kept.items) c.as_slice.result.now)) new.run.next (sum_by length (entries_of new.store.occurrences.items)) (sum c.propagate.new.run.candidates.items) (sum_by (λ (f : Shape). length f.terms) shapes) (sum_by one_in forms + 1)
     c.propagate.ensures.upper c.enter.ensures.rest.3 c.propagate.ensures.bounded c.in_ok-enter.ensures.sound.whole.totals (omega (arith, few, parts, work_is, work, waiting, one)) in
     rw (← same) (omega (arith, looks, terms, more, goal_terms))
 

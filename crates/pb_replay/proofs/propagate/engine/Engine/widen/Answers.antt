@@ -19,6 +19,7 @@ invariant_of-self-2 c = λ ready.
       values = omega (arith, c.in_ok-widen.ensures.values, r.values, count);
       list = c.widen.ensures.list ∙ r.list;
       work = r.work;
+      trail = r.trail;
       next = r.next;
       eager = r.eager;
     }
