@@ -1,0 +1,54 @@
+"""Runs `pb check` on each kind of bench/propagation.py and prints what it takes; bench/check calls it."""
+import os
+import re
+import shutil
+import subprocess
+import sys
+import time
+
+KINDS = ["chain", "units", "common", "long", "dead"]
+GENERATOR = os.path.join(os.path.dirname(os.path.abspath(__file__)), "propagation.py")
+
+
+def files_of(kind, count, folder):
+    """Writes an instance and its proof; their paths."""
+    subprocess.run([sys.executable, GENERATOR, kind, str(count), folder], check=True)
+    return [os.path.join(folder, f"{kind}.{end}") for end in ["opb", "pbp"]]
+
+
+def run(words):
+    """The seconds of a run and the most memory that it held, in megabytes."""
+    begin = time.perf_counter()
+    process = subprocess.Popen(words, stdout=subprocess.DEVNULL)
+    _, status, usage = os.wait4(process.pid, 0)
+    if status != 0:
+        sys.exit(f"{' '.join(words)} failed")
+    return time.perf_counter() - begin, usage.ru_maxrss / 1000
+
+
+def instructions_of(words, folder):
+    """The instructions of a run, or None where there is no valgrind."""
+    if shutil.which("valgrind") is None:
+        return None
+    out = os.path.join(folder, "callgrind.out")
+    tool = ["valgrind", "--tool=callgrind", f"--callgrind-out-file={out}"]
+    told = subprocess.run(tool + words, capture_output=True, text=True, check=True).stderr
+    return int(re.search(r"Collected : (\d+)", told)[1])
+
+
+def main():
+    program, folder, count, times = sys.argv[1], sys.argv[2], int(sys.argv[3]), int(sys.argv[4])
+    for kind in KINDS:
+        for size in [count, 10 * count]:
+            words = [program, "check"] + files_of(kind, size, folder)
+            runs = [run(words) for _ in range(times)]
+            seconds, peak = min(seconds for seconds, _ in runs), max(peak for _, peak in runs)
+            print(f"{kind} {size}: {seconds:.2f} s, {seconds / size * 1e6:.2f} microseconds a step, {peak:.0f} MB", flush=True)
+        size = max(count // 10, 1)
+        instructions = instructions_of([program, "check"] + files_of(kind, size, folder), folder)
+        if instructions is not None:
+            print(f"{kind} {size}: {instructions / size:.0f} instructions a step", flush=True)
+
+
+if __name__ == "__main__":
+    main()
