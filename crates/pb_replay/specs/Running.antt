@@ -7,7 +7,7 @@ use Rattle.pb_normal.specs.Form.{Form}
 use Rattle.pb_normal.specs.Names.{with_names}
 use Rattle.pb_normal.specs.Written.{magnitude}
 use Rattle.pb_replay.specs.declared.fault.Fault.{Fault}
-use Rattle.pb_replay.specs.declared.fault.Fault.TheVariants.{Memory}
+use Rattle.pb_replay.specs.declared.fault.Fault.TheVariants.{Memory, NotTotal}
 use Rattle.pb_replay.specs.declared.state.phase.Phase.{Phase}
 use Rattle.pb_replay.specs.declared.state.phase.Phase.TheVariants.{Done}
 use Rattle.pb_replay.specs.declared.verdict.Verdict.{Verdict}
@@ -95,6 +95,11 @@ pub record IsReady (r : Running) : Type 0 where
   pub proper : IsProper r
   pub linked : IsLinked r
   pub sound : (logged : List Logged) × IsBest logged r.best × IsSound (problem_of r) (state_of r logged)
+
+-- what is true between statements: all of that until there is a fault, and of a fault that the name it tells is there
+pub record IsKept (r : Running) (fault : Option Fault) : Type 0 where
+  pub ready : fault ≡ None → IsReady r
+  pub told : (n : ℕ) → fault ≡ Some (NotTotal n) → n < length r.names
 
 -- other names have appeared, and nothing else
 pub record HasNamed (others : List (List ℕ)) (old new : Running) : Type 0 where

@@ -4,7 +4,7 @@ use Rattle.pb_sums.specs.declared.Literal.{Literal}
 use Rattle.pb_proof.specs.declared.PolWord.{PolWord}
 use Rattle.pb_proof.specs.declared.PolWord.TheVariants.{Axiom, Weaken}
 use Rattle.pb_proof.specs.declared.Conclusion.{Conclusion}
-use Rattle.pb_proof.specs.declared.Conclusion.TheVariants.{Sat, Bounds}
+use Rattle.pb_proof.specs.declared.Conclusion.TheVariants.{NoClaim, Unsat, Sat, Bounds}
 use Rattle.pb_proof.specs.declared.Statement.{Statement}
 use Rattle.pb_proof.specs.declared.Statement.TheVariants.{Header, F, Pol, Rup, Soli, Solx, Delete, Output, Conclude, End}
 use Rattle.pb_proof.specs.Postfix.{words}
@@ -60,6 +60,17 @@ comes (Delete ids) = Steps
 comes Output = Steps
 comes (Conclude c) = Concluding
 comes End = Ending
+
+-- whether memory may be wanted for the statement
+abbrev pub MayWant : Statement → Type 0
+MayWant Header = ⊥
+MayWant (Delete ids) = ⊥
+MayWant Output = ⊥
+MayWant (Conclude NoClaim) = ⊥
+MayWant (Conclude (Unsat id)) = ⊥
+MayWant (Conclude (Sat None)) = ⊥
+MayWant End = ⊥
+MayWant _ = Unit {0}
 
 abbrev pub IsCount : Option ℕ → ℕ → Type 0
 IsCount None n = Unit {0}

@@ -9,6 +9,7 @@ ghost use Rattle.pb_replay.specs.Loading.{Opened};
 ghost use Rattle.pb_replay.specs.Replay.{first_state};
 ghost use Rattle.pb_replay.specs.Meaning.{IsFront, Means, MeansWritten};
 ghost use Rattle.pb_replay.specs.Running.{StandsFor, StepsAs, verdict_in, constraint_in};
+ghost use Rattle.pb_replay.specs.Statements.{MayWant};
 ghost use Rattle.pb_replay.specs.Visits.{LooksOf};
 ghost use Rattle.pb_replay.specs.declared.fault.Fault.{Fault as AFault};
 
@@ -33,8 +34,7 @@ pub struct Replay {
 }
 
 impl Model for Replay {
-    ghost use Rattle.std.specs.Prelude.{◌≡◌, None};
-    ghost use Rattle.pb_replay.specs.Running.{Replaying, IsReady, problem_of};
+    ghost use Rattle.pb_replay.specs.Running.{Replaying, IsKept, problem_of};
 
     ghost Value = { Replaying };
 
@@ -50,7 +50,7 @@ impl Model for Replay {
       visits = r.running.visits;
     } };
 
-    ghost invariant = { λ r. r.fault ≡ None → IsReady r.running };
+    ghost invariant = { λ r. IsKept r.running r.fault };
 }
 
 impl Replay {
@@ -80,7 +80,8 @@ impl Replay {
         ensures limits { self.new.limits ≡ self.old.limits }
         ensures problem { self.new.problem ≡ self.old.problem }
         ensures names { IsFront self.old.names self.new.names }
-        ensures unvalued { self.old.fault ≡ None → (n : ℕ) → result ≡ Err (Fault.NotTotal n) → n < length self.old.names }
+        ensures memory { result ≡ Err Fault.Memory → (self.old.fault ≡ Some Fault.Memory) ⊎ MayWant statement.now }
+        ensures unvalued { (n : ℕ) → result ≡ Err (Fault.NotTotal n) → n < length self.old.names }
         ensures looks { self.old.fault ≡ None → LooksOf self.old.live self.old.names statement.now result self.old.visits self.new.visits }
     {
         if let Some(fault) = self.fault {

@@ -1,10 +1,10 @@
 //! What the statements do.
 
-ghost use Rattle.std.specs.Prelude.{◌≡◌, ◌↔◌, IsTrue, OnOk};
+ghost use Rattle.std.specs.Prelude.{◌≡◌, ◌↔◌, Err, IsTrue, OnOk};
 ghost use Rattle.pb_text.specs.Limits.{largest, top_of};
 ghost use Rattle.pb_proof.specs.Values.{IsStatementValue};
 ghost use Rattle.pb_replay.specs.Running.{Keeps, Goes, Comes, IsLinked, IsReady};
-ghost use Rattle.pb_replay.specs.Statements.{IsCount, comes};
+ghost use Rattle.pb_replay.specs.Statements.{IsCount, MayWant, comes};
 ghost use Rattle.pb_replay.specs.Visits.{LooksOf, counted_from};
 
 mod bounds;
@@ -29,6 +29,7 @@ fn begin(running: &mut Running) -> Result<(), Fault>
     ensures linked { OnOk result (IsLinked running.new) }
     ensures kept { Keeps running.old running.new }
     ensures visits { running.new.visits ≡ running.old.visits }
+    ensures memory { result ≡ Err Fault.Memory → ⊥ }
 {
     running.next = Phase::Loading;
     Ok(())
@@ -75,6 +76,7 @@ fn output(running: &mut Running) -> Result<(), Fault>
     ensures linked { OnOk result (IsLinked running.new) }
     ensures kept { Keeps running.old running.new }
     ensures visits { running.new.visits ≡ running.old.visits }
+    ensures memory { result ≡ Err Fault.Memory → ⊥ }
 {
     running.next = Phase::Concluding;
     Ok(())
@@ -87,6 +89,7 @@ fn end(running: &mut Running) -> Result<(), Fault>
     ensures linked { OnOk result (IsLinked running.new) }
     ensures kept { Keeps running.old running.new }
     ensures visits { running.new.visits ≡ running.old.visits }
+    ensures memory { result ≡ Err Fault.Memory → ⊥ }
 {
     running.next = Phase::Done;
     Ok(())
@@ -136,6 +139,7 @@ fn carry_out(running: &mut Running, statement: &Statement) -> Result<(), Fault>
     ensures linked { OnOk result (IsLinked running.new) }
     ensures kept { Keeps running.old running.new }
     ensures looks { LooksOf running.old.engine.forms running.old.names statement.now result running.old.visits running.new.visits }
+    ensures memory { result ≡ Err Fault.Memory → MayWant statement.now }
 {
     match statement {
         Statement::Header => begin(running),
@@ -159,6 +163,7 @@ pub(crate) fn take(running: &mut Running, statement: &Statement) -> Result<(), F
     ensures linked { OnOk result (IsLinked running.new) }
     ensures kept { Keeps running.old running.new }
     ensures looks { LooksOf running.old.engine.forms running.old.names statement.now result running.old.visits running.new.visits }
+    ensures memory { result ≡ Err Fault.Memory → MayWant statement.now }
 {
     running.visits = begin_count(statement, running.visits);
     if !is_due(running.next, statement) {

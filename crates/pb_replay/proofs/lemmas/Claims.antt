@@ -16,7 +16,7 @@ use Rattle.pb_replay.specs.declared.state.phase.Phase.TheVariants.{Ending}
 use Rattle.pb_replay.specs.Answer.{Answer}
 use Rattle.pb_replay.specs.Laws.{HasClaim, VerdictsAreThere}
 use Rattle.pb_replay.specs.Loading.{Problem}
-use Rattle.pb_replay.specs.Replay.{State, first_state}
+use Rattle.pb_replay.specs.Replay.{State}
 use Rattle.pb_replay.specs.Conclusions.{none_left, named, lower_bound, upper_bound, Concludes}
 use Rattle.pb_replay.specs.Statements.{Does, Accepts, comes, mentioned}
 use Rattle.pb_replay.proofs.lemmas.Accepting.{needed, followed, ok-same}

@@ -86,3 +86,16 @@ module _ (linear : Linear) (mid live : List (Option Form)) (names new : List (Li
       late : (let r : Result Unit Fault = Err NotImplied in r ≡ Err Order) ⊎ (let r : Result Unit Fault = Err NotImplied in r ≡ Err Overflow) → ⊥
       late (inl e) = let bad = err-same e in cc
       late (inr e) = let bad = err-same e in cc
+
+  -- memory ran out in the midst
+  pub looks-memory : (result : Result Unit Fault) → result ≡ Err Memory → Looks live (with_names names (names_of linear.terms)) linear result visits
+  looks-memory result memory = record {
+    few = few-of;
+    conflict = λ h goal k. ok-err (sym h ∙ memory);
+    completion = λ h goal k. absurd (other NotImplied h (inr (inr refl)));
+    unasked = unasked-of;
+    refused = λ bad. absurd (elim bad [ inl h ↦ other Order h (inl refl) | inr h ↦ other Overflow h (inr (inl refl)) ]);
+  }
+    where
+      other : (e : Fault) → result ≡ Err e → (e ≡ Order) ⊎ ((e ≡ Overflow) ⊎ (e ≡ NotImplied)) → ⊥
+      other e h = neither e (inl (err-same (sym h ∙ memory)))

@@ -25,7 +25,7 @@ use Rattle.pb_replay.proofs.lemmas.Unvalued.{unvalued-old}
 use Rattle.pb_replay.specs.Statements.{Outcome}
 use Rattle.pb_replay.proofs.lemmas.States.{same-state}
 use Rattle.pb_replay.specs.Meaning.{IsFront, IsSound, Means, MeansWritten}
-use Rattle.pb_replay.specs.Running.{Comes, Keeps, IsBest, IsFirst, IsInside, IsLinked, IsProper, IsReady, problem_of, state_of}
+use Rattle.pb_replay.specs.Running.{Comes, Keeps, IsBest, IsFirst, IsInside, IsKept, IsLinked, IsProper, IsReady, problem_of, state_of}
 use Rattle.pb_text.specs.declared.Limits.{Limits}
 use Rattle.pb_replay.proofs.lemmas.Concluded.{contains-none}
 use Rattle.pb_replay.proofs.lemmas.Loads.{problems-proper, loaded-inside, meanings-agree}
@@ -149,3 +149,25 @@ step-unvalued old new st d n ready (inr h) e =
     let s = ready.sound in
     unvalued-old (largest old.limits) (top_of old.limits) (problem_of old) (state_of old s.0) st n (s.2).distinct
     (subst (λ (f : Fault). Outcome (largest old.limits) (top_of old.limits) (problem_of old) (state_of old s.0) st (Err f)) (err-fault e) (h s.0 s.1))
+
+some-fault : {d e : Fault} → (let o : Option Fault = Some d in o) ≡ Some e → d ≡ e
+some-fault h = cc
+
+more-names : (old new : Running) → Keeps old new → length old.names ≤ length new.names
+more-names old new k = omega (arith, ap length (k.names).1, length-append old.names (k.names).0)
+
+-- what is true behind a statement
+pub kept-ok : (old new : Running) (st : Statement) (fault : Option Fault) → IsStatementValue (largest old.limits) (top_of old.limits) st → IsKept old fault → Comes old st (Ok tt) new → Keeps old new → IsLinked new → IsKept new fault
+kept-ok old new st fault value is comes k linked = record {
+  ready = λ none. ready_after old new st value (is.ready none) comes k linked;
+  told = λ n e. omega (arith, is.told n e, more-names old new k);
+}
+
+pub kept-err : (old new : Running) (st : Statement) (d : Fault) → IsReady old → Comes old st (Err d) new → Keeps old new → IsKept new (Some d)
+kept-err old new st d ready comes k = record {
+  ready = λ none. absurd (bad none);
+  told = λ n e. omega (arith, step-unvalued old new st d n ready comes (ap (λ (x : Fault). let r : Result Unit Fault = Err x in r) (some-fault e)), more-names old new k);
+}
+  where
+    bad : (let o : Option Fault = Some d in o) ≡ None → ⊥
+    bad h = cc

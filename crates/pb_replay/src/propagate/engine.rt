@@ -266,7 +266,7 @@ impl Engine {
         ensures not_implied { IfOk result (λ found. found ≡ false → IsRup (Live self.old.forms) goal.now → ⊥) }
 
         // How often the propagation looked, from above and from below.
-        ensures unasked { OnOk result (goal.now.degree ≡ 0 → self.new.visits ≡ 0) }
+        ensures unasked { goal.now.degree ≡ 0 → self.new.visits ≡ 0 }
         ensures most { self.new.visits ≤ 3 * (sum_by terms_in self.old.forms + length goal.now.terms) + (sum_by one_in self.old.forms + 1) }
         ensures conflict { IfOk result (λ found. found ≡ true → (goal.now.degree ≡ 0) ⊎ ((m : MeetsConflict (With (Live self.old.forms) (negation_of goal.now)) []) × (length m.list ≤ self.new.visits))) }
         ensures completion { IfOk result (λ found. found ≡ false → (list : List NumberedLiteral) × IsCompletion (With (Live self.old.forms) (negation_of goal.now)) [] list × (length list ≤ self.new.visits)) }

@@ -1,10 +1,11 @@
 //! Conclusions.
 
-ghost use Rattle.std.specs.Prelude.{◌≡◌, ◌<◌, All, IfSome, IsSome, List, OnOk, Option, Some, [], length, option_map};
+ghost use Rattle.std.specs.Prelude.{◌≡◌, ◌<◌, All, Err, IfSome, IsSome, List, OnOk, Option, Some, [], length, option_map};
 ghost use Rattle.pb_sums.specs.declared.values.Literal.{Literal as Written};
 ghost use Rattle.pb_replay.specs.Bounds.{Both};
 ghost use Rattle.pb_replay.specs.Replay.{numbered};
 ghost use Rattle.pb_replay.specs.Running.{Keeps, Goes, GoesAt, HasNamed, IsLinked, IsProper, IsReady};
+ghost use Rattle.pb_replay.specs.Statements.{MayWant};
 
 use crate::fault::Fault;
 use crate::numbered::NumberedLiteral;
@@ -26,6 +27,7 @@ fn unsat(running: &mut Running, id: Option<i64>) -> Result<(), Fault>
     ensures linked { OnOk result (IsLinked running.new) }
     ensures kept { Keeps running.old running.new }
     ensures visits { running.new.visits ≡ running.old.visits }
+    ensures memory { result ≡ Err Fault.Memory → ⊥ }
 {
     match none_is_left(running, id) {
         Ok(()) => {
@@ -76,6 +78,7 @@ fn sat_logged(running: &mut Running) -> Result<(), Fault>
     ensures linked { OnOk result (IsLinked running.new) }
     ensures kept { Keeps running.old running.new }
     ensures visits { running.new.visits ≡ running.old.visits }
+    ensures memory { result ≡ Err Fault.Memory → ⊥ }
 {
     if running.best.is_none() {
         return Err(Fault::NoSolution);
@@ -92,6 +95,7 @@ fn sat(running: &mut Running, shown: &Option<Sequence<Literal>>) -> Result<(), F
     ensures linked { OnOk result (IsLinked running.new) }
     ensures kept { Keeps running.old running.new }
     ensures visits { running.new.visits ≡ running.old.visits }
+    ensures memory { result ≡ Err Fault.Memory → MayWant (Statement.Conclude (Conclusion.Sat shown.now)) }
 {
     match shown {
         None => sat_logged(running),
@@ -177,6 +181,7 @@ fn no_claim(running: &mut Running) -> Result<(), Fault>
     ensures linked { OnOk result (IsLinked running.new) }
     ensures kept { Keeps running.old running.new }
     ensures visits { running.new.visits ≡ running.old.visits }
+    ensures memory { result ≡ Err Fault.Memory → ⊥ }
 {
     running.next = Phase::Ending;
     running.concluded = Some(Verdict::NoClaim);
@@ -190,6 +195,7 @@ pub(crate) fn conclude(running: &mut Running, conclusion: &Conclusion) -> Result
     ensures linked { OnOk result (IsLinked running.new) }
     ensures kept { Keeps running.old running.new }
     ensures visits { running.new.visits ≡ running.old.visits }
+    ensures memory { result ≡ Err Fault.Memory → MayWant (Statement.Conclude conclusion.now) }
 {
     match conclusion {
         Conclusion::NoClaim => no_claim(running),

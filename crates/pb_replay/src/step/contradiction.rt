@@ -1,6 +1,6 @@
 //! Whether a live constraint is a contradiction.
 
-ghost use Rattle.std.specs.Prelude.{◌≡◌, List, None, Some, get_or, ◌<◌, IsTrue, ◌↔◌, length};
+ghost use Rattle.std.specs.Prelude.{◌≡◌, List, Err, None, Some, get_or, ◌<◌, IsTrue, ◌↔◌, length};
 ghost use Rattle.pb_normal.specs.Form.{Form};
 ghost use Rattle.pb_normal.specs.Rules.{IsContradiction};
 ghost use Rattle.pb_replay.specs.Conclusions.{has_contradiction, none_left};
@@ -55,7 +55,8 @@ fn named_contradiction(engine: &Engine, id: i64) -> Result<(), Fault>
 
 /// Whether no solution was logged and there is a contradiction.
 pub(crate) fn none_is_left(running: &Running, id: Option<i64>) -> Result<(), Fault>
-    ensures { (logged : List Logged) → IsBest logged running.now.best → none_left (state_of running.now logged) id (gives tt) result }
+    ensures left { (logged : List Logged) → IsBest logged running.now.best → none_left (state_of running.now logged) id (gives tt) result }
+    ensures memory { result ≡ Err Fault.Memory → ⊥ }
 {
     if running.best.is_some() {
         return Err(Fault::SolutionLogged);

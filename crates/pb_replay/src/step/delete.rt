@@ -19,6 +19,7 @@ fn delete_each(engine: &mut Engine, ids: &[i64]) -> Result<(), Fault>
     ensures err { IfErr result (λ e. Deleted engine.old.forms ids.now (Err e)) }
     ensures variables { engine.new.variables ≡ engine.old.variables }
     ensures ready { engine.new.spent ≡ false }
+    ensures memory { result ≡ Err Fault.Memory → ⊥ }
 {
     for id in ids {
         match find(engine, *id) {
@@ -38,6 +39,7 @@ pub(crate) fn delete(running: &mut Running, ids: &Sequence<i64>) -> Result<(), F
     ensures linked { OnOk result (IsLinked running.new) }
     ensures kept { Keeps running.old running.new }
     ensures visits { running.new.visits ≡ running.old.visits }
+    ensures memory { result ≡ Err Fault.Memory → ⊥ }
 {
     delete_each(&mut running.engine, ids.as_slice())
 }

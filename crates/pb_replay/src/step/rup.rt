@@ -32,8 +32,9 @@ pub(crate) fn rup(running: &mut Running, linear: &Linear) -> Result<(), Fault>
         running.limits,
     )?;
     widen(&mut running.engine, before, running.names.len())?;
-    let implied = running.engine.rup(&form)?;
+    let found = running.engine.rup(&form);
     running.visits = running.engine.visits();
+    let implied = found?;
     if implied {
         add(running, form)
     } else {

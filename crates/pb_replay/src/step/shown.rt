@@ -1,18 +1,34 @@
 //! Solutions that a conclusion shows.
 
-ghost use Rattle.std.specs.Prelude.{◌≡◌, ◌<◌, ◌⊎◌, All, Contains, IfOk, IfErr, IfSome, OnOk, Ok, Err, length, option_map};
+ghost use Rattle.std.specs.Prelude.{◌≡◌, ◌<◌, ◌⊎◌, All, Contains, IfOk, IfErr, IfSome, OnOk, Ok, Err, Some, false, length, map, option_map};
 ghost use Rattle.pb_replay.specs.Statements.{shown_names};
 ghost use Rattle.pb_replay.specs.Replay.{Completed, Logged, Shown, numbered};
 ghost use Rattle.pb_replay.specs.Running.{Keeps, HasNamed, IsLinked, IsProper, problem_of};
 
 use crate::fault::Fault;
 use crate::numbered::NumberedLiteral;
+use crate::propagate::engine::Engine;
 use crate::state::Running;
 use crate::state::live::engine_of;
 use crate::state::solution::judged;
 use crate::step::solution::{completion, take_literals};
 use pb_sums::Literal;
 use pb_text::Sequence;
+
+/// An engine of the instance's own constraints, over all names.
+fn own_engine(running: &Running) -> Result<Engine, Fault>
+    requires { IsProper running.now }
+    ensures forms { IfOk result (λ e. e.forms ≡ map (λ f. Some f) running.now.loaded.items) }
+    ensures variables { IfOk result (λ e. e.variables ≡ length running.now.names) }
+    ensures ready { IfOk result (λ e. e.spent ≡ false) }
+    ensures err { IfErr result (λ e. e ≡ Fault.Memory) }
+{
+    engine_of(
+        running.alloc,
+        running.loaded.as_slice(),
+        running.names.len(),
+    )
+}
 
 /// The value of the solution that the literals complete to over the instance's own constraints.
 fn own_value(running: &Running, given: &[NumberedLiteral]) -> Result<i128, Fault>
@@ -21,11 +37,7 @@ fn own_value(running: &Running, given: &[NumberedLiteral]) -> Result<i128, Fault
     ensures ok { IfOk result (λ z. (g : Logged) × Completed (problem_of running.now) (Contains running.now.loaded.items) running.now.own given.now (Ok g) × (g.value ≡ z)) }
     ensures err { IfErr result (λ e. (e ≡ Fault.Memory) ⊎ Completed (problem_of running.now) (Contains running.now.loaded.items) running.now.own given.now (Err e)) }
 {
-    let mut engine = engine_of(
-        running.alloc,
-        running.loaded.as_slice(),
-        running.names.len(),
-    )?;
+    let mut engine = own_engine(running)?;
     match completion(&mut engine, given) {
         Ok(values) => judged(running, values.as_slice(), running.own),
         Err(fault) => Err(fault),

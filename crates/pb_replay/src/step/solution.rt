@@ -76,7 +76,7 @@ fn better(best: Option<i128>, value: i128) -> i128
 }
 
 /// The value of the solution that the literals complete to over the live constraints.
-fn completed(running: &mut Running, given: &[NumberedLiteral]) -> Result<i128, Fault>
+pub(crate) fn completed(running: &mut Running, given: &[NumberedLiteral]) -> Result<i128, Fault>
     requires proper { IsProper running.old }
     requires linked { IsLinked running.old }
     requires inside { All (λ l. l.variable < length running.old.names) given.now }

@@ -1,12 +1,17 @@
 use Rattle.std.specs.Prelude.{None}
-use Rattle.std.proofs.Common.{◌≡◌, inl, inr, refl}
+use Rattle.std.proofs.Common.{◌≡◌, inl, inr, refl, rules}
 use Rattle.pb_replay.specs.Running.{state_of}
-use Rattle.pb_replay.proofs.lemmas.Ready.{ready_after, step-ok, step-err, step-unvalued}
+use Rattle.pb_replay.proofs.lemmas.Ready.{kept-ok, kept-err, step-ok, step-err, step-unvalued}
 use Rattle.pb_replay.proofs.replay.Replay.step.Goals as goal
 
 pub invariant_of-self : goal.invariant_of-self
-invariant_of-self c none =
-    ready_after c.self.inside.running c.take.new.running c.args.statement.now (rw (← c.self.view_is) at c.requires) (c.self.invariant none) (rw c.in-Ok.is at c.take.ensures.comes) c.take.ensures.kept (rw c.in-Ok.is at c.take.ensures.linked)
+invariant_of-self c =
+    kept-ok c.self.inside.running c.take.new.running c.args.statement.now c.self.inside.fault (rw (← c.self.view_is) at c.requires) c.self.invariant (rw c.in-Ok.is at c.take.ensures.comes) c.take.ensures.kept (rw c.in-Ok.is at c.take.ensures.linked)
+
+pub invariant_of-self-in-Err : goal.invariant_of-self-in-Err
+invariant_of-self-in-Err c =
+    let free : c.self.inside.fault ≡ None = search rules in
+    kept-err c.self.inside.running c.take.new.running c.args.statement.now c.in-Err.fault (c.self.invariant.ready free) (rw c.in-Err.is at c.take.ensures.comes) c.take.ensures.kept
 
 pub returns-in-Ok-clause-steps : goal.returns-in-Ok-clause-steps
 returns-in-Ok-clause-steps c = λ free_before.
@@ -27,6 +32,6 @@ returns-in-Err-clause-steps c = λ free_before.
     rw (← c.self.view_is) (elim h [ inl memory ↦ inl memory | inr k ↦ inr (λ s f. k s f.live f.names f.logged f.next f.concluded) ], refl)
 
 pub returns-in-Err-clause-unvalued : goal.returns-in-Err-clause-unvalued
-returns-in-Err-clause-unvalued c = λ free_before n is.
-    let free : c.self.inside.fault ≡ None = rw (← c.self.view_is) at free_before in
-    rw (← c.self.view_is) (step-unvalued c.self.inside.running c.take.new.running c.args.statement.now c.in-Err.fault n (c.self.invariant free) (rw c.in-Err.is at c.take.ensures.comes) is)
+returns-in-Err-clause-unvalued c = λ n is.
+    let free : c.self.inside.fault ≡ None = search rules in
+    rw (← c.self.view_is) (step-unvalued c.self.inside.running c.take.new.running c.args.statement.now c.in-Err.fault n (c.self.invariant.ready free) (rw c.in-Err.is at c.take.ensures.comes) is)

@@ -5,10 +5,10 @@ use Rattle.pb_replay.proofs.replay.Replay.verdict.Goals as goal
 
 pub returns-in-Done-clause-written : goal.returns-in-Done-clause-written
 returns-in-Done-clause-written c =
-    let ready = c.self.invariant (none_of c.self.inside.fault (sym c.is_some.ensures ∙ c.if-is_some.false)) in
+    let ready = c.self.invariant.ready (none_of c.self.inside.fault (sym c.is_some.ensures ∙ c.if-is_some.false)) in
     rw (← c.self.view_is) (meant-written (problem_of c.self.inside.running) c.self.inside.running.concluded (meant (problem_of c.self.inside.running) (state_of c.self.inside.running ready.sound.0) c.self.inside.running.concluded (ready.sound).2 refl))
 
 pub returns-in-Done-clause-means : goal.returns-in-Done-clause-means
 returns-in-Done-clause-means c =
-    let ready = c.self.invariant (none_of c.self.inside.fault (sym c.is_some.ensures ∙ c.if-is_some.false)) in
+    let ready = c.self.invariant.ready (none_of c.self.inside.fault (sym c.is_some.ensures ∙ c.if-is_some.false)) in
     rw (← c.self.view_is) (meant (problem_of c.self.inside.running) (state_of c.self.inside.running ready.sound.0) c.self.inside.running.concluded (ready.sound).2 refl)

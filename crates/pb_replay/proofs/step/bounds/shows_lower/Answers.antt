@@ -5,7 +5,7 @@ use Rattle.pb_replay.proofs.lemmas.Bounding.{lower-infinite}
 use Rattle.pb_replay.proofs.step.bounds.shows_lower.Goals as goal
 
 pub returns-in-Infinite-clause-lower : goal.returns-in-Infinite-clause-lower
-returns-in-Infinite-clause-lower c = rw c.in-Infinite.is (lower-infinite c.args.running.now c.args.id c.none_is_left.result c.none_is_left.ensures)
+returns-in-Infinite-clause-lower c = rw c.in-Infinite.is (lower-infinite c.args.running.now c.args.id c.none_is_left.result c.none_is_left.ensures.left)
 
 pub returns-in-Finite-clause-lower : goal.returns-in-Finite-clause-lower
 returns-in-Finite-clause-lower c =

@@ -1,7 +1,7 @@
-use Rattle.std.proofs.Common.{refl, take, arith, ◌∙◌}
+use Rattle.std.proofs.Common.{refl, rules, take, arith, ◌∙◌}
 use Rattle.pb_normal.specs.Written.{names_of}
 use Rattle.pb_replay.proofs.lemmas.Linked.{grown, linked-wider}
-use Rattle.pb_replay.proofs.lemmas.Looked.{looks-implied, looks-not}
+use Rattle.pb_replay.proofs.lemmas.Looked.{looks-implied, looks-memory, looks-not}
 use Rattle.pb_replay.proofs.lemmas.Rups.{fits_of, rup_refused, front_after, keeps_then, rup_added}
 use Rattle.pb_replay.proofs.step.rup.rup.Goals as goal
 
@@ -29,7 +29,7 @@ add-requires-clause-linked c =
 pub returns-then-implied-clause-goes : goal.returns-then-implied-clause-goes
 returns-then-implied-clause-goes c =
     rup_added c.args.running.now c.args.linear.now _ c.in_ok-form.form c.in_ok-form.ensures.names (fits_of _ _ _ _ c.in_ok-form.was c.from_linear.ensures.overflow) c.in_ok-form.ensures.form
-    (record c.args.running.now { names = c.from_linear.new.names; engine = c.rup.new.self; visits = c.visits-running.result }) c.add.result c.add.new.running refl (c.in_ok-implied.ensures.forms ∙ c.in_ok-widen.ensures.forms) refl refl refl c.add.ensures.best (rw c.in_ok-widen.ensures.forms at (c.in_ok-implied.ensures.implied c.if-implied.true)) c.add.ensures.adding
+    (record c.args.running.now { names = c.from_linear.new.names; engine = c.rup-found.new.self; visits = c.visits-running.result }) c.add.result c.add.new.running refl (c.in_ok-implied.ensures.forms ∙ c.in_ok-widen.ensures.forms) refl refl refl c.add.ensures.best (rw c.in_ok-widen.ensures.forms at (c.in_ok-implied.ensures.implied c.if-implied.true)) c.add.ensures.adding
 
 pub returns-then-implied-clause-kept : goal.returns-then-implied-clause-kept
 returns-then-implied-clause-kept c =
@@ -46,10 +46,15 @@ returns-else-implied-clause-kept c =
 
 pub returns-then-implied-clause-looks : goal.returns-then-implied-clause-looks
 returns-then-implied-clause-looks c =
-    looks-implied c.args.linear.now c.widen.new.engine.forms c.args.running.now.engine.forms c.args.running.now.names c.from_linear.new.names c.in_ok-form.form c.rup.new.self.visits c.add.new.running.visits c.in_ok-widen.ensures.forms c.in_ok-form.ensures.names
-    c.in_ok-form.ensures.form c.in_ok-implied.ensures.most c.in_ok-implied.ensures.unasked (c.add.ensures.visits ∙ c.visits-running.ensures) (record c.args.running.now { names = c.from_linear.new.names; engine = c.rup.new.self; visits = c.visits-running.result }) c.add.new.running c.add.result (c.in_ok-implied.ensures.conflict c.if-implied.true) c.add.ensures.adding
+    looks-implied c.args.linear.now c.widen.new.engine.forms c.args.running.now.engine.forms c.args.running.now.names c.from_linear.new.names c.in_ok-form.form c.rup-found.new.self.visits c.add.new.running.visits c.in_ok-widen.ensures.forms c.in_ok-form.ensures.names
+    c.in_ok-form.ensures.form c.in_ok-implied.ensures.most c.in_ok-implied.ensures.unasked (c.add.ensures.visits ∙ c.visits-running.ensures) (record c.args.running.now { names = c.from_linear.new.names; engine = c.rup-found.new.self; visits = c.visits-running.result }) c.add.new.running c.add.result (c.in_ok-implied.ensures.conflict c.if-implied.true) c.add.ensures.adding
 
 pub returns-else-implied-clause-looks : goal.returns-else-implied-clause-looks
 returns-else-implied-clause-looks c =
-    looks-not c.args.linear.now c.widen.new.engine.forms c.args.running.now.engine.forms c.args.running.now.names c.from_linear.new.names c.in_ok-form.form c.rup.new.self.visits c.visits-running.result c.in_ok-widen.ensures.forms c.in_ok-form.ensures.names
+    looks-not c.args.linear.now c.widen.new.engine.forms c.args.running.now.engine.forms c.args.running.now.names c.from_linear.new.names c.in_ok-form.form c.rup-found.new.self.visits c.visits-running.result c.in_ok-widen.ensures.forms c.in_ok-form.ensures.names
     c.in_ok-form.ensures.form c.in_ok-implied.ensures.most c.in_ok-implied.ensures.unasked c.visits-running.ensures (c.in_ok-implied.ensures.completion c.if-implied.false)
+
+pub returns-in_err-implied-clause-looks : goal.returns-in_err-implied-clause-looks
+returns-in_err-implied-clause-looks c =
+    looks-memory c.args.linear.now c.widen.new.engine.forms c.args.running.now.engine.forms c.args.running.now.names c.from_linear.new.names c.in_ok-form.form c.rup-found.new.self.visits c.visits-running.result c.in_ok-widen.ensures.forms c.in_ok-form.ensures.names
+    c.in_ok-form.ensures.form c.rup-found.ensures.most c.rup-found.ensures.unasked c.visits-running.ensures _ (search rules)
