@@ -1,6 +1,6 @@
 //! `soli` and `solx`.
 
-ghost use Rattle.std.specs.Prelude.{◌≡◌, ◌<◌, ◌^◌, ◌⊎◌, All, IfOk, IfErr, IsSome, OnOk, Ok, Err, length, true, false, not, map, unsigned_abs, ℕ, [], List};
+ghost use Rattle.std.specs.Prelude.{◌≡◌, ◌<◌, ◌^◌, ◌⊎◌, All, IfOk, IfErr, IsSome, OnOk, Ok, Err, length, true, false, not, map, unsigned_abs, ℕ, pos, ◌-ℤ◌, [], List};
 ghost use Rattle.pb_replay.specs.Engine.Live.{Live, Gives};
 ghost use Rattle.pb_replay.specs.Propagation.{MeetsConflict, IsCompletion, on};
 ghost use Rattle.pb_replay.specs.Replay.{Completed, IsClause, Logged, numbered};
@@ -165,6 +165,14 @@ pub(crate) fn solx(running: &mut Running, given: &Sequence<Literal>) -> Result<(
     exclude(running, numbers.as_slice())
 }
 
+/// The greatest value below that one.
+fn below(value: i128) -> i128
+    requires { unsigned_abs value < 2 ^ 127 }
+    ensures { result ≡ (value -ℤ pos 1) }
+{
+    value - 1
+}
+
 /// Logs a solution with that value, and demands a lower one.
 fn demand_less(running: &mut Running, value: i128) -> Result<(), Fault>
     requires proper { IsProper running.old }
@@ -175,7 +183,7 @@ fn demand_less(running: &mut Running, value: i128) -> Result<(), Fault>
     ensures kept { Keeps running.old running.new }
     ensures visits { running.new.visits ≡ running.old.visits }
 {
-    match objective_form(running, value - 1, Side::AtMost) {
+    match objective_form(running, below(value), Side::AtMost) {
         Ok(demand) => log(running, value, demand),
         Err(fault) => Err(fault),
     }
