@@ -1,6 +1,8 @@
 -- The laws of replay, over the definitions alone
 use Rattle.std.specs.Prelude.{◌≡◌, ℕ, ◌≤◌, Bool, List, All, Contains, Some, Result, Ok, Err, ◌<◌, length, Option, IsSome}
 use Rattle.pb_opb.specs.declared.Instance.{Instance}
+use Rattle.pb_proof.specs.Proofs.{statements_of}
+use Rattle.pb_proof.specs.declared.Proof.{Proof}
 use Rattle.pb_proof.specs.declared.Statement.{Statement}
 use Rattle.pb_proof.specs.Values.{IsStatementValue}
 use Rattle.pb_replay.specs.declared.fault.Fault.{Fault}
@@ -15,6 +17,7 @@ use Rattle.pb_replay.specs.Answer.{Answer}
 use Rattle.pb_replay.specs.Loading.{Problem, Opened, Solves}
 use Rattle.pb_replay.specs.Propagation.{on, Derivation, MeetsConflict, IsCompletion}
 use Rattle.pb_replay.specs.Replay.{State, first_state}
+use Rattle.pb_replay.specs.Running.{Replaying, StandsFor, verdict_at}
 use Rattle.pb_replay.specs.Statements.{Outcome, Accepts}
 use Rattle.pb_replay.specs.Meaning.{Means, MeansWritten, AccountedWritten, IsProblem, IsSound}
 
@@ -89,3 +92,12 @@ HasClaim _ concluded = Unit {0}
 
 abbrev pub VerdictsAreThere : Type 0
 VerdictsAreThere = (limit top : ℕ) (v : Problem) (sts : List Statement) (s t : State) → s.next ≡ Beginning → Accepts limit top v s sts t → HasClaim t.next t.concluded
+
+-- Where all statements of a proof are accepted, from whatever state, there is a verdict.
+abbrev pub WholeProofsConclude : Type 0
+WholeProofsConclude = (limit top : ℕ) (v : Problem) (p : Proof) (s t : State) →
+    Accepts limit top v s (statements_of p) t → IsSome (verdict_at t.next t.concluded)
+
+-- Each replay stands for some state.
+abbrev pub ReplaysHaveStates : Type 0
+ReplaysHaveStates = (r : Replaying) → (s : State) × StandsFor r s

@@ -8,6 +8,7 @@ ghost use Rattle.pb_text.specs.Standing.{IsOpen, IsUnread};
 ghost use Rattle.pb_text.specs.Feeding.{StandsAt, Feeds, input_fed, marks_answered, place_of, halt_of, is_complete};
 ghost use Rattle.pb_text.specs.declared.feeder.Fed.{Fed};
 ghost use Rattle.pb_text.specs.declared.feeder.Feeder.{Feeder};
+ghost use Rattle.pb_text.specs.declared.place.Spanned.{Spanned};
 ghost use Rattle.pb_text.specs.declared.place.Stop.{Stop};
 
 use crate::machine::Machine;
@@ -26,6 +27,15 @@ pub fn any_cutting<M: Machine>()
         → IsUnread (halt_of before)
         → Feeds before feeds after
         → IsUnread (halt_of after) }
+{}
+
+/// A feeder that stands to its input has read it: the marks that it answered, its place, whether the text is complete and
+/// its stop are those of a read.
+pub fn standing_is_reading<M: Machine>()
+    ensures { (longest : ℕ) (start : M) (input : List ℕ) (marks : List (Spanned M.Event)) (feeder : Feeder M M.Event M.Machine)
+        → StandsAt longest start input marks feeder
+        → (used : List ℕ) × Reads (Accepts M.automaton start) longest input used marks
+        (place_of feeder) (is_complete feeder) (halt_of feeder) }
 {}
 
 /// In any text of a machine that begins with a front, the statements that end within it are the same, at the same

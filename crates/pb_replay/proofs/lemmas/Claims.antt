@@ -1,8 +1,9 @@
 -- Once a proof has concluded there is a verdict. Offered to other crates.
-use Rattle.std.specs.Prelude.{Option, Some, None, Ok, ℤ}
-use Rattle.std.proofs.Common.{subst, sym, ◌≡◌, ℕ, List, [], ◌∷◌, refl}
+use Rattle.std.specs.Prelude.{Option, Some, None, Ok, ℤ, IsSome}
+use Rattle.std.proofs.Common.{subst, sym, ◌≡◌, ℕ, List, [], ◌∷◌, ◌++◌, refl}
 use Rattle.pb_sums.specs.declared.Literal.{Literal}
 use Rattle.pb_sums.specs.declared.Term.{Term}
+use Rattle.pb_proof.specs.Proofs.{statements_of}
 use Rattle.pb_proof.specs.declared.Bound.{Bound}
 use Rattle.pb_proof.specs.declared.Bound.TheVariants.{Finite, Infinite}
 use Rattle.pb_proof.specs.declared.Conclusion.{Conclusion}
@@ -12,12 +13,14 @@ use Rattle.pb_proof.specs.declared.Statement.TheVariants.{Header, F, Pol, Rup, S
 use Rattle.pb_normal.specs.Form.{Form}
 use Rattle.pb_normal.specs.Names.{with_names}
 use Rattle.pb_replay.specs.declared.state.phase.Phase.{Phase}
-use Rattle.pb_replay.specs.declared.state.phase.Phase.TheVariants.{Ending}
+use Rattle.pb_replay.specs.declared.state.phase.Phase.TheVariants.{Ending, Done}
+use Rattle.pb_replay.specs.declared.verdict.Verdict.{Verdict}
 use Rattle.pb_replay.specs.Answer.{Answer}
-use Rattle.pb_replay.specs.Laws.{HasClaim, VerdictsAreThere}
+use Rattle.pb_replay.specs.Laws.{HasClaim, VerdictsAreThere, WholeProofsConclude}
 use Rattle.pb_replay.specs.Loading.{Problem}
-use Rattle.pb_replay.specs.Replay.{State}
+use Rattle.pb_replay.specs.Replay.{State, first_state}
 use Rattle.pb_replay.specs.Conclusions.{none_left, named, lower_bound, upper_bound, Concludes}
+use Rattle.pb_replay.specs.Running.{verdict_at}
 use Rattle.pb_replay.specs.Statements.{Does, Accepts, comes, mentioned}
 use Rattle.pb_replay.proofs.lemmas.Accepting.{needed, followed, ok-same}
 use Rattle.pb_replay.proofs.lemmas.Concluded.{contradicted-has}
@@ -80,3 +83,17 @@ run limit top v s t (st ∷ sts) p h =
 
 pub verdicts-there : VerdictsAreThere
 verdicts-there limit top v sts s t begins h = run limit top v s t sts (subst (λ (x : Phase). HasClaim x s.concluded) (sym begins) tt) h
+
+-- ---- a whole proof
+ended : (limit top : ℕ) (v : Problem) (steps : List Statement) (c : Conclusion) (s t : State) → Accepts limit top v s (steps ++ Output ∷ Conclude c ∷ End ∷ []) t → t.next ≡ Done
+ended limit top v [] c s t (a, h, (b, k, (d, l, e))) = let last = ok-same (needed l).1 in rw (sym e, last) refl
+ended limit top v (x ∷ steps) c s t h = ended limit top v steps c h.0 t h.2
+
+at-end : (p : Phase) (concluded : Option Verdict) → p ≡ Done → HasClaim p concluded → IsSome (verdict_at p concluded)
+at-end p concluded e h = subst (λ (x : Phase). IsSome (verdict_at x concluded)) (sym e) (subst (λ (x : Phase). HasClaim x concluded) e h)
+
+pub whole-proofs-conclude : WholeProofsConclude
+whole-proofs-conclude limit top v p s t (a, h, (b, k, rest)) =
+    let begins = (needed h).0 in
+    let start : HasClaim s.next s.concluded = rw begins tt in
+    at-end t.next t.concluded (ended limit top v p.steps p.conclusion b t rest) (run limit top v s t (statements_of p) start (a, h, (b, k, rest)))

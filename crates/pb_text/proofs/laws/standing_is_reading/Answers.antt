@@ -1,0 +1,9 @@
+use Rattle.std.specs.Prelude.{refl}
+use Rattle.pb_text.specs.Feeding.{is_complete}
+use Rattle.pb_text.specs.Spelling.{bytes}
+use Rattle.pb_text.proofs.Told.{stands_reads}
+use Rattle.pb_text.proofs.laws.standing_is_reading.Goals as goal
+
+pub returns : goal.returns
+returns g c longest start input marks f s =
+    (bytes s.1.letters, stands_reads g.M.Machine.automaton longest start input marks f.machine f.place f.first f.stop s.1 (is_complete f) refl)
