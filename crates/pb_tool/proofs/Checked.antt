@@ -1,12 +1,13 @@
 -- What a feed and a step leave of a checker.
-use Rattle.std.proofs.Common.{◌≡◌, ℕ, ◌+◌, ◌-◌, List, [], ◌∷◌, ◌++◌, length, take, drop, nat_le, if◌then◌else◌, Bool, true, false, Option, Some, None, Result, Ok, Err, refl, sym, ap, ◌∙◌, subst, append-nil, append_assoc, take-append-drop, All}
-use Rattle.std.proofs.lemmas.List.Elements.{All-nil, All-cons, All-head, All-tail}
+use Rattle.std.proofs.Common.{◌≡◌, ℕ, ◌+◌, ◌-◌, List, [], ◌∷◌, ◌++◌, length, take, drop, if◌then◌else◌, Bool, true, false, Option, Some, None, Result, Ok, Err, refl, sym, ap, ◌∙◌, subst, append-nil, append_assoc, take-append-drop, All}
+use Rattle.std.proofs.lemmas.List.Elements.{All-head, All-tail}
 use Rattle.pb_text.specs.Limits.{largest, top_of}
 use Rattle.pb_text.specs.Automaton.{Accepts as AcceptsBytes}
-use Rattle.pb_text.specs.Feeding.{StandsAt, FeedsOnce, HoldsFew, place_of, halt_of, is_complete}
-use Rattle.pb_text.specs.Reading.{Reads, Explains, ended_within}
-use Rattle.pb_text.specs.Spelling.{Item, bytes, marks_of, marks_since}
-use Rattle.pb_text.specs.Standing.{Counts, IsOpen as IsOpenText}
+use Rattle.pb_text.specs.Feeding.{StandsAt, FeedsOnce, place_of, halt_of, is_complete}
+use Rattle.pb_text.specs.Limit.{end_of}
+use Rattle.pb_text.specs.Reading.{Reads, Explains}
+use Rattle.pb_text.specs.Spelling.{Item, bytes, marks_since}
+use Rattle.pb_text.specs.Standing.{Counts, Halts, Waits, IsOpen as IsOpenText}
 use Rattle.pb_text.specs.Whole.{events_of}
 use Rattle.pb_text.specs.declared.Fed.{Fed}
 use Rattle.pb_text.specs.declared.Limits.{Limits}
@@ -16,34 +17,28 @@ use Rattle.pb_text.specs.declared.Stop.{Stop}
 use Rattle.pb_text.specs.declared.place.Why.{Why}
 use Rattle.pb_text.specs.declared.place.Why.TheVariants.{Byte, TooLarge, Ended, TooLong, Read, Memory}
 use Rattle.pb_text.proofs.Formats as formats
-use Rattle.pb_text.proofs.Told.{stands_reads}
 use Rattle.pb_proof.specs.Formats.{ReadsProofs}
-use Rattle.pb_proof.specs.Lines.{SpellsStatement}
-use Rattle.pb_proof.specs.Proofs.{IsProof, IsGap}
+use Rattle.pb_proof.specs.Proofs.{IsProof}
 use Rattle.pb_proof.specs.State.{ProofState, begin, proofs}
+use Rattle.pb_proof.specs.ValueLaws.{ReadStatements}
 use Rattle.pb_proof.specs.Values.{IsStatementValue}
-use Rattle.pb_proof.specs.declared.Conclusion.{Conclusion}
+use Rattle.pb_proof.specs.declared.Proof.{Proof}
 use Rattle.pb_proof.specs.declared.Statement.{Statement}
 use Rattle.pb_proof.specs.declared.Statement.TheVariants.{Header, F, Output, Conclude, End}
-use Rattle.pb_proof.proofs.ProofValues.{statement_values}
-use Rattle.pb_replay.specs.Laws.{HasClaim}
+use Rattle.pb_replay.specs.Laws.{ReplaysHaveStates, WholeProofsConclude}
 use Rattle.pb_replay.specs.Loading.{Problem}
-use Rattle.pb_replay.specs.Replay.{State, Logged}
-use Rattle.pb_replay.specs.Running.{IsBest, Replaying, StandsFor, StepsAs, verdict_at, verdict_in}
+use Rattle.pb_replay.specs.Replay.{State}
+use Rattle.pb_replay.specs.Running.{Replaying, StandsFor, StepsAs, verdict_at, verdict_in}
 use Rattle.pb_replay.specs.Statements.{Outcome, Accepts}
 use Rattle.pb_replay.specs.declared.fault.Fault.{Fault}
 use Rattle.pb_replay.specs.declared.state.phase.Phase.{Phase}
-use Rattle.pb_replay.specs.declared.state.phase.Phase.TheVariants.{Done}
 use Rattle.pb_replay.specs.declared.verdict.Verdict.{Verdict}
-use Rattle.pb_replay.proofs.lemmas.Accepting.{needed, ok-same}
-use Rattle.pb_replay.proofs.lemmas.Best.{best-push}
-use Rattle.pb_replay.proofs.lemmas.Claims.{run}
 use Rattle.std.proofs.Math.Seq.{take-add, take-length}
 use Rattle.std.proofs.lemmas.List.{length-drop}
-use Rattle.std.specs.Prelude.{ℤ, IsSome, not, is_some}
-use Rattle.pb_tool.specs.Checker.{Checking, ProofFeeder, IsAt, IsRunning, Stands, StepsFrom}
+use Rattle.std.specs.Prelude.{IsSome, not, is_some}
+use Rattle.pb_tool.specs.Checker.{Checking, ProofFeeder, IsAt, IsRunning, Stands, StepsFrom, TextsAreRead}
 use Rattle.pb_tool.specs.Checks.{statements_at, Checks, IsReplayed, Leads, Takes, Refuses}
-use Rattle.pb_tool.specs.Pieces.{AnyCutting, HoldsOpen, bytes_to, ChecksAt, ChecksOnce, IsOpen, Feeds, joined, fault_of, is_whole, place_in}
+use Rattle.pb_tool.specs.Pieces.{AnyCutting, bytes_to, ChecksAt, ChecksOnce, IsOpen, IsUnread, Feeds, WantsMemory, joined, fault_of, is_whole, place_in}
 use Rattle.pb_tool.specs.declared.checker.CheckFault.{CheckFault}
 use Rattle.pb_tool.specs.declared.checker.CheckFault.TheVariants.{Text, Step}
 
@@ -71,37 +66,13 @@ stepped_ok old new m steps again (Ok s) at = took old.limits old.problem old new
 stepped_ok old new m steps again (Err e) at = absurd (let bad = again e at in cc bad)
 
 -- ---- a statement that was read meets the rules
-module _ (limit top : ℕ) where
-  abbrev IsFine : Spanned Statement → Type 0
-  IsFine m = IsStatementValue limit top m.event
+last_of : (P : Statement → Type 0) (marks : List (Spanned Statement)) (m : Spanned Statement) → All P (statements_at (marks ++ m ∷ [])) → P m.event
+last_of P [] m h = All-head P m.event [] h
+last_of P (n ∷ marks) m h = last_of P marks m (All-tail P n.event (statements_at (marks ++ m ∷ [])) h)
 
-  fine_marks : (first : Option Place) (before : List ℕ) (items : List (Item Statement)) → All (λ i. IsGap i.gap × SpellsStatement limit top i.event i.text) items → All IsFine (marks_since first before items)
-  fine_marks first before [] h = All-nil IsFine
-  fine_marks first before (i ∷ items) h =
-      let head = All-head (λ (x : Item Statement). IsGap x.gap × SpellsStatement limit top x.event x.text) i items h in
-      let tail = All-tail (λ (x : Item Statement). IsGap x.gap × SpellsStatement limit top x.event x.text) i items h in
-      All-cons IsFine _ _ (statement_values limit top i.event i.text head.1) (fine_marks None (before ++ (i.gap ++ bytes i.text)) items tail)
-
-  one_fine : (m : Spanned Statement) (rest : List (Spanned Statement)) (b : Bool) → IsFine m → All IsFine rest → All IsFine (if b then m ∷ rest else rest)
-  one_fine m rest true h k = All-cons IsFine m rest h k
-  one_fine m rest false h k = k
-
-  fine_some : (n : ℕ) (marks : List (Spanned Statement)) → All IsFine marks → All IsFine (ended_within n marks)
-  fine_some n [] h = All-nil IsFine
-  fine_some n (m ∷ marks) h = one_fine m (ended_within n marks) (nat_le m.past.offset n) (All-head IsFine m marks h) (fine_some n marks (All-tail IsFine m marks h))
-
-  fine_last : (marks : List (Spanned Statement)) (m : Spanned Statement) → All IsFine (marks ++ m ∷ []) → IsFine m
-  fine_last [] m h = All-head IsFine m [] h
-  fine_last (n ∷ marks) m h = fine_last marks m (All-tail IsFine n (marks ++ m ∷ []) h)
-
-  pub last_is_value : (longest : ℕ) (input used : List ℕ) (marks : List (Spanned Statement)) (m : Spanned Statement) (place : Place) (done : Bool) → Reads (IsProof limit top) longest input used (marks ++ m ∷ []) place done None → IsStatementValue limit top m.event
-  last_is_value longest input used marks m place true r =
-      let s = r.answer.0 in
-      fine_last marks m (subst (All IsFine) (sym s.marks_are) (fine_marks None [] s.items s.spelled.1.3))
-  last_is_value longest input used marks m place false r =
-      let w = r.answer.0 in
-      let (items, h, front) = w.viable in
-      fine_last marks m (subst (All IsFine) (w.seen items h front) (fine_some (length used) (marks_of items) (fine_marks None [] items h.1.3)))
+pub last_is_value : ReadStatements → (limit top longest : ℕ) (input used : List ℕ) (marks : List (Spanned Statement)) (m : Spanned Statement) (place : Place) (done : Bool) → Reads (IsProof limit top) longest input used (marks ++ m ∷ []) place done None → IsStatementValue limit top m.event
+last_is_value values limit top longest input used marks m place done r =
+    last_of (IsStatementValue limit top) marks m (values limit top longest input used (marks ++ m ∷ []) place done None r).each
 
 -- ---- what a read without a stop says of the bytes used alone
 module _ (limit top longest : ℕ) where
@@ -113,17 +84,22 @@ module _ (limit top longest : ℕ) where
   stopped input used marks place true s r = absurd (let e = r.answer.1 in cc e)
   stopped input used marks place false s r = r
 
+-- ---- a feeder of a machine of proofs
+abbrev StandingIsReading : Type 0
+StandingIsReading = (longest : ℕ) (start : ProofState) (input : List ℕ) (marks : List (Spanned Statement)) (f : ProofFeeder) → StandsAt longest start input marks f → (used : List ℕ) × Reads (AcceptsBytes proofs start) longest input used marks (place_of f) (is_complete f) (halt_of f)
+
+pub texts_read : ReadsProofs → StandingIsReading → TextsAreRead
+texts_read exact reads limit top longest input marks f stands =
+    let (used, r) = reads longest (begin limit top) input marks f stands in
+    (used, formats.reads (AcceptsBytes proofs (begin limit top)) (IsProof limit top) (λ items h. (exact limit top items).0 h) (λ items h. (exact limit top items).1 h) longest input used marks (place_of f) (is_complete f) (halt_of f) r)
+
 -- ---- a feed and a step
-module _ (exact : ReadsProofs) (limits : Limits) (longest : ℕ) (v : Problem) (first : Result State Fault) where
+module _ (read : TextsAreRead) (limits : Limits) (longest : ℕ) (v : Problem) (first : Result State Fault) where
   abbrev Says : List ℕ → List ℕ → List (Spanned Statement) → Place → Bool → Option Stop → Type 0
   Says = Reads (IsProof (largest limits) (top_of limits)) longest
 
   pub text : (input : List ℕ) (marks : List (Spanned Statement)) (f : ProofFeeder) → StandsAt longest (begin (largest limits) (top_of limits)) input marks f → (used : List ℕ) × Says input used marks (place_of f) (is_complete f) (halt_of f)
-  text input marks f s = (
-    bytes s.1.letters,
-    formats.reads (AcceptsBytes proofs (begin (largest limits) (top_of limits))) (IsProof (largest limits) (top_of limits)) (λ items h. (exact (largest limits) (top_of limits) items).0 h) (λ items h. (exact (largest limits) (top_of limits) items).1 h) longest input (bytes s.1.letters) marks (place_of f) (is_complete f) (halt_of f)
-        (stands_reads proofs longest (begin (largest limits) (top_of limits)) input marks f.machine f.place f.first f.stop s.1 (is_complete f) refl),
-  )
+  text = read (largest limits) (top_of limits) longest
 
   module _ (input piece : List ℕ) (f n : ProofFeeder) (r : Replaying) (h : IsRunning limits longest v first input f r) where
     owed : IsOpenText f.stop
@@ -154,6 +130,16 @@ module _ (exact : ReadsProofs) (limits : Limits) (longest : ℕ) (v : Problem) (
           },
         )
 
+    -- the byte at which memory ran out is one that may ask for it
+    wanted : (s : Stop) → FeedsOnce f piece (Err s) n → halt_of n ≡ Some s → WantsMemory limits (input ++ piece) (Text s)
+    wanted s feeds halts e =
+        let stands : StandsAt longest (begin (largest limits) (top_of limits)) (input ++ piece) h.marks n = rw append-nil at (feeds.0 longest (begin (largest limits) (top_of limits)) input h.marks owed h.stands) in
+        let k = stands.1 in
+        let waits : Waits proofs n.machine (end_of longest n.first) k.letters k.left n.place (Some s) = subst (λ (x : Option Stop). Waits proofs n.machine (end_of longest n.first) k.letters k.left n.place x) halts k.waits in
+        let stops : Halts proofs n.machine (end_of longest n.first) k.letters k.left Memory = subst (λ (x : Why). Halts proofs n.machine (end_of longest n.first) k.letters k.left x) e waits.2 in
+        let (b, more, left, admits, asks, room) = stops in
+        (bytes k.letters, b, more, k.input_is ∙ ap (λ (x : List ℕ). bytes k.letters ++ x) left, waits.1 ∙ k.place_is, (n.machine, k.leads, asks))
+
     module _ (used : ℕ) (m : Spanned Statement) (feeds : FeedsOnce f piece (Ok (record { used = used; event = Some m })) n) (running : halt_of n ≡ None) where
       stands : StandsAt longest (begin (largest limits) (top_of limits)) (input ++ take used piece) (h.marks ++ m ∷ []) n
       stands = feeds.0 longest (begin (largest limits) (top_of limits)) input h.marks owed h.stands
@@ -163,8 +149,8 @@ module _ (exact : ReadsProofs) (limits : Limits) (longest : ℕ) (v : Problem) (
           let (u, reads) = text (input ++ take used piece) (h.marks ++ m ∷ []) n stands in
           (u, subst (λ (x : Option Stop). Says (input ++ take used piece) u (h.marks ++ m ∷ []) (place_of n) (is_complete n) x) running reads)
 
-      is_value : IsStatementValue (largest r.limits) (top_of r.limits) m.event
-      is_value = subst (λ (x : Limits). IsStatementValue (largest x) (top_of x) m.event) (sym h.limits_are) (last_is_value (largest limits) (top_of limits) longest (input ++ take used piece) said.0 h.marks m (place_of n) (is_complete n) said.1)
+      is_value : ReadStatements → IsStatementValue (largest r.limits) (top_of r.limits) m.event
+      is_value values = subst (λ (x : Limits). IsStatementValue (largest x) (top_of x) m.event) (sym h.limits_are) (last_is_value values (largest limits) (top_of limits) longest (input ++ take used piece) said.0 h.marks m (place_of n) (is_complete n) said.1)
 
       stepped : (t : Replaying) → StepsFrom r.limits r.problem h.now m (Ok tt) t → t.limits ≡ r.limits → t.problem ≡ r.problem → IsRunning limits longest v first (input ++ take used piece) n t
       stepped t (s, at, takes) limited problem = record {
@@ -193,21 +179,16 @@ module _ (exact : ReadsProofs) (limits : Limits) (longest : ℕ) (v : Problem) (
         refused = subst (λ (x : Problem). Refuses limits x h.now m.event e) h.problem (subst (λ (x : Limits). Refuses x r.problem h.now m.event e) h.limits_are refuses);
       }
 
--- ---- a whole proof that was accepted has a verdict
+-- ---- the statements of a spelling
 pub marks_events : (first : Option Place) (before : List ℕ) (items : List (Item Statement)) → statements_at (marks_since first before items) ≡ events_of items
 marks_events first before [] = refl
 marks_events first before (i ∷ items) = ap (λ (x : List Statement). i.event ∷ x) (marks_events None (before ++ (i.gap ++ bytes i.text)) items)
-
-module _ (limit top : ℕ) (v : Problem) where
-  ended : (steps : List Statement) (c : Conclusion) (s t : State) → Accepts limit top v s (steps ++ Output ∷ Conclude c ∷ End ∷ []) t → t.next ≡ Done
-  ended [] c s t (a, h, (b, k, (d, l, e))) = let last = ok-same (needed l).1 in rw (sym e, last) refl
-  ended (x ∷ steps) c s t h = ended steps c h.0 t h.2
 
 -- ---- the same, of whatever stands beside them
 fed_with : (fed : Fed Statement) (event : Option (Spanned Statement)) → fed.event ≡ event → fed ≡ record { used = fed.used; event = event }
 fed_with fed event e = ap (λ (x : Option (Spanned Statement)). let y : Fed Statement = record { used = fed.used; event = x } in y) e
 
-running_at : (limits : Limits) (longest : ℕ) (v : Problem) (first : Result State Fault) (input : List ℕ) (f : ProofFeeder) (r : Replaying) (e : Option CheckFault) → e ≡ None → Stands limits longest v first input f r e → IsRunning limits longest v first input f r
+pub running_at : (limits : Limits) (longest : ℕ) (v : Problem) (first : Result State Fault) (input : List ℕ) (f : ProofFeeder) (r : Replaying) (e : Option CheckFault) → e ≡ None → Stands limits longest v first input f r e → IsRunning limits longest v first input f r
 running_at limits longest v first input f r None e h = h
 running_at limits longest v first input f r (Some x) e h = absurd (cc e)
 
@@ -215,60 +196,61 @@ stands_at : (limits : Limits) (longest : ℕ) (v : Problem) (first : Result Stat
 stands_at limits longest v first input f r None e h = h
 stands_at limits longest v first input f r (Some x) e h = absurd (cc e)
 
-module _ (exact : ReadsProofs) (limits : Limits) (longest : ℕ) (v : Problem) (first : Result State Fault) (input piece : List ℕ) (f n : ProofFeeder) (r : Replaying) (old : Option CheckFault) (none : old ≡ None) (h : Stands limits longest v first input f r old) where
+module _ (read : TextsAreRead) (limits : Limits) (longest : ℕ) (v : Problem) (first : Result State Fault) (input piece : List ℕ) (f n : ProofFeeder) (r : Replaying) (old : Option CheckFault) (none : old ≡ None) (h : Stands limits longest v first input f r old) where
   go : IsRunning limits longest v first input f r
   go = running_at limits longest v first input f r old none h
 
   pub quiet_at : (fed : Fed Statement) → fed.event ≡ None → FeedsOnce f piece (Ok fed) n → halt_of n ≡ None → Stands limits longest v first (input ++ piece) n r old
   quiet_at fed e feeds running =
-      stands_at limits longest v first (input ++ piece) n r old none (quiet exact limits longest v first input piece f n r go fed.used (subst (λ (x : Fed Statement). FeedsOnce f piece (Ok x) n) (fed_with fed None e) feeds) running)
+      stands_at limits longest v first (input ++ piece) n r old none (quiet read limits longest v first input piece f n r go fed.used (subst (λ (x : Fed Statement). FeedsOnce f piece (Ok x) n) (fed_with fed None e) feeds) running)
 
   pub halted_at : (s : Stop) → FeedsOnce f piece (Err s) n → halt_of n ≡ Some s → Checks limits longest v first (input ++ piece) (place_of n) false (Some (Text s))
-  halted_at s feeds halts = halted exact limits longest v first input piece f n r go s feeds halts
+  halted_at s feeds halts = halted read limits longest v first input piece f n r go s feeds halts
+
+  pub wanted_at : (s : Stop) → FeedsOnce f piece (Err s) n → halt_of n ≡ Some s → WantsMemory limits (input ++ piece) (Text s)
+  wanted_at s feeds halts = wanted read limits longest v first input piece f n r go s feeds halts
+
+  pub running_text : halt_of f ≡ None
+  running_text = go.running
 
   module _ (fed : Fed Statement) (m : Spanned Statement) (e : fed.event ≡ Some m) (fs : FeedsOnce f piece (Ok fed) n) (running : halt_of n ≡ None) where
     feeds : FeedsOnce f piece (Ok (record { used = fed.used; event = Some m })) n
     feeds = subst (λ (x : Fed Statement). FeedsOnce f piece (Ok x) n) (fed_with fed (Some m) e) fs
 
-    pub value_at : IsStatementValue (largest r.limits) (top_of r.limits) m.event
-    value_at = is_value exact limits longest v first input piece f n r go fed.used m feeds running
+    pub value_at : ReadStatements → IsStatementValue (largest r.limits) (top_of r.limits) m.event
+    value_at = is_value read limits longest v first input piece f n r go fed.used m feeds running
 
     pub stepped_at : (t : Replaying) → ((now : Result State Fault) → IsAt r now → StepsFrom r.limits r.problem now m (Ok tt) t) → t.limits ≡ r.limits → t.problem ≡ r.problem → Stands limits longest v first (input ++ take fed.used piece) n t old
-    stepped_at t steps limited problem = stands_at limits longest v first (input ++ take fed.used piece) n t old none (stepped exact limits longest v first input piece f n r go fed.used m feeds running t (steps go.now go.at) limited problem)
+    stepped_at t steps limited problem = stands_at limits longest v first (input ++ take fed.used piece) n t old none (stepped read limits longest v first input piece f n r go fed.used m feeds running t (steps go.now go.at) limited problem)
 
     pub refused_at : (t : Replaying) (x : CheckFault) → ((now : Result State Fault) → IsAt r now → StepsFrom r.limits r.problem now m (Err x) t) → Stands limits longest v first (input ++ piece) n t (Some x)
     refused_at t x steps =
         let (why, is, refuses) = steps go.now go.at in
-        subst (λ (y : CheckFault). Stands limits longest v first (input ++ piece) n t (Some y)) (sym is) (refused exact limits longest v first input piece f n r go fed.used m feeds running t why refuses)
+        subst (λ (y : CheckFault). Stands limits longest v first (input ++ piece) n t (Some y)) (sym is) (refused read limits longest v first input piece f n r go fed.used m feeds running t why refuses)
+
+    pub unread_step : (t : Replaying) (x : CheckFault) → ((now : Result State Fault) → IsAt r now → StepsFrom r.limits r.problem now m (Err x) t) → IsUnread x
+    unread_step t x steps = let (why, is, refuses) = steps go.now go.at in subst IsUnread (sym is) tt
+
+    pub wanted_step : (t : Replaying) (x : CheckFault) → ((now : Result State Fault) → IsAt r now → StepsFrom r.limits r.problem now m (Err x) t) → WantsMemory limits (input ++ piece) x
+    wanted_step t x steps = let (why, is, refuses) = steps go.now go.at in subst (WantsMemory limits (input ++ piece)) (sym is) tt
 
 -- ---- where the text has ended
-module _ (limit top : ℕ) (v : Problem) (first t : State) where
-  claim : HasClaim t.next t.concluded → t.next ≡ Done → IsSome t.concluded
-  claim c e = rw e at c
+given : (o : Option Verdict) → IsSome o → o ≡ None → ⊥
+given None i e = absurd (cc i)
+given (Some x) i e = absurd (cc e)
 
-  given : (o : Option Verdict) → IsSome o → o ≡ None → ⊥
-  given None i e = absurd (cc i)
-  given (Some x) i e = absurd (cc e)
-
-  whole : (count : Option ℕ) (steps : List Statement) (c : Conclusion) → Accepts limit top v first (Header ∷ F count ∷ (steps ++ Output ∷ Conclude c ∷ End ∷ [])) t → verdict_at t.next t.concluded ≡ None → ⊥
-  whole count steps c (a, h, (b, k, rest)) none =
-      let begins = (needed h).0 in
-      let p : HasClaim first.next first.concluded = rw begins tt in
-      let done = ended limit top v steps c b t rest in
-      given t.concluded (claim (run limit top v first t (Header ∷ F count ∷ (steps ++ Output ∷ Conclude c ∷ End ∷ [])) p (a, h, (b, k, rest))) done) (rw done at none)
-
-module _ (limits : Limits) (longest : ℕ) (v : Problem) (first : Result State Fault) where
+module _ (whole : WholeProofsConclude) (limits : Limits) (longest : ℕ) (v : Problem) (first : Result State Fault) where
   -- the replay was in a state, and is in one
   pub there : (input used : List ℕ) (marks : List (Spanned Statement)) (place : Place) (now : Result State Fault) → Reads (IsProof (largest limits) (top_of limits)) longest input used marks place true None → Leads limits v first (statements_at marks) now → (t : State) × (now ≡ Ok t) × (verdict_at t.next t.concluded ≡ None → ⊥)
   there input used marks place now r leads =
       let s = r.answer.0 in
       let (pf, spells) = s.spelled in
       let same = ap (λ (x : List (Spanned Statement)). statements_at x) s.marks_are ∙ (marks_events None [] s.items ∙ spells.1) in
-      by first pf.count pf.steps pf.conclusion (subst (λ (x : List Statement). Leads limits v first x now) same leads)
+      by first pf (subst (λ (x : List Statement). Leads limits v first x now) same leads)
     where
-      by : (first : Result State Fault) (count : Option ℕ) (steps : List Statement) (c : Conclusion) → Leads limits v first (Header ∷ F count ∷ (steps ++ Output ∷ Conclude c ∷ End ∷ [])) now → (t : State) × (now ≡ Ok t) × (verdict_at t.next t.concluded ≡ None → ⊥)
-      by (Ok s) count steps c (t, is, accepted) = (t, is, whole (largest limits) (top_of limits) v s t count steps c accepted)
-      by (Err e) count steps c (none, is) = absurd (cc none)
+      by : (first : Result State Fault) (pf : Proof) → Leads limits v first (Header ∷ F pf.count ∷ (pf.steps ++ Output ∷ Conclude pf.conclusion ∷ End ∷ [])) now → (t : State) × (now ≡ Ok t) × (verdict_at t.next t.concluded ≡ None → ⊥)
+      by (Ok s) pf (t, is, accepted) = (t, is, given (verdict_at t.next t.concluded) (whole (largest limits) (top_of limits) v pf s t accepted))
+      by (Err e) pf (none, is) = absurd (cc none)
 
 -- ---- input behind a fault
 module _ (limit top longest : ℕ) (used left piece : List ℕ) where
@@ -341,7 +323,7 @@ pub all_rest : (piece : List ℕ) (i : ℕ) → take (length piece - i) (drop i 
 all_rest piece i = ap (λ (k : ℕ). take k (drop i piece)) (sym (length-drop i piece)) ∙ take-length (drop i piece)
 
 -- ---- feeds in a row
-module _ (exact : ReadsProofs) (limits : Limits) (longest : ℕ) (v : Problem) (first : Result State Fault) where
+module _ (read : TextsAreRead) (limits : Limits) (longest : ℕ) (v : Problem) (first : Result State Fault) where
   row : (input : List ℕ) (before after : Checking) (pieces : List (List ℕ)) → ChecksAt limits longest v first input before → IsOpen (fault_of before) → Feeds before pieces after → ChecksAt limits longest v first (input ++ joined pieces) after
   row input before after [] h owed e = subst (λ (x : Checking). ChecksAt limits longest v first (input ++ []) x) e (rw append-nil h)
   row input before after (piece ∷ pieces) h owed (mid, once, rest) =
@@ -350,7 +332,7 @@ module _ (exact : ReadsProofs) (limits : Limits) (longest : ℕ) (v : Problem) (
 
   seen : (input : List ℕ) (c : Checking) (x : Option CheckFault) → Stands limits longest v first input c.feeder c.replay x → Checks limits longest v first input (place_in c) (is_whole c) x
   seen input c None h =
-      let (used, reads) = text exact limits longest v first input h.marks c.feeder h.stands in (
+      let (used, reads) = text read limits longest v first input h.marks c.feeder h.stands in (
         h.now,
         record {
           used = used;
@@ -362,9 +344,9 @@ module _ (exact : ReadsProofs) (limits : Limits) (longest : ℕ) (v : Problem) (
   seen input c (Some (Text s)) h = h
   seen input c (Some (Step begins e)) h = h
 
-pub any_cutting : (exact : ReadsProofs) → AnyCutting
-any_cutting exact limits longest v first before after pieces h owed feeds =
-    seen exact limits longest v first (joined pieces) after after.fault (row exact limits longest v first [] before after pieces h owed feeds)
+pub any_cutting : TextsAreRead → AnyCutting
+any_cutting read limits longest v first before after pieces h owed feeds =
+    seen read limits longest v first (joined pieces) after after.fault (row read limits longest v first [] before after pieces h owed feeds)
 
 pub shown_at : (r : Replaying) (t : State) → IsAt r (Ok t) → verdict_in r ≡ verdict_at t.next t.concluded
 shown_at r t (unspent, at) =
@@ -372,7 +354,7 @@ shown_at r t (unspent, at) =
     ∙ sym (ap (λ (x : Phase). verdict_at x t.concluded) at.next ∙ ap (λ (x : Option Verdict). verdict_at r.next x) at.concluded)
 
 -- ---- where the text has ended, of a checker
-module _ (exact : ReadsProofs) (limits : Limits) (longest : ℕ) (v : Problem) (first : Result State Fault) (input : List ℕ) (f : ProofFeeder) (r : Replaying) (e : Option CheckFault) (none : e ≡ None) (h : Stands limits longest v first input f r e) where
+module _ (read : TextsAreRead) (limits : Limits) (longest : ℕ) (v : Problem) (first : Result State Fault) (input : List ℕ) (f : ProofFeeder) (r : Replaying) (e : Option CheckFault) (none : e ≡ None) (h : Stands limits longest v first input f r e) where
   now : IsRunning limits longest v first input f r
   now = running_at limits longest v first input f r e none h
 
@@ -381,7 +363,7 @@ module _ (exact : ReadsProofs) (limits : Limits) (longest : ℕ) (v : Problem) (
 
   told : (used : List ℕ) × IsTold used (is_complete f) None
   told =
-      let (used, reads) = text exact limits longest v first input now.marks f now.stands in
+      let (used, reads) = text read limits longest v first input now.marks f now.stands in
       (used, subst (λ (x : Option Stop). IsTold used (is_complete f) x) now.running reads)
 
   whole_text : is_complete f ≡ true → IsReplayed limits longest v first input (place_of f) true None now.now
@@ -399,45 +381,26 @@ module _ (exact : ReadsProofs) (limits : Limits) (longest : ℕ) (v : Problem) (
         },
       )
 
-  pub verdict_here : is_complete f ≡ true → (w : Verdict) → Some w ≡ verdict_in r → (t : State) × IsReplayed limits longest v first input (place_of f) true None (Ok t) × (verdict_at t.next t.concluded ≡ Some w)
-  verdict_here done w is =
+  pub verdict_here : WholeProofsConclude → is_complete f ≡ true → (w : Verdict) → Some w ≡ verdict_in r → (t : State) × IsReplayed limits longest v first input (place_of f) true None (Ok t) × (verdict_at t.next t.concluded ≡ Some w)
+  verdict_here whole done w is =
       let text = whole_text done in
-      let (t, same, some) = there limits longest v first input text.used text.marks (place_of f) now.now text.reads text.accepted in
+      let (t, same, some) = there whole limits longest v first input text.used text.marks (place_of f) now.now text.reads text.accepted in
       (t, subst (λ (x : Result State Fault). IsReplayed limits longest v first input (place_of f) true None x) same text, sym (shown_at r t (subst (λ (x : Result State Fault). IsAt r x) same now.at)) ∙ sym is)
 
-  pub no_verdict : is_complete f ≡ true → None ≡ verdict_in r → ⊥
-  no_verdict done is =
+  pub no_verdict : WholeProofsConclude → is_complete f ≡ true → None ≡ verdict_in r → ⊥
+  no_verdict whole done is =
       let text = whole_text done in
-      let (t, same, some) = there limits longest v first input text.used text.marks (place_of f) now.now text.reads text.accepted in
+      let (t, same, some) = there whole limits longest v first input text.used text.marks (place_of f) now.now text.reads text.accepted in
       some (sym (shown_at r t (subst (λ (x : Result State Fault). IsAt r x) same now.at)) ∙ sym is)
 
 -- ---- a replay stands somewhere
-some_best : (best : Option ℤ) → (logged : List Logged) × IsBest logged best
-some_best None = ([], refl)
-some_best (Some b) = let g : Logged = record { values = []; value = b } in (g ∷ [], best-push [] None g b refl refl)
-
-pub some_state : (r : Replaying) → (s : State) × StandsFor r s
-some_state r =
-    let (logged, best) = some_best r.best in (
-      record { live = r.live; names = r.names; logged = logged; next = r.next; concluded = r.concluded },
-      record { live = refl; names = refl; logged = best; next = refl; concluded = refl },
-    )
-
-pub somewhere : (r : Replaying) → (first : Result State Fault) × IsAt r first
-somewhere r = by r.fault refl
+pub somewhere : ReplaysHaveStates → (r : Replaying) → (first : Result State Fault) × IsAt r first
+somewhere states r = by r.fault refl
   where
     by : (o : Option Fault) → r.fault ≡ o → (first : Result State Fault) × IsAt r first
-    by None e = let (s, at) = some_state r in (Ok s, (e, at))
+    by None e = let (s, at) = states r in (Ok s, (e, at))
     by (Some x) e = (Err x, e)
 
 pub leads_none : (limits : Limits) (v : Problem) (first : Result State Fault) → Leads limits v first [] first
 leads_none limits v (Ok s) = (s, refl, refl)
 leads_none limits v (Err e) = (refl, refl)
-
--- ---- what is held of the open statement
-module _ (exact : ReadsProofs) (limits : Limits) (longest : ℕ) (v : Problem) (first : Result State Fault) (input : List ℕ) (f : ProofFeeder) (r : Replaying) (e : Option CheckFault) (none : e ≡ None) (h : Stands limits longest v first input f r e) where
-  pub open_at : (held : ℕ) → ((longest : ℕ) (start : ProofState) (input : List ℕ) (marks : List (Spanned Statement)) → StandsAt longest start input marks f → HoldsFew start input f held) → HoldsOpen limits input (place_of f) held
-  open_at held few =
-      let now = running_at limits longest v first input f r e none h in
-      let (used, n, front, place, opens, bound) = few longest (begin (largest limits) (top_of limits)) input now.marks now.stands in
-      (used, n, front, place, λ items k at. opens items ((exact (largest limits) (top_of limits) items).1 k) at, bound)

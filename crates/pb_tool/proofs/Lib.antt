@@ -13,6 +13,7 @@ mod Loads
 mod Solutions
 mod Stays
 mod Checked
+mod Held
 mod Replayed
 mod Accepted
 mod Headline

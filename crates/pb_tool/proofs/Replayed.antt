@@ -11,8 +11,10 @@ use Rattle.pb_text.specs.declared.Stop.{Stop}
 use Rattle.pb_text.proofs.Formats as formats
 use Rattle.pb_proof.specs.Formats.{ReadsProofs}
 use Rattle.pb_proof.specs.State.{begin, proofs}
+use Rattle.pb_proof.specs.ValueLaws.{ReadStatements}
 use Rattle.pb_proof.specs.Values.{IsStatementValue}
 use Rattle.pb_proof.specs.declared.Statement.{Statement}
+use Rattle.pb_replay.specs.Laws.{ReplaysHaveStates, WholeProofsConclude}
 use Rattle.pb_replay.specs.Loading.{Problem}
 use Rattle.pb_replay.specs.Meaning.{IsFront}
 use Rattle.pb_replay.specs.Replay.{State}
@@ -30,18 +32,18 @@ use Rattle.pb_tool.specs.Files.{IsVeri}
 use Rattle.pb_tool.specs.Runs.{Runs, faults_of_text}
 use Rattle.pb_tool.specs.Verified.{IsAccepted}
 use Rattle.pb_tool.specs.declared.checker.CheckFault.{CheckFault}
-use Rattle.pb_tool.proofs.Checked.{accepts_more, last_is_value, shown_at, some_state, there}
+use Rattle.pb_tool.proofs.Checked.{accepts_more, last_is_value, shown_at, there}
 
 -- what a step answers, from wherever the replay stood
 abbrev Answers : Replaying → Spanned Statement → Result Unit CheckFault → Replaying → Type 0
 Answers old m result new = (now : Result State Fault) → IsAt old now → StepsFrom old.limits old.problem now m result new
 
-pub unspent_after : (old new : Replaying) (m : Spanned Statement) → old.fault ≡ None → Answers old m (Ok tt) new → new.fault ≡ None
-unspent_after old new m none steps = let (s, at) = some_state old in (steps (Ok s) (none, at)).1.0
+pub unspent_after : ReplaysHaveStates → (old new : Replaying) (m : Spanned Statement) → old.fault ≡ None → Answers old m (Ok tt) new → new.fault ≡ None
+unspent_after states old new m none steps = let (s, at) = states old in (steps (Ok s) (none, at)).1.0
 
-pub refused_faults : (old new : Replaying) (m : Spanned Statement) (x : CheckFault) → old.fault ≡ None → Answers old m (Err x) new → (k n : ℕ) → k ≡ n → k ≡ faults_of_text {A = Unit} (Err x) n
-refused_faults old new m x none steps k n h =
-    let (s, at) = some_state old in
+pub refused_faults : ReplaysHaveStates → (old new : Replaying) (m : Spanned Statement) (x : CheckFault) → old.fault ≡ None → Answers old m (Err x) new → (k n : ℕ) → k ≡ n → k ≡ faults_of_text {A = Unit} (Err x) n
+refused_faults states old new m x none steps k n h =
+    let (s, at) = states old in
     let (e, is, refuses) = steps (Ok s) (none, at) in
     subst (λ (y : CheckFault). k ≡ faults_of_text {A = Unit} (Err y) n) (sym is) h
 
@@ -73,10 +75,10 @@ module _ (exact : ReadsProofs) (limits : Limits) (longest : ℕ) where
     so_far_to : (marks : List (Spanned Statement)) (place : Place) → HasSoFar marks place → TookSoFar (IsVeri limits) longest before after marks place
     so_far_to marks place t = record { used = t.used; seen = t.seen; took = t.took; done = t.done; reads = to_proof t.used t.used marks place t.done None t.reads }
 
-    pub value_pulled : (current : Limits) → current ≡ limits → (marks : List (Spanned Statement)) (m : Spanned Statement) (place : Place) → HasSoFar (marks ++ m ∷ []) place → IsStatementValue (largest current) (top_of current) m.event
-    value_pulled current same marks m place t =
+    pub value_pulled : ReadStatements → (current : Limits) → current ≡ limits → (marks : List (Spanned Statement)) (m : Spanned Statement) (place : Place) → HasSoFar (marks ++ m ∷ []) place → IsStatementValue (largest current) (top_of current) m.event
+    value_pulled values current same marks m place t =
         let all = so_far_to (marks ++ m ∷ []) place t in
-        subst (λ (x : Limits). IsStatementValue (largest x) (top_of x) m.event) (sym same) (last_is_value (largest limits) (top_of limits) longest all.used all.used marks m place all.done all.reads)
+        subst (λ (x : Limits). IsStatementValue (largest x) (top_of x) m.event) (sym same) (last_is_value values (largest limits) (top_of limits) longest all.used all.used marks m place all.done all.reads)
 
     module _ (v : Problem) (first : State) (r : Replaying) (marks : List (Spanned Statement)) (led : (t : State) × StandsFor r t × Accepts (largest limits) (top_of limits) v first (statements_at marks) t) where
       pub accepted : (place : Place) (done : Bool) (stop : Option Stop) → HasAll marks place done stop → IsAccepted limits longest v first before after place done stop led.0
@@ -86,10 +88,10 @@ module _ (exact : ReadsProofs) (limits : Limits) (longest : ℕ) where
         pub ended : (place : Place) (w : Verdict) → HasAll marks place true None → Some w ≡ verdict_in r → (t : State) × IsAccepted limits longest v first before after place true None t × (t.concluded ≡ Some w)
         ended place w all is = (led.0, accepted place true None all, claimed led.0.next led.0.concluded w (sym (shown_at r led.0 (none, led.1)) ∙ sym is))
 
-        pub no_end : (place : Place) → HasAll marks place true None → None ≡ verdict_in r → ⊥
-        no_end place all is =
+        pub no_end : WholeProofsConclude → (place : Place) → HasAll marks place true None → None ≡ verdict_in r → ⊥
+        no_end whole place all is =
             let t = all_to marks place true None all in
-            let (u, same, some) = there limits longest v (Ok first) (t.used ++ t.seen) t.used marks place (Ok led.0) t.reads (led.0, refl, led.2) in
+            let (u, same, some) = there whole limits longest v (Ok first) (t.used ++ t.seen) t.used marks place (Ok led.0) t.reads (led.0, refl, led.2) in
             some (sym (shown_at r u (subst (λ (x : Result State Fault). IsAt r x) same (none, led.1))) ∙ sym is)
 
         module _ (new : Replaying) (m : Spanned Statement) (limited : r.limits ≡ limits) (problem : r.problem ≡ v) where

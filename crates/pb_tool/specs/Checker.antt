@@ -1,10 +1,12 @@
 -- How a checker stands to the text that it was fed.
 use Rattle.std.specs.Prelude.{◌≡◌, ℕ, List, false, Option, Some, None, Result, Ok, Err}
 use Rattle.pb_text.specs.Limits.{largest, top_of}
-use Rattle.pb_text.specs.Feeding.{StandsAt, place_of, halt_of}
+use Rattle.pb_text.specs.Feeding.{StandsAt, place_of, halt_of, is_complete}
+use Rattle.pb_text.specs.Reading.{Reads}
 use Rattle.pb_text.specs.declared.Limits.{Limits}
 use Rattle.pb_text.specs.declared.Spanned.{Spanned}
 use Rattle.pb_text.specs.declared.Feeder.{Feeder}
+use Rattle.pb_proof.specs.Proofs.{IsProof}
 use Rattle.pb_proof.specs.State.{ProofState, begin, proofs}
 use Rattle.pb_proof.specs.declared.Statement.{Statement}
 use Rattle.pb_replay.specs.Loading.{Problem}
@@ -58,3 +60,9 @@ abbrev pub IsSomewhere : ProofFeeder → Replaying → Option CheckFault → Typ
 IsSomewhere f r e =
     (limits : Limits) × (longest : ℕ) × (v : Problem) × (first : Result State Fault) × (input : List ℕ)
     × Stands limits longest v first input f r e
+
+-- A feeder that stands to the text of a proof has read it.
+abbrev pub TextsAreRead : Type 0
+TextsAreRead = (limit top longest : ℕ) (input : List ℕ) (marks : List (Spanned Statement)) (f : ProofFeeder) →
+    StandsAt longest (begin limit top) input marks f →
+    (used : List ℕ) × Reads (IsProof limit top) longest input used marks (place_of f) (is_complete f) (halt_of f)

@@ -16,9 +16,13 @@ abbrev pub VerdictsAreTrue : Type 0
 VerdictsAreTrue = (limits : Limits) (longest : ℕ) (i : Instance) (p : Proof) (w : Verdict) (before after : Option (List ℕ)) →
     IsProofFile limits longest before after p → IsVerified limits i p w → MeansWritten i w
 
--- Where a check answers that UNSAT is verified, the first source is an instance, and no assignment of its names solves
+-- no assignment of its names solves the instance, as it is written
+abbrev pub IsUnsatisfiable : Instance → Type 0
+IsUnsatisfiable v = (a : List ℕ → Bool) → Solves v a → ⊥
+
+-- Where a check of two sources answers that UNSAT is verified, the first one was an instance, and no assignment solves
 -- it.
 abbrev pub UnsatIsTrue : {W : Type 0} → (W → Option (List ℕ)) → (W → ℕ) → Type 0
 UnsatIsTrue {W} contents faults = (limits : Limits) (longest : ℕ) (i p i' p' : Option (List ℕ)) (old new : W) →
     ChecksFiles limits longest contents faults i p old (Ok Unsat) i' p' new →
-    (v : Instance) × IsOpbFile limits longest i i' v × ((a : List ℕ → Bool) → Solves v a → ⊥)
+    (v : Instance) × IsOpbFile limits longest i i' v × IsUnsatisfiable v

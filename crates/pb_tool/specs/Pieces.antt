@@ -1,13 +1,17 @@
 -- What a feed says of a checker.
-use Rattle.std.specs.Prelude.{◌≡◌, ◌≤◌, ℕ, List, [], ◌∷◌, ◌++◌, take, Bool, true, false, Option, Some, None, Result, Ok, Err}
+use Rattle.std.specs.Prelude.{◌≡◌, ◌≢◌, ◌≤◌, ℕ, List, [], ◌∷◌, ◌++◌, take, Bool, true, false, Option, Some, None, Result, Ok, Err}
+use Rattle.pb_text.specs.Automaton.{MayAsk}
 use Rattle.pb_text.specs.Feeding.{place_of, is_complete}
 use Rattle.pb_text.specs.Limits.{largest, top_of}
 use Rattle.pb_text.specs.Reading.{HasOpen, IsFront}
-use Rattle.pb_text.specs.Spelling.{place_after}
+use Rattle.pb_text.specs.Spelling.{Item, bytes_of, place_after}
 use Rattle.pb_text.specs.Standing.{Counts}
-use Rattle.pb_proof.specs.Proofs.{IsProof}
 use Rattle.pb_text.specs.declared.Limits.{Limits}
 use Rattle.pb_text.specs.declared.Place.{Place}
+use Rattle.pb_text.specs.declared.place.Why.TheVariants.{Read, Memory}
+use Rattle.pb_proof.specs.Proofs.{IsProof}
+use Rattle.pb_proof.specs.State.{begin, proofs}
+use Rattle.pb_proof.specs.declared.Statement.{Statement}
 use Rattle.pb_replay.specs.Loading.{Problem}
 use Rattle.pb_replay.specs.Replay.{State}
 use Rattle.pb_replay.specs.declared.fault.Fault.{Fault}
@@ -73,6 +77,24 @@ abbrev pub HoldsOpen : Limits → List ℕ → Place → ℕ → Type 0
 HoldsOpen limits input place held =
     (used : List ℕ) × (n : ℕ) × IsFront used input × (place ≡ place_after used)
     × HasOpen (IsProof (largest limits) (top_of limits)) used n × (held ≤ n)
+
+-- The input ends with the last byte of a statement: it is the text of the first statements of a proof.
+abbrev pub EndsStatement : Limits → List ℕ → Type 0
+EndsStatement limits input =
+    (begun : List (Item Statement)) × (rest : List (Item Statement))
+    × IsProof (largest limits) (top_of limits) (begun ++ rest) × (input ≡ bytes_of begun)
+
+-- no reader failed, as there is none
+abbrev pub IsUnread : CheckFault → Type 0
+IsUnread (Text s) = s.why ≢ Read
+IsUnread (Step begins e) = Unit {0}
+
+-- Where memory ran out for the text, the byte of the input at that place may ask for it.
+abbrev pub WantsMemory : Limits → List ℕ → CheckFault → Type 0
+WantsMemory limits input (Text s) = s.why ≡ Memory →
+    (used : List ℕ) × (b : ℕ) × (more : List ℕ) × (input ≡ used ++ b ∷ more) × (s.place ≡ place_after used)
+    × MayAsk proofs (begin (largest limits) (top_of limits)) used b
+WantsMemory limits input (Step begins e) = Unit {0}
 
 -- the bytes of the piece that were dealt with: where a statement came, those through its last
 abbrev pub bytes_to : Bool → ℕ → List ℕ → List ℕ

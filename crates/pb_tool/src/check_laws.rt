@@ -3,7 +3,8 @@
 ghost use Rattle.pb_tool.specs.Headline.{UnsatIsTrue, VerdictsAreTrue};
 ghost use Rattle.pb_tool.specs.Pieces.{AnyCutting};
 
-use pb_proof::proofs_are_exact;
+use crate::checker::texts_are_read;
+use pb_proof::proofs_are_values;
 use pb_replay::laws::verdicts_are_true;
 use pb_text::Sink;
 
@@ -11,7 +12,7 @@ use pb_text::Sink;
 pub fn any_cut_of_a_proof()
     ensures { AnyCutting }
 {
-    proofs_are_exact();
+    texts_are_read();
 }
 
 /// What is verified is true of the instance as it is written.
@@ -19,11 +20,13 @@ pub fn verified_is_true()
     ensures { VerdictsAreTrue }
 {
     verdicts_are_true();
+    proofs_are_values();
 }
 
-/// Where `check` answers that UNSAT is verified, no assignment of its names solves the instance.
+/// Where `check` answers that UNSAT is verified, the first input is an instance that no assignment of its names solves.
 pub fn unsat_is_true<W: Sink>()
     ensures { UnsatIsTrue W.contents W.faults }
 {
     verdicts_are_true();
+    proofs_are_values();
 }

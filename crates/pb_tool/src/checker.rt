@@ -6,10 +6,12 @@ ghost use Rattle.pb_proof.specs.Values.{IsStatementValue};
 ghost use Rattle.pb_replay.specs.Replay.{State};
 ghost use Rattle.pb_replay.specs.declared.fault.Fault.{Fault as AFault};
 ghost use Rattle.pb_replay.specs.Meaning.{IsFront};
-ghost use Rattle.pb_tool.specs.Checker.{IsAt, StepsFrom};
+ghost use Rattle.pb_tool.specs.Checker.{IsAt, StepsFrom, TextsAreRead};
 
-use pb_proof::{ProofMachine, Statement, proofs_are_exact};
+use pb_proof::{ProofMachine, Statement, no_front, proofs_are_exact, reads_are_of_proofs};
+use pb_replay::laws::{replays_have_states, whole_proofs_conclude};
 use pb_replay::{Fault, Replay, Verdict};
+use pb_text::laws::standing_is_reading;
 use pb_text::{BYTE_LIMIT, Feeder, Place, Spanned, Stop, Why};
 use std::alloc::Global;
 use std::marker::Model;
@@ -59,7 +61,7 @@ impl Checker {
     ghost use Rattle.pb_text.specs.declared.Limits.{Limits};
     ghost use Rattle.pb_replay.specs.Loading.{Problem};
     ghost use Rattle.pb_tool.specs.Checks.{Ends};
-    ghost use Rattle.pb_tool.specs.Pieces.{ChecksAt, ChecksOnce, HoldsOpen, IsOpen, bytes_gone, fault_in, fault_of, is_whole, place_in};
+    ghost use Rattle.pb_tool.specs.Pieces.{ChecksAt, ChecksOnce, EndsStatement, HoldsOpen, IsOpen, IsUnread, WantsMemory, bytes_gone, fault_in, fault_of, is_whole, place_in};
     ghost use Rattle.pb_tool.specs.declared.checker.CheckFault.{CheckFault as ACheckFault};
 
     /// A checker of a proof for the replay, in whatever state that is. It stops at a statement which has not ended
@@ -72,6 +74,7 @@ impl Checker {
         ensures place { place_in result ≡ Place.START }
         ensures replay { result.replay ≡ replay }
     {
+        replays_have_states();
         let machine = ProofMachine::new(alloc, replay.limits());
         Checker {
             feeder: Feeder::within(machine, longest.unwrap_or(BYTE_LIMIT)),
@@ -102,8 +105,16 @@ impl Checker {
             → fault_of self.now ≡ None
             → ChecksAt limits longest v first input self.now
             → HoldsOpen limits input (place_in self.now) result }
+        // Behind the last byte of a statement nothing is kept.
+        ensures none { (limits : Limits) (longest : ℕ) (v : Problem) (first : Result State AFault) (input : List ℕ)
+            → fault_of self.now ≡ None
+            → ChecksAt limits longest v first input self.now
+            → EndsStatement limits input
+            → result ≡ 0 }
     {
         proofs_are_exact();
+        no_front();
+        texts_are_read();
         self.feeder.held()
     }
 
@@ -115,6 +126,13 @@ impl Checker {
         ensures fault { fault_of self.new ≡ fault_in result }
         ensures used { IfOk result (λ n. ((place_in self.new).offset ≡ (place_in self.old).offset + n) × (n ≤ length piece.now)) }
         ensures again { (e : ACheckFault) → fault_of self.old ≡ Some e → (result ≡ Err e) × (self.new ≡ self.old) }
+        // There is no reader that could fail.
+        ensures unread { fault_of self.old ≡ None → IfErr result IsUnread }
+        // Memory for the text is wanted only at a byte that may ask for it.
+        ensures memory { (limits : Limits) (longest : ℕ) (v : Problem) (first : Result State AFault) (input : List ℕ)
+            → fault_of self.old ≡ None
+            → ChecksAt limits longest v first input self.old
+            → IfErr result (WantsMemory limits (input ++ piece.now)) }
     {
         if let Some(fault) = self.fault {
             return Err(fault);
@@ -143,8 +161,13 @@ impl Checker {
         ensures fault { fault_of self.new ≡ fault_in result }
         ensures used { IfOk result (λ w. ((place_in self.new).offset ≡ (place_in self.old).offset + w.used) × (w.used ≤ length piece.now)) }
         ensures onward { IfOk result (λ w. w.more ≡ true → 0 < w.used) }
+        ensures unread { IfErr result IsUnread }
+        ensures memory { (limits : Limits) (longest : ℕ) (v : Problem) (first : Result State AFault) (input : List ℕ)
+            → ChecksAt limits longest v first input self.old
+            → IfErr result (WantsMemory limits (input ++ piece.now)) }
     {
-        proofs_are_exact();
+        texts_are_read();
+        reads_are_of_proofs();
         let fed = match self.feeder.feed(piece) {
             Ok(fed) => fed,
             Err(stop) => {
@@ -182,7 +205,8 @@ impl Checker {
         if let Some(fault) = self.fault {
             return Err(fault);
         }
-        proofs_are_exact();
+        texts_are_read();
+        whole_proofs_conclude();
         if self.feeder.is_done() {
             match self.replay.verdict() {
                 Some(verdict) => Ok(verdict),
@@ -224,4 +248,12 @@ fn step_by(replay: &mut Replay, read: &Spanned<Statement>) -> Result<(), CheckFa
         Ok(()) => Ok(()),
         Err(fault) => Err(CheckFault::Step(read.first, fault)),
     }
+}
+
+/// A feeder that stands to the text of a proof has read it.
+pub(crate) fn texts_are_read()
+    ensures { TextsAreRead }
+{
+    proofs_are_exact();
+    standing_is_reading::<ProofMachine>();
 }

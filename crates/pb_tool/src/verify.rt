@@ -15,7 +15,8 @@ use crate::checker::{CheckFault, step_through};
 use crate::fault::{Input, ToolFault};
 use crate::tidying::read_file;
 use crate::verdict::write_verdict;
-use pb_proof::{ProofMachine, proofs_are_exact};
+use pb_proof::{ProofMachine, proofs_are_exact, reads_are_of_proofs};
+use pb_replay::laws::{replays_have_states, whole_proofs_conclude};
 use pb_replay::{Fault, Replay, Verdict};
 use pb_text::{BYTE_LIMIT, Failed, Feeder, Limits, Place, Sink, Source, Stop, pull, rest_is_blank};
 use std::alloc::{AllocError, Global};
@@ -165,6 +166,9 @@ fn run<S: Source>(
     ensures faults { S.faults input.new ≡ faults_of_text result (S.faults input.old) }
 {
     proofs_are_exact();
+    reads_are_of_proofs();
+    replays_have_states();
+    whole_proofs_conclude();
     let mut feeder = Feeder::within(ProofMachine::new(alloc, replay.limits()), longest);
     loop {
         match pull(input, &mut feeder) {

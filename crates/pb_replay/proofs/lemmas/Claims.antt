@@ -18,7 +18,7 @@ use Rattle.pb_replay.specs.declared.verdict.Verdict.{Verdict}
 use Rattle.pb_replay.specs.Answer.{Answer}
 use Rattle.pb_replay.specs.Laws.{HasClaim, VerdictsAreThere, WholeProofsConclude}
 use Rattle.pb_replay.specs.Loading.{Problem}
-use Rattle.pb_replay.specs.Replay.{State, first_state}
+use Rattle.pb_replay.specs.Replay.{State}
 use Rattle.pb_replay.specs.Conclusions.{none_left, named, lower_bound, upper_bound, Concludes}
 use Rattle.pb_replay.specs.Running.{verdict_at}
 use Rattle.pb_replay.specs.Statements.{Does, Accepts, comes, mentioned}

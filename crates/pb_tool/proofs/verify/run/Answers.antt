@@ -5,7 +5,6 @@ use Rattle.pb_text.specs.Pulling.{faults_with}
 use Rattle.pb_text.specs.declared.Place.{Place}
 use Rattle.pb_proof.specs.State.{begin, proofs}
 use Rattle.pb_tool.specs.Verified.{IsAccepted}
-use Rattle.pb_tool.proofs.Checked.{some_state}
 use Rattle.pb_tool.proofs.Replayed as replayed
 use Rattle.pb_tool.proofs.Shown.{first_pull, so_far_within}
 use Rattle.pb_tool.proofs.verify.run.Goals as goal
@@ -28,7 +27,7 @@ step_through-requires g c =
     let i = c.loop-read.invariant in
     let t = rw (c.in-Ok-Some.is, c.in-Ok-Some.field-0-is) at c.pull.ensures in
     let (more, sofar) = t.row c.args.longest _ (g.S.Source.left c.args.input.now) i.led.0 i.led.1 in
-    replayed.value_pulled c.proofs_are_exact.ensures c.args.replay.now.limits c.args.longest _ _ c.loop-read.replay.limits i.limited i.led.0 c.in-Ok-Some.read _ sofar
+    replayed.value_pulled c.proofs_are_exact.ensures c.args.replay.now.limits c.args.longest _ _ c.reads_are_of_proofs.ensures c.loop-read.replay.limits i.limited i.led.0 c.in-Ok-Some.read _ sofar
 
 fewer : (a b : ℕ) → b ≤ 2 ^ 40 → a < b → 2 ^ 40 + 1 - b < 2 ^ 40 + 1 - a
 fewer a b reach onward = omega arith
@@ -49,7 +48,7 @@ loop-read-preserved g c =
     let u = c.in-Ok.ensures in
     record {
       faults = rw i.led.1.running at t.faults ∙ i.faults;
-      unspent = replayed.unspent_after c.loop-read.replay c.step_through.new.replay c.in-Ok-Some.read i.unspent u.steps;
+      unspent = replayed.unspent_after c.replays_have_states.ensures c.loop-read.replay c.step_through.new.replay c.in-Ok-Some.read i.unspent u.steps;
       limited = u.limits ∙ i.limited;
       problem = u.problem ∙ i.problem;
       led = (
@@ -71,7 +70,7 @@ pub returns-in-Err-step_through-clause-faults : goal.returns-in-Err-step_through
 returns-in-Err-step_through-clause-faults g c =
     let i = c.loop-read.invariant in
     let t = rw (c.in-Ok-Some.is, c.in-Ok-Some.field-0-is) at c.pull.ensures in
-    replayed.refused_faults c.loop-read.replay c.step_through.new.replay c.in-Ok-Some.read c.in-Err-step_through.fault i.unspent c.in-Err-step_through.ensures.steps _ _ (rw i.led.1.running at t.faults ∙ i.faults)
+    replayed.refused_faults c.replays_have_states.ensures c.loop-read.replay c.step_through.new.replay c.in-Ok-Some.read c.in-Err-step_through.fault i.unspent c.in-Err-step_through.ensures.steps _ _ (rw i.led.1.running at t.faults ∙ i.faults)
 
 pub returns-in-Err-clause-runs : goal.returns-in-Err-clause-runs
 returns-in-Err-clause-runs g c first at =
@@ -89,8 +88,8 @@ pub unreachable-requires : goal.unreachable-requires
 unreachable-requires g c =
     let i = c.loop-read.invariant in
     let t = rw (c.in-Ok-None.is, c.in-Ok-None.field-0-is) at c.pull.ensures in
-    let (first, at) = some_state c.args.replay.now in
-    replayed.no_end c.proofs_are_exact.ensures c.args.replay.now.limits c.args.longest (g.S.Source.left c.args.input.now) (g.S.Source.left c.pull.new.source) c.args.replay.now.problem first c.loop-read.replay i.led.0 (i.led.2 first at) i.unspent _ (t.row c.args.longest _ (g.S.Source.left c.args.input.now) i.led.0 i.led.1) (sym c.in-None.is ∙ c.verdict.ensures.verdict)
+    let (first, at) = c.replays_have_states.ensures c.args.replay.now in
+    replayed.no_end c.proofs_are_exact.ensures c.args.replay.now.limits c.args.longest (g.S.Source.left c.args.input.now) (g.S.Source.left c.pull.new.source) c.args.replay.now.problem first c.loop-read.replay i.led.0 (i.led.2 first at) i.unspent c.whole_proofs_conclude.ensures _ (t.row c.args.longest _ (g.S.Source.left c.args.input.now) i.led.0 i.led.1) (sym c.in-None.is ∙ c.verdict.ensures.verdict)
 
 pub returns-clause-runs : goal.returns-clause-runs
 returns-clause-runs g c first at =

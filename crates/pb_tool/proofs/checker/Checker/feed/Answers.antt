@@ -1,6 +1,6 @@
 use Rattle.std.proofs.Common.{◌++◌, ℕ, List, length, take, drop, subst, sym, ap, ◌∙◌, arith}
 use Rattle.std.proofs.lemmas.List.{length-drop}
-use Rattle.pb_tool.specs.Pieces.{bytes_to, ChecksAt, fault_of}
+use Rattle.pb_tool.specs.Pieces.{bytes_to, ChecksAt, WantsMemory, fault_of}
 use Rattle.pb_tool.specs.Checker.{Checking}
 use Rattle.pb_tool.proofs.Checked as checked
 use Rattle.pb_tool.proofs.checker.Checker.feed.Goals as goal
@@ -43,3 +43,12 @@ returns-in-Err-clause-checks c =
           (t.stands limits longest v first (input ++ take c.loop-went.used c.args.piece.now) (c.loop-went.invariant.stands limits longest v first input h)),
       λ owed. t.open,
     )
+
+pub returns-in-Err-clause-unread : goal.returns-in-Err-clause-unread
+returns-in-Err-clause-unread c none = let t = rw c.in-Err.is at c.advance.ensures in t.unread
+
+pub returns-in-Err-clause-memory : goal.returns-in-Err-clause-memory
+returns-in-Err-clause-memory c limits longest v first input none h =
+    let t = rw c.in-Err.is at c.advance.ensures in
+    subst (λ (x : List ℕ). WantsMemory limits x c.in-Err.fault) (ap (λ (x : List ℕ). (input ++ take c.loop-went.used c.args.piece.now) ++ x) (checked.all_rest c.args.piece.now c.loop-went.used) ∙ checked.to_end input c.args.piece.now c.loop-went.used)
+    (t.memory limits longest v first (input ++ take c.loop-went.used c.args.piece.now) (c.loop-went.invariant.stands limits longest v first input h))
