@@ -7,7 +7,7 @@ import sys
 TOP = pathlib.Path(__file__).resolve().parent.parent
 
 # More seconds than any run takes: one that does not end is wrong.
-SECONDS = 100
+SECONDS = 60
 
 
 def built():
@@ -26,6 +26,14 @@ def run(words, given=b"", folder=None, setting=None):
     except subprocess.TimeoutExpired:
         return None, None, None
     return ended.returncode, ended.stdout, ended.stderr
+
+
+def faulty(folder):
+    """The library that lets calls fail, made in a folder: faulty.c has its settings."""
+    library = os.path.join(folder, "faulty.so")
+    source = TOP / "checks/faulty.c"
+    subprocess.run(["cc", "-O1", "-shared", "-fPIC", "-o", library, source, "-ldl"], check=True)
+    return library
 
 
 class Tally:
