@@ -127,6 +127,13 @@ SPREAD = Text(
     free=[b" note\n"],
 )
 
+# What `pb tidy --normal` writes, where that is not what `pb tidy` does.
+NORMAL = {
+    TAIL: ONE.bytes,
+    COMMENTS: b"* #variable= 1 #constraint= 1\nmin: ;\n+1 x1 >= 1 ;\n",
+    EQUALITY: b"* #variable= 2 #constraint= 2\n+3 ~x1 +3 x2 >= 4 ;\n+3 x1 +3 ~x2 >= 2 ;\n",
+}
+
 INSTANCES = [ONE, CLOSE, APART, TAIL, COMMENTS, EQUALITY, CLASH, PAIR, LEAST]
 
 # Each proof, the instance that it is of, and what is verified.
