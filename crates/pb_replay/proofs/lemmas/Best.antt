@@ -1,4 +1,4 @@
--- The best of the logged values. Offered to other crates.
+-- The best of the logged values.
 use Rattle.std.specs.Prelude.{Option, Some, None, Contains, ℤ, ◌↔◌}
 use Rattle.std.proofs.Common.{◌≡◌, ◌⊎◌, List, [], ◌∷◌, ◌++◌, ◌≤ℤ◌, sym, ◌∙◌, ap, arith, inl, inr}
 use Rattle.std.proofs.lemmas.Int.{ints}

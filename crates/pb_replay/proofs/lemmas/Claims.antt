@@ -1,4 +1,4 @@
--- Once a proof has concluded there is a verdict. Offered to other crates.
+-- Once a proof has concluded there is a verdict.
 use Rattle.std.specs.Prelude.{Option, Some, None, Ok, ℤ, IsSome}
 use Rattle.std.proofs.Common.{subst, sym, ◌≡◌, ℕ, List, [], ◌∷◌, ◌++◌, refl}
 use Rattle.pb_sums.specs.declared.Literal.{Literal}
