@@ -19,7 +19,7 @@ use crate::state::load::open;
 use crate::state::phase::Phase;
 use crate::step::take;
 use crate::verdict::Verdict;
-use pb_normal::Normal;
+use pb_normal::{HashKeys, Normal};
 use pb_opb::Instance;
 use pb_proof::Statement;
 use pb_text::Limits;
@@ -54,7 +54,9 @@ impl Model for Replay {
 }
 
 impl Replay {
-    /// A replay that has taken no statement.
+    /// A replay that has taken no statement. It fails with `Overflow` where a constraint or the objective passes the limit,
+    /// and with `Memory` where memory runs out. The names are hashed by fixed keys: for names that come from strangers there
+    /// is `with_hasher`.
     pub fn new(alloc: Global, instance: &Instance, limits: Limits) -> Result<Replay, Fault>
         ensures opened { IfOk result (λ r. Opened (largest limits) instance.now (Ok r.problem)) }
         ensures limits { IfOk result (λ r. r.limits ≡ limits) }
@@ -63,7 +65,24 @@ impl Replay {
         ensures visits { IfOk result (λ r. r.visits ≡ 0) }
         ensures refused { IfErr result (λ e. (e ≡ Fault.Memory) ⊎ Opened (largest limits) instance.now (Err e)) }
     {
-        match open(alloc, instance, limits) {
+        Replay::with_hasher(alloc, HashKeys::Fixed, instance, limits)
+    }
+
+    /// The same, where the names are hashed by these keys.
+    pub fn with_hasher(
+        alloc: Global,
+        keys: HashKeys,
+        instance: &Instance,
+        limits: Limits,
+    ) -> Result<Replay, Fault>
+        ensures opened { IfOk result (λ r. Opened (largest limits) instance.now (Ok r.problem)) }
+        ensures limits { IfOk result (λ r. r.limits ≡ limits) }
+        ensures first { IfOk result (λ r. StandsFor r (first_state r.problem)) }
+        ensures running { IfOk result (λ r. r.fault ≡ None) }
+        ensures visits { IfOk result (λ r. r.visits ≡ 0) }
+        ensures refused { IfErr result (λ e. (e ≡ Fault.Memory) ⊎ Opened (largest limits) instance.now (Err e)) }
+    {
+        match open(alloc, keys, instance, limits) {
             Ok(running) => Ok(Replay {
                 running,
                 fault: None,

@@ -13,7 +13,7 @@ use crate::fault::Fault;
 use crate::state::Running;
 use crate::state::live::engine_over;
 use crate::state::phase::Phase;
-use pb_normal::{Names, Normal, NormalFault, Side};
+use pb_normal::{HashKeys, Names, Normal, NormalFault, Side};
 use pb_opb::Instance;
 use pb_sums::{Linear, Literal, Name, Relation, Term};
 use pb_text::{Limits, Sequence};
@@ -144,14 +144,19 @@ fn kept_objective(
     }
 }
 
-/// What a replay of the instance begins with.
-pub(crate) fn open(alloc: Global, instance: &Instance, limits: Limits) -> Result<Running, Fault>
+/// What a replay of the instance begins with, where the names are hashed by these keys.
+pub(crate) fn open(
+    alloc: Global,
+    keys: HashKeys,
+    instance: &Instance,
+    limits: Limits,
+) -> Result<Running, Fault>
     ensures ok { IfOk result (λ r. Opened (largest limits) instance.now (Ok (problem_of r))) }
     ensures first { IfOk result (λ r. IsFirst limits r) }
     ensures fits { IfOk result (λ r. magnitude (objective_of (problem_of r).objective) ≤ largest limits) }
     ensures err { IfErr result (λ e. (e ≡ Fault.Memory) ⊎ Opened (largest limits) instance.now (Err e)) }
 {
-    let mut names = Names::new(alloc);
+    let mut names = Names::with_hasher(alloc, keys);
     let objective = match kept_objective(alloc, &mut names, &instance.objective, limits) {
         Ok(objective) => objective,
         Err(fault) => return Err(Fault::from(fault)),

@@ -1,5 +1,5 @@
 use Rattle.pb_replay.proofs.lemmas.Ready.{ready_first}
-use Rattle.pb_replay.proofs.replay.Replay.new.Goals as goal
+use Rattle.pb_replay.proofs.replay.Replay.with_hasher.Goals as goal
 
 pub invariant_of-result : goal.invariant_of-result
 invariant_of-result c = record {
