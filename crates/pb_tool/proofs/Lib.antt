@@ -17,3 +17,9 @@ mod Held
 mod Replayed
 mod Accepted
 mod Headline
+mod Fronts
+mod OneRead
+mod OneRest
+mod Refusing
+mod Accepting
+mod OneAnswer

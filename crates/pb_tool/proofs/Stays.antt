@@ -13,27 +13,8 @@ use Rattle.pb_opb.specs.Canonical.{instance_bytes}
 use Rattle.pb_opb.specs.declared.Instance.{Instance}
 use Rattle.pb_tool.specs.Staying.{IsOutside}
 use Rattle.pb_tool.specs.Tidying.{ends_in_feed, tidied}
+use Rattle.pb_tool.proofs.Fronts.{Compared, same_rest, two_fronts}
 use Rattle.pb_tool.proofs.Shown.{after_offset}
-
--- one text begins with another, or that one is longer
-abbrev Compared : List ℕ → List ℕ → Type 0
-Compared a c = ((m : List ℕ) × (c ≡ a ++ m)) ⊎ ((x : ℕ) × (m : List ℕ) × (a ≡ c ++ x ∷ m))
-
-one_longer : (x y : ℕ) (a c : List ℕ) → x ≡ y → Compared a c → Compared (x ∷ a) (y ∷ c)
-one_longer x y a c e (inl (m, p)) = inl (m, rw (e, p) refl)
-one_longer x y a c e (inr (z, m, p)) = inr (z, m, rw (e, p) refl)
-
-two_fronts : (a b c d : List ℕ) → a ++ b ≡ c ++ d → Compared a c
-two_fronts [] b c d e = inl (c, refl)
-two_fronts (x ∷ a) b [] d e = inr (x, a, refl)
-two_fronts (x ∷ a) b (y ∷ c) d e =
-    let same : x ≡ y = cc in
-    let rest : a ++ b ≡ c ++ d = cc in
-    one_longer x y a c same (two_fronts a b c d rest)
-
-same_rest : (a b c : List ℕ) → a ++ b ≡ a ++ c → b ≡ c
-same_rest [] b c e = e
-same_rest (x ∷ a) b c e = let rest : a ++ b ≡ a ++ c = cc in same_rest a b c rest
 
 -- nothing, or a line feed
 abbrev IsFeed : List ℕ → Type 0

@@ -1,5 +1,6 @@
 pub mod Checker
 pub mod Checks
+pub mod Deciding
 pub mod Faults
 pub mod Files
 pub mod Headline

@@ -1,11 +1,15 @@
 //! Laws of checks. These functions do nothing: what they ensure are the laws.
 
+ghost use Rattle.pb_opb.specs.Formats.{OneInstance, NoFront as NoInstanceFront};
+ghost use Rattle.pb_proof.specs.Formats.{FixedMarks, OneProof, NoFront as NoProofFront};
+ghost use Rattle.pb_proof.specs.ValueLaws.{OneValue, ReadStatements};
+ghost use Rattle.pb_tool.specs.Deciding.{AnswersExactly, OneAnswer};
 ghost use Rattle.pb_tool.specs.Headline.{UnsatIsTrue, VerdictsAreTrue};
 ghost use Rattle.pb_tool.specs.Pieces.{AnyCutting};
 
 use crate::checker::texts_are_read;
-use pb_proof::proofs_are_values;
-use pb_replay::laws::verdicts_are_true;
+use pb_proof::{one_value, proofs_are_values, reads_are_of_proofs};
+use pb_replay::laws::{outcomes_are_single, statements_are_sound, verdicts_are_true};
 use pb_text::Sink;
 
 /// However the text of a proof is cut, what a checker answers is said of all bytes joined.
@@ -29,4 +33,49 @@ pub fn unsat_is_true<W: Sink>()
 {
     verdicts_are_true();
     proofs_are_values();
+}
+
+/// Of two inputs whose bytes are known, `check` answers a verdict exactly where the first is an instance, the second a
+/// proof, and the rules accept its statements with that verdict: but where a reader or a writer failed or memory ran out.
+pub fn answers_are_exact<W: Sink>()
+    ensures { AnswersExactly W.contents W.faults }
+{
+    instances_are_single();
+    proofs_are_single();
+    one_value();
+    reads_are_of_proofs();
+    outcomes_are_single();
+    statements_are_sound();
+}
+
+/// What `check` answers of two inputs their bytes decide: but where a reader or a writer failed or memory ran out.
+pub fn one_answer<W: Sink>()
+    ensures { OneAnswer W.contents W.faults }
+{
+    instances_are_single();
+    proofs_are_single();
+    one_value();
+    reads_are_of_proofs();
+    outcomes_are_single();
+    statements_are_sound();
+}
+
+/// A text spells one instance, and none is a front of another.
+fn instances_are_single()
+    ensures one { OneInstance }
+    ensures front { NoInstanceFront }
+{
+    pb_opb::one_instance();
+    pb_opb::no_front();
+}
+
+/// A text spells one proof, none is a front of another, and the statements of a front are the same in each.
+fn proofs_are_single()
+    ensures one { OneProof }
+    ensures front { NoProofFront }
+    ensures fixed { FixedMarks }
+{
+    pb_proof::one_proof();
+    pb_proof::no_front();
+    pb_proof::fixed_marks();
 }

@@ -17,7 +17,9 @@ mod verdict;
 mod verify;
 mod words;
 
-pub use check_laws::{any_cut_of_a_proof, unsat_is_true, verified_is_true};
+pub use check_laws::{
+    answers_are_exact, any_cut_of_a_proof, one_answer, unsat_is_true, verified_is_true,
+};
 pub use checker::{CheckFault, Checker};
 pub use fault::{Input, ToolFault, status, write_fault};
 pub use laws::{

@@ -1,0 +1,254 @@
+-- The same bytes are read in one way.
+use Rattle.std.proofs.Common.{◌≡◌, ◌⊎◌, inl, inr, ℕ, ◌+◌, ◌<◌, ◌≤◌, List, [], ◌∷◌, ◌++◌, length, nat_le, Bool, true, false, cond, IsTrue, Option, Some, None, refl, sym, ap, ◌∙◌, subst, append-nil, append_assoc, arith, length-append, le-leb}
+use Rattle.std.proofs.lemmas.Bool.{lt-leb}
+use Rattle.std.proofs.lemmas.Bool.Decides.{leb_tells}
+use Rattle.pb_text.specs.Classes.{is_digit}
+use Rattle.pb_text.specs.Reading.{AreShort, EndsInNumber, Explains, HasFixedMarks, IsBad, IsFull, IsFront, IsSpelled, IsUnderWay, Overruns, Reads, byte_limit, ended_within}
+use Rattle.pb_text.specs.Spelling.{Item, bytes, bytes_of, letters_of, marks_of, marks_since, place_after, plain}
+use Rattle.pb_text.specs.declared.Place.{Place}
+use Rattle.pb_text.specs.declared.Spanned.{Spanned}
+use Rattle.pb_text.specs.declared.Why.{Why}
+use Rattle.pb_text.specs.declared.Why.TheVariants.{Byte, TooLarge, Ended, TooLong, Read, Memory}
+use Rattle.pb_text.proofs.Lists.{bytes-append, bytes-plain, length-bytes}
+use Rattle.pb_text.proofs.Short.{place_after-offset}
+use Rattle.pb_tool.specs.Deciding.{IsOfText}
+use Rattle.pb_tool.proofs.Fronts.{Compared, two_fronts, same_rest}
+
+-- ---- marks within fronts
+
+module _ {E : Type 0} where
+  -- the one list of marks begins with the other
+  abbrev pub Begins : List (Spanned E) → List (Spanned E) → Type 0
+  Begins front all = (more : List (Spanned E)) × (all ≡ front ++ more)
+
+  within_more : (n : ℕ) (m : Spanned E) (marks : List (Spanned E)) → m.past.offset ≤ n → ended_within n (m ∷ marks) ≡ m ∷ ended_within n marks
+  within_more n m marks h = ap (λ (b : Bool). cond b (m ∷ ended_within n marks) (ended_within n marks)) (le-leb m.past.offset n h)
+
+  within_less : (n : ℕ) (m : Spanned E) (marks : List (Spanned E)) → n < m.past.offset → ended_within n (m ∷ marks) ≡ ended_within n marks
+  within_less n m marks h = ap (λ (b : Bool). cond b (m ∷ ended_within n marks) (ended_within n marks)) (lt-leb m.past.offset n h)
+
+  within_first : (n : ℕ) (m : Spanned E) (marks : List (Spanned E)) → n < m.past.offset → ended_within n marks ≡ [] → ended_within n (m ∷ marks) ≡ []
+  within_first n m marks h e = within_less n m marks h ∙ e
+
+  within_kept : (n : ℕ) (m : Spanned E) (marks : List (Spanned E)) → m.past.offset ≤ n → ended_within n marks ≡ marks → ended_within n (m ∷ marks) ≡ m ∷ marks
+  within_kept n m marks h e = within_more n m marks h ∙ ap (λ (x : List (Spanned E)). m ∷ x) e
+
+  -- a text ends no statement that follows it
+  none_within : (n : ℕ) (first : Option Place) (before : List ℕ) (items : List (Item E)) → n < length before → ended_within n (marks_since first before items) ≡ []
+  none_within n first before [] h = refl
+  none_within n first before (i ∷ items) h =
+      within_first n _ (marks_since None (before ++ (i.gap ++ bytes i.text)) items) (omega (arith, h, place_after-offset (before ++ (i.gap ++ bytes i.text)), length-append before (i.gap ++ bytes i.text)))
+      (none_within n None (before ++ (i.gap ++ bytes i.text)) items (omega (arith, h, length-append before (i.gap ++ bytes i.text))))
+
+  one_prefix : (n k : ℕ) (m : Spanned E) (marks : List (Spanned E)) → n ≤ k → (n < m.past.offset → ended_within n marks ≡ []) → Begins (ended_within n marks) (ended_within k marks) → Begins (ended_within n (m ∷ marks)) (ended_within k (m ∷ marks))
+  one_prefix n k m marks le none (more, e) = by (leb_tells m.past.offset n)
+    where
+      by : ((nat_le m.past.offset n ≡ true) × (m.past.offset ≤ n)) ⊎ ((nat_le m.past.offset n ≡ false) × (n < m.past.offset)) → Begins (ended_within n (m ∷ marks)) (ended_within k (m ∷ marks))
+      by (inl (t, h)) = (
+        more,
+        within_more k m marks (omega (arith, h, le)) ∙ (ap (λ (x : List (Spanned E)). m ∷ x) e ∙ ap (λ (x : List (Spanned E)). x ++ more) (sym (within_more n m marks h))),
+      )
+      by (inr (t, h)) = (ended_within k (m ∷ marks), ap (λ (x : List (Spanned E)). x ++ ended_within k (m ∷ marks)) (sym (within_first n m marks h (none h))))
+
+  -- the statements that a front ends begin those that a longer one ends
+  prefix : (n k : ℕ) (first : Option Place) (before : List ℕ) (items : List (Item E)) → n ≤ k → Begins (ended_within n (marks_since first before items)) (ended_within k (marks_since first before items))
+  prefix n k first before [] le = ([], refl)
+  prefix n k first before (i ∷ items) le =
+      one_prefix n k _ (marks_since None (before ++ (i.gap ++ bytes i.text)) items) le
+      (λ h. none_within n None (before ++ (i.gap ++ bytes i.text)) items (omega (arith, h, place_after-offset (before ++ (i.gap ++ bytes i.text)))))
+      (prefix n k None (before ++ (i.gap ++ bytes i.text)) items le)
+
+  one_length : (i : Item E) (items : List (Item E)) (before : List ℕ) → length (before ++ bytes_of (i ∷ items)) ≡ length ((before ++ (i.gap ++ bytes i.text)) ++ bytes_of items)
+  one_length i items before =
+      ap length (ap (λ (x : List ℕ). before ++ x) (bytes-append (plain i.gap) (i.text ++ letters_of items) ∙ (ap (λ (x : List ℕ). x ++ bytes (i.text ++ letters_of items)) (bytes-plain i.gap)
+      ∙ (ap (λ (x : List ℕ). i.gap ++ x) (bytes-append i.text (letters_of items)) ∙ sym (append_assoc i.gap (bytes i.text) (bytes_of items)))))
+      ∙ sym (append_assoc before (i.gap ++ bytes i.text) (bytes_of items)))
+
+  -- a whole text ends all its statements
+  all_within : (n : ℕ) (first : Option Place) (before : List ℕ) (items : List (Item E)) → length (before ++ bytes_of items) ≤ n → ended_within n (marks_since first before items) ≡ marks_since first before items
+  all_within n first before [] h = refl
+  all_within n first before (i ∷ items) h =
+      let here : length ((before ++ (i.gap ++ bytes i.text)) ++ bytes_of items) ≤ n = omega (arith, h, one_length i items before) in
+      within_kept n _ (marks_since None (before ++ (i.gap ++ bytes i.text)) items)
+      (omega (arith, here, place_after-offset (before ++ (i.gap ++ bytes i.text)), length-append (before ++ (i.gap ++ bytes i.text)) (bytes_of items)))
+      (all_within n None (before ++ (i.gap ++ bytes i.text)) items here)
+
+  -- a statement that has longest bytes in a front, and ends behind it, has more in a longer one
+  overrun : (longest n k : ℕ) (marks : List (Spanned E)) → n < k → Overruns longest n marks → AreShort longest k marks → ⊥
+  overrun longest n k [] lt o s = o
+  overrun longest n k (m ∷ marks) lt (inl (e, past)) s = omega (arith, e, past, lt, s.0)
+  overrun longest n k (m ∷ marks) lt (inr o) s = overrun longest n k marks lt o s.1
+
+-- ---- a format whose texts spell one value, and none of which is a front of another
+
+abbrev pub OneSpelling : {E : Type 0} → (List (Item E) → Type 0) → Type 0
+OneSpelling {E} format = (items items' : List (Item E)) → format items → format items' → bytes_of items ≡ bytes_of items' → items ≡ items'
+
+abbrev pub NoneGoesOn : {E : Type 0} → (List (Item E) → Type 0) → Type 0
+NoneGoesOn {E} format = (items items' : List (Item E)) (more : List ℕ) → format items → format items' → bytes_of items' ≡ bytes_of items ++ more → more ≡ []
+
+module _ {E : Type 0} (format : List (Item E) → Type 0) (longest : ℕ) where
+  -- a front of a spelling with its marks, where no limit was passed
+  pub record Reached (used : List ℕ) (marks : List (Spanned E)) : Type 0 where
+    pub items : List (Item E)
+    pub is : format items
+    pub more : List ℕ
+    pub begins : bytes_of items ≡ used ++ more
+    pub marks_are : ended_within (length used) (marks_of items) ≡ marks
+    pub within : length used ≤ byte_limit
+    pub short : AreShort longest (length used) (marks_of items)
+
+  pub spelling_reached : (used : List ℕ) (marks : List (Spanned E)) → IsSpelled format longest used marks → Reached used marks
+  spelling_reached used marks s = record {
+    items = s.items;
+    is = s.spelled;
+    more = [];
+    begins = s.used_are ∙ sym (append-nil used);
+    marks_are = all_within (length used) None [] s.items (omega (arith, ap (λ (x : List ℕ). length x) s.used_are)) ∙ sym s.marks_are;
+    within = s.within;
+    short = subst (λ (x : List (Spanned E)). AreShort longest (length used) x) s.marks_are s.short;
+  }
+
+  pub way_reached : (used : List ℕ) (marks : List (Spanned E)) → IsUnderWay format longest used marks → Reached used marks
+  way_reached used marks u =
+      let (items, is, begins) = u.viable in
+      record { items = items; is = is; more = begins.0; begins = begins.1; marks_are = u.seen items is begins; within = u.within; short = u.short items is begins }
+
+  -- ---- nothing is read behind a stop
+  module _ (used left used' left' : List ℕ) (marks' : List (Spanned E)) (input_is : used ++ left ≡ used' ++ left') (r : Reached used' marks') where
+    next : (x : ℕ) (m : List ℕ) → used' ≡ used ++ x ∷ m → left ≡ x ∷ (m ++ left')
+    next x m p = same_rest used left (x ∷ (m ++ left')) (input_is ∙ (ap (λ (y : List ℕ). y ++ left') p ∙ append_assoc used (x ∷ m) left'))
+
+    goes_on : (m : List ℕ) → used' ≡ used ++ m → bytes_of r.items ≡ used ++ (m ++ r.more)
+    goes_on m p = r.begins ∙ (ap (λ (y : List ℕ). y ++ r.more) p ∙ append_assoc used m r.more)
+
+    not_bad : (b : ℕ) (more : List ℕ) → left ≡ b ∷ more → IsBad format longest used b → (x : ℕ) (m : List ℕ) → used' ≡ used ++ x ∷ m → ⊥
+    not_bad b more e bad x m p =
+        let k : b ∷ more ≡ x ∷ (m ++ left') = sym e ∙ next x m p in
+        let same : x ≡ b = cc in
+        bad.refused (r.items, r.is, (m ++ r.more, goes_on (x ∷ m) p ∙ (ap (λ (y : ℕ). used ++ (y ∷ (m ++ r.more))) same ∙ sym (append_assoc used (b ∷ []) (m ++ r.more)))))
+
+    not_full : IsFull format longest used → (x : ℕ) (m : List ℕ) → used' ≡ used ++ x ∷ m → ⊥
+    not_full (inl e) x m p = omega (arith, e, r.within, ap (λ (y : List ℕ). length y) p, length-append used (x ∷ m))
+    not_full (inr over) x m p =
+        overrun longest (length used) (length used') (marks_of r.items) (omega (arith, ap (λ (y : List ℕ). length y) p, length-append used (x ∷ m))) (over r.items r.is (x ∷ (m ++ r.more), goes_on (x ∷ m) p)) r.short
+
+    no_further : (why : Why) → IsOfText why → Explains format longest used left why → (x : ℕ) (m : List ℕ) → used' ≡ used ++ x ∷ m → ⊥
+    no_further (Byte b) d (more, e, bad, number) x m p = not_bad b more e bad x m p
+    no_further TooLarge d (b, more, e, bad, digit, number) x m p = not_bad b more e bad x m p
+    no_further TooLong d (some, full) x m p = not_full full x m p
+    no_further Ended d e x m p = let k : [] ≡ x ∷ (m ++ left') = sym e ∙ next x m p in absurd cc
+    no_further Read d h x m p = d
+    no_further Memory d h x m p = d
+
+    -- what was reached of the text begins the used bytes
+    pub reached_before : (why : Why) → IsOfText why → Explains format longest used left why → (m : List ℕ) × (used ≡ used' ++ m)
+    reached_before why d h = by (two_fronts used' left' used left (sym input_is))
+      where
+        by : Compared used' used → (m : List ℕ) × (used ≡ used' ++ m)
+        by (inl h') = h'
+        by (inr (x, m, p)) = absurd (no_further why d h x m p)
+
+  -- ---- two stops
+  module _ (used left : List ℕ) where
+    one_byte : (b c : ℕ) (more more' : List ℕ) → left ≡ b ∷ more → left ≡ c ∷ more' → b ≡ c
+    one_byte b c more more' e e' = let k : b ∷ more ≡ c ∷ more' = sym e ∙ e' in cc
+
+    no_byte : (b : ℕ) (more : List ℕ) → left ≡ b ∷ more → left ≡ [] → ⊥
+    no_byte b more e e' = let k : b ∷ more ≡ [] = sym e ∙ e' in absurd cc
+
+    one_digit : (b c : ℕ) → b ≡ c → (IsTrue (is_digit b) → EndsInNumber format used → ⊥) → IsTrue (is_digit c) → EndsInNumber format used → ⊥
+    one_digit b c e none digit number = none (subst (λ (x : ℕ). IsTrue (is_digit x)) (sym e) digit) number
+
+    one_why : (why why' : Why) → IsOfText why → IsOfText why' → Explains format longest used left why → Explains format longest used left why' → why ≡ why'
+    one_why (Byte b) (Byte c) d d' (more, e, bad, number) (more', e', bad', number') = ap (λ (x : ℕ). Byte x) (one_byte b c more more' e e')
+    one_why (Byte b) TooLarge d d' (more, e, bad, number) (c, more', e', bad', digit, ends) = absurd (one_digit b c (one_byte b c more more' e e') number digit ends)
+    one_why (Byte b) TooLong d d' (more, e, bad, number) (some, full) = absurd (bad.room full)
+    one_why (Byte b) Ended d d' (more, e, bad, number) none = absurd (no_byte b more e none)
+    one_why TooLarge (Byte c) d d' (b, more, e, bad, digit, ends) (more', e', bad', number') = absurd (one_digit c b (one_byte c b more' more e' e) number' digit ends)
+    one_why TooLarge TooLarge d d' h h' = refl
+    one_why TooLarge TooLong d d' (b, more, e, bad, digit, ends) (some, full) = absurd (bad.room full)
+    one_why TooLarge Ended d d' (b, more, e, bad, digit, ends) none = absurd (no_byte b more e none)
+    one_why TooLong (Byte c) d d' (some, full) (more', e', bad', number') = absurd (bad'.room full)
+    one_why TooLong TooLarge d d' (some, full) (c, more', e', bad', digit, ends) = absurd (bad'.room full)
+    one_why TooLong TooLong d d' h h' = refl
+    one_why TooLong Ended d d' (some, full) none = absurd (some none)
+    one_why Ended (Byte c) d d' none (more', e', bad', number') = absurd (no_byte c more' e' none)
+    one_why Ended TooLarge d d' none (c, more', e', bad', digit, ends) = absurd (no_byte c more' e' none)
+    one_why Ended TooLong d d' none (some, full) = absurd (some none)
+    one_why Ended Ended d d' h h' = refl
+    one_why Read why' d d' h h' = absurd d
+    one_why Memory why' d d' h h' = absurd d
+    one_why (Byte b) Read d d' h h' = absurd d'
+    one_why (Byte b) Memory d d' h h' = absurd d'
+    one_why TooLarge Read d d' h h' = absurd d'
+    one_why TooLarge Memory d d' h h' = absurd d'
+    one_why TooLong Read d d' h h' = absurd d'
+    one_why TooLong Memory d d' h h' = absurd d'
+    one_why Ended Read d d' h h' = absurd d'
+    one_why Ended Memory d d' h h' = absurd d'
+
+  pub one_stop : (used left used' left' : List ℕ) (marks marks' : List (Spanned E)) (why why' : Why) → used ++ left ≡ used' ++ left' → IsUnderWay format longest used marks → IsOfText why → Explains format longest used left why
+      → IsUnderWay format longest used' marks' → IsOfText why' → Explains format longest used' left' why' → (used ≡ used') × (why ≡ why')
+  one_stop used left used' left' marks marks' why why' e u d x u' d' x' =
+      let same : used ≡ used' = by (two_fronts used left used' left' e) in
+      let rest : left ≡ left' = same_rest used left left' (e ∙ ap (λ (y : List ℕ). y ++ left') (sym same)) in
+      (same, one_why used left why why' d d' x (subst (λ (y : List ℕ). Explains format longest used y why') (sym rest) (subst (λ (y : List ℕ). Explains format longest y left' why') (sym same) x')))
+    where
+      by_rest : (m : List ℕ) → used' ≡ used ++ m → used ≡ used'
+      by_rest [] p = sym (append-nil used) ∙ sym p
+      by_rest (y ∷ m) p = absurd (no_further used left used' left' marks' e (way_reached used' marks' u') why d x y m p)
+
+      by : Compared used used' → used ≡ used'
+      by (inl (m, p)) = by_rest m p
+      by (inr (y, m, p)) = absurd (no_further used' left' used left marks (sym e) (way_reached used marks u) why' d' x' y m p)
+
+  -- ---- a spelling is not refused
+  module _ (used left used' left' : List ℕ) (marks marks' : List (Spanned E)) (e : used ++ left ≡ used' ++ left') (u : IsUnderWay format longest used marks) (s : IsSpelled format longest used' marks') where
+    not_beyond : (m : List ℕ) → used ≡ used' ++ m → ⊥
+    not_beyond m p = u.unfinished s.items s.spelled (m, p ∙ ap (λ (y : List ℕ). y ++ m) (sym s.used_are))
+
+    pub not_both : (why : Why) → IsOfText why → Explains format longest used left why → ⊥
+    not_both why d x = not_beyond before.0 before.1
+      where
+        before : (m : List ℕ) × (used ≡ used' ++ m)
+        before = reached_before used left used' left' marks' e (spelling_reached used' marks' s) why d x
+
+    -- and a statement that was read comes within it
+    pub way_before : (m : List ℕ) × (used' ≡ used ++ m)
+    way_before = by (two_fronts used left used' left' e)
+      where
+        by : Compared used used' → (m : List ℕ) × (used' ≡ used ++ m)
+        by (inl h) = h
+        by (inr (y, m, p)) = absurd (not_beyond (y ∷ m) p)
+
+  module _ (one : OneSpelling format) (front : NoneGoesOn format) where
+    pub one_spelled : (used left used' left' : List ℕ) (marks marks' : List (Spanned E)) → used ++ left ≡ used' ++ left' → (s : IsSpelled format longest used marks) → (s' : IsSpelled format longest used' marks') → (used ≡ used') × (s.items ≡ s'.items)
+    one_spelled used left used' left' marks marks' e s s' =
+        let same : used ≡ used' = by (two_fronts used left used' left' e) in
+        (same, one s.items s'.items s.spelled s'.spelled (s.used_are ∙ (same ∙ sym s'.used_are)))
+      where
+        by : Compared used used' → used ≡ used'
+        by (inl (m, p)) =
+            let none : m ≡ [] = front s.items s'.items m s.spelled s'.spelled (s'.used_are ∙ (p ∙ ap (λ (y : List ℕ). y ++ m) (sym s.used_are))) in
+            sym (append-nil used) ∙ (ap (λ (y : List ℕ). used ++ y) (sym none) ∙ sym p)
+        by (inr (y, m, p)) =
+            let none : y ∷ m ≡ [] = front s'.items s.items (y ∷ m) s'.spelled s.spelled (s.used_are ∙ (p ∙ ap (λ (z : List ℕ). z ++ y ∷ m) (sym s'.used_are))) in
+            absurd cc
+
+    -- what was read so far of a text that spells comes within it
+    pub so_far_before : (used left used' left' : List ℕ) (marks marks' : List (Spanned E)) (input : List ℕ) (place : Place) (done : Bool) → used ++ left ≡ used' ++ left' → Reads format longest input used marks place done None → IsSpelled format longest used' marks' → (m : List ℕ) × (used' ≡ used ++ m)
+    so_far_before used left used' left' marks marks' input place true e r s = ([], sym (one_spelled used left used' left' marks marks' e r.answer.0 s).0 ∙ sym (append-nil used))
+    so_far_before used left used' left' marks marks' input place false e r s = way_before used left used' left' marks marks' e r.answer.0 s
+
+  pub so_far_reached : (input used : List ℕ) (marks : List (Spanned E)) (place : Place) (done : Bool) → Reads format longest input used marks place done None → Reached used marks
+  so_far_reached input used marks place true r = spelling_reached used marks r.answer.0
+  so_far_reached input used marks place false r = way_reached used marks r.answer.0
+
+  -- the marks of a front begin those of a longer one
+  pub marks_begin : HasFixedMarks format → (used used' m : List ℕ) (marks marks' : List (Spanned E)) → used' ≡ used ++ m → Reached used marks → Reached used' marks' → Begins marks marks'
+  marks_begin fixed used used' m marks marks' p r r' =
+      let here : IsFront used (bytes_of r'.items) = (m ++ r'.more, r'.begins ∙ (ap (λ (y : List ℕ). y ++ r'.more) p ∙ append_assoc used m r'.more)) in
+      let same : ended_within (length used) (marks_of r'.items) ≡ marks = sym (fixed used r.items r'.items r.is r'.is (r.more, r.begins) here) ∙ r.marks_are in
+      let (more, is) = prefix (length used) (length used') None [] r'.items (omega (arith, ap (λ (y : List ℕ). length y) p, length-append used m)) in
+      (more, sym r'.marks_are ∙ (is ∙ ap (λ (x : List (Spanned E)). x ++ more) same))
