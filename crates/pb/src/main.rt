@@ -11,7 +11,7 @@ use clap::error::ErrorKind;
 use pb_normal::HashKeys;
 use pb_text::{Limits, Over};
 use pb_tool::{
-    Input, Job, ToolFault, WordsFault, check, limits_of, read_words, show, status,
+    Input, Job, ToolFault, WordsFault, check_with_hasher, limits_of, read_words, show, status,
     tidy_with_hasher, write_fault,
 };
 use std::alloc::Global;
@@ -183,7 +183,7 @@ fn tidy_file<R: Files + io::Input + Print + RandomSource + AllocGlobal>(
 }
 
 /// Checks a proof, or standard input, of an instance. Both files are opened before either is read.
-fn check_files<R: Files + io::Input + Print + AllocGlobal>(
+fn check_files<R: Files + io::Input + Print + RandomSource + AllocGlobal>(
     rt: &R,
     instance: &str,
     proof: &Option<String>,
@@ -260,7 +260,7 @@ fn tidy_over<R: Print + RandomSource + AllocGlobal, I: Read + Drop>(
 }
 
 /// Checks the proof that a reader has, of the instance that another has.
-fn check_over<R: Print + AllocGlobal, I: Read + Drop, P: Read + Drop>(
+fn check_over<R: Print + RandomSource + AllocGlobal, I: Read + Drop, P: Read + Drop>(
     rt: &R,
     instance: I,
     proof: P,
@@ -278,8 +278,9 @@ fn check_over<R: Print + AllocGlobal, I: Read + Drop, P: Read + Drop>(
     let Ok(proof) = BufReader::with_capacity(rt.alloc(), CAPACITY, proof) else {
         return Err(ToolFault::Memory(Input::Proof));
     };
-    let checked = check(
+    let checked = check_with_hasher(
         rt.alloc(),
+        keys_of(rt),
         &mut Over::new(instance),
         &mut Over::new(proof),
         &mut Over::new(&mut out),

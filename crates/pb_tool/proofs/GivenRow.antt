@@ -61,7 +61,7 @@ given_end place (Ok u) before after (used, e, blank, bound) = (used, [], e, (use
 given_end place (Err s) before after (used, seen, e, blank, place_is, stray) = (used, seen, e, (used, seen, (refl, refl), blank, place_is, stray))
 
 -- the same used bytes, where the rest is another
-all_of : {E : Type 0} (format : List (Item E) → Type 0) (longest : ℕ) (given seen other : List ℕ) (marks : List (Spanned E)) (place : Place) → TookAll format longest (Some (given ++ seen)) (Some seen) marks place true None
+pub all_of : {E : Type 0} (format : List (Item E) → Type 0) (longest : ℕ) (given seen other : List ℕ) (marks : List (Spanned E)) (place : Place) → TookAll format longest (Some (given ++ seen)) (Some seen) marks place true None
     → TookAll format longest (Some (given ++ other)) (Some other) marks place true None
 all_of format longest given seen other marks place t =
     let rest : seen ≡ t.seen = let e = t.took.1 in cc in

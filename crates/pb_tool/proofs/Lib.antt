@@ -23,3 +23,5 @@ mod OneRest
 mod Refusing
 mod Accepting
 mod OneAnswer
+mod CheckWants
+mod CheckGiven

@@ -124,23 +124,23 @@ end_asking format longest May place before mid after (Err Write) h = tt
 end_asking format longest May place before mid after (Err (Step begins e name)) h = tt
 
 -- what a read under a format wants, where a read under it is one under another
-pub each_to : {E : Type 0} (one other : List (Item E) → Type 0) (longest : ℕ) (May Other : List ℕ → ℕ → Type 0)
-    → ((input used : List ℕ) (marks : List (Spanned E)) (place : Place) (done : Bool) (stop : Option Stop) → Reads one longest input used marks place done stop → Reads other longest input used marks place done stop)
-    → ((used : List ℕ) (b : ℕ) → May used b → Other used b) → (before after : Option (List ℕ)) (result : Result (Unit {0}) ToolFault)
-    → IfStopped result (WantsEach one longest May before after) → IfStopped result (WantsEach other longest Other before after)
-each_to one other longest May Other to asks before after result =
-    stopped_to (WantsEach one longest May before after) (WantsEach other longest Other before after)
-    (λ s w e.
-    let i = w e in
-    record {
-      used = i.used;
-      seen = i.seen;
-      took = i.took;
-      marks = i.marks;
-      reads = to (i.used ++ i.seen) i.used i.marks s.place false (Some s) i.reads;
-      byte = i.byte;
-      more = i.more;
-      seen_are = i.seen_are;
-      asks = asks i.used i.byte i.asks;
-    })
-    result
+module _ {E : Type 0} (one other : List (Item E) → Type 0) (longest : ℕ) (May Other : List ℕ → ℕ → Type 0)
+    (to : (input used : List ℕ) (marks : List (Spanned E)) (place : Place) (done : Bool) (stop : Option Stop) → Reads one longest input used marks place done stop → Reads other longest input used marks place done stop)
+    (asks : (used : List ℕ) (b : ℕ) → May used b → Other used b) (before after : Option (List ℕ)) where
+  pub each_at : (s : Stop) → WantsEach one longest May before after s → WantsEach other longest Other before after s
+  each_at s w e =
+      let i = w e in
+      record {
+        used = i.used;
+        seen = i.seen;
+        took = i.took;
+        marks = i.marks;
+        reads = to (i.used ++ i.seen) i.used i.marks s.place false (Some s) i.reads;
+        byte = i.byte;
+        more = i.more;
+        seen_are = i.seen_are;
+        asks = asks i.used i.byte i.asks;
+      }
+
+  pub each_to : (result : Result (Unit {0}) ToolFault) → IfStopped result (WantsEach one longest May before after) → IfStopped result (WantsEach other longest Other before after)
+  each_to result = stopped_to (WantsEach one longest May before after) (WantsEach other longest Other before after) each_at result

@@ -5,7 +5,9 @@ use Rattle.pb_opb.specs.Canonical.{event_bytes}
 use Rattle.pb_proof.specs.Canonical.{statement_bytes}
 use Rattle.pb_tool.specs.Files.{IsVeri, TidiesProof}
 use Rattle.pb_tool.specs.Showing.{Shows}
+use Rattle.pb_replay.specs.declared.verdict.Verdict.{Verdict}
 use Rattle.pb_tool.specs.Tidying.{IsOpb, Tidies}
+use Rattle.pb_tool.specs.Verified.{ChecksFiles}
 use Rattle.pb_tool.specs.declared.fault.ToolFault.{ToolFault}
 
 -- It is owed of the bytes that the calls gave between a history and a later one, with some bytes left behind them.
@@ -26,3 +28,8 @@ module _ (limits : Limits) (longest : ℕ) {W : Type 0} (contents : W → Option
   ShowsGiven before old result after new =
       OfGiven (λ left rest. Shows (IsVeri limits) longest statement_bytes contents faults left old result rest new) before after
       ⊎ OfGiven (λ left rest. Shows (IsOpb limits) longest event_bytes contents faults left old result rest new) before after
+
+  -- The same of what is checked: of the bytes that the calls gave of the instance, and of those of the proof.
+  abbrev pub ChecksGiven : List ℕ → List ℕ → W → Result Verdict ToolFault → List ℕ → List ℕ → W → Type 0
+  ChecksGiven i p old result i' p' new =
+      OfGiven (λ one one'. OfGiven (λ other other'. ChecksFiles limits longest contents faults one other old result one' other' new) p p') i i'

@@ -21,12 +21,28 @@ use Rattle.pb_tool.specs.Files.{MayBeProof, MayBeInstance, IsVeri}
 use Rattle.pb_tool.specs.Tidying.{IsOpb}
 use Rattle.pb_tool.specs.declared.fault.ToolFault.{ToolFault}
 use Rattle.pb_tool.specs.declared.fault.ToolFault.TheVariants.{Text}
+use Rattle.pb_tool.specs.declared.fault.Input.TheVariants.{Instance as of_instance, Proof as of_proof}
+use Rattle.pb_tool.specs.declared.checker.CheckFault.{CheckFault}
+use Rattle.pb_tool.specs.declared.checker.CheckFault.TheVariants as check
 
 -- what is said of the stop, where the answer is that a text stopped its reader
 abbrev pub IfStopped : Result Unit ToolFault → (Stop → Type 0) → Type 0
 IfStopped (Ok u) Holds = Unit {0}
 IfStopped (Err (Text i s)) Holds = Holds s
 IfStopped (Err _) Holds = Unit {0}
+
+-- the same of the text of the instance, and of that of the proof, in the faults of a check
+abbrev pub IfInstanceStopped : ToolFault → (Stop → Type 0) → Type 0
+IfInstanceStopped (Text of_instance s) Holds = Holds s
+IfInstanceStopped _ Holds = Unit {0}
+
+abbrev pub IfProofStopped : ToolFault → (Stop → Type 0) → Type 0
+IfProofStopped (Text of_proof s) Holds = Holds s
+IfProofStopped _ Holds = Unit {0}
+
+abbrev pub IfTextStopped : CheckFault → (Stop → Type 0) → Type 0
+IfTextStopped (check.Text s) Holds = Holds s
+IfTextStopped (check.Step place e) Holds = Unit {0}
 
 module _ {E : Type 0} (format : List (Item E) → Type 0) (longest : ℕ) (MayAsk : List ℕ → ℕ → Type 0) where
   -- The bytes taken of the source are those used by a read that stopped so, and the next byte may ask for memory.
@@ -70,3 +86,7 @@ module _ (limits : Limits) (longest : ℕ) where
   WantsShowing before after s =
       (MayBeProof before × WantsEach (IsVeri limits) longest (AsksVeri limits) before after s)
       ⊎ (MayBeInstance before × WantsEach (IsOpb limits) longest (AsksOpb limits) before after s)
+
+  -- The statements of a proof that is checked are let go one after another.
+  abbrev pub WantsSteps : Option (List ℕ) → Option (List ℕ) → Stop → Type 0
+  WantsSteps = WantsEach (IsVeri limits) longest (AsksVeri limits)

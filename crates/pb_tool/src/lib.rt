@@ -28,5 +28,5 @@ pub use laws::{
 pub use limiting::limits_of;
 pub use showing::show;
 pub use tidying::{tidy, tidy_with_hasher};
-pub use verify::check;
+pub use verify::{check, check_with_hasher};
 pub use words::{Job, WordsFault, read_words};

@@ -1,12 +1,19 @@
-use Rattle.std.proofs.Common.{ℕ, ◌+◌, ◌-◌, ◌^◌, ◌<◌, ◌≤◌, [], ◌∷◌, ◌++◌, None, true, ap, ◌∙◌, sym, arith, refl, subst}
-use Rattle.pb_text.specs.Automaton.{Accepts as AcceptsBytes}
+use Rattle.std.proofs.Common.{ℕ, ◌+◌, ◌-◌, ◌^◌, ◌<◌, ◌≤◌, [], ◌∷◌, ◌++◌, None, Some, Ok, Err, true, ap, ◌∙◌, sym, arith, refl, subst, append-nil}
+use Rattle.pb_text.specs.Automaton.{Accepts as AcceptsBytes, MayAsk}
 use Rattle.pb_text.specs.Limits.{largest, top_of}
 use Rattle.pb_text.specs.Pulling.{faults_with}
 use Rattle.pb_text.specs.declared.Place.{Place}
 use Rattle.pb_proof.specs.State.{begin, proofs}
 use Rattle.pb_tool.specs.Verified.{IsAccepted}
+use Rattle.pb_tool.specs.Files.{IsVeri}
+use Rattle.pb_tool.specs.Wants.{AsksVeri}
+use Rattle.pb_text.specs.Feeding.{place_of}
+use Rattle.pb_tool.proofs.CheckGiven.{given_ended, given_step, given_stopped}
+use Rattle.pb_tool.proofs.CheckWants.{step_no_text}
+use Rattle.pb_tool.proofs.GivenRow.{given_next, given_row, given_so_far}
 use Rattle.pb_tool.proofs.Replayed as replayed
 use Rattle.pb_tool.proofs.Shown.{first_pull, so_far_within}
+use Rattle.pb_tool.proofs.Wanted.{each_at, pull_asking}
 use Rattle.pb_tool.proofs.verify.run.Goals as goal
 
 pub loop-read-init : goal.loop-read-init
@@ -19,6 +26,7 @@ loop-read-init g c = record {
     [],
     first_pull c.args.longest _ (g.S.Source.left c.args.input.now) c.within-feeder.result (rw (c.new.ensures.begins, c.limits.ensures) at c.within-feeder.ensures.stands) c.within-feeder.ensures.running (ap (λ (p : Place). p.offset) c.within-feeder.ensures.place),
     λ first at. (first, at, refl),
+    ([], sym (append-nil (g.S.Source.history c.args.input.now)), ap (λ (p : Place). p.offset) c.within-feeder.ensures.place, rw (c.new.ensures.begins, c.limits.ensures) at c.within-feeder.ensures.stands, c.within-feeder.ensures.running),
   );
 }
 
@@ -55,6 +63,8 @@ loop-read-preserved g c =
         i.led.0 ++ c.in-Ok-Some.read ∷ [],
         more,
         λ first at. replayed.led_more c.proofs_are_exact.ensures c.args.replay.now.limits c.args.longest (g.S.Source.left c.args.input.now) (g.S.Source.left c.pull.new.source) c.args.replay.now.problem first c.loop-read.replay i.led.0 (i.led.2 first at) i.unspent c.step_through.new.replay c.in-Ok-Some.read i.limited i.problem u.steps,
+        given_next c.args.longest _ (g.S.Source.history c.args.input.now) (g.S.Source.history c.loop-read.input) (g.S.Source.history c.pull.new.source) i.led.0 c.loop-read.feeder c.pull.new.feeder i.led.3 (g.S.Source.left c.loop-read.input) (g.S.Source.left c.pull.new.source) c.in-Ok-Some.read
+            (t.pulls c.args.longest _ i.led.3.0 i.led.0 (rw i.led.3.4 tt) i.led.3.3) t.stop,
       );
     }
 
@@ -103,3 +113,43 @@ returns-clause-faults g c =
     let i = c.loop-read.invariant in
     let t = rw (c.in-Ok-None.is, c.in-Ok-None.field-0-is) at c.pull.ensures in
     rw i.led.1.running at t.faults ∙ i.faults
+
+-- ---- of what the calls gave
+
+pub returns-in-Err-step_through-clause-given : goal.returns-in-Err-step_through-clause-given
+returns-in-Err-step_through-clause-given g c first at =
+    let i = c.loop-read.invariant in
+    let t = rw (c.in-Ok-Some.is, c.in-Ok-Some.field-0-is) at c.pull.ensures in
+    given_step c.proofs_are_exact.ensures c.args.replay.now.limits c.args.longest (g.S.Source.history c.args.input.now) (g.S.Source.history c.pull.new.source) c.args.replay.now.problem first c.loop-read.replay i.led.0 (i.led.2 first at) c.step_through.new.replay i.unspent c.in-Ok-Some.read i.limited i.problem c.in-Err-step_through.fault c.in-Err-step_through.ensures.steps c.in-Err-step_through.ensures.names
+    (given_so_far c.args.longest _ (g.S.Source.history c.args.input.now) (g.S.Source.history c.loop-read.input) (g.S.Source.history c.pull.new.source) i.led.0 c.loop-read.feeder c.pull.new.feeder i.led.3 (g.S.Source.left c.loop-read.input) (g.S.Source.left c.pull.new.source) c.in-Ok-Some.read
+    (given_row c.args.longest _ (g.S.Source.history c.args.input.now) (g.S.Source.history c.loop-read.input) (g.S.Source.history c.pull.new.source) i.led.0 c.loop-read.feeder c.pull.new.feeder i.led.3 (g.S.Source.left c.loop-read.input) (g.S.Source.left c.pull.new.source) (Ok (Some c.in-Ok-Some.read)) (t.pulls c.args.longest _ i.led.3.0 i.led.0 (rw i.led.3.4 tt) i.led.3.3) t.stop t.last t.past))
+
+pub returns-in-Err-clause-given : goal.returns-in-Err-clause-given
+returns-in-Err-clause-given g c first at =
+    let i = c.loop-read.invariant in
+    let t = rw c.in-Err.is at c.pull.ensures in
+    given_stopped c.proofs_are_exact.ensures c.args.replay.now.limits c.args.longest (g.S.Source.history c.args.input.now) (g.S.Source.history c.pull.new.source) c.args.replay.now.problem first c.loop-read.replay i.led.0 (i.led.2 first at) c.loop-read.replay c.in-Err.stop
+    (given_row c.args.longest _ (g.S.Source.history c.args.input.now) (g.S.Source.history c.loop-read.input) (g.S.Source.history c.pull.new.source) i.led.0 c.loop-read.feeder c.pull.new.feeder i.led.3 (g.S.Source.left c.loop-read.input) (g.S.Source.left c.pull.new.source) (Err c.in-Err.stop) (t.pulls c.args.longest _ i.led.3.0 i.led.0 (rw i.led.3.4 tt) i.led.3.3) t.stop t.last t.past)
+
+pub returns-clause-given : goal.returns-clause-given
+returns-clause-given g c first at =
+    let i = c.loop-read.invariant in
+    let t = rw (c.in-Ok-None.is, c.in-Ok-None.field-0-is) at c.pull.ensures in
+    given_ended c.proofs_are_exact.ensures c.args.replay.now.limits c.args.longest (g.S.Source.history c.args.input.now) (g.S.Source.history c.pull.new.source) c.args.replay.now.problem first c.loop-read.replay i.led.0 (i.led.2 first at) c.loop-read.replay i.unspent (place_of c.pull.new.feeder) c.place.result c.in-Some.verdict (sym c.place.ensures.place) (sym c.in-Some.is ∙ c.verdict.ensures.verdict)
+    (given_row c.args.longest _ (g.S.Source.history c.args.input.now) (g.S.Source.history c.loop-read.input) (g.S.Source.history c.pull.new.source) i.led.0 c.loop-read.feeder c.pull.new.feeder i.led.3 (g.S.Source.left c.loop-read.input) (g.S.Source.left c.pull.new.source) (Ok None) (t.pulls c.args.longest _ i.led.3.0 i.led.0 (rw i.led.3.4 tt) i.led.3.3) t.stop t.last t.past)
+
+-- ---- where memory is wanted
+
+pub returns-in-Err-step_through-clause-wants : goal.returns-in-Err-step_through-clause-wants
+returns-in-Err-step_through-clause-wants g c =
+    let i = c.loop-read.invariant in
+    step_no_text c.replays_have_states.ensures c.loop-read.replay c.step_through.new.replay c.in-Ok-Some.read c.in-Err-step_through.fault _ i.unspent c.in-Err-step_through.ensures.steps
+
+pub returns-in-Err-clause-wants : goal.returns-in-Err-clause-wants
+returns-in-Err-clause-wants g c =
+    let i = c.loop-read.invariant in
+    let t = rw c.in-Err.is at c.pull.ensures in
+    let reads = rw (c.new.ensures.begins, c.limits.ensures) at c.new.ensures.reads in
+    let asks = rw (c.new.ensures.begins, c.limits.ensures) at c.new.ensures.asks in
+    each_at (AcceptsBytes proofs (begin (largest c.args.replay.now.limits) (top_of c.args.replay.now.limits))) (IsVeri c.args.replay.now.limits) c.args.longest (MayAsk proofs (begin (largest c.args.replay.now.limits) (top_of c.args.replay.now.limits))) (AsksVeri c.args.replay.now.limits) (reads c.args.longest) asks _ _ c.in-Err.stop
+    (pull_asking c.args.longest _ (g.S.Source.left c.args.input.now) (g.S.Source.left c.loop-read.input) (g.S.Source.left c.pull.new.source) i.led.0 c.loop-read.feeder c.pull.new.feeder i.led.1 c.in-Err.stop _ _ (t.pulls c.args.longest _ i.led.1.used i.led.0 (rw i.led.1.running tt) i.led.1.stands) t.stop)

@@ -9,9 +9,10 @@ use Rattle.pb_replay.specs.Replay.{State}
 use Rattle.pb_replay.specs.Statements.{Accepts}
 use Rattle.pb_tool.specs.Checks.{statements_at}
 use Rattle.pb_replay.specs.Running.{StandsFor}
+use Rattle.pb_tool.proofs.GivenRow.{HasGiven}
 use Rattle.pb_tool.proofs.verify.run.Given as goal
 
--- the statements so far were accepted, and the source has not failed
+-- the statements so far were accepted, of what the source tells and of what its calls have given, and it has not failed
 abbrev pub invariant-loop-read : goal.invariant-loop-read
 invariant-loop-read g l = record {
   faults : g.S.Source.faults l.input ≡ g.S.Source.faults l.fn.input;
@@ -20,7 +21,8 @@ invariant-loop-read g l = record {
   problem : l.replay.problem ≡ l.fn.replay.problem;
   led : (marks : List (Spanned Statement))
       × HasPulled l.fn.longest (begin (largest l.fn.replay.limits) (top_of l.fn.replay.limits)) (g.S.Source.left l.fn.input) marks l.feeder (g.S.Source.left l.input)
-      × ((first : State) → StandsFor l.fn.replay first → (t : State) × StandsFor l.replay t × Accepts (largest l.fn.replay.limits) (top_of l.fn.replay.limits) l.fn.replay.problem first (statements_at marks) t);
+      × ((first : State) → StandsFor l.fn.replay first → (t : State) × StandsFor l.replay t × Accepts (largest l.fn.replay.limits) (top_of l.fn.replay.limits) l.fn.replay.problem first (statements_at marks) t)
+      × HasGiven l.fn.longest (begin (largest l.fn.replay.limits) (top_of l.fn.replay.limits)) (g.S.Source.history l.fn.input) marks l.feeder (g.S.Source.history l.input);
 }
 
 -- the bytes that may still be read

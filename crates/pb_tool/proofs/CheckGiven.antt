@@ -1,0 +1,96 @@
+-- What a check owes of the bytes that a source's calls have given.
+use Rattle.std.proofs.Common.{◌≡◌, ℕ, List, [], ◌∷◌, ◌++◌, true, false, Option, Some, None, Result, Ok, Err, refl, sym, subst, append_assoc}
+use Rattle.pb_text.specs.Automaton.{Accepts as AcceptsBytes}
+use Rattle.pb_text.specs.Blank.{GivesBlank}
+use Rattle.pb_text.specs.Limits.{largest, top_of}
+use Rattle.pb_text.specs.Rows.{TookAll, TookSoFar}
+use Rattle.pb_text.specs.Spelling.{Item}
+use Rattle.pb_text.specs.declared.Limits.{Limits}
+use Rattle.pb_text.specs.declared.Place.{Place}
+use Rattle.pb_text.specs.declared.Spanned.{Spanned}
+use Rattle.pb_text.specs.declared.Stop.{Stop}
+use Rattle.pb_proof.specs.Formats.{ReadsProofs}
+use Rattle.pb_proof.specs.State.{begin, proofs}
+use Rattle.pb_proof.specs.declared.Statement.{Statement}
+use Rattle.pb_replay.specs.Loading.{Problem}
+use Rattle.pb_replay.specs.Meaning.{IsFront}
+use Rattle.pb_replay.specs.Replay.{State}
+use Rattle.pb_replay.specs.Running.{Replaying, StandsFor, verdict_in}
+use Rattle.pb_replay.specs.Statements.{Accepts}
+use Rattle.pb_replay.specs.declared.fault.Fault.{Fault}
+use Rattle.pb_replay.specs.declared.verdict.Verdict.{Verdict}
+use Rattle.pb_tool.specs.Checker.{IsAt, StepsFrom}
+use Rattle.pb_tool.specs.Checks.{statements_at}
+use Rattle.pb_tool.specs.Files.{IsVeri}
+use Rattle.pb_tool.specs.Given.{OfGiven}
+use Rattle.pb_tool.specs.Runs.{IsToldAs, Replays, Runs}
+use Rattle.pb_tool.specs.Verified.{BehindProof, InProof, IsAccepted, IsRefusedText}
+use Rattle.pb_tool.specs.declared.checker.CheckFault.{CheckFault}
+use Rattle.pb_tool.specs.declared.checker.CheckFault.TheVariants as check
+use Rattle.pb_tool.specs.declared.fault.ToolFault.{ToolFault}
+use Rattle.pb_tool.specs.declared.fault.ToolFault.TheVariants.{Text}
+use Rattle.pb_tool.specs.declared.fault.Input.TheVariants.{Proof as of_proof}
+use Rattle.pb_tool.proofs.Accepted.{step_told, whole_file}
+use Rattle.pb_tool.proofs.Given.{given_both}
+use Rattle.pb_tool.proofs.GivenRow.{all_of}
+use Rattle.pb_tool.proofs.Replayed as replayed
+
+module _ (limits : Limits) (longest : ℕ) (v : Problem) (first : State) where
+  -- the accepted statements of a proof, where the rest is another
+  accepted_of : (used seen other : List ℕ) (place : Place) (last : State) → IsAccepted limits longest v first (Some (used ++ seen)) (Some seen) place true None last → IsAccepted limits longest v first (Some (used ++ other)) (Some other) place true None last
+  accepted_of used seen other place last a = record { marks = a.marks; took = all_of (IsVeri limits) longest used seen other a.marks place a.took; accepted = a.accepted }
+
+  module _ (before mid after : List ℕ) (new : Replaying) (ended : Verdict × Place) where
+    -- a whole proof, and a blank rest
+    pub given_whole : OfGiven (λ left rest. Runs limits longest v first left (Ok ended) rest new) before mid → GivesBlank ended.1 mid (Ok tt) after → OfGiven (λ left rest. Replays limits longest v first left (Ok ended.0) rest) before after
+    given_whole (used, seen, e, (last, a, claimed)) (rest, f, blank, bound) = (
+      used ++ rest,
+      [],
+      given_both before mid after used rest e f,
+      whole_file limits longest v first (Some ((used ++ rest) ++ [])) (Some (rest ++ [])) (Some []) ended.1 last ended.0
+          (subst (λ (x : List ℕ). IsAccepted limits longest v first (Some x) (Some (rest ++ [])) ended.1 true None last) (sym (append_assoc used rest [])) (accepted_of used seen (rest ++ []) ended.1 last a)) claimed
+          (rest, (refl, refl), blank, bound),
+    )
+
+    -- a whole proof, and a rest that is not blank
+    behind : (s : Stop) → OfGiven (λ left rest. Runs limits longest v first left (Ok ended) rest new) before mid → GivesBlank ended.1 mid (Err s) after → OfGiven (λ left rest. IsRefusedText limits longest v first left rest s) before after
+    behind s (used, seen, e, (last, a, claimed)) (rest, more, f, blank, at, stray) = (
+      used ++ rest,
+      more,
+      given_both before mid after used rest e f,
+      subst (λ (x : List ℕ). IsRefusedText limits longest v first (Some x) (Some more) s) (sym (append_assoc used rest more))
+          (BehindProof (Some (rest ++ more)) ended.1 last ended.0 (accepted_of used seen (rest ++ more) ended.1 last a) claimed (rest, more, (refl, refl), blank, at, stray)),
+    )
+
+    pub given_behind : (s : Stop) (f : ToolFault) → f ≡ Text of_proof s → OfGiven (λ left rest. Runs limits longest v first left (Ok ended) rest new) before mid → GivesBlank ended.1 mid (Err s) after → OfGiven (λ left rest. Replays limits longest v first left (Err f) rest) before after
+    given_behind s f is runs rest = subst (λ (x : ToolFault). OfGiven (λ left end. Replays limits longest v first left (Err x) end) before after) (sym is) (behind s runs rest)
+
+  module _ (before after : List ℕ) (new : Replaying) (f : ToolFault) where
+    -- a text that stopped
+    pub given_text : (s : Stop) → f ≡ Text of_proof s → OfGiven (λ left rest. Runs limits longest v first left (Err (check.Text s)) rest new) before after → OfGiven (λ left rest. Replays limits longest v first left (Err f) rest) before after
+    given_text s is (given, seen, e, (last, accepted)) = (given, seen, e, subst (λ (x : ToolFault). Replays limits longest v first (Some (given ++ seen)) (Err x) (Some seen)) (sym is) (InProof last accepted))
+
+    -- a refused statement, with the name that it tells
+    pub given_told : (place : Place) (e : Fault) → IsToldAs new.names place e f → OfGiven (λ left rest. Runs limits longest v first left (Err (check.Step place e)) rest new) before after → OfGiven (λ left rest. Replays limits longest v first left (Err f) rest) before after
+    given_told place e told (given, seen, is, runs) = (given, seen, is, step_told limits longest v first (Some (given ++ seen)) (Some seen) new place e f runs told)
+
+-- ---- a run through the statements
+
+module _ (exact : ReadsProofs) (limits : Limits) (longest : ℕ) (before after : List ℕ) (v : Problem) (first : State) (r : Replaying) (marks : List (Spanned Statement))
+    (led : (t : State) × StandsFor r t × Accepts (largest limits) (top_of limits) v first (statements_at marks) t) (new : Replaying) where
+  abbrev Read : List (Item Statement) → Type 0
+  Read = AcceptsBytes proofs (begin (largest limits) (top_of limits))
+
+  pub given_stopped : (s : Stop) → OfGiven (λ left rest. TookAll Read longest left rest marks s.place false (Some s)) before after → OfGiven (λ left rest. Runs limits longest v first left (Err (check.Text s)) rest new) before after
+  given_stopped s (given, seen, e, all) = (given, seen, e, (led.0, replayed.accepted exact limits longest (Some (given ++ seen)) (Some seen) v first r marks led s.place false (Some s) all))
+
+  module _ (none : r.fault ≡ None) where
+    moved : (left rest : Option (List ℕ)) (place at : Place) (w : Verdict) → place ≡ at → (t : State) × IsAccepted limits longest v first left rest place true None t × (t.concluded ≡ Some w) → (t : State) × IsAccepted limits longest v first left rest at true None t × (t.concluded ≡ Some w)
+    moved left rest place at w same (last, accepted, claimed) = (last, subst (λ (p : Place). IsAccepted limits longest v first left rest p true None last) same accepted, claimed)
+
+    pub given_ended : (place at : Place) (w : Verdict) → place ≡ at → Some w ≡ verdict_in r → OfGiven (λ left rest. TookAll Read longest left rest marks place true None) before after → OfGiven (λ left rest. Runs limits longest v first left (Ok (w, at)) rest new) before after
+    given_ended place at w same is (given, seen, e, all) = (given, seen, e, moved (Some (given ++ seen)) (Some seen) place at w same (replayed.ended exact limits longest (Some (given ++ seen)) (Some seen) v first r marks led none place w all is))
+
+    pub given_step : (m : Spanned Statement) → r.limits ≡ limits → r.problem ≡ v → (x : CheckFault) → ((now : Result State Fault) → IsAt r now → StepsFrom r.limits r.problem now m (Err x) new) → IsFront r.names new.names
+        → OfGiven (λ left rest. TookSoFar Read longest left rest (marks ++ m ∷ []) m.past) before after → OfGiven (λ left rest. Runs limits longest v first left (Err x) rest new) before after
+    given_step m limited problem x steps names (given, seen, e, sofar) = (given, seen, e, replayed.refused_run exact limits longest (Some (given ++ seen)) (Some seen) v first r marks led none new m limited problem x steps names sofar)
