@@ -1,4 +1,4 @@
--- The bytes that statements have of a text.
+-- The bytes that statements have of a text. Offered to other crates.
 use Rattle.std.proofs.Common.{◌≡◌, ℕ, ◌-◌, ◌<◌, ◌≤◌, List, [], ◌∷◌, ◌++◌, length, Bool, cond, Option, Some, None, refl, ap, ◌∙◌, arith, length-append, inl, inr, le-leb}
 use Rattle.pb_text.specs.Spelling.{Item, bytes, place_after, marks_since}
 use Rattle.pb_text.specs.Reading.{AreShort, Overruns, open_bytes, byte_limit}
