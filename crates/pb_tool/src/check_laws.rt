@@ -4,7 +4,7 @@ ghost use Rattle.pb_opb.specs.Formats.{OneInstance, NoFront as NoInstanceFront};
 ghost use Rattle.pb_proof.specs.Formats.{FixedMarks, OneProof, NoFront as NoProofFront};
 ghost use Rattle.pb_proof.specs.ValueLaws.{OneValue, ReadStatements};
 ghost use Rattle.pb_tool.specs.Deciding.{AnswersExactly, OneAnswer};
-ghost use Rattle.pb_tool.specs.Headline.{UnsatIsTrue, VerdictsAreTrue};
+ghost use Rattle.pb_tool.specs.Headline.{UnsatIsExact, UnsatIsTrue, VerdictsAreTrue};
 ghost use Rattle.pb_tool.specs.Pieces.{AnyCutting};
 
 use crate::checker::texts_are_read;
@@ -46,6 +46,15 @@ pub fn answers_are_exact<W: Sink>()
     reads_are_of_proofs();
     outcomes_are_single();
     statements_are_sound();
+}
+
+/// Where nothing fails to be read or written and memory does not run out, `check` answers `verified UNSAT` exactly where the bytes
+/// spell an instance and a proof of UNSAT that the rules accept, and then no assignment of its names solves that instance.
+pub fn unsat_is_exact<W: Sink>()
+    ensures { UnsatIsExact W.contents W.faults }
+{
+    answers_are_exact::<W>();
+    verified_is_true();
 }
 
 /// What `check` answers of two inputs their bytes decide: but where a reader or a writer failed or memory ran out.

@@ -18,7 +18,8 @@ mod verify;
 mod words;
 
 pub use check_laws::{
-    answers_are_exact, any_cut_of_a_proof, one_answer, unsat_is_true, verified_is_true,
+    answers_are_exact, any_cut_of_a_proof, one_answer, unsat_is_exact, unsat_is_true,
+    verified_is_true,
 };
 pub use checker::{CheckFault, Checker};
 pub use fault::{Input, ToolFault, status, write_fault};
