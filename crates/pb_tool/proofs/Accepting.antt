@@ -7,7 +7,6 @@ use Rattle.pb_text.specs.Reading.{HasFixedMarks, Reads}
 use Rattle.pb_text.specs.declared.Limits.{Limits}
 use Rattle.pb_text.specs.declared.Place.{Place}
 use Rattle.pb_text.specs.declared.Spanned.{Spanned}
-use Rattle.pb_normal.specs.Names.{AreDistinct}
 use Rattle.pb_proof.specs.ValueLaws.{ReadStatements}
 use Rattle.pb_proof.specs.Values.{IsStatementValue}
 use Rattle.pb_proof.specs.declared.Statement.{Statement}

@@ -1,12 +1,12 @@
 -- What the same bytes make a check answer.
-use Rattle.std.proofs.Common.{◌≡◌, ◌≢◌, ◌↔◌, ℕ, ◌+◌, ◌≤◌, List, [], ◌∷◌, ◌++◌, length, Bool, true, false, Option, Some, None, Result, Ok, Err, refl, sym, ap, ◌∙◌, subst, append-nil}
+use Rattle.std.proofs.Common.{◌≡◌, ◌≢◌, ◌↔◌, ℕ, List, [], ◌++◌, Option, Some, None, Result, Ok, Err, refl, sym, ap, ◌∙◌, subst, append-nil}
 use Rattle.std.specs.Prelude.{String, string_bytes}
 use Rattle.std.specs.declared.alloc.Global.{Global}
-use Rattle.pb_text.specs.Blank.{IsStray, ReadsBlank, place_from}
+use Rattle.pb_text.specs.Blank.{IsStray, place_from}
 use Rattle.pb_text.specs.Limits.{largest, top_of}
 use Rattle.pb_text.specs.Pulling.{Took}
-use Rattle.pb_text.specs.Reading.{HasFixedMarks, IsSpelled, Reads}
-use Rattle.pb_text.specs.Spelling.{Item, place_after}
+use Rattle.pb_text.specs.Reading.{HasFixedMarks, IsSpelled}
+use Rattle.pb_text.specs.Spelling.{Item}
 use Rattle.pb_text.specs.Whole.{events_of}
 use Rattle.pb_text.specs.declared.Limits.{Limits}
 use Rattle.pb_text.specs.declared.Place.{Place}
@@ -35,7 +35,7 @@ use Rattle.pb_replay.specs.declared.verdict.Verdict.{Verdict}
 use Rattle.pb_tool.specs.Checks.{statements_at}
 use Rattle.pb_tool.specs.Deciding.{AnswersExactly, AreVerified, IsDecided, IsOfText, IsSame, OneAnswer}
 use Rattle.pb_tool.specs.Files.{IsProofFile, IsVeri}
-use Rattle.pb_tool.specs.Tidying.{IsFile, IsOpb, IsOpbFile, IsNoOpbFile}
+use Rattle.pb_tool.specs.Tidying.{IsOpb, IsOpbFile, IsNoOpbFile}
 use Rattle.pb_tool.specs.Tidying.IsRefused.{InText, InRest}
 use Rattle.pb_tool.specs.Verified.{ChecksFiles, IsRefusedStep, IsRefusedText, IsVerified, InProof, BehindProof}
 use Rattle.pb_tool.specs.declared.fault.ToolFault.{ToolFault}

@@ -1,15 +1,15 @@
 -- The same bytes are read in one way.
-use Rattle.std.proofs.Common.{◌≡◌, ◌⊎◌, inl, inr, ℕ, ◌+◌, ◌<◌, ◌≤◌, List, [], ◌∷◌, ◌++◌, length, nat_le, Bool, true, false, cond, IsTrue, Option, Some, None, refl, sym, ap, ◌∙◌, subst, append-nil, append_assoc, arith, length-append, le-leb}
+use Rattle.std.proofs.Common.{◌≡◌, ◌⊎◌, inl, inr, ℕ, ◌<◌, ◌≤◌, List, [], ◌∷◌, ◌++◌, length, nat_le, Bool, true, false, cond, IsTrue, Option, None, refl, sym, ap, ◌∙◌, subst, append-nil, append_assoc, arith, length-append, le-leb}
 use Rattle.std.proofs.lemmas.Bool.{lt-leb}
 use Rattle.std.proofs.lemmas.Bool.Decides.{leb_tells}
 use Rattle.pb_text.specs.Classes.{is_digit}
 use Rattle.pb_text.specs.Reading.{AreShort, EndsInNumber, Explains, HasFixedMarks, IsBad, IsFull, IsFront, IsSpelled, IsUnderWay, Overruns, Reads, byte_limit, ended_within}
-use Rattle.pb_text.specs.Spelling.{Item, bytes, bytes_of, letters_of, marks_of, marks_since, place_after, plain}
+use Rattle.pb_text.specs.Spelling.{Item, bytes, bytes_of, letters_of, marks_of, marks_since, plain}
 use Rattle.pb_text.specs.declared.Place.{Place}
 use Rattle.pb_text.specs.declared.Spanned.{Spanned}
 use Rattle.pb_text.specs.declared.Why.{Why}
 use Rattle.pb_text.specs.declared.Why.TheVariants.{Byte, TooLarge, Ended, TooLong, Read, Memory}
-use Rattle.pb_text.proofs.Lists.{bytes-append, bytes-plain, length-bytes}
+use Rattle.pb_text.proofs.Lists.{bytes-append, bytes-plain}
 use Rattle.pb_text.proofs.Short.{place_after-offset}
 use Rattle.pb_tool.specs.Deciding.{IsOfText}
 use Rattle.pb_tool.proofs.Fronts.{Compared, two_fronts, same_rest}

@@ -1,5 +1,5 @@
 -- A text, with the rest behind it, is refused in one way or not at all.
-use Rattle.std.proofs.Common.{◌≡◌, ℕ, ◌+◌, ◌≤◌, List, ◌++◌, length, sym, ap, ◌∙◌, subst, arith, length-append}
+use Rattle.std.proofs.Common.{◌≡◌, ℕ, ◌≤◌, List, ◌++◌, length, sym, ap, ◌∙◌, subst, arith, length-append}
 use Rattle.pb_text.specs.Blank.{IsBlank, IsStray, place_from}
 use Rattle.pb_text.specs.Reading.{Explains, IsSpelled, IsUnderWay, byte_limit}
 use Rattle.pb_text.specs.Spelling.{Item, place_after}
