@@ -1,6 +1,7 @@
 -- What a check owes of two sources, from what its parts owe.
-use Rattle.std.proofs.Common.{◌≡◌, ◌⊎◌, ℕ, ◌≤◌, List, [], ◌++◌, length, true, Option, Some, None, Result, Ok, Err, refl, sym, ap, ◌∙◌, subst, inl, inr, arith, length-append}
+use Rattle.std.proofs.Common.{◌≡◌, ◌⊎◌, ℕ, ◌≤◌, ◌<◌, List, [], ◌++◌, length, get_or, true, Option, Some, None, Result, Ok, Err, refl, sym, ap, ◌∙◌, subst, inl, inr, arith, length-append}
 use Rattle.std.specs.Prelude.{string_bytes}
+use Rattle.std.proofs.lemmas.List.{get_or_append_left}
 use Rattle.pb_text.specs.Blank.{ReadsBlank}
 use Rattle.pb_text.specs.Limits.{largest, top_of}
 use Rattle.pb_text.specs.Reading.{byte_limit}
@@ -13,16 +14,16 @@ use Rattle.pb_proof.specs.declared.Proof.{Proof}
 use Rattle.pb_proof.specs.declared.Statement.{Statement}
 use Rattle.pb_proof.specs.Proofs.{statements_of}
 use Rattle.pb_replay.specs.Loading.{Problem}
-use Rattle.pb_replay.specs.Meaning.{IsFront}
 use Rattle.pb_replay.specs.Replay.{State, first_state}
 use Rattle.pb_replay.specs.Running.{Replaying}
 use Rattle.pb_replay.specs.Statements.{Outcome, Accepts}
 use Rattle.pb_replay.specs.declared.fault.Fault.{Fault}
 use Rattle.pb_replay.specs.declared.fault.Fault.TheVariants.{Memory as no_memory}
+use Rattle.pb_replay.specs.declared.fault.Fault.TheVariants as why
 use Rattle.pb_replay.specs.declared.verdict.Verdict.{Verdict}
 use Rattle.pb_tool.specs.Checks.{statements_at}
-use Rattle.pb_tool.specs.Runs.{IsNoReplay, IsReplayOf, IsToldAs, Replays, Runs, faults_of_instance}
-use Rattle.pb_tool.specs.Verified.{ChecksFiles, IsAccepted, IsNamed, IsTold, IsVerified, verdict_line}
+use Rattle.pb_tool.specs.Runs.{IsNoReplay, IsReplayOf, IsToldAs, KeepsNames, Replays, Runs, faults_of_instance}
+use Rattle.pb_tool.specs.Verified.{ChecksFiles, IsAccepted, IsTold, IsVerified, verdict_line}
 use Rattle.pb_tool.specs.declared.checker.CheckFault.TheVariants as check
 use Rattle.pb_tool.specs.declared.fault.ToolFault.{ToolFault}
 use Rattle.pb_tool.specs.declared.fault.ToolFault.TheVariants.{Text, Open, Overflow, Memory, Write, Step}
@@ -30,6 +31,27 @@ use Rattle.pb_tool.specs.declared.fault.Input.TheVariants.{File, Instance as of_
 use Rattle.pb_tool.proofs.Checked.{marks_events}
 use Rattle.pb_tool.proofs.Feeds.{took_join}
 use Rattle.pb_tool.proofs.Shown.{after_offset}
+
+-- the name among those from before the statement
+names_front : (names all more : List (List ℕ)) (n : ℕ) → all ≡ names ++ more → n < length names → get_or all n [] ≡ get_or names n []
+names_front names all more n is lt = ap (λ (x : List (List ℕ)). get_or x n []) is ∙ get_or_append_left names more [] n lt
+
+told_before : (names all : List (List ℕ)) (e : Fault) (name : List ℕ) → KeepsNames names all e → IsTold all e name → IsTold names e name
+told_before names all why.Memory name kept h = h
+told_before names all why.Overflow name kept h = h
+told_before names all (why.FormulaCount n) name kept h = h
+told_before names all (why.NoSuchId n) name kept h = h
+told_before names all why.NotImplied name kept h = h
+told_before names all why.Conflict name kept h = h
+told_before names all (why.NotTotal n) name ((more, is), old) h = h ∙ names_front names all more n is (old n refl)
+told_before names all (why.Violates n) name kept h = h
+told_before names all why.NoObjective name kept h = h
+told_before names all why.NotContradiction name kept h = h
+told_before names all why.SolutionLogged name kept h = h
+told_before names all why.NoSolution name kept h = h
+told_before names all why.NotBound name kept h = h
+told_before names all why.IdsSpent name kept h = h
+told_before names all why.Order name kept h = h
 
 module _ (limits : Limits) (longest : ℕ) (v : Problem) (first : State) (before : Option (List ℕ)) where
   -- a whole proof, and a blank rest
@@ -68,12 +90,12 @@ module _ (limits : Limits) (longest : ℕ) (v : Problem) (first : State) (before
   )
     where
       reason : (x ≡ no_memory) ⊎ ((x ≡ e) × IsTold new.names e (string_bytes name))
-          → (e ≡ no_memory) ⊎ (Outcome (largest limits) (top_of limits) v state st (Err e) × IsFront state.names new.names)
-          → (x ≡ no_memory) ⊎ (Outcome (largest limits) (top_of limits) v state st (Err x) × IsNamed state.names x (string_bytes name))
+          → (e ≡ no_memory) ⊎ (Outcome (largest limits) (top_of limits) v state st (Err e) × KeepsNames state.names new.names e)
+          → (x ≡ no_memory) ⊎ (Outcome (largest limits) (top_of limits) v state st (Err x) × IsTold state.names x (string_bytes name))
       reason (inl h) w = inl h
       reason (inr (same, h)) (inl m) = inl (same ∙ m)
-      reason (inr (same, h)) (inr (out, front)) =
-          inr (subst (λ (y : Fault). Outcome (largest limits) (top_of limits) v state st (Err y) × IsNamed state.names y (string_bytes name)) (sym same) (out, (new.names, front, h)))
+      reason (inr (same, h)) (inr (out, kept)) =
+          inr (subst (λ (y : Fault). Outcome (largest limits) (top_of limits) v state st (Err y) × IsTold state.names y (string_bytes name)) (sym same) (out, told_before state.names new.names e (string_bytes name) kept h))
   step_told after new place e (Text i s) h told = absurd told
   step_told after new place e (Open i) h told = absurd told
   step_told after new place e (Overflow i) h told = absurd told

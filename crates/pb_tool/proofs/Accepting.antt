@@ -1,25 +1,20 @@
 -- Statements are accepted and refused in one way.
-use Rattle.std.proofs.Common.{◌≡◌, ◌≢◌, ◌⊎◌, inl, inr, ℕ, ◌<◌, List, [], ◌∷◌, ◌++◌, length, get_or, Bool, Option, Some, None, Result, Ok, Err, refl, sym, ap, ◌∙◌, subst, All}
-use Rattle.std.proofs.lemmas.List.{get_or_append_left}
-use Rattle.std.proofs.lemmas.List.Elements.{All-head, All-tail}
+use Rattle.std.proofs.Common.{◌≡◌, ◌≢◌, ◌⊎◌, inl, inr, ℕ, List, [], ◌∷◌, ◌++◌, Bool, Option, Some, None, Result, Ok, Err, refl, sym, ap, ◌∙◌, subst}
 use Rattle.pb_text.specs.Limits.{largest, top_of}
 use Rattle.pb_text.specs.Reading.{HasFixedMarks, Reads}
 use Rattle.pb_text.specs.declared.Limits.{Limits}
 use Rattle.pb_text.specs.declared.Place.{Place}
 use Rattle.pb_text.specs.declared.Spanned.{Spanned}
-use Rattle.pb_proof.specs.ValueLaws.{ReadStatements}
-use Rattle.pb_proof.specs.Values.{IsStatementValue}
 use Rattle.pb_proof.specs.declared.Statement.{Statement}
-use Rattle.pb_replay.specs.Laws.{OutcomesAreSingle, StatementsAreSound, UnvaluedAreOld}
+use Rattle.pb_replay.specs.Laws.{OutcomesAreSingle}
 use Rattle.pb_replay.specs.Loading.{Problem}
-use Rattle.pb_replay.specs.Meaning.{IsProblem, IsSound}
 use Rattle.pb_replay.specs.Replay.{State}
 use Rattle.pb_replay.specs.Statements.{Outcome, Accepts}
 use Rattle.pb_replay.specs.declared.fault.Fault.{Fault}
 use Rattle.pb_replay.specs.declared.fault.Fault.TheVariants.{Memory, Overflow, FormulaCount, NoSuchId, NotImplied, Conflict, NotTotal, Violates, NoObjective, NotContradiction, SolutionLogged, NoSolution, NotBound, IdsSpent, Order}
 use Rattle.pb_tool.specs.Checks.{statements_at}
 use Rattle.pb_tool.specs.Files.{IsVeri}
-use Rattle.pb_tool.specs.Verified.{ComesTo, IsNamed, IsRefusedStep}
+use Rattle.pb_tool.specs.Verified.{ComesTo, IsRefusedStep, IsTold}
 use Rattle.pb_tool.proofs.Fronts.{Compared, two_fronts}
 use Rattle.pb_tool.proofs.OneRead.{Begins, marks_begin, so_far_reached}
 
@@ -54,26 +49,22 @@ ends_at (z ∷ xs) (w ∷ ys) x y more e =
 
 -- ---- the name that a refusal tells
 
-names_front : (names all more : List (List ℕ)) (n : ℕ) → all ≡ names ++ more → n < length names → get_or all n [] ≡ get_or names n []
-names_front names all more n is lt = ap (λ (x : List (List ℕ)). get_or x n []) is ∙ get_or_append_left names more [] n lt
-
-one_name : (names : List (List ℕ)) (e : Fault) (a b : List ℕ) → ((n : ℕ) → e ≡ NotTotal n → n < length names) → IsNamed names e a → IsNamed names e b → a ≡ b
-one_name names (NotTotal n) a b lt (all, (more, is), told) (all', (more', is'), told') =
-    told ∙ (names_front names all more n is (lt n refl) ∙ (sym (names_front names all' more' n is' (lt n refl)) ∙ sym told'))
-one_name names Memory a b lt (all, f, told) (all', f', told') = told ∙ sym told'
-one_name names Overflow a b lt (all, f, told) (all', f', told') = told ∙ sym told'
-one_name names (FormulaCount n) a b lt (all, f, told) (all', f', told') = told ∙ sym told'
-one_name names (NoSuchId n) a b lt (all, f, told) (all', f', told') = told ∙ sym told'
-one_name names NotImplied a b lt (all, f, told) (all', f', told') = told ∙ sym told'
-one_name names Conflict a b lt (all, f, told) (all', f', told') = told ∙ sym told'
-one_name names (Violates n) a b lt (all, f, told) (all', f', told') = told ∙ sym told'
-one_name names NoObjective a b lt (all, f, told) (all', f', told') = told ∙ sym told'
-one_name names NotContradiction a b lt (all, f, told) (all', f', told') = told ∙ sym told'
-one_name names SolutionLogged a b lt (all, f, told) (all', f', told') = told ∙ sym told'
-one_name names NoSolution a b lt (all, f, told) (all', f', told') = told ∙ sym told'
-one_name names NotBound a b lt (all, f, told) (all', f', told') = told ∙ sym told'
-one_name names IdsSpent a b lt (all, f, told) (all', f', told') = told ∙ sym told'
-one_name names Order a b lt (all, f, told) (all', f', told') = told ∙ sym told'
+one_name : (names : List (List ℕ)) (e : Fault) (a b : List ℕ) → IsTold names e a → IsTold names e b → a ≡ b
+one_name names Memory a b told told' = told ∙ sym told'
+one_name names Overflow a b told told' = told ∙ sym told'
+one_name names (FormulaCount n) a b told told' = told ∙ sym told'
+one_name names (NoSuchId n) a b told told' = told ∙ sym told'
+one_name names NotImplied a b told told' = told ∙ sym told'
+one_name names Conflict a b told told' = told ∙ sym told'
+one_name names (NotTotal n) a b told told' = told ∙ sym told'
+one_name names (Violates n) a b told told' = told ∙ sym told'
+one_name names NoObjective a b told told' = told ∙ sym told'
+one_name names NotContradiction a b told told' = told ∙ sym told'
+one_name names SolutionLogged a b told told' = told ∙ sym told'
+one_name names NoSolution a b told told' = told ∙ sym told'
+one_name names NotBound a b told told' = told ∙ sym told'
+one_name names IdsSpent a b told told' = told ∙ sym told'
+one_name names Order a b told told' = told ∙ sym told'
 
 module _ (single : OutcomesAreSingle) (limits : Limits) (v : Problem) where
   abbrev Does : State → Statement → Result State Fault → Type 0
@@ -112,71 +103,57 @@ module _ (single : OutcomesAreSingle) (limits : Limits) (v : Problem) where
         (subst (λ (x : Statement). Does state x (Err e)) (sym comes.statement) out)
 
     -- ---- two refused statements
-    module _ (values : ReadStatements) (unvalued : UnvaluedAreOld) (keeps : StatementsAreSound) (proper : IsProblem v) (sound : IsSound v first) where
-      sound_at : (marks : List (Spanned Statement)) (m : Spanned Statement) (s u : State) → All (IsStatementValue (largest limits) (top_of limits)) (statements_at (marks ++ m ∷ [])) → IsSound v s → Leads s (statements_at marks) u → IsSound v u
-      sound_at [] m s u all is k = subst (IsSound v) k is
-      sound_at (n ∷ marks) m s u all is (a, o, k) =
-          sound_at marks m a u (All-tail (IsStatementValue (largest limits) (top_of limits)) n.event (statements_at (marks ++ m ∷ [])) all)
-          (keeps (largest limits) (top_of limits) v s a n.event proper (All-head (IsStatementValue (largest limits) (top_of limits)) n.event (statements_at (marks ++ m ∷ [])) all) is o) k
+    -- the statement that was refused
+    record Refused (after : Option (List ℕ)) (e : Fault) (name : List ℕ) (begins : Place) : Type 0 where
+      statement : Statement
+      state : State
+      comes : ComesTo limits longest v first (Some input) after begins statement state
+      out : Does state comes.last.event (Err e)
+      named : IsTold state.names e name
 
-      -- the statement that was refused
-      record Refused (after : Option (List ℕ)) (e : Fault) (name : List ℕ) (begins : Place) : Type 0 where
-        statement : Statement
-        state : State
-        comes : ComesTo limits longest v first (Some input) after begins statement state
-        out : Does state comes.last.event (Err e)
-        named : IsNamed state.names e name
+    refused : (after : Option (List ℕ)) (begins : Place) (e : Fault) (name : List ℕ) → IsRefusedStep limits longest v first (Some input) after begins e name → e ≢ Memory → Refused after e name begins
+    refused after begins e name (st, state, comes, inl h) d = absurd (d h)
+    refused after begins e name (st, state, comes, inr (out, named)) d =
+        record { statement = st; state = state; comes = comes; out = subst (λ (x : Statement). Does state x (Err e)) (sym comes.statement) out; named = named }
 
-      refused : (after : Option (List ℕ)) (begins : Place) (e : Fault) (name : List ℕ) → IsRefusedStep limits longest v first (Some input) after begins e name → e ≢ Memory → Refused after e name begins
-      refused after begins e name (st, state, comes, inl h) d = absurd (d h)
-      refused after begins e name (st, state, comes, inr (out, named)) d =
-          record { statement = st; state = state; comes = comes; out = subst (λ (x : Statement). Does state x (Err e)) (sym comes.statement) out; named = named }
-
-      old : (after : Option (List ℕ)) (e : Fault) (name : List ℕ) (begins : Place) → (r : Refused after e name begins) → (n : ℕ) → e ≡ NotTotal n → n < length r.state.names
-      old after e name begins r n is =
+    module _ (after after' : Option (List ℕ)) (e e' : Fault) (name name' : List ℕ) (begins begins' : Place) (r : Refused after e name begins) (r' : Refused after' e' name' begins') where
+      -- of two that lie in one text the second is the first
+      same_mark : (m : List ℕ) → r'.comes.took.used ≡ r.comes.took.used ++ m → (r'.comes.marks ≡ r.comes.marks) × (r'.comes.last ≡ r.comes.last)
+      same_mark m p =
           let t = r.comes.took in
-          let every = (values (largest limits) (top_of limits) longest t.used t.used (r.comes.marks ++ r.comes.last ∷ []) r.comes.last.past t.done None t.reads).each in
-          unvalued (largest limits) (top_of limits) v r.state r.comes.last.event n (sound_at r.comes.marks r.comes.last first r.state every sound r.comes.accepted).distinct
-          (subst (λ (x : Fault). Does r.state r.comes.last.event (Err x)) is r.out)
-
-      module _ (after after' : Option (List ℕ)) (e e' : Fault) (name name' : List ℕ) (begins begins' : Place) (r : Refused after e name begins) (r' : Refused after' e' name' begins') where
-        -- of two that lie in one text the second is the first
-        same_mark : (m : List ℕ) → r'.comes.took.used ≡ r.comes.took.used ++ m → (r'.comes.marks ≡ r.comes.marks) × (r'.comes.last ≡ r.comes.last)
-        same_mark m p =
-            let t = r.comes.took in
-            let t' = r'.comes.took in
-            let (more, is) =
-            marks_begin (IsVeri limits) longest fixed t.used t'.used m (r.comes.marks ++ r.comes.last ∷ []) (r'.comes.marks ++ r'.comes.last ∷ []) p
-            (so_far_reached (IsVeri limits) longest t.used t.used (r.comes.marks ++ r.comes.last ∷ []) r.comes.last.past t.done t.reads) (so_far_reached (IsVeri limits) longest t'.used t'.used (r'.comes.marks ++ r'.comes.last ∷ []) r'.comes.last.past t'.done t'.reads) in
-            by (ends_at r.comes.marks r'.comes.marks r.comes.last r'.comes.last more is)
-          where
-            by : ((r'.comes.marks ≡ r.comes.marks) × (r'.comes.last ≡ r.comes.last)) ⊎ ((others : List (Spanned Statement)) × (r'.comes.marks ≡ (r.comes.marks ++ r.comes.last ∷ []) ++ others))
-                → (r'.comes.marks ≡ r.comes.marks) × (r'.comes.last ≡ r.comes.last)
-            by (inl h) = h
-            by (inr (others, h)) =
-                absurd (clash r.comes.marks r.comes.last others first r'.state r.state e (subst (λ (x : List (Spanned Statement)). Leads first (statements_at x) r'.state) h r'.comes.accepted) r.comes.accepted r.out)
-
-        alike : r'.comes.marks ≡ r.comes.marks → r'.comes.last ≡ r.comes.last → (begins' ≡ begins) × (e' ≡ e) × (name ≡ name')
-        alike marks last =
-            let state : r'.state ≡ r.state = one_state (statements_at r.comes.marks) first r'.state r.state (subst (λ (x : List (Spanned Statement)). Leads first (statements_at x) r'.state) marks r'.comes.accepted) r.comes.accepted in
-            let out : Does r.state r.comes.last.event (Err e') = subst (λ (x : Spanned Statement). Does r.state x.event (Err e')) last (subst (λ (x : State). Does x r'.comes.last.event (Err e')) state r'.out) in
-            let fault : e' ≡ e = same_err e' e (single (largest limits) (top_of limits) v r.state r.comes.last.event (Err e') (Err e) out r.out) in (
-              r'.comes.begins_is ∙ (ap (λ (x : Spanned Statement). x.first) last ∙ sym r.comes.begins_is),
-              fault,
-              one_name r.state.names e name name' (old after e name begins r) r.named (subst (λ (x : Fault). IsNamed r.state.names x name') fault (subst (λ (x : State). IsNamed x.names e' name') state r'.named)),
-            )
-
-      one_refused : (after after' : Option (List ℕ)) (e e' : Fault) (name name' : List ℕ) (begins begins' : Place) (r : Refused after e name begins) (r' : Refused after' e' name' begins') → (begins' ≡ begins) × (e' ≡ e) × (name ≡ name')
-      one_refused after after' e e' name name' begins begins' r r' = by (two_fronts r.comes.took.used r.comes.took.seen r'.comes.took.used r'.comes.took.seen (sym r.comes.took.took.0 ∙ r'.comes.took.took.0))
+          let t' = r'.comes.took in
+          let (more, is) =
+          marks_begin (IsVeri limits) longest fixed t.used t'.used m (r.comes.marks ++ r.comes.last ∷ []) (r'.comes.marks ++ r'.comes.last ∷ []) p
+          (so_far_reached (IsVeri limits) longest t.used t.used (r.comes.marks ++ r.comes.last ∷ []) r.comes.last.past t.done t.reads) (so_far_reached (IsVeri limits) longest t'.used t'.used (r'.comes.marks ++ r'.comes.last ∷ []) r'.comes.last.past t'.done t'.reads) in
+          by (ends_at r.comes.marks r'.comes.marks r.comes.last r'.comes.last more is)
         where
-          by : Compared r.comes.took.used r'.comes.took.used → (begins' ≡ begins) × (e' ≡ e) × (name ≡ name')
-          by (inl (m, p)) = let (marks, last) = same_mark after after' e e' name name' begins begins' r r' m p in alike after after' e e' name name' begins begins' r r' marks last
-          by (inr (x, m, p)) =
-              let (marks, last) = same_mark after' after e' e name' name begins' begins r' r (x ∷ m) p in
-              let back = alike after' after e' e name' name begins' begins r' r marks last in
-              (sym back.0, sym back.1, sym back.2)
+          by : ((r'.comes.marks ≡ r.comes.marks) × (r'.comes.last ≡ r.comes.last)) ⊎ ((others : List (Spanned Statement)) × (r'.comes.marks ≡ (r.comes.marks ++ r.comes.last ∷ []) ++ others))
+              → (r'.comes.marks ≡ r.comes.marks) × (r'.comes.last ≡ r.comes.last)
+          by (inl h) = h
+          by (inr (others, h)) =
+              absurd (clash r.comes.marks r.comes.last others first r'.state r.state e (subst (λ (x : List (Spanned Statement)). Leads first (statements_at x) r'.state) h r'.comes.accepted) r.comes.accepted r.out)
 
-      pub one_step : (after after' : Option (List ℕ)) (begins begins' : Place) (e e' : Fault) (name name' : List ℕ) → IsRefusedStep limits longest v first (Some input) after begins e name → e ≢ Memory
-          → IsRefusedStep limits longest v first (Some input) after' begins' e' name' → e' ≢ Memory → (begins' ≡ begins) × (e' ≡ e) × (name ≡ name')
-      one_step after after' begins begins' e e' name name' h d h' d' =
-          one_refused after after' e e' name name' begins begins' (refused after begins e name h d) (refused after' begins' e' name' h' d')
+      alike : r'.comes.marks ≡ r.comes.marks → r'.comes.last ≡ r.comes.last → (begins' ≡ begins) × (e' ≡ e) × (name ≡ name')
+      alike marks last =
+          let state : r'.state ≡ r.state = one_state (statements_at r.comes.marks) first r'.state r.state (subst (λ (x : List (Spanned Statement)). Leads first (statements_at x) r'.state) marks r'.comes.accepted) r.comes.accepted in
+          let out : Does r.state r.comes.last.event (Err e') = subst (λ (x : Spanned Statement). Does r.state x.event (Err e')) last (subst (λ (x : State). Does x r'.comes.last.event (Err e')) state r'.out) in
+          let fault : e' ≡ e = same_err e' e (single (largest limits) (top_of limits) v r.state r.comes.last.event (Err e') (Err e) out r.out) in (
+            r'.comes.begins_is ∙ (ap (λ (x : Spanned Statement). x.first) last ∙ sym r.comes.begins_is),
+            fault,
+            one_name r.state.names e name name' r.named (subst (λ (x : Fault). IsTold r.state.names x name') fault (subst (λ (x : State). IsTold x.names e' name') state r'.named)),
+          )
+
+    one_refused : (after after' : Option (List ℕ)) (e e' : Fault) (name name' : List ℕ) (begins begins' : Place) (r : Refused after e name begins) (r' : Refused after' e' name' begins') → (begins' ≡ begins) × (e' ≡ e) × (name ≡ name')
+    one_refused after after' e e' name name' begins begins' r r' = by (two_fronts r.comes.took.used r.comes.took.seen r'.comes.took.used r'.comes.took.seen (sym r.comes.took.took.0 ∙ r'.comes.took.took.0))
+      where
+        by : Compared r.comes.took.used r'.comes.took.used → (begins' ≡ begins) × (e' ≡ e) × (name ≡ name')
+        by (inl (m, p)) = let (marks, last) = same_mark after after' e e' name name' begins begins' r r' m p in alike after after' e e' name name' begins begins' r r' marks last
+        by (inr (x, m, p)) =
+            let (marks, last) = same_mark after' after e' e name' name begins' begins r' r (x ∷ m) p in
+            let back = alike after' after e' e name' name begins' begins r' r marks last in
+            (sym back.0, sym back.1, sym back.2)
+
+    pub one_step : (after after' : Option (List ℕ)) (begins begins' : Place) (e e' : Fault) (name name' : List ℕ) → IsRefusedStep limits longest v first (Some input) after begins e name → e ≢ Memory
+        → IsRefusedStep limits longest v first (Some input) after' begins' e' name' → e' ≢ Memory → (begins' ≡ begins) × (e' ≡ e) × (name ≡ name')
+    one_step after after' begins begins' e e' name name' h d h' d' =
+        one_refused after after' e e' name name' begins begins' (refused after begins e name h d) (refused after' begins' e' name' h' d')

@@ -91,6 +91,6 @@ module _ (exact : ReadsProofs) (limits : Limits) (longest : ℕ) (before after :
     pub given_ended : (place at : Place) (w : Verdict) → place ≡ at → Some w ≡ verdict_in r → OfGiven (λ left rest. TookAll Read longest left rest marks place true None) before after → OfGiven (λ left rest. Runs limits longest v first left (Ok (w, at)) rest new) before after
     given_ended place at w same is (given, seen, e, all) = (given, seen, e, moved (Some (given ++ seen)) (Some seen) place at w same (replayed.ended exact limits longest (Some (given ++ seen)) (Some seen) v first r marks led none place w all is))
 
-    pub given_step : (m : Spanned Statement) → r.limits ≡ limits → r.problem ≡ v → (x : CheckFault) → ((now : Result State Fault) → IsAt r now → StepsFrom r.limits r.problem now m (Err x) new) → IsFront r.names new.names
+    pub given_step : (m : Spanned Statement) → r.limits ≡ limits → r.problem ≡ v → (x : CheckFault) → ((now : Result State Fault) → IsAt r now → StepsFrom r.limits r.problem now m (Err x) new) → IsFront r.names new.names → replayed.TellsOld r x
         → OfGiven (λ left rest. TookSoFar Read longest left rest (marks ++ m ∷ []) m.past) before after → OfGiven (λ left rest. Runs limits longest v first left (Err x) rest new) before after
-    given_step m limited problem x steps names (given, seen, e, sofar) = (given, seen, e, replayed.refused_run exact limits longest (Some (given ++ seen)) (Some seen) v first r marks led none new m limited problem x steps names sofar)
+    given_step m limited problem x steps names old (given, seen, e, sofar) = (given, seen, e, replayed.refused_run exact limits longest (Some (given ++ seen)) (Some seen) v first r marks led none new m limited problem x steps names old sofar)

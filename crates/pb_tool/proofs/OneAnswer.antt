@@ -22,10 +22,10 @@ use Rattle.pb_opb.specs.declared.Instance.{Instance}
 use Rattle.pb_opb.specs.declared.OpbEvent.{OpbEvent}
 use Rattle.pb_proof.specs.Formats as veri_laws
 use Rattle.pb_proof.specs.Proofs.{IsProofOf, statements_of}
-use Rattle.pb_proof.specs.ValueLaws.{OneValue, ReadStatements}
+use Rattle.pb_proof.specs.ValueLaws.{OneValue}
 use Rattle.pb_proof.specs.declared.Proof.{Proof}
 use Rattle.pb_proof.specs.declared.Statement.{Statement}
-use Rattle.pb_replay.specs.Laws.{FirstIsSound, OpeningsAreSingle, OutcomesAreSingle, ProblemsAreProper, StatementsAreSound, UnvaluedAreOld}
+use Rattle.pb_replay.specs.Laws.{OpeningsAreSingle, OutcomesAreSingle}
 use Rattle.pb_replay.specs.Loading.{Problem, Opened}
 use Rattle.pb_replay.specs.Replay.{State, first_state}
 use Rattle.pb_replay.specs.Statements.{Accepts}
@@ -176,13 +176,8 @@ pub record Laws : Type 0 where
   pub proof_front : veri_laws.NoFront
   pub fixed : veri_laws.FixedMarks
   pub value : OneValue
-  pub values : ReadStatements
   pub openings : OpeningsAreSingle
   pub outcomes : OutcomesAreSingle
-  pub unvalued : UnvaluedAreOld
-  pub problems : ProblemsAreProper
-  pub first : FirstIsSound
-  pub statements : StatementsAreSound
 
 module _ (laws : Laws) (limits : Limits) (longest : ℕ) (i p : List ℕ) where
   instances : (i' i'' : Option (List ℕ)) (v w : Instance) → IsOpbFile limits longest (Some i) i' v → IsOpbFile limits longest (Some i) i'' w → v ≡ w
@@ -289,9 +284,8 @@ module _ (laws : Laws) (limits : Limits) (longest : ℕ) (i p : List ℕ) where
         → IsRefusedStep limits longest b (first_state b) (Some p) p'' place' e' (string_bytes name') → e' ≢ no_memory → IsSame (Err (Step place e name)) (Err (Step place' e' name'))
     two_steps v w i' i'' a b place place' e e' name name' p' p'' f h r d g k r' d' =
         let same : b ≡ a = problems i'' i' w v b a g k f h in
-        let proper = laws.problems (largest limits) v a h in
         let (places, faults, names) =
-        one_step laws.outcomes limits a (fixed_veri laws.one_proof_law laws.proof_front laws.fixed laws.value laws.outcomes limits longest p) longest (first_state a) p laws.values laws.unvalued laws.statements proper (laws.first a proper) p' p'' place place' e e' (string_bytes name) (string_bytes name') r d
+        one_step laws.outcomes limits a (fixed_veri laws.one_proof_law laws.proof_front laws.fixed laws.value laws.outcomes limits longest p) longest (first_state a) p p' p'' place place' e e' (string_bytes name) (string_bytes name') r d
         (subst (λ (x : Problem). IsRefusedStep limits longest x (first_state x) (Some p) p'' place' e' (string_bytes name')) same r') d' in
         (name', ap (λ (x : Place). let t : Result Verdict ToolFault = Err (Step x e' name') in t) places ∙ ap (λ (x : Fault). let t : Result Verdict ToolFault = Err (Step place x name') in t) faults, names)
 

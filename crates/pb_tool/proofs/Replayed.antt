@@ -1,5 +1,5 @@
 -- What a run of a replay through the statements of a source owes.
-use Rattle.std.proofs.Common.{◌≡◌, ◌⊎◌, ℕ, List, [], ◌∷◌, ◌++◌, Bool, true, Option, Some, None, Result, Ok, Err, refl, sym, ◌∙◌, subst, inl, inr}
+use Rattle.std.proofs.Common.{◌≡◌, ◌⊎◌, ℕ, ◌<◌, List, [], ◌∷◌, ◌++◌, length, Bool, true, Option, Some, None, Result, Ok, Err, refl, sym, ap, ◌∙◌, subst, inl, inr}
 use Rattle.pb_text.specs.Limits.{largest, top_of}
 use Rattle.pb_text.specs.Automaton.{Accepts as AcceptsBytes}
 use Rattle.pb_text.specs.Reading.{Reads}
@@ -29,14 +29,22 @@ use Rattle.pb_tool.specs.Checker.{IsAt, StepsFrom}
 use Rattle.pb_tool.specs.Checks.{statements_at, Refuses, Takes}
 use Rattle.pb_replay.specs.Running.{StandsFor}
 use Rattle.pb_tool.specs.Files.{IsVeri}
-use Rattle.pb_tool.specs.Runs.{Runs, faults_of_text}
+use Rattle.pb_tool.specs.Runs.{KeepsNames, Runs, faults_of_text}
 use Rattle.pb_tool.specs.Verified.{IsAccepted}
 use Rattle.pb_tool.specs.declared.checker.CheckFault.{CheckFault}
+use Rattle.pb_tool.specs.declared.checker.CheckFault.TheVariants as check
 use Rattle.pb_tool.proofs.Checked.{accepts_more, last_is_value, shown_at, there}
 
 -- what a step answers, from wherever the replay stood
 abbrev Answers : Replaying → Spanned Statement → Result Unit CheckFault → Replaying → Type 0
 Answers old m result new = (now : Result State Fault) → IsAt old now → StepsFrom old.limits old.problem now m result new
+
+abbrev failed : CheckFault → Result Unit CheckFault
+failed x = Err x
+
+-- a name that the fault tells is one of those from before
+abbrev pub TellsOld : Replaying → CheckFault → Type 0
+TellsOld old x = (at : Place) (n : ℕ) → failed x ≡ failed (check.Step at (fault.NotTotal n)) → n < length old.names
 
 pub unspent_after : ReplaysHaveStates → (old new : Replaying) (m : Spanned Statement) → old.fault ≡ None → Answers old m (Ok tt) new → new.fault ≡ None
 unspent_after states old new m none steps = let (s, at) = states old in (steps (Ok s) (none, at)).1.0
@@ -103,18 +111,18 @@ module _ (exact : ReadsProofs) (limits : Limits) (longest : ℕ) where
                 accepts_more (largest limits) (top_of limits) v marks m first led.0 s led.2 (subst (λ (x : Problem). Takes limits x (Ok led.0) m.event s) problem (subst (λ (x : Limits). Takes x r.problem (Ok led.0) m.event s) limited takes)),
               )
 
-          told : (e : Fault) → IsFront led.0.names new.names → Refuses limits v (Ok led.0) m.event e
-              → (e ≡ fault.Memory) ⊎ (Outcome (largest limits) (top_of limits) v led.0 m.event (Err e) × IsFront led.0.names new.names)
+          told : (e : Fault) → KeepsNames led.0.names new.names e → Refuses limits v (Ok led.0) m.event e
+              → (e ≡ fault.Memory) ⊎ (Outcome (largest limits) (top_of limits) v led.0 m.event (Err e) × KeepsNames led.0.names new.names e)
           told e names (inl h) = inl h
           told e names (inr h) = inr (h, names)
 
-          pub refused_run : (x : CheckFault) → Answers r m (Err x) new → IsFront r.names new.names → HasSoFar (marks ++ m ∷ []) m.past → Runs limits longest v first before (Err x) after new
-          refused_run x steps names t =
+          pub refused_run : (x : CheckFault) → Answers r m (Err x) new → IsFront r.names new.names → TellsOld r x → HasSoFar (marks ++ m ∷ []) m.past → Runs limits longest v first before (Err x) after new
+          refused_run x steps names old t =
               let (e, is, refuses) = steps (Ok led.0) (none, led.1) in
               let here = subst (λ (y : Problem). Refuses limits y (Ok led.0) m.event e) problem (subst (λ (y : Limits). Refuses y r.problem (Ok led.0) m.event e) limited refuses) in
               subst (λ (y : CheckFault). Runs limits longest v first before (Err y) after new) (sym is) (
                 m.event,
                 led.0,
                 record { marks = marks; last = m; took = so_far_to (marks ++ m ∷ []) m.past t; begins_is = refl; statement = refl; accepted = led.2 },
-                told e (subst (λ (y : List (List ℕ)). IsFront y new.names) (sym led.1.names) names) here,
+                told e (subst (λ (y : List (List ℕ)). KeepsNames y new.names e) (sym led.1.names) (names, λ n h. old m.first n (ap (λ (y : CheckFault). failed y) (is ∙ ap (λ (f : Fault). check.Step m.first f) h)))) here,
               )

@@ -1,5 +1,5 @@
 -- What the parts of a check owe: the replay of an instance, and its run through a proof.
-use Rattle.std.specs.Prelude.{◌≡◌, ◌⊎◌, ℕ, List, string_bytes, true, false, Option, Some, None, Result, Ok, Err}
+use Rattle.std.specs.Prelude.{◌≡◌, ◌⊎◌, ◌<◌, ℕ, List, length, string_bytes, true, false, Option, Some, None, Result, Ok, Err}
 use Rattle.pb_text.specs.Limits.{largest, top_of}
 use Rattle.pb_text.specs.Pulling.{faults_with}
 use Rattle.pb_text.specs.declared.Limits.{Limits}
@@ -14,7 +14,7 @@ use Rattle.pb_replay.specs.Replay.{State, first_state}
 use Rattle.pb_replay.specs.Running.{Replaying}
 use Rattle.pb_replay.specs.Statements.{Outcome, Accepts}
 use Rattle.pb_replay.specs.declared.fault.Fault.{Fault}
-use Rattle.pb_replay.specs.declared.fault.Fault.TheVariants.{Memory as no_memory, Overflow as over}
+use Rattle.pb_replay.specs.declared.fault.Fault.TheVariants.{Memory as no_memory, Overflow as over, NotTotal}
 use Rattle.pb_replay.specs.declared.verdict.Verdict.{Verdict}
 use Rattle.pb_replay.specs.Running.{StandsFor}
 use Rattle.pb_tool.specs.Files.{IsProofFile}
@@ -44,6 +44,10 @@ abbrev pub IsToldAs : List (List ℕ) → Place → Fault → ToolFault → Type
 IsToldAs names place e (Step at f name) = (at ≡ place) × ((f ≡ no_memory) ⊎ ((f ≡ e) × IsTold names e (string_bytes name)))
 IsToldAs names place e _ = ⊥
 
+-- The names from before stay, and one that is told by its number is among them.
+abbrev pub KeepsNames : List (List ℕ) → List (List ℕ) → Fault → Type 0
+KeepsNames old new e = IsFront old new × ((n : ℕ) → e ≡ NotTotal n → n < length old)
+
 module _ (limits : Limits) (longest : ℕ) where
   -- The replay is that of the instance which the source had.
   pub record IsReplayOf (before after : Option (List ℕ)) (r : Replaying) : Type 0 where
@@ -68,7 +72,7 @@ module _ (limits : Limits) (longest : ℕ) where
     Runs (Err (check.Text s)) after new = (t : State) × IsAccepted limits longest v first before after s.place false (Some s) t
     Runs (Err (check.Step begins e)) after new =
         (st : Statement) × (state : State) × ComesTo limits longest v first before after begins st state
-        × ((e ≡ no_memory) ⊎ (Outcome (largest limits) (top_of limits) v state st (Err e) × IsFront state.names new.names))
+        × ((e ≡ no_memory) ⊎ (Outcome (largest limits) (top_of limits) v state st (Err e) × KeepsNames state.names new.names e))
 
     -- the same, with the rest behind the proof
     abbrev pub Replays : Result Verdict ToolFault → Option (List ℕ) → Type 0

@@ -14,7 +14,6 @@ use Rattle.pb_proof.specs.Proofs.{statements_of}
 use Rattle.pb_proof.specs.declared.Proof.{Proof}
 use Rattle.pb_proof.specs.declared.Statement.{Statement}
 use Rattle.pb_replay.specs.Loading.{Problem, Opened}
-use Rattle.pb_replay.specs.Meaning.{IsFront}
 use Rattle.pb_replay.specs.Replay.{State, first_state}
 use Rattle.pb_replay.specs.Statements.{Outcome, Accepts}
 use Rattle.pb_replay.specs.declared.fault.Fault.{Fault}
@@ -39,10 +38,6 @@ verdict_line (verdict.Bounds lower upper) = codes "verified BOUNDS " ++ (bound_b
 abbrev pub IsTold : List (List ℕ) → Fault → List ℕ → Type 0
 IsTold names (NotTotal n) name = name ≡ get_or names n []
 IsTold names _ name = name ≡ []
-
--- The same, where these were the names before the statement. Its own come behind them.
-abbrev pub IsNamed : List (List ℕ) → Fault → List ℕ → Type 0
-IsNamed names e name = (all : List (List ℕ)) × IsFront names all × IsTold all e name
 
 module _ (limits : Limits) where
   -- The instance opens, and the statements of the proof are accepted with this verdict.
@@ -74,7 +69,7 @@ module _ (limits : Limits) where
     abbrev pub IsRefusedStep : Option (List ℕ) → Place → Fault → List ℕ → Type 0
     IsRefusedStep after begins e name =
         (st : Statement) × (state : State) × ComesTo after begins st state
-        × ((e ≡ no_memory) ⊎ (Outcome (largest limits) (top_of limits) v state st (Err e) × IsNamed state.names e name))
+        × ((e ≡ no_memory) ⊎ (Outcome (largest limits) (top_of limits) v state st (Err e) × IsTold state.names e name))
 
     -- The text is refused, and every statement before that place was accepted: in the proof, or in the rest behind it.
     pub data IsRefusedText (after : Option (List ℕ)) (s : Stop) : Type 0 where

@@ -2,14 +2,14 @@
 
 ghost use Rattle.pb_opb.specs.Formats.{OneInstance, NoFront as NoInstanceFront};
 ghost use Rattle.pb_proof.specs.Formats.{FixedMarks, OneProof, NoFront as NoProofFront};
-ghost use Rattle.pb_proof.specs.ValueLaws.{OneValue, ReadStatements};
+ghost use Rattle.pb_proof.specs.ValueLaws.{OneValue};
 ghost use Rattle.pb_tool.specs.Deciding.{AnswersExactly, OneAnswer};
 ghost use Rattle.pb_tool.specs.Headline.{UnsatIsExact, UnsatIsTrue, VerdictsAreTrue};
 ghost use Rattle.pb_tool.specs.Pieces.{AnyCutting};
 
 use crate::checker::texts_are_read;
-use pb_proof::{one_value, proofs_are_values, reads_are_of_proofs};
-use pb_replay::laws::{outcomes_are_single, statements_are_sound, verdicts_are_true};
+use pb_proof::{one_value, proofs_are_values};
+use pb_replay::laws::{outcomes_are_single, verdicts_are_true};
 use pb_text::Sink;
 
 /// However the text of a proof is cut, what a checker answers is said of all bytes joined.
@@ -43,9 +43,7 @@ pub fn answers_are_exact<W: Sink>()
     instances_are_single();
     proofs_are_single();
     one_value();
-    reads_are_of_proofs();
     outcomes_are_single();
-    statements_are_sound();
 }
 
 /// Where nothing fails to be read or written and memory does not run out, `check` answers `verified UNSAT` exactly where the bytes
@@ -64,9 +62,7 @@ pub fn one_answer<W: Sink>()
     instances_are_single();
     proofs_are_single();
     one_value();
-    reads_are_of_proofs();
     outcomes_are_single();
-    statements_are_sound();
 }
 
 /// A text spells one instance, and none is a front of another.

@@ -1,6 +1,6 @@
 //! Checks a proof, in whatever pieces its text comes.
 
-ghost use Rattle.std.specs.Prelude.{◌≡◌, Result};
+ghost use Rattle.std.specs.Prelude.{◌≡◌, ◌<◌, ℕ, Err, Result, length};
 ghost use Rattle.pb_text.specs.Limits.{largest, top_of};
 ghost use Rattle.pb_proof.specs.Values.{IsStatementValue};
 ghost use Rattle.pb_replay.specs.Replay.{State};
@@ -229,6 +229,7 @@ pub(crate) fn step_through(replay: &mut Replay, read: Spanned<Statement>) -> Res
     ensures steps { (now : Result State AFault) → IsAt replay.old now
         → StepsFrom replay.old.limits replay.old.problem now read result replay.new }
     ensures names { IsFront replay.old.names replay.new.names }
+    ensures unvalued { (at : Place) (n : ℕ) → result ≡ Err (CheckFault.Step at (Fault.NotTotal n)) → n < length replay.old.names }
     ensures limits { replay.new.limits ≡ replay.old.limits }
     ensures problem { replay.new.problem ≡ replay.old.problem }
 {
@@ -241,6 +242,7 @@ fn step_by(replay: &mut Replay, read: &Spanned<Statement>) -> Result<(), CheckFa
     ensures steps { (now : Result State AFault) → IsAt replay.old now
         → StepsFrom replay.old.limits replay.old.problem now read.now result replay.new }
     ensures names { IsFront replay.old.names replay.new.names }
+    ensures unvalued { (at : Place) (n : ℕ) → result ≡ Err (CheckFault.Step at (Fault.NotTotal n)) → n < length replay.old.names }
     ensures limits { replay.new.limits ≡ replay.old.limits }
     ensures problem { replay.new.problem ≡ replay.old.problem }
 {

@@ -11,12 +11,7 @@ returns g c =
       proof_front = c.proofs_are_single.ensures.front;
       fixed = c.proofs_are_single.ensures.fixed;
       value = c.one_value.ensures;
-      values = c.reads_are_of_proofs.ensures;
       openings = c.outcomes_are_single.ensures.openings;
       outcomes = c.outcomes_are_single.ensures.outcomes;
-      unvalued = c.outcomes_are_single.ensures.unvalued;
-      problems = c.statements_are_sound.ensures.problems;
-      first = c.statements_are_sound.ensures.first;
-      statements = c.statements_are_sound.ensures.statements;
     } in
     answer.one_answer g.W.Sink.contents g.W.Sink.faults laws

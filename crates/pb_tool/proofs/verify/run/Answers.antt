@@ -74,7 +74,7 @@ returns-in-Err-step_through-clause-runs g c first at =
     let t = rw (c.in-Ok-Some.is, c.in-Ok-Some.field-0-is) at c.pull.ensures in
     let (more, sofar) = t.row c.args.longest _ (g.S.Source.left c.args.input.now) i.led.0 i.led.1 in
     let u = c.in-Err-step_through.ensures in
-    replayed.refused_run c.proofs_are_exact.ensures c.args.replay.now.limits c.args.longest (g.S.Source.left c.args.input.now) (g.S.Source.left c.pull.new.source) c.args.replay.now.problem first c.loop-read.replay i.led.0 (i.led.2 first at) i.unspent c.step_through.new.replay c.in-Ok-Some.read i.limited i.problem c.in-Err-step_through.fault u.steps u.names sofar
+    replayed.refused_run c.proofs_are_exact.ensures c.args.replay.now.limits c.args.longest (g.S.Source.left c.args.input.now) (g.S.Source.left c.pull.new.source) c.args.replay.now.problem first c.loop-read.replay i.led.0 (i.led.2 first at) i.unspent c.step_through.new.replay c.in-Ok-Some.read i.limited i.problem c.in-Err-step_through.fault u.steps u.names u.unvalued sofar
 
 pub returns-in-Err-step_through-clause-faults : goal.returns-in-Err-step_through-clause-faults
 returns-in-Err-step_through-clause-faults g c =
@@ -120,7 +120,7 @@ pub returns-in-Err-step_through-clause-given : goal.returns-in-Err-step_through-
 returns-in-Err-step_through-clause-given g c first at =
     let i = c.loop-read.invariant in
     let t = rw (c.in-Ok-Some.is, c.in-Ok-Some.field-0-is) at c.pull.ensures in
-    given_step c.proofs_are_exact.ensures c.args.replay.now.limits c.args.longest (g.S.Source.history c.args.input.now) (g.S.Source.history c.pull.new.source) c.args.replay.now.problem first c.loop-read.replay i.led.0 (i.led.2 first at) c.step_through.new.replay i.unspent c.in-Ok-Some.read i.limited i.problem c.in-Err-step_through.fault c.in-Err-step_through.ensures.steps c.in-Err-step_through.ensures.names
+    given_step c.proofs_are_exact.ensures c.args.replay.now.limits c.args.longest (g.S.Source.history c.args.input.now) (g.S.Source.history c.pull.new.source) c.args.replay.now.problem first c.loop-read.replay i.led.0 (i.led.2 first at) c.step_through.new.replay i.unspent c.in-Ok-Some.read i.limited i.problem c.in-Err-step_through.fault c.in-Err-step_through.ensures.steps c.in-Err-step_through.ensures.names c.in-Err-step_through.ensures.unvalued
     (given_so_far c.args.longest _ (g.S.Source.history c.args.input.now) (g.S.Source.history c.loop-read.input) (g.S.Source.history c.pull.new.source) i.led.0 c.loop-read.feeder c.pull.new.feeder i.led.3 (g.S.Source.left c.loop-read.input) (g.S.Source.left c.pull.new.source) c.in-Ok-Some.read
     (given_row c.args.longest _ (g.S.Source.history c.args.input.now) (g.S.Source.history c.loop-read.input) (g.S.Source.history c.pull.new.source) i.led.0 c.loop-read.feeder c.pull.new.feeder i.led.3 (g.S.Source.left c.loop-read.input) (g.S.Source.left c.pull.new.source) (Ok (Some c.in-Ok-Some.read)) (t.pulls c.args.longest _ i.led.3.0 i.led.0 (rw i.led.3.4 tt) i.led.3.3) t.stop t.last t.past))
 
