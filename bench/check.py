@@ -6,7 +6,9 @@ import subprocess
 import sys
 import time
 
-KINDS = ["chain", "units", "common", "long", "dead"]
+KINDS = ["chain", "units", "common", "long", "dead", "live"]
+# What a step of a kind leaves in memory: how many things, and their name.
+LEFT = {"dead": (1, "deleted constraint"), "live": (20, "live term")}
 GENERATOR = os.path.join(os.path.dirname(os.path.abspath(__file__)), "propagation.py")
 
 
@@ -39,11 +41,16 @@ def instructions_of(words, folder):
 def main():
     program, folder, count, times = sys.argv[1], sys.argv[2], int(sys.argv[3]), int(sys.argv[4])
     for kind in KINDS:
+        peaks = []
         for size in [count, 10 * count]:
             words = [program, "check"] + files_of(kind, size, folder)
             runs = [run(words) for _ in range(times)]
             seconds, peak = min(seconds for seconds, _ in runs), max(peak for _, peak in runs)
             print(f"{kind} {size}: {seconds:.2f} s, {seconds / size * 1e6:.2f} microseconds a step, {peak:.0f} MB", flush=True)
+            peaks.append(peak)
+        if kind in LEFT:
+            number, name = LEFT[kind]
+            print(f"{kind}: {(peaks[1] - peaks[0]) * 1e6 / (9 * count * number):.0f} bytes a {name}", flush=True)
         size = max(count // 10, 1)
         instructions = instructions_of([program, "check"] + files_of(kind, size, folder), folder)
         if instructions is not None:

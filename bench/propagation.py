@@ -10,6 +10,7 @@ writes FOLDER/KIND.opb and FOLDER/KIND.pbp. The kinds:
     common  so many clauses with one common literal, which are deleted one by one in any order
     long    2,000 clauses of 20 literals, and so many steps, each of them one of the clauses with a literal more
     dead    the same, but each step is deleted behind it, so that 2,000 clauses stay
+    live    one clause of 20 literals, and so many steps that each add it once more
 
 The same kind and count give the same bytes: what is random comes from a fixed seed. Every step is accepted.
 """
@@ -59,6 +60,11 @@ def dead(count, rng):
     return variables, clauses, [f"{step}del id {first + i}\n" for i, step in enumerate(steps)]
 
 
+def live(count, rng):
+    literals = [f"x{i}" for i in range(1, LONG_LITERALS + 1)]
+    return LONG_LITERALS, [clause(*literals)], ["pol 1\n"] * count
+
+
 def literals(rng):
     variables = rng.sample(range(1, LONG_VARIABLES + 1), LONG_LITERALS)
     return [("~" if rng.random() < 0.5 else "") + f"x{variable}" for variable in variables]
@@ -72,7 +78,7 @@ def write(folder, name, head, lines):
 
 def main():
     kind, count, folder = sys.argv[1], int(sys.argv[2]), sys.argv[3]
-    kinds = {"chain": chain, "units": units, "common": common, "long": long, "dead": dead}
+    kinds = {"chain": chain, "units": units, "common": common, "long": long, "dead": dead, "live": live}
     variables, constraints, steps = kinds[kind](count, random.Random(2012))
     write(folder, f"{kind}.opb", f"* #variable= {variables} #constraint= {len(constraints)}\n", constraints)
     end = ["output NONE\n", "conclusion NONE\n", "end pseudo-Boolean proof\n"]
