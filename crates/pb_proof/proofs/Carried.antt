@@ -1,6 +1,6 @@
 -- An automaton within another one.
 use Rattle.std.proofs.Common.{◌≡◌, ℕ, true, List, [], ◌∷◌, refl, sym, ap, subst, ◌∙◌, map, ◌++◌}
-use Rattle.pb_text.specs.Automaton.{Automaton, Next, Go, End, Refuse, Skips, Reads, Accepts, Admits, IsState}
+use Rattle.pb_text.specs.Automaton.{Automaton, Next, Go, End, Refuse, Skips, Reads, Runs, Accepts, Admits, IsState}
 use Rattle.pb_text.specs.Spelling.{Letter, Item, letters_of, bytes, plain}
 use Rattle.pb_proof.specs.Inner.{carried}
 use Rattle.pb_proof.proofs.Walking.{Walks}
@@ -80,6 +80,10 @@ module _ {S E R F : Type 0} (m : Automaton S E) (n : Automaton R F) (into : S �
       bounds = rw (h.kept s, h.spent s) k.bounds;
       empties = λ o. h.spent s ∙ k.empties (sym (h.begun s) ∙ o);
     }
+
+    pub runs_in : (text : List ℕ) (s new : S) → Runs m s text new → Runs n (into s) text (into new)
+    runs_in [] s new same = ap into same
+    runs_in (b ∷ text) s new (mid, g, state, rest) = (into mid, stepped s b (Go mid) g, state_in mid state, runs_in text mid new rest)
 
     pub admits_in : (s : S) (b : ℕ) → Admits m s b → Admits n (into s) b
     admits_in s b (items, a, more, e) = (map carried_item items, accepts_in items s a, more, ap bytes (letters_same items) ∙ e)

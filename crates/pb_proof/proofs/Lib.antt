@@ -67,6 +67,7 @@ mod ReadStatements
 pub mod ReadsBack
 mod Results
 mod Spaced
+mod Taken
 pub mod Walking
 pub mod Within
 pub mod Written

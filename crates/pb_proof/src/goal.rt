@@ -154,12 +154,83 @@ impl GoalMachine {
     }
 }
 
+impl GoalMachine {
+    ghost use Rattle.std.specs.Prelude.{◌≤◌, ◌<◌, take, length};
+    ghost use Rattle.pb_text.specs.Automaton.{Goes, IsState, Runs};
+    ghost use Rattle.pb_proof.specs.Goal.{goal_automaton, goal_plan};
+
+    /// Gives a byte to the machine of sums, where that is done soon.
+    fn gives(&mut self, byte: u8) -> bool
+        requires { goal_plan self.old.phase byte ≡ GoalMove.Give }
+        ensures { Goes goal_automaton self.old byte result self.new }
+    {
+        match self.give(byte) {
+            Push::Go => true,
+            _ => false,
+        }
+    }
+
+    /// Gives bytes at the front of a text to the machine of sums, where it has begun.
+    fn give_front(&mut self, text: &[u8]) -> usize
+        ensures bound { result ≤ length text.now }
+        ensures runs { Runs goal_automaton self.old (take result text.now) self.new }
+        ensures state { IsState goal_automaton self.new }
+    {
+        let taken = match self.phase {
+            GoalPhase::Inside => self.inner.run(text),
+            _ => 0,
+        };
+        let _ = self.is_done();
+        taken
+    }
+
+    /// Takes bytes at the front of a text, or else its first byte, if that is soon taken.
+    fn take_front(&mut self, text: &[u8]) -> usize
+        requires { 0 < length text.now }
+        ensures bound { result ≤ length text.now }
+        ensures runs { Runs goal_automaton self.old (take result text.now) self.new }
+        ensures state { IsState goal_automaton self.new }
+    {
+        let length = self.give_front(text);
+        if length > 0 {
+            return length;
+        }
+        if self.goes(text[0]) { 1 } else { 0 }
+    }
+}
+
 impl Machine for GoalMachine {
     ghost use Rattle.pb_proof.specs.Goal.{goal_automaton};
 
     type Event = Linear;
 
     ghost automaton = { goal_automaton };
+
+    fn goes(&mut self, byte: u8) -> bool {
+        let gone = match goal_plan(self.phase, byte) {
+            GoalMove::To(phase) => {
+                self.phase = phase;
+                true
+            }
+            GoalMove::Give => self.gives(byte),
+            _ => false,
+        };
+        let _ = self.is_done();
+        gone
+    }
+
+    fn run(&mut self, piece: &[u8]) -> usize {
+        let _ = self.is_done();
+        let mut taken: usize = 0;
+        while taken < piece.len() {
+            let more = self.take_front(&piece[taken..]);
+            if more == 0 {
+                return taken;
+            }
+            taken += more;
+        }
+        taken
+    }
 
     fn push(&mut self, byte: u8) -> Push<Linear> {
         let answer = self.take(byte);

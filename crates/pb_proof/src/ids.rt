@@ -138,6 +138,23 @@ impl Machine for IdsMachine {
 
     ghost automaton = { ids_automaton };
 
+    fn goes(&mut self, byte: u8) -> bool {
+        match plan(self.top, self.phase, number_mark(byte)) {
+            IdsMove::To(next) => {
+                self.phase = next;
+                true
+            }
+            IdsMove::Keep(next, id) => {
+                if self.ids.push(id).is_err() {
+                    return false;
+                }
+                self.phase = next;
+                true
+            }
+            _ => false,
+        }
+    }
+
     fn push(&mut self, byte: u8) -> Push<Sequence<i64>> {
         match plan(self.top, self.phase, number_mark(byte)) {
             IdsMove::To(phase) => {

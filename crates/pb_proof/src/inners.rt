@@ -1,7 +1,7 @@
 //! What the machines behind the first word of a statement do, as one machine.
 
-ghost use Rattle.std.specs.Prelude.{◌≡◌, ◌<◌, ◌^◌};
-ghost use Rattle.pb_text.specs.Automaton.{IsState, Pushes};
+ghost use Rattle.std.specs.Prelude.{◌≡◌, ◌<◌, ◌≤◌, ◌^◌, take, length};
+ghost use Rattle.pb_text.specs.Automaton.{IsState, Pushes, Runs};
 ghost use Rattle.pb_text.specs.Limits.{largest, top_of};
 ghost use Rattle.pb_proof.specs.Inner.{inners, inner_first};
 
@@ -94,12 +94,46 @@ fn push_claimed(machine: &mut ClaimMachine, byte: u8) -> Push<Statement>
     carried!(machine.push(byte), Statement::Conclude)
 }
 
+fn run_words(machine: &mut PolMachine, piece: &[u8]) -> usize
+    ensures bound { result ≤ length piece.now }
+    ensures runs { Runs inners (Inner.Words machine.old) (take result piece.now) (Inner.Words machine.new) }
+    ensures state { IsState inners (Inner.Words machine.new) }
+{
+    machine.run(piece)
+}
+
+fn run_goal(machine: &mut GoalMachine, piece: &[u8]) -> usize
+    ensures bound { result ≤ length piece.now }
+    ensures runs { Runs inners (Inner.Goal machine.old) (take result piece.now) (Inner.Goal machine.new) }
+    ensures state { IsState inners (Inner.Goal machine.new) }
+{
+    machine.run(piece)
+}
+
+fn run_deleted(machine: &mut IdsMachine, piece: &[u8]) -> usize
+    ensures bound { result ≤ length piece.now }
+    ensures runs { Runs inners (Inner.Deleted machine.old) (take result piece.now) (Inner.Deleted machine.new) }
+    ensures state { IsState inners (Inner.Deleted machine.new) }
+{
+    machine.run(piece)
+}
+
 impl Machine for Inner {
     ghost use Rattle.pb_proof.specs.Inner.{inners};
 
     type Event = Statement;
 
     ghost automaton = { inners };
+
+    fn run(&mut self, piece: &[u8]) -> usize {
+        let _ = self.is_done();
+        match self {
+            Inner::Words(machine) => run_words(machine, piece),
+            Inner::Goal(machine) => run_goal(machine, piece),
+            Inner::Deleted(machine) => run_deleted(machine, piece),
+            _ => 0,
+        }
+    }
 
     fn push(&mut self, byte: u8) -> Push<Statement> {
         match self {

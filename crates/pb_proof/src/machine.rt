@@ -147,12 +147,77 @@ impl ProofMachine {
     }
 }
 
+impl ProofMachine {
+    ghost use Rattle.std.specs.Prelude.{◌≤◌, ◌<◌, take, length};
+    ghost use Rattle.pb_text.specs.Automaton.{IsState, Runs};
+    ghost use Rattle.pb_proof.specs.State.{proofs};
+
+    /// Gives bytes at the front of a text to the machine behind the first word, where it has begun.
+    fn give_front(&mut self, text: &[u8]) -> usize
+        ensures bound { result ≤ length text.now }
+        ensures runs { Runs proofs self.old (take result text.now) self.new }
+        ensures state { IsState proofs self.new }
+    {
+        let taken = match &mut self.inner {
+            Some(inner) => inner.run(text),
+            None => 0,
+        };
+        let _ = self.is_done();
+        taken
+    }
+
+    /// Takes bytes at the front of a text, or else its first byte, if that is soon taken.
+    fn take_front(&mut self, text: &[u8]) -> usize
+        requires { 0 < length text.now }
+        ensures bound { result ≤ length text.now }
+        ensures runs { Runs proofs self.old (take result text.now) self.new }
+        ensures state { IsState proofs self.new }
+    {
+        let length = self.give_front(text);
+        if length > 0 {
+            return length;
+        }
+        if self.goes(text[0]) { 1 } else { 0 }
+    }
+}
+
 impl Machine for ProofMachine {
     ghost use Rattle.pb_proof.specs.State.{proofs};
 
     type Event = Statement;
 
     ghost automaton = { proofs };
+
+    fn goes(&mut self, byte: u8) -> bool {
+        let gone = match plan(self.phase, byte) {
+            Move::To(phase) => {
+                self.phase = phase;
+                true
+            }
+            Move::Begin(rest) => {
+                let inner = inner_first(self.alloc, self.limits, rest);
+                replace(&mut self.inner, Some(inner));
+                self.phase = Phase::Inside(rest);
+                true
+            }
+            _ => false,
+        };
+        let _ = self.is_done();
+        gone
+    }
+
+    fn run(&mut self, piece: &[u8]) -> usize {
+        let _ = self.is_done();
+        let mut taken: usize = 0;
+        while taken < piece.len() {
+            let more = self.take_front(&piece[taken..]);
+            if more == 0 {
+                return taken;
+            }
+            taken += more;
+        }
+        taken
+    }
 
     fn push(&mut self, byte: u8) -> Push<Statement> {
         let answer = self.take(byte);

@@ -85,6 +85,47 @@ impl Machine for PolMachine {
 
     ghost automaton = { pol_automaton };
 
+    fn goes(&mut self, byte: u8) -> bool {
+        match plan(self.limit, self.top, self.depth, self.phase, kind_of(byte)) {
+            Move::To(phase) => {
+                self.phase = phase;
+                true
+            }
+            Move::Begin(phase) => {
+                let mut name = Name::new(self.alloc);
+                if name.push(byte).is_err() {
+                    return false;
+                }
+                self.name = name;
+                self.phase = phase;
+                true
+            }
+            Move::Add(phase) => {
+                if self.name.push(byte).is_err() {
+                    return false;
+                }
+                self.phase = phase;
+                true
+            }
+            Move::Turn(change, phase) => {
+                if turn(
+                    self.alloc,
+                    &mut self.words,
+                    &mut self.depth,
+                    &mut self.name,
+                    change,
+                )
+                .is_err()
+                {
+                    return false;
+                }
+                self.phase = phase;
+                true
+            }
+            Move::End(_) | Move::Stop => false,
+        }
+    }
+
     fn push(&mut self, byte: u8) -> Push<Sequence<PolWord>> {
         match plan(self.limit, self.top, self.depth, self.phase, kind_of(byte)) {
             Move::Stop => refusal(self.phase, byte),

@@ -13,7 +13,7 @@ pub mod CanonicalLaws
 pub mod Larger
 mod Elements
 mod Written
-mod Spans
+pub mod Spans
 mod Digits
 mod Names
 mod Behind

@@ -1,4 +1,4 @@
--- Runs, one after another.
+-- Runs, one after another. Offered to other crates.
 use Rattle.std.proofs.Common.{◌≡◌, ℕ, ◌+◌, ◌-◌, List, [], ◌∷◌, ◌++◌, take, drop, length, sym, ap, subst, ◌∙◌, length-drop}
 use Rattle.std.proofs.Math.Seq.{take-add, take-length}
 use Rattle.pb_text.specs.Automaton.{Automaton, Runs}
