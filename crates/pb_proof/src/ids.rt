@@ -84,6 +84,7 @@ fn behind(id: i64, mark: NumberMark) -> IdsMove
 }
 
 /// What a machine does with a byte. It asks for no memory.
+#[inline(always)]
 fn plan(top: u64, phase: IdsPhase, mark: NumberMark) -> IdsMove
     requires top { top < 2 ^ 63 }
     requires phase { PhaseFits top phase }

@@ -141,6 +141,7 @@ fn within(front: Front, read: usize, byte: u8) -> Move
 }
 
 /// What a machine does with a byte.
+#[inline(always)]
 pub fn plan(phase: Phase, byte: u8) -> Move
     requires { PhaseFits phase }
     ensures { result ≡ plan phase byte }

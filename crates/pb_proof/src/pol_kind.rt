@@ -6,6 +6,7 @@ ghost use Rattle.pb_proof.specs.Pol.{kind_of, is_letter_kind, is_name_kind, Kind
 use crate::pol_phase::Kind;
 
 /// What the byte is to a line of words.
+#[inline(always)]
 pub fn kind_of(byte: u8) -> Kind
     ensures kind { result ≡ kind_of byte }
     ensures fits { KindFits result }

@@ -219,6 +219,7 @@ fn late(kind: Kind) -> Move
 }
 
 /// What a machine does with a kind of byte. It asks for no memory.
+#[inline(always)]
 pub fn plan(limit: u128, top: u64, depth: usize, phase: Phase, kind: Kind) -> Move
     requires limit { limit < 2 ^ 127 }
     requires top { top < 2 ^ 63 }
