@@ -110,6 +110,22 @@ fn run_goal(machine: &mut GoalMachine, piece: &[u8]) -> usize
     machine.run(piece)
 }
 
+fn run_improving(machine: &mut LiteralsMachine, piece: &[u8]) -> usize
+    ensures bound { result ≤ length piece.now }
+    ensures runs { Runs inners (Inner.Improving machine.old) (take result piece.now) (Inner.Improving machine.new) }
+    ensures state { IsState inners (Inner.Improving machine.new) }
+{
+    machine.run(piece)
+}
+
+fn run_excluded(machine: &mut LiteralsMachine, piece: &[u8]) -> usize
+    ensures bound { result ≤ length piece.now }
+    ensures runs { Runs inners (Inner.Excluded machine.old) (take result piece.now) (Inner.Excluded machine.new) }
+    ensures state { IsState inners (Inner.Excluded machine.new) }
+{
+    machine.run(piece)
+}
+
 fn run_deleted(machine: &mut IdsMachine, piece: &[u8]) -> usize
     ensures bound { result ≤ length piece.now }
     ensures runs { Runs inners (Inner.Deleted machine.old) (take result piece.now) (Inner.Deleted machine.new) }
@@ -130,6 +146,8 @@ impl Machine for Inner {
         match self {
             Inner::Words(machine) => run_words(machine, piece),
             Inner::Goal(machine) => run_goal(machine, piece),
+            Inner::Improving(machine) => run_improving(machine, piece),
+            Inner::Excluded(machine) => run_excluded(machine, piece),
             Inner::Deleted(machine) => run_deleted(machine, piece),
             _ => 0,
         }

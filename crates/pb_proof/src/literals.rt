@@ -60,6 +60,7 @@ fn before(mark: NameMark) -> LiteralsMove
 }
 
 /// What a machine does with a byte. It asks for no memory.
+#[inline(always)]
 fn plan(joined: bool, phase: LiteralsPhase, mark: NameMark) -> LiteralsMove
     requires { NameMarkFits mark }
     ensures plan { result ≡ plan joined phase mark }
@@ -174,6 +175,35 @@ impl Machine for LiteralsMachine {
     type Event = Sequence<Literal>;
 
     ghost automaton = { literals_automaton };
+
+    fn goes(&mut self, byte: u8) -> bool {
+        match plan(self.joined, self.phase, name_mark(byte)) {
+            LiteralsMove::Begin(phase, first) => {
+                let mut name = Name::new(self.alloc);
+                if name.push(first).is_err() {
+                    return false;
+                }
+                self.name = name;
+                self.phase = phase;
+                true
+            }
+            LiteralsMove::Add(phase, next) => {
+                if self.name.push(next).is_err() {
+                    return false;
+                }
+                self.phase = phase;
+                true
+            }
+            LiteralsMove::To(phase) => {
+                if flush(self.alloc, &mut self.literals, &mut self.name, self.phase).is_err() {
+                    return false;
+                }
+                self.phase = phase;
+                true
+            }
+            LiteralsMove::End | LiteralsMove::Stop => false,
+        }
+    }
 
     fn push(&mut self, byte: u8) -> Push<Sequence<Literal>> {
         match plan(self.joined, self.phase, name_mark(byte)) {
