@@ -20,6 +20,8 @@ pub enum Broken {
     Limits,
     /// Its input is no value to try the call on.
     Value,
+    /// It makes more calls of a reader or a writer than are tried in turn.
+    Calls,
     /// A file could not be read.
     File,
     /// Memory ran out, or the line of a row could not be written.
@@ -37,6 +39,7 @@ impl Broken {
             Broken::Escape => "a \\ that means nothing",
             Broken::Limits => "no such limits",
             Broken::Value => "the input is no value",
+            Broken::Calls => "too many calls of a reader or a writer",
             Broken::File => "the file cannot be read",
             Broken::Memory => "out of memory",
         }

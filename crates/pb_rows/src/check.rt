@@ -4,12 +4,12 @@ use crate::broken::Broken;
 use crate::call::{Call, Each};
 use crate::command::tell_fault;
 use crate::feed::Cut;
-use crate::page::{Done, Page, answered, finished, is_same, page};
+use crate::page::{Done, Page, answered, is_same, page};
+use crate::turns::{Calls, Run, reader_of, writer_of};
 use pb_opb::read_instance;
 use pb_proof::Bound;
 use pb_replay::{Replay, Verdict};
 use pb_sums::write_number;
-use pb_text::doubles::{FaultyReader, FaultyWriter};
 use pb_text::{Failed, Over, Sink, write_bytes};
 use pb_tool::{CheckFault, Checker, Input, ToolFault, check};
 use std::alloc::Global;
@@ -17,6 +17,9 @@ use std::str::FromStr;
 
 /// The line between an instance and a proof.
 const BETWEEN: &[u8] = b"&\n";
+
+/// A piece behind a proof, or behind its fault.
+const BEHIND: &[u8] = b"nonsense\n";
 
 /// The two inputs of a row.
 pub fn inputs_of(text: &[u8]) -> Result<(&[u8], &[u8]), Broken> {
@@ -29,37 +32,40 @@ pub fn inputs_of(text: &[u8]) -> Result<(&[u8], &[u8]), Broken> {
     Err(Broken::Value)
 }
 
-/// Checks a proof over readers and a writer as the call says: the reader of the proof fails.
-pub fn run_check(alloc: Global, call: &Call, text: &[u8]) -> Result<Done, Broken> {
+/// Checks a proof over two readers and a writer as the call says.
+pub fn run_check(alloc: Global, call: &Call, text: &[u8]) -> Result<Run, Broken> {
     let limits = call.limits()?;
     let (instance, proof) = inputs_of(text)?;
-    let mut first = FaultyReader::new(instance);
-    first.most = call.reader_most;
-    let mut second = FaultyReader::new(proof);
-    second.most = call.reader_most;
-    match call.each {
-        Each::Read => first.fails_at = call.reader_fails,
-        _ => second.fails_at = call.reader_fails,
-    }
-    let mut writer = FaultyWriter::new(Vec::new(alloc));
-    writer.most = call.writer_most;
-    writer.fails_at = call.writer_fails;
-    let mut out = Over::new(writer);
-    let longest = Some(call.longest.max(1));
+    let (mut first, mut second) = (reader_of(call, instance), reader_of(call, proof));
+    first.fails_at = call.reader_fails;
+    second.fails_at = call.proof_fails;
     let (mut first, mut second) = (Over::new(first), Over::new(second));
+    let mut out = Over::new(writer_of(alloc, call));
+    let longest = Some(call.longest.max(1));
     let answer = check(alloc, &mut first, &mut second, &mut out, longest, limits);
     let mut told = page(alloc);
     match &answer {
         Ok(_) => write_bytes(b"ok\n", &mut told)?,
         Err(fault) => tell_fault(fault, &mut told)?,
     }
-    Ok(finished(out, told))
+    let writer = out.into_inner();
+    let calls = match call.each {
+        Each::Write => Calls::of_writer(&writer),
+        Each::ProofRead => Calls::of_reader(proof, &second.into_inner()),
+        _ => Calls::of_reader(instance, &first.into_inner()),
+    };
+    Ok(Run::new(writer, told, calls))
 }
 
-/// Feeds a proof to a checker in one piece, in pieces of 1, 2 and 37 bytes, and in two pieces with each cut. Answers what the
-/// first gave that is not as wanted, or else the last.
+/// Feeds a proof to a checker in one piece and, where the call does not say `once`, in pieces of 1, 2 and 37 bytes, and in
+/// two pieces with each cut. Answers the first that is not as wanted, or else the last.
 pub fn run_checker(alloc: Global, call: &Call, text: &[u8], wanted: &Done) -> Result<Done, Broken> {
     let (instance, proof) = inputs_of(text)?;
+    let (first, size) = (usize::MAX, 1);
+    let found = check_cut(alloc, call, instance, proof, Cut { first, size })?;
+    if call.is_once || !is_same(&found, wanted) {
+        return Ok(found);
+    }
     for size in [1, 2, 37] {
         let found = check_cut(alloc, call, instance, proof, Cut { first: size, size })?;
         if !is_same(&found, wanted) {
@@ -73,8 +79,7 @@ pub fn run_checker(alloc: Global, call: &Call, text: &[u8], wanted: &Done) -> Re
             return Ok(found);
         }
     }
-    let (first, size) = (usize::MAX, 1);
-    check_cut(alloc, call, instance, proof, Cut { first, size })
+    Ok(found)
 }
 
 fn check_cut(
@@ -90,17 +95,44 @@ fn check_cut(
         return Ok(answered(alloc, told));
     };
     let mut checker = Checker::new(alloc, replay, Some(call.longest.max(1)));
+    let end = feed_to_end(&mut checker, proof, cut);
+    tell_end(alloc, &checker, end, &mut told)?;
+    tell_again(&mut checker, end, &mut told)?;
+    Ok(answered(alloc, told))
+}
+
+/// Feeds a proof piece by piece up to the first fault, and ends it where there was none.
+fn feed_to_end(checker: &mut Checker, proof: &[u8], cut: Cut) -> Result<Verdict, CheckFault> {
     let (front, rest) = proof.split_at(cut.first.min(proof.len()));
-    let mut end = checker.feed(front).map(|_used| ());
+    let _used = checker.feed(front)?;
     for piece in rest.chunks(cut.size.max(1)) {
-        end = checker.feed(piece).map(|_used| ());
+        let _used = checker.feed(piece)?;
     }
-    let end = match end {
-        Ok(()) => checker.finish(),
+    checker.finish()
+}
+
+/// Makes the calls of a checker again that has ended: they are to answer its fault, or to use no byte of a piece and to
+/// answer the verdict, and the place is to stay. Tells where it is otherwise.
+fn tell_again(
+    checker: &mut Checker,
+    end: Result<Verdict, CheckFault>,
+    told: &mut Page,
+) -> Result<(), Failed> {
+    let place = checker.place();
+    let wanted = match end {
+        Ok(_) => Ok(0),
         Err(fault) => Err(fault),
     };
-    tell_end(alloc, &checker, end, &mut told)?;
-    Ok(answered(alloc, told))
+    if checker.feed(BEHIND) != wanted {
+        write_bytes(b"fed again: not the same\n", told)?;
+    }
+    if checker.finish() != end {
+        write_bytes(b"finished again: not the same\n", told)?;
+    }
+    if checker.place() != place {
+        write_bytes(b"another place\n", told)?;
+    }
+    Ok(())
 }
 
 /// A replay over the instance of a row, where it opens.

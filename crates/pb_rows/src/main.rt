@@ -18,6 +18,7 @@ mod rows;
 mod spell;
 mod steps;
 mod sweep;
+mod turns;
 mod value;
 
 use crate::broken::Broken;

@@ -2,8 +2,7 @@
 
 use crate::broken::Broken;
 use crate::call::{Call, Verb, call_of};
-use crate::check::{run_check, run_checker};
-use crate::command::run_command;
+use crate::check::run_checker;
 use crate::constraint::run_forms;
 use crate::fault::run_fault;
 use crate::feed::run_feed;
@@ -16,6 +15,7 @@ use crate::row::Row;
 use crate::spell::add_line;
 use crate::steps::run_steps;
 use crate::sweep::run_sweep;
+use crate::turns::run_turns;
 use pb_sums::write_count;
 use pb_text::{Failed, Sink, write_bytes};
 use std::alloc::Global;
@@ -155,7 +155,9 @@ fn run_row(alloc: Global, row: &Row<'_>) -> Result<Done, Broken> {
 fn run_call(alloc: Global, call: &Call, row: &Row<'_>) -> Result<Done, Broken> {
     let text = row.input.as_slice();
     match call.verb {
-        Verb::Show | Verb::Tidy | Verb::TidyNormal => run_command(alloc, call, text, &row.wanted),
+        Verb::Show | Verb::Tidy | Verb::TidyNormal | Verb::Check => {
+            run_turns(alloc, call, text, &row.wanted)
+        }
         Verb::Feed | Verb::Stop => run_feed(alloc, call, text, &row.wanted),
         Verb::Read => run_read(alloc, call, text),
         Verb::Fronts | Verb::Zeros => run_sweep(alloc, call, text),
@@ -166,7 +168,6 @@ fn run_call(alloc: Global, call: &Call, row: &Row<'_>) -> Result<Done, Broken> {
         Verb::Words => run_words(alloc, row.call, text),
         Verb::Fault => run_fault(alloc, row.call),
         Verb::Limits => run_limits(alloc, call),
-        Verb::Check => run_check(alloc, call, text),
         Verb::Checker => run_checker(alloc, call, text, &row.wanted),
         Verb::Steps => run_steps(alloc, call, text),
     }
