@@ -5,13 +5,13 @@ use Rattle.pb_proof.specs.Proofs.{statements_of}
 use Rattle.pb_proof.specs.declared.Proof.{Proof}
 use Rattle.pb_proof.specs.declared.Statement.{Statement}
 use Rattle.pb_proof.specs.Values.{IsStatementValue}
+use Rattle.pb_proof.specs.declared.Stage.{Stage}
+use Rattle.pb_proof.specs.declared.Stage.TheVariants.{Opening, Closing, Complete}
 use Rattle.pb_replay.specs.declared.fault.Fault.{Fault}
 use Rattle.pb_normal.specs.Form.{Form}
 use Rattle.pb_normal.specs.Names.{AreDistinct}
 use Rattle.pb_replay.specs.declared.fault.Fault.TheVariants.{NotTotal}
 use Rattle.pb_replay.specs.declared.numbered.NumberedLiteral.{NumberedLiteral}
-use Rattle.pb_replay.specs.declared.state.phase.Phase.{Phase}
-use Rattle.pb_replay.specs.declared.state.phase.Phase.TheVariants.{Beginning, Ending, Done}
 use Rattle.pb_replay.specs.declared.verdict.Verdict.{Verdict}
 use Rattle.pb_replay.specs.Answer.{Answer}
 use Rattle.pb_replay.specs.Loading.{Problem, Opened, Solves}
@@ -85,13 +85,13 @@ UnvaluedAreOld = (limit top : ℕ) (v : Problem) (s : State) (st : Statement) (n
     Outcome limit top v s st (Err (NotTotal n)) → n < length s.names
 
 -- once a proof has concluded there is a verdict; so it is from any state before the header
-abbrev pub HasClaim : Phase → Option Verdict → Type 0
-HasClaim Ending concluded = IsSome concluded
-HasClaim Done concluded = IsSome concluded
+abbrev pub HasClaim : Stage → Option Verdict → Type 0
+HasClaim Closing concluded = IsSome concluded
+HasClaim Complete concluded = IsSome concluded
 HasClaim _ concluded = Unit {0}
 
 abbrev pub VerdictsAreThere : Type 0
-VerdictsAreThere = (limit top : ℕ) (v : Problem) (sts : List Statement) (s t : State) → s.next ≡ Beginning → Accepts limit top v s sts t → HasClaim t.next t.concluded
+VerdictsAreThere = (limit top : ℕ) (v : Problem) (sts : List Statement) (s t : State) → s.next ≡ Opening → Accepts limit top v s sts t → HasClaim t.next t.concluded
 
 -- Where all statements of a proof are accepted, from whatever state, there is a verdict.
 abbrev pub WholeProofsConclude : Type 0

@@ -3,6 +3,8 @@ use Rattle.std.specs.Prelude.{◌≡◌, ℕ, zero, suc, ◌+◌, ◌-◌, ◌<�
 use Rattle.pb_sums.specs.declared.Literal.{Literal}
 use Rattle.pb_sums.specs.declared.Linear.{Linear}
 use Rattle.pb_proof.specs.Postfix.{Tree, Constraint, True, Sum, Times, Divided, Saturated, Weakened}
+use Rattle.pb_proof.specs.declared.Stage.{Stage}
+use Rattle.pb_proof.specs.declared.Stage.TheVariants.{Opening}
 use Rattle.pb_normal.specs.declared.Side.{Side}
 use Rattle.pb_normal.specs.Form.{Form, Holds, IsOrdered, IsWithin, total}
 use Rattle.pb_normal.specs.Names.{number_in}
@@ -10,8 +12,6 @@ use Rattle.pb_normal.specs.Rules.{IsSum, multiplied, divided, saturated, weakene
 use Rattle.pb_normal.specs.Written.{true_sum, IsSideOf}
 use Rattle.pb_replay.specs.declared.fault.Fault.TheVariants.{Overflow, NoSuchId, Conflict, NotTotal, Violates, IdsSpent}
 use Rattle.pb_replay.specs.declared.numbered.NumberedLiteral.{NumberedLiteral}
-use Rattle.pb_replay.specs.declared.state.phase.Phase.{Phase}
-use Rattle.pb_replay.specs.declared.state.phase.Phase.TheVariants.{Beginning}
 use Rattle.pb_replay.specs.declared.verdict.Verdict.{Verdict}
 use Rattle.pb_replay.specs.Answer.{Answer, gives, need, each_below, found, some, after}
 use Rattle.pb_replay.specs.Loading.{Problem, Fits, objective_of}
@@ -27,11 +27,11 @@ pub record State : Type 0 where
   pub live : List (Option Form)
   pub names : List (List ℕ)
   pub logged : List Logged
-  pub next : Phase
+  pub next : Stage
   pub concluded : Option Verdict
 
 abbrev pub first_state : Problem → State
-first_state v = record { live = []; names = v.names; logged = []; next = Beginning; concluded = None }
+first_state v = record { live = []; names = v.names; logged = []; next = Opening; concluded = None }
 
 -- the objective's value, at an assignment of the numbers of names
 abbrev pub by_name : List (List ℕ) → (ℕ → Bool) → List ℕ → Bool

@@ -3,13 +3,13 @@ use Rattle.std.specs.Prelude.{◌≡◌, ℕ, ℤ, zero, suc, ◌<◌, ◌≤◌
 use Rattle.pb_text.specs.Limits.{largest, top_of}
 use Rattle.pb_text.specs.declared.Limits.{Limits}
 use Rattle.pb_proof.specs.declared.Statement.{Statement}
+use Rattle.pb_proof.specs.declared.Stage.{Stage}
+use Rattle.pb_proof.specs.declared.Stage.TheVariants.{Complete}
 use Rattle.pb_normal.specs.Form.{Form}
 use Rattle.pb_normal.specs.Names.{with_names}
 use Rattle.pb_normal.specs.Written.{magnitude}
 use Rattle.pb_replay.specs.declared.fault.Fault.{Fault}
 use Rattle.pb_replay.specs.declared.fault.Fault.TheVariants.{Memory, NotTotal}
-use Rattle.pb_replay.specs.declared.state.phase.Phase.{Phase}
-use Rattle.pb_replay.specs.declared.state.phase.Phase.TheVariants.{Done}
 use Rattle.pb_replay.specs.declared.verdict.Verdict.{Verdict}
 use Rattle.pb_replay.specs.declared.state.Running.{Running}
 use Rattle.pb_replay.specs.Loading.{Problem, objective_of}
@@ -131,7 +131,7 @@ pub record Replaying : Type 0 where
   pub live : List (Option Form)
   pub names : List (List ℕ)
   pub best : Option ℤ
-  pub next : Phase
+  pub next : Stage
   pub concluded : Option Verdict
   pub fault : Option Fault
   pub visits : ℕ
@@ -145,8 +145,8 @@ pub record StandsFor (r : Replaying) (s : State) : Type 0 where
   pub concluded : s.concluded ≡ r.concluded
 
 -- the verdict, once the proof has ended
-abbrev pub verdict_at : Phase → Option Verdict → Option Verdict
-verdict_at Done concluded = concluded
+abbrev pub verdict_at : Stage → Option Verdict → Option Verdict
+verdict_at Complete concluded = concluded
 verdict_at _ concluded = None
 
 abbrev pub verdict_in : Replaying → Option Verdict

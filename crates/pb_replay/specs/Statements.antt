@@ -5,15 +5,15 @@ use Rattle.pb_proof.specs.declared.PolWord.{PolWord}
 use Rattle.pb_proof.specs.declared.PolWord.TheVariants.{Axiom, Weaken}
 use Rattle.pb_proof.specs.declared.Conclusion.{Conclusion}
 use Rattle.pb_proof.specs.declared.Conclusion.TheVariants.{NoClaim, Unsat, Sat, Bounds}
+use Rattle.pb_proof.specs.declared.Stage.TheVariants.{Formula, Steps, Claim, Closing, Complete}
 use Rattle.pb_proof.specs.declared.Statement.{Statement}
 use Rattle.pb_proof.specs.declared.Statement.TheVariants.{Header, F, Pol, Rup, Soli, Solx, Delete, Output, Conclude, End}
+use Rattle.pb_proof.specs.Order.{stage_of}
 use Rattle.pb_proof.specs.Postfix.{words}
 use Rattle.pb_normal.specs.declared.Side.TheVariants.{AtLeast as least, AtMost as most}
 use Rattle.pb_normal.specs.Names.{with_names}
 use Rattle.pb_normal.specs.Written.{names_of}
 use Rattle.pb_replay.specs.declared.fault.Fault.TheVariants.{FormulaCount, NotImplied, NoObjective, IdsSpent, Order}
-use Rattle.pb_replay.specs.declared.state.phase.Phase.{Phase}
-use Rattle.pb_replay.specs.declared.state.phase.Phase.TheVariants.{Beginning, Loading, Steps, Concluding, Ending, Done}
 use Rattle.pb_replay.specs.Answer.{Answer, gives, need, found, some, after}
 use Rattle.pb_replay.specs.Loading.{Problem}
 use Rattle.pb_replay.specs.Propagation.{IsRup}
@@ -48,19 +48,6 @@ mentioned (Solx ls) = literal_names ls
 mentioned (Conclude c) = conclusion_names c
 mentioned _ = []
 
--- what a proof has come to where the statement may come
-abbrev pub comes : Statement → Phase
-comes Header = Beginning
-comes (F count) = Loading
-comes (Pol ws) = Steps
-comes (Rup linear) = Steps
-comes (Soli ls) = Steps
-comes (Solx ls) = Steps
-comes (Delete ids) = Steps
-comes Output = Steps
-comes (Conclude c) = Concluding
-comes End = Ending
-
 -- whether memory may be wanted for the statement
 abbrev pub MayWant : Statement → Type 0
 MayWant Header = ⊥
@@ -79,7 +66,7 @@ IsCount (Some m) n = m ≡ n
 module _ (limit top : ℕ) (v : Problem) where
   -- what a statement does where it may come, once its names have appeared
   abbrev pub Does : State → Statement → Answer State
-  Does s Header = gives (record s { next = Loading })
+  Does s Header = gives (record s { next = Formula })
   Does s (F count) =
       need (IsCount count (length v.loaded)) (FormulaCount (length v.loaded))
       (need (length v.loaded ≤ top) IdsSpent
@@ -98,13 +85,13 @@ module _ (limit top : ℕ) (v : Problem) where
       after (Completed v (Live s.live) (length s.names) (numbered s.names given)) (λ g.
       some (IsClause (numbered s.names given)) (added top s (s.logged ++ (g ∷ []))))
   Does s (Delete ids) = after (Deleted s.live ids) (λ live. gives (record s { live = live }))
-  Does s Output = gives (record s { next = Concluding })
-  Does s (Conclude c) = Concludes limit v s c (gives (record s { next = Ending; concluded = Some (verdict_of c) }))
-  Does s End = gives (record s { next = Done })
+  Does s Output = gives (record s { next = Claim })
+  Does s (Conclude c) = Concludes limit v s c (gives (record s { next = Closing; concluded = Some (verdict_of c) }))
+  Does s End = gives (record s { next = Complete })
 
   -- the state after the statement, or its fault
   abbrev pub Outcome : State → Statement → Answer State
-  Outcome s st = need (s.next ≡ comes st) Order (Does (record s { names = with_names s.names (mentioned st) }) st)
+  Outcome s st = need (s.next ≡ stage_of st) Order (Does (record s { names = with_names s.names (mentioned st) }) st)
 
   -- the statements are accepted one after the other
   abbrev pub Accepts : State → List Statement → State → Type 0

@@ -13,5 +13,4 @@ mod verdict;
 pub use fault::Fault;
 pub use numbered::NumberedLiteral;
 pub use replay::Replay;
-pub use state::phase::Phase;
 pub use verdict::Verdict;

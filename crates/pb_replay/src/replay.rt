@@ -16,12 +16,11 @@ ghost use Rattle.pb_replay.specs.declared.fault.Fault.{Fault as AFault};
 use crate::fault::Fault;
 use crate::state::Running;
 use crate::state::load::open;
-use crate::state::phase::Phase;
 use crate::step::take;
 use crate::verdict::Verdict;
 use pb_normal::{HashKeys, Normal};
 use pb_opb::Instance;
-use pb_proof::Statement;
+use pb_proof::{Stage, Statement};
 use pb_text::Limits;
 use std::alloc::Global;
 use std::marker::Model;
@@ -125,7 +124,7 @@ impl Replay {
             return None;
         }
         match self.running.next {
-            Phase::Done => self.running.concluded,
+            Stage::Complete => self.running.concluded,
             _ => None,
         }
     }

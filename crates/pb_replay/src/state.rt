@@ -5,13 +5,12 @@ pub(crate) mod literals;
 pub(crate) mod live;
 pub(crate) mod load;
 pub(crate) mod objective;
-pub(crate) mod phase;
 pub(crate) mod solution;
 
 use crate::propagate::engine::Engine;
-use crate::state::phase::Phase;
 use crate::verdict::Verdict;
 use pb_normal::{Names, Normal};
+use pb_proof::Stage;
 use pb_sums::Linear;
 use pb_text::Limits;
 use std::alloc::Global;
@@ -32,7 +31,7 @@ pub(crate) struct Running {
     pub(crate) engine: Engine,
     /// The least value of a logged solution.
     pub(crate) best: Option<i128>,
-    pub(crate) next: Phase,
+    pub(crate) next: Stage,
     pub(crate) concluded: Option<Verdict>,
     /// How many looks the last `rup` took.
     pub(crate) visits: u64,

@@ -2,9 +2,10 @@
 
 ghost use Rattle.std.specs.Prelude.{◌≡◌, ◌↔◌, Err, IsTrue, OnOk};
 ghost use Rattle.pb_text.specs.Limits.{largest, top_of};
+ghost use Rattle.pb_proof.specs.Order.{stage_of};
 ghost use Rattle.pb_proof.specs.Values.{IsStatementValue};
 ghost use Rattle.pb_replay.specs.Running.{Keeps, Goes, Comes, IsLinked, IsReady};
-ghost use Rattle.pb_replay.specs.Statements.{IsCount, MayWant, comes};
+ghost use Rattle.pb_replay.specs.Statements.{IsCount, MayWant};
 ghost use Rattle.pb_replay.specs.Visits.{LooksOf, counted_from};
 
 mod bounds;
@@ -19,8 +20,7 @@ mod solution;
 use crate::fault::Fault;
 use crate::state::Running;
 use crate::state::live::engine_of;
-use crate::state::phase::Phase;
-use pb_proof::Statement;
+use pb_proof::{Stage, Statement};
 
 /// The header.
 fn begin(running: &mut Running) -> Result<(), Fault>
@@ -31,7 +31,7 @@ fn begin(running: &mut Running) -> Result<(), Fault>
     ensures visits { running.new.visits ≡ running.old.visits }
     ensures memory { result ≡ Err Fault.Memory → ⊥ }
 {
-    running.next = Phase::Loading;
+    running.next = Stage::Formula;
     Ok(())
 }
 
@@ -65,7 +65,7 @@ fn load(running: &mut Running, count: Option<u64>) -> Result<(), Fault>
         running.loaded.as_slice(),
         running.names.len(),
     )?;
-    running.next = Phase::Steps;
+    running.next = Stage::Steps;
     Ok(())
 }
 
@@ -78,7 +78,7 @@ fn output(running: &mut Running) -> Result<(), Fault>
     ensures visits { running.new.visits ≡ running.old.visits }
     ensures memory { result ≡ Err Fault.Memory → ⊥ }
 {
-    running.next = Phase::Concluding;
+    running.next = Stage::Claim;
     Ok(())
 }
 
@@ -91,7 +91,7 @@ fn end(running: &mut Running) -> Result<(), Fault>
     ensures visits { running.new.visits ≡ running.old.visits }
     ensures memory { result ≡ Err Fault.Memory → ⊥ }
 {
-    running.next = Phase::Done;
+    running.next = Stage::Complete;
     Ok(())
 }
 
@@ -105,29 +105,11 @@ fn begin_count(statement: &Statement, visits: u64) -> u64
     }
 }
 
-/// What a proof has come to where the statement may come.
-fn coming(statement: &Statement) -> Phase
-    ensures { result ≡ comes statement.now }
-{
-    match statement {
-        Statement::Header => Phase::Beginning,
-        Statement::F(_) => Phase::Loading,
-        Statement::Pol(_)
-        | Statement::Rup(_)
-        | Statement::Soli(_)
-        | Statement::Solx(_)
-        | Statement::Delete(_)
-        | Statement::Output => Phase::Steps,
-        Statement::Conclude(_) => Phase::Concluding,
-        Statement::End => Phase::Ending,
-    }
-}
-
 /// Whether the statement may come there.
-fn is_due(next: Phase, statement: &Statement) -> bool
-    ensures { IsTrue result ↔ (next ≡ comes statement.now) }
+fn is_due(next: Stage, statement: &Statement) -> bool
+    ensures { IsTrue result ↔ (next ≡ stage_of statement.now) }
 {
-    next == coming(statement)
+    next == statement.stage()
 }
 
 /// Does what the statement says.

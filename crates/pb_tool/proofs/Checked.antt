@@ -25,13 +25,13 @@ use Rattle.pb_proof.specs.Values.{IsStatementValue}
 use Rattle.pb_proof.specs.declared.Proof.{Proof}
 use Rattle.pb_proof.specs.declared.Statement.{Statement}
 use Rattle.pb_proof.specs.declared.Statement.TheVariants.{Header, F, Output, Conclude, End}
+use Rattle.pb_proof.specs.declared.Stage.{Stage}
 use Rattle.pb_replay.specs.Laws.{ReplaysHaveStates, WholeProofsConclude}
 use Rattle.pb_replay.specs.Loading.{Problem}
 use Rattle.pb_replay.specs.Replay.{State}
 use Rattle.pb_replay.specs.Running.{Replaying, StandsFor, StepsAs, verdict_at, verdict_in}
 use Rattle.pb_replay.specs.Statements.{Outcome, Accepts}
 use Rattle.pb_replay.specs.declared.fault.Fault.{Fault}
-use Rattle.pb_replay.specs.declared.state.phase.Phase.{Phase}
 use Rattle.pb_replay.specs.declared.verdict.Verdict.{Verdict}
 use Rattle.std.proofs.Math.Seq.{take-add, take-length}
 use Rattle.std.proofs.lemmas.List.{length-drop}
@@ -351,7 +351,7 @@ any_cutting read limits longest v first before after pieces h owed feeds =
 pub shown_at : (r : Replaying) (t : State) → IsAt r (Ok t) → verdict_in r ≡ verdict_at t.next t.concluded
 shown_at r t (unspent, at) =
     ap (λ (x : Option Fault). if is_some x then None else verdict_at r.next r.concluded) unspent
-    ∙ sym (ap (λ (x : Phase). verdict_at x t.concluded) at.next ∙ ap (λ (x : Option Verdict). verdict_at r.next x) at.concluded)
+    ∙ sym (ap (λ (x : Stage). verdict_at x t.concluded) at.next ∙ ap (λ (x : Option Verdict). verdict_at r.next x) at.concluded)
 
 -- ---- where the text has ended, of a checker
 module _ (read : TextsAreRead) (limits : Limits) (longest : ℕ) (v : Problem) (first : Result State Fault) (input : List ℕ) (f : ProofFeeder) (r : Replaying) (e : Option CheckFault) (none : e ≡ None) (h : Stands limits longest v first input f r e) where

@@ -14,6 +14,8 @@ use Rattle.pb_proof.specs.State.{begin, proofs}
 use Rattle.pb_proof.specs.ValueLaws.{ReadStatements}
 use Rattle.pb_proof.specs.Values.{IsStatementValue}
 use Rattle.pb_proof.specs.declared.Statement.{Statement}
+use Rattle.pb_proof.specs.declared.Stage.{Stage}
+use Rattle.pb_proof.specs.declared.Stage.TheVariants.{Opening, Formula, Steps, Claim, Closing, Complete}
 use Rattle.pb_replay.specs.Laws.{ReplaysHaveStates, WholeProofsConclude}
 use Rattle.pb_replay.specs.Loading.{Problem}
 use Rattle.pb_replay.specs.Meaning.{IsFront}
@@ -22,8 +24,6 @@ use Rattle.pb_replay.specs.Running.{Replaying, verdict_at, verdict_in}
 use Rattle.pb_replay.specs.Statements.{Outcome, Accepts}
 use Rattle.pb_replay.specs.declared.fault.Fault.{Fault}
 use Rattle.pb_replay.specs.declared.fault.Fault.TheVariants as fault
-use Rattle.pb_replay.specs.declared.state.phase.Phase.{Phase}
-use Rattle.pb_replay.specs.declared.state.phase.Phase.TheVariants.{Beginning, Loading, Steps, Concluding, Ending, Done}
 use Rattle.pb_replay.specs.declared.verdict.Verdict.{Verdict}
 use Rattle.pb_tool.specs.Checker.{IsAt, StepsFrom}
 use Rattle.pb_tool.specs.Checks.{statements_at, Refuses, Takes}
@@ -55,13 +55,13 @@ refused_faults states old new m x none steps k n h =
     let (e, is, refuses) = steps (Ok s) (none, at) in
     subst (λ (y : CheckFault). k ≡ faults_of_text {A = Unit} (Err y) n) (sym is) h
 
-claimed : (p : Phase) (c : Option Verdict) (w : Verdict) → verdict_at p c ≡ Some w → c ≡ Some w
-claimed Done c w h = h
-claimed Beginning c w h = absurd (cc h)
-claimed Loading c w h = absurd (cc h)
+claimed : (p : Stage) (c : Option Verdict) (w : Verdict) → verdict_at p c ≡ Some w → c ≡ Some w
+claimed Complete c w h = h
+claimed Opening c w h = absurd (cc h)
+claimed Formula c w h = absurd (cc h)
 claimed Steps c w h = absurd (cc h)
-claimed Concluding c w h = absurd (cc h)
-claimed Ending c w h = absurd (cc h)
+claimed Claim c w h = absurd (cc h)
+claimed Closing c w h = absurd (cc h)
 
 module _ (exact : ReadsProofs) (limits : Limits) (longest : ℕ) where
   abbrev IsRead : List ℕ → List ℕ → List (Spanned Statement) → Place → Bool → Option Stop → Type 0

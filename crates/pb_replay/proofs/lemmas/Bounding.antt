@@ -10,13 +10,13 @@ use Rattle.pb_proof.specs.declared.Bound.{Bound}
 use Rattle.pb_proof.specs.declared.Bound.TheVariants.{Finite, Infinite}
 use Rattle.pb_proof.specs.declared.Conclusion.TheVariants.{Bounds}
 use Rattle.pb_proof.specs.declared.Statement.TheVariants.{Conclude}
+use Rattle.pb_proof.specs.declared.Stage.TheVariants.{Closing}
 use Rattle.pb_normal.specs.declared.Side.TheVariants.{AtLeast as least}
 use Rattle.pb_normal.specs.Form.{Form}
 use Rattle.pb_replay.specs.declared.fault.Fault.{Fault}
 use Rattle.pb_replay.specs.declared.fault.Fault.TheVariants.{Memory, NoSuchId, NotBound}
 use Rattle.pb_replay.specs.declared.numbered.NumberedLiteral.{NumberedLiteral}
 use Rattle.pb_replay.specs.declared.state.Running.{Running}
-use Rattle.pb_replay.specs.declared.state.phase.Phase.TheVariants.{Ending}
 use Rattle.pb_replay.specs.declared.verdict.Verdict.TheVariants as verdict
 use Rattle.pb_replay.specs.Answer.{Answer, gives, need}
 use Rattle.pb_replay.specs.Bounds.{Both, HasObjective, IsBelow, IsNamed, IsReached, Lower, ObjectiveShown, Reached, Refutes, ShownAs, ShownReaches, Upper, objective_at_least, upper_of}
@@ -183,7 +183,7 @@ module _ (old m : Running) (lower : Bound) (id : Option ℤ) (upper : Bound) (gi
   both-err e (inr low) = inr (λ logged o best has. inl (low logged o best has))
 
 module _ (old m new : Running) (lower : Bound) (id : Option ℤ) (upper : Bound) (given : Option (List NumberedLiteral)) (written : Option (List Literal)) (numbers : given ≡ option_map (numbered old.names) written) (o : List Term) (has : (problem_of old).objective ≡ Some o) where
-  pub bounds-ok : HasNamed [] old m → new.engine.forms ≡ m.engine.forms → new.names ≡ m.names → new.best ≡ m.best → new.next ≡ Ending → new.concluded ≡ Some (verdict.Bounds lower upper) → Both old lower id upper given (Ok tt) → GoesAt old (Conclude (Bounds lower id upper written)) (Ok tt) new
+  pub bounds-ok : HasNamed [] old m → new.engine.forms ≡ m.engine.forms → new.names ≡ m.names → new.best ≡ m.best → new.next ≡ Closing → new.concluded ≡ Some (verdict.Bounds lower upper) → Both old lower id upper given (Ok tt) → GoesAt old (Conclude (Bounds lower id upper written)) (Ok tt) new
   bounds-ok named f n b x d both = λ logged best.
       let k = both logged o best has in
       let up = subst (λ (y : Option (List NumberedLiteral)). upper_of (problem_of old) logged upper y (Ok tt)) numbers k.1 in

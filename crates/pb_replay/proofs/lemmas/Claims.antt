@@ -3,6 +3,7 @@ use Rattle.std.specs.Prelude.{Option, Some, None, Ok, ℤ, IsSome}
 use Rattle.std.proofs.Common.{subst, sym, ◌≡◌, ℕ, List, [], ◌∷◌, ◌++◌, refl}
 use Rattle.pb_sums.specs.declared.Literal.{Literal}
 use Rattle.pb_sums.specs.declared.Term.{Term}
+use Rattle.pb_proof.specs.Order.{stage_of}
 use Rattle.pb_proof.specs.Proofs.{statements_of}
 use Rattle.pb_proof.specs.declared.Bound.{Bound}
 use Rattle.pb_proof.specs.declared.Bound.TheVariants.{Finite, Infinite}
@@ -10,10 +11,10 @@ use Rattle.pb_proof.specs.declared.Conclusion.{Conclusion}
 use Rattle.pb_proof.specs.declared.Conclusion.TheVariants.{NoClaim, Unsat, Sat, Bounds}
 use Rattle.pb_proof.specs.declared.Statement.{Statement}
 use Rattle.pb_proof.specs.declared.Statement.TheVariants.{Header, F, Pol, Rup, Soli, Solx, Delete, Output, Conclude, End}
+use Rattle.pb_proof.specs.declared.Stage.{Stage}
+use Rattle.pb_proof.specs.declared.Stage.TheVariants.{Closing, Complete}
 use Rattle.pb_normal.specs.Form.{Form}
 use Rattle.pb_normal.specs.Names.{with_names}
-use Rattle.pb_replay.specs.declared.state.phase.Phase.{Phase}
-use Rattle.pb_replay.specs.declared.state.phase.Phase.TheVariants.{Ending, Done}
 use Rattle.pb_replay.specs.declared.verdict.Verdict.{Verdict}
 use Rattle.pb_replay.specs.Answer.{Answer}
 use Rattle.pb_replay.specs.Laws.{HasClaim, VerdictsAreThere, WholeProofsConclude}
@@ -21,7 +22,7 @@ use Rattle.pb_replay.specs.Loading.{Problem}
 use Rattle.pb_replay.specs.Replay.{State}
 use Rattle.pb_replay.specs.Conclusions.{none_left, named, lower_bound, upper_bound, Concludes}
 use Rattle.pb_replay.specs.Running.{verdict_at}
-use Rattle.pb_replay.specs.Statements.{Does, Accepts, comes, mentioned}
+use Rattle.pb_replay.specs.Statements.{Does, Accepts, mentioned}
 use Rattle.pb_replay.proofs.lemmas.Accepting.{needed, followed, ok-same}
 use Rattle.pb_replay.proofs.lemmas.Concluded.{contradicted-has}
 
@@ -53,7 +54,7 @@ concluded_next limit v s (Bounds lower id upper shown) next t h =
     let o = needed h in
     upper_next v s upper shown next t (lower_next limit s o.0 lower id _ t o.2)
 
-does : (limit top : ℕ) (v : Problem) (s t : State) (st : Statement) → HasClaim s.next s.concluded → (st ≡ End → s.next ≡ Ending) → Does limit top v s st (Ok t) → HasClaim t.next t.concluded
+does : (limit top : ℕ) (v : Problem) (s t : State) (st : Statement) → HasClaim s.next s.concluded → (st ≡ End → s.next ≡ Closing) → Does limit top v s st (Ok t) → HasClaim t.next t.concluded
 does limit top v s t Header p q h = rw (ok-same h) tt
 does limit top v s t (F count) p q h = let last = needed (needed h).1 in rw (ok-same last.1) tt
 does limit top v s t (Pol ws) p q h = let last = needed (followed h.2).2 in rw (ok-same last.1) p
@@ -67,9 +68,9 @@ does limit top v s t (Delete ids) p q h = let rest = followed h in rw (ok-same r
 does limit top v s t Output p q h = rw (ok-same h) tt
 does limit top v s t (Conclude c) p q h = let last = concluded_next limit v s c _ t h in rw (ok-same last) refl
 does limit top v s t End p q h =
-    let P : Phase → Type 0 = λ x. HasClaim x s.concluded in
+    let P : Stage → Type 0 = λ x. HasClaim x s.concluded in
     let before : P s.next = p in
-    let claim : P Ending = rw (q refl) at before in
+    let claim : P Closing = rw (q refl) at before in
     rw (ok-same h) claim
 
 pub run : (limit top : ℕ) (v : Problem) (s t : State) (sts : List Statement) → HasClaim s.next s.concluded → Accepts limit top v s sts t → HasClaim t.next t.concluded
@@ -78,19 +79,19 @@ run limit top v s t (st ∷ sts) p h =
     let due = needed h.1 in
     run limit top v h.0 t sts (does limit top v (record s { names = with_names s.names (mentioned st) }) h.0 st p (λ e. ending st e due.0) due.1) h.2
   where
-    ending : (x : Statement) → x ≡ End → s.next ≡ comes x → s.next ≡ Ending
+    ending : (x : Statement) → x ≡ End → s.next ≡ stage_of x → s.next ≡ Closing
     ending x e k = rw e at k
 
 pub verdicts-there : VerdictsAreThere
-verdicts-there limit top v sts s t begins h = run limit top v s t sts (subst (λ (x : Phase). HasClaim x s.concluded) (sym begins) tt) h
+verdicts-there limit top v sts s t begins h = run limit top v s t sts (subst (λ (x : Stage). HasClaim x s.concluded) (sym begins) tt) h
 
 -- ---- a whole proof
-ended : (limit top : ℕ) (v : Problem) (steps : List Statement) (c : Conclusion) (s t : State) → Accepts limit top v s (steps ++ Output ∷ Conclude c ∷ End ∷ []) t → t.next ≡ Done
+ended : (limit top : ℕ) (v : Problem) (steps : List Statement) (c : Conclusion) (s t : State) → Accepts limit top v s (steps ++ Output ∷ Conclude c ∷ End ∷ []) t → t.next ≡ Complete
 ended limit top v [] c s t (a, h, (b, k, (d, l, e))) = let last = ok-same (needed l).1 in rw (sym e, last) refl
 ended limit top v (x ∷ steps) c s t h = ended limit top v steps c h.0 t h.2
 
-at-end : (p : Phase) (concluded : Option Verdict) → p ≡ Done → HasClaim p concluded → IsSome (verdict_at p concluded)
-at-end p concluded e h = subst (λ (x : Phase). IsSome (verdict_at x concluded)) (sym e) (subst (λ (x : Phase). HasClaim x concluded) e h)
+at-end : (p : Stage) (concluded : Option Verdict) → p ≡ Complete → HasClaim p concluded → IsSome (verdict_at p concluded)
+at-end p concluded e h = subst (λ (x : Stage). IsSome (verdict_at x concluded)) (sym e) (subst (λ (x : Stage). HasClaim x concluded) e h)
 
 pub whole-proofs-conclude : WholeProofsConclude
 whole-proofs-conclude limit top v p s t (a, h, (b, k, rest)) =

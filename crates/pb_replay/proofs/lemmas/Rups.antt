@@ -4,6 +4,9 @@ use Rattle.std.proofs.Common.{◌≡◌, ℕ, ◌<◌, ◌≤◌, List, refl, sy
 use Rattle.std.proofs.lemmas.Bool.{cases_lt}
 use Rattle.pb_text.specs.Limits.{largest, top_of}
 use Rattle.pb_sums.specs.declared.Linear.{Linear}
+use Rattle.pb_proof.specs.Order.{stage_of}
+use Rattle.pb_proof.specs.declared.Stage.TheVariants.{Steps}
+use Rattle.pb_proof.specs.declared.Statement.{Statement}
 use Rattle.pb_proof.specs.declared.Statement.TheVariants.{F, Rup}
 use Rattle.pb_normal.specs.declared.NormalFault.{NormalFault}
 use Rattle.pb_normal.specs.declared.NormalFault.TheVariants as normal
@@ -17,15 +20,13 @@ use Rattle.pb_replay.specs.declared.fault.Fault.TheVariants.{NotImplied, Order}
 use Rattle.std.specs.Prelude.{Option, Some}
 use Rattle.std.proofs.Common.{subst, map, length}
 use Rattle.pb_text.specs.declared.Limits.{Limits}
-use Rattle.pb_replay.specs.declared.state.phase.Phase.TheVariants.{Steps}
 use Rattle.pb_replay.proofs.lemmas.States.{same-state}
 use Rattle.pb_replay.specs.declared.state.Running.{Running}
 use Rattle.pb_replay.specs.Loading.{Fits}
 use Rattle.pb_replay.specs.Propagation.{IsRup}
-use Rattle.pb_proof.specs.declared.Statement.{Statement}
 use Rattle.pb_replay.specs.Replay.{Live, Logged, State, added}
 use Rattle.pb_replay.specs.Running.{Adding, Goes, Comes, Keeps, problem_of, state_of, with_mentioned}
-use Rattle.pb_replay.specs.Statements.{Does, IsCount, comes}
+use Rattle.pb_replay.specs.Statements.{Does, IsCount}
 use Rattle.pb_replay.specs.Meaning.{IsFront}
 
 -- a form was made, so its numbers fit
@@ -100,17 +101,17 @@ keeps_then a b c h k = record {
 }
 
 -- a statement that comes where it may
-pub came : (old : Running) (st : Statement) (result : Result Unit Fault) (new : Running) → old.next ≡ comes st → Goes old st result new → Comes old st result new
+pub came : (old : Running) (st : Statement) (result : Result Unit Fault) (new : Running) → old.next ≡ stage_of st → Goes old st result new → Comes old st result new
 came old st (Ok u) new next g = λ logged best. let h = g logged best in (h.0, h.1, inl (next, h.2))
 came old st (Err d) new next (inl memory) = inl memory
 came old st (Err d) new next (inr g) = inr (λ logged best. inl (next, g logged best))
 
-pub came-counted : (old : Running) (visits : ℕ) (st : Statement) (result : Result Unit Fault) (new : Running) → old.next ≡ comes st → Goes (record old { visits = visits }) st result new → Comes old st result new
+pub came-counted : (old : Running) (visits : ℕ) (st : Statement) (result : Result Unit Fault) (new : Running) → old.next ≡ stage_of st → Goes (record old { visits = visits }) st result new → Comes old st result new
 came-counted old visits st (Ok u) new next g = λ logged best. let h = g logged best in (h.0, h.1, inl (next, h.2))
 came-counted old visits st (Err d) new next (inl memory) = inl memory
 came-counted old visits st (Err d) new next (inr g) = inr (λ logged best. inl (next, g logged best))
 
-pub came-not : (old : Running) (st : Statement) (new : Running) → (old.next ≡ comes st → ⊥) → Comes old st (Err Order) new
+pub came-not : (old : Running) (st : Statement) (new : Running) → (old.next ≡ stage_of st → ⊥) → Comes old st (Err Order) new
 came-not old st new late = inr (λ logged best. inr (late, refl))
 
 pub not_so : (b : Bool) (P : Type 0) → b ≡ false → IsTrue b ↔ P → P → ⊥

@@ -5,12 +5,12 @@ use Rattle.std.proofs.lemmas.List.{get_or-map, length-map}
 use Rattle.pb_sums.specs.declared.Literal.{Literal}
 use Rattle.pb_proof.specs.declared.Conclusion.TheVariants.{Sat}
 use Rattle.pb_proof.specs.declared.Statement.TheVariants.{Conclude}
+use Rattle.pb_proof.specs.declared.Stage.TheVariants.{Closing}
 use Rattle.pb_normal.specs.Form.{Form}
 use Rattle.pb_replay.specs.declared.fault.Fault.{Fault}
 use Rattle.pb_replay.specs.declared.fault.Fault.TheVariants.{Conflict, Memory, NoSolution}
 use Rattle.pb_replay.specs.declared.numbered.NumberedLiteral.{NumberedLiteral}
 use Rattle.pb_replay.specs.declared.state.Running.{Running}
-use Rattle.pb_replay.specs.declared.state.phase.Phase.TheVariants.{Ending}
 use Rattle.pb_replay.specs.declared.verdict.Verdict.TheVariants as verdict
 use Rattle.pb_replay.specs.Loading.{Problem}
 use Rattle.pb_replay.specs.Propagation.{MeetsConflict}
@@ -41,7 +41,7 @@ module _ (v : Problem) (live : List (Option Form)) (same : live ≡ map (λ (f :
   own-conflict e (inr (is, meets)) = inr (subst (λ (d : Fault). Completed v (Contains v.loaded) names given (Err d)) (sym is) (own-to (Err Conflict) (conflicting v (Live live) names given meets)))
 
 module _ (old new : Running) (given : List NumberedLiteral) (written : List Literal) (numbers : given ≡ numbered old.names written) where
-  pub sat-ok : new.best ≡ old.best → (g : Logged) → Shown (problem_of old) given g → ((logged : List Logged) → state_of new logged ≡ record (state_of old logged) { next = Ending; concluded = Some verdict.Sat }) → GoesAt old (Conclude (Sat (Some written))) (Ok tt) new
+  pub sat-ok : new.best ≡ old.best → (g : Logged) → Shown (problem_of old) given g → ((logged : List Logged) → state_of new logged ≡ record (state_of old logged) { next = Closing; concluded = Some verdict.Sat }) → GoesAt old (Conclude (Sat (Some written))) (Ok tt) new
   sat-ok b g shown same = λ logged best.
       (logged, subst (λ (o : Option ℤ). IsBest logged o) (sym b) best, inl (g, subst (λ (x : List NumberedLiteral). Shown (problem_of old) x g) numbers shown, let to : State → Result State Fault = λ s. Ok s in ap to (same logged)))
 

@@ -10,6 +10,8 @@ use Rattle.pb_proof.specs.declared.Statement.{Statement}
 use Rattle.pb_proof.specs.declared.Statement.TheVariants.{Header, F, Pol, Rup, Soli, Solx, Delete, Output, Conclude, End}
 use Rattle.pb_proof.specs.Postfix.{Tree, Constraint, True, Sum, Times, Divided, Saturated, Weakened, words}
 use Rattle.pb_proof.specs.Values.{IsWord, IsStatementValue}
+use Rattle.pb_proof.specs.declared.Stage.{Stage}
+use Rattle.pb_proof.specs.declared.Stage.TheVariants.{Formula, Steps, Claim, Closing, Complete}
 use Rattle.pb_normal.specs.declared.Side.TheVariants.{AtMost as most}
 use Rattle.pb_normal.specs.Form.{Form, total, true_at}
 use Rattle.pb_normal.specs.Names.{AreDistinct, with_names}
@@ -17,8 +19,6 @@ use Rattle.pb_normal.specs.Rules.{assignment}
 use Rattle.pb_normal.specs.Written.{true_sum, IsSideOf}
 use Rattle.pb_normal.proofs.Appearing.{distinct}
 use Rattle.pb_replay.specs.Replay.{Logged}
-use Rattle.pb_replay.specs.declared.state.phase.Phase.{Phase}
-use Rattle.pb_replay.specs.declared.state.phase.Phase.TheVariants.{Loading, Steps, Concluding, Ending, Done}
 use Rattle.pb_replay.specs.Loading.{Problem}
 use Rattle.pb_replay.specs.Propagation.{HoldAll}
 use Rattle.pb_replay.specs.Replay.{State, Live, value, by_name, Deleted, place, numbered}
@@ -67,7 +67,7 @@ proper limit top (Saturated a) h = proper limit top a (all_left (IsWord limit to
 proper limit top (Weakened a name) h = proper limit top a (all_left (IsWord limit top) (words a) _ h)
 
 -- a step that changes the live forms alone
-live-sound : (v : Problem) (s : State) (live : List (Option Form)) (names : List (List ℕ)) (next : Phase) → IsSound v s → IsFront v.names names → AreDistinct names → ((a : ℕ → Bool) → IsSolution v a → HoldAll a (Live s.live) → HoldAll a (Live live)) → IsSound v (record { live = live; names = names; logged = s.logged; next = next; concluded = s.concluded })
+live-sound : (v : Problem) (s : State) (live : List (Option Form)) (names : List (List ℕ)) (next : Stage) → IsSound v s → IsFront v.names names → AreDistinct names → ((a : ℕ → Bool) → IsSolution v a → HoldAll a (Live s.live) → HoldAll a (Live live)) → IsSound v (record { live = live; names = names; logged = s.logged; next = next; concluded = s.concluded })
 live-sound v s live names next sound begins apart kept =
     record {
       stands = λ a solution. stood a solution (sound.stands a solution);
@@ -84,7 +84,7 @@ live-sound v s live names next sound begins apart kept =
     stood a solution (allowed holds) = allowed (kept a solution holds)
 
 -- a step that logs a solution and adds a form; at each solution either the form holds or the logged one accounts for it
-logged-sound : (v : Problem) (s : State) (r : Form) (g : Logged) (next : Phase) → IsSound v s → IsSolution v (assignment g.values) → g.value ≡ value v (assignment g.values) → ((a : ℕ → Bool) → IsSolution v a → HoldAll a (Live s.live) → total (true_at a) r.terms < r.degree → Accounted v (record { live = s.live ++ (Some r ∷ []); names = s.names; logged = s.logged ++ (g ∷ []); next = next; concluded = s.concluded }) a) → IsSound v (record { live = s.live ++ (Some r ∷ []); names = s.names; logged = s.logged ++ (g ∷ []); next = next; concluded = s.concluded })
+logged-sound : (v : Problem) (s : State) (r : Form) (g : Logged) (next : Stage) → IsSound v s → IsSolution v (assignment g.values) → g.value ≡ value v (assignment g.values) → ((a : ℕ → Bool) → IsSolution v a → HoldAll a (Live s.live) → total (true_at a) r.terms < r.degree → Accounted v (record { live = s.live ++ (Some r ∷ []); names = s.names; logged = s.logged ++ (g ∷ []); next = next; concluded = s.concluded }) a) → IsSound v (record { live = s.live ++ (Some r ∷ []); names = s.names; logged = s.logged ++ (g ∷ []); next = next; concluded = s.concluded })
 logged-sound v s r g next sound solved value_is excluded =
     record {
       stands = λ a solution. stood a solution (sound.stands a solution);
@@ -129,7 +129,7 @@ no_smaller v s o a r w p sound e normal low =
 
 Does-sound : (limit top : ℕ) (v : Problem) (s t : State) (st : Statement) → IsProblem v → IsStatementValue limit top st → IsSound v s → Does limit top v s st (Ok t) → IsSound v t
 Does-sound limit top v s t Header p q sound h =
-    rw (ok-same h) (live-sound v s s.live s.names Loading sound sound.names sound.distinct (λ a solution holds. holds))
+    rw (ok-same h) (live-sound v s s.live s.names Formula sound sound.names sound.distinct (λ a solution holds. holds))
 Does-sound limit top v s t (F count) p q sound h =
     let first = needed h in
     let second = needed first.1 in
@@ -166,7 +166,7 @@ Does-sound limit top v s t (Delete ids) p q sound h =
     let rest = followed h in
     rw (ok-same rest.2) (live-sound v s rest.0 s.names s.next sound sound.names sound.distinct (λ a solution holds f c. holds f (Deleted-live s.live ids rest.0 rest.1 f c)))
 Does-sound limit top v s t Output p q sound h =
-    rw (ok-same h) (live-sound v s s.live s.names Concluding sound sound.names sound.distinct (λ a solution holds. holds))
+    rw (ok-same h) (live-sound v s s.live s.names Claim sound sound.names sound.distinct (λ a solution holds. holds))
 Does-sound limit top v s t (Conclude c) p q sound h =
     let meant = Concludes-means limit v s c _ t p sound h in
     rw (ok-same meant.1) (record {
@@ -178,12 +178,12 @@ Does-sound limit top v s t (Conclude c) p q sound h =
       meant = λ w e. rw (some-same e) at (meant.0);
     })
   where
-    stood : (a : ℕ → Bool) → Accounted v s a → Accounted v (record s { next = Ending; concluded = Some (verdict_of c) }) a
+    stood : (a : ℕ → Bool) → Accounted v s a → Accounted v (record s { next = Closing; concluded = Some (verdict_of c) }) a
     stood a (known g c same) = known g c same
     stood a (beaten o e g c less) = beaten o e g c less
     stood a (allowed holds) = allowed holds
 Does-sound limit top v s t End p q sound h =
-    rw (ok-same h) (live-sound v s s.live s.names Done sound sound.names sound.distinct (λ a solution holds. holds))
+    rw (ok-same h) (live-sound v s s.live s.names Complete sound sound.names sound.distinct (λ a solution holds. holds))
 
 pub statements-sound : StatementsAreSound
 statements-sound limit top v s t st p q sound h =

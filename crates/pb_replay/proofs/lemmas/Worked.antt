@@ -12,9 +12,9 @@ use Rattle.pb_normal.specs.Rules.{IsSum, negation_of}
 use Rattle.pb_normal.specs.Written.{IsFormOf, IsSideOf, written_on}
 use Rattle.pb_normal.specs.declared.Side.TheVariants.{AtLeast as least, AtMost as most}
 use Rattle.pb_replay.specs.declared.fault.Fault.TheVariants.{SolutionLogged, NotBound}
-use Rattle.pb_replay.specs.declared.state.phase.Phase.TheVariants.{Concluding}
 use Rattle.pb_replay.specs.declared.verdict.Verdict.TheVariants as verdict
 use Rattle.pb_proof.specs.declared.Bound.TheVariants.{Finite}
+use Rattle.pb_proof.specs.declared.Stage.TheVariants.{Claim}
 use Rattle.pb_replay.specs.declared.numbered.NumberedLiteral.{NumberedLiteral}
 use Rattle.pb_replay.specs.Loading.{Fits, Problem, Opened}
 use Rattle.pb_replay.specs.Propagation.{MayPut, begin, put, broken, With, IsRup}
@@ -156,7 +156,7 @@ all_state = record {
   live = Some (pair false false 1) ∷ Some (pair true true 1) ∷ Some (pair true false 1) ∷ Some (pair false true 1) ∷ Some unit ∷ Some nothing ∷ [];
   names = names;
   logged = logged_1 ∷ logged_2 ∷ logged_3 ∷ [];
-  next = Concluding;
+  next = Claim;
   concluded = None;
 }
 
@@ -246,7 +246,7 @@ best_state = record {
   live = Some (pair false false 1) ∷ Some (pair true true 2) ∷ Some nothing ∷ [];
   names = names;
   logged = best ∷ [];
-  next = Concluding;
+  next = Claim;
   concluded = None;
 }
 

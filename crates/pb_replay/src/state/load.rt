@@ -12,9 +12,9 @@ ghost use Rattle.pb_replay.specs.Running.{IsFirst, problem_of};
 use crate::fault::Fault;
 use crate::state::Running;
 use crate::state::live::engine_over;
-use crate::state::phase::Phase;
 use pb_normal::{HashKeys, Names, Normal, NormalFault, Side};
 use pb_opb::Instance;
+use pb_proof::Stage;
 use pb_sums::{Linear, Literal, Name, Relation, Term};
 use pb_text::{Limits, Sequence};
 use std::alloc::{AllocError, Global};
@@ -176,7 +176,7 @@ pub(crate) fn open(
         objective,
         engine,
         best: None,
-        next: Phase::Beginning,
+        next: Stage::Opening,
         concluded: None,
         visits: 0,
     })

@@ -10,13 +10,12 @@ ghost use Rattle.pb_replay.specs.Statements.{MayWant};
 use crate::fault::Fault;
 use crate::numbered::NumberedLiteral;
 use crate::state::Running;
-use crate::state::phase::Phase;
 use crate::step::bounds::{shows_lower, shows_upper};
 use crate::step::contradiction::none_is_left;
 use crate::step::shown::{shown, take_shown};
 use crate::step::solution::take_literals;
 use crate::verdict::Verdict;
-use pb_proof::{Bound, Conclusion, Statement};
+use pb_proof::{Bound, Conclusion, Stage, Statement};
 use pb_sums::Literal;
 use pb_text::Sequence;
 
@@ -31,7 +30,7 @@ fn unsat(running: &mut Running, id: Option<i64>) -> Result<(), Fault>
 {
     match none_is_left(running, id) {
         Ok(()) => {
-            running.next = Phase::Ending;
+            running.next = Stage::Closing;
             running.concluded = Some(Verdict::Unsat);
             Ok(())
         }
@@ -51,7 +50,7 @@ fn claim_sat(running: &mut Running, given: &[NumberedLiteral]) -> Result<(), Fau
 {
     match shown(running, given) {
         Ok(_) => {
-            running.next = Phase::Ending;
+            running.next = Stage::Closing;
             running.concluded = Some(Verdict::Sat);
             Ok(())
         }
@@ -83,7 +82,7 @@ fn sat_logged(running: &mut Running) -> Result<(), Fault>
     if running.best.is_none() {
         return Err(Fault::NoSolution);
     }
-    running.next = Phase::Ending;
+    running.next = Stage::Closing;
     running.concluded = Some(Verdict::Sat);
     Ok(())
 }
@@ -145,7 +144,7 @@ fn claim_bounds(
 {
     match are_shown(running, lower, id, upper, given) {
         Ok(()) => {
-            running.next = Phase::Ending;
+            running.next = Stage::Closing;
             running.concluded = Some(Verdict::Bounds(lower, upper));
             Ok(())
         }
@@ -183,7 +182,7 @@ fn no_claim(running: &mut Running) -> Result<(), Fault>
     ensures visits { running.new.visits ≡ running.old.visits }
     ensures memory { result ≡ Err Fault.Memory → ⊥ }
 {
-    running.next = Phase::Ending;
+    running.next = Stage::Closing;
     running.concluded = Some(Verdict::NoClaim);
     Ok(())
 }

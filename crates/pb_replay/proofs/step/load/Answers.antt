@@ -1,5 +1,5 @@
-use Rattle.pb_replay.specs.declared.state.phase.Phase.TheVariants.{Steps}
 use Rattle.std.proofs.Common.{rules, arith, ◌∙◌, refl, length}
+use Rattle.pb_proof.specs.declared.Stage.TheVariants.{Steps}
 use Rattle.pb_replay.specs.Statements.{IsCount}
 use Rattle.pb_replay.proofs.lemmas.Linked.{linked-loaded}
 use Rattle.pb_replay.proofs.lemmas.Rups.{loaded-goes}
