@@ -43,6 +43,10 @@ pub named : (names others : List (List ℕ)) → HasNames (with_names names othe
 named names [] = tt
 named names (n ∷ others) = (stays_named (with_name names n) others n (with_name-has n names), named (with_name names n) others)
 
+pub names_split : (names xs ys : List (List ℕ)) → HasNames names (xs ++ ys) → HasNames names xs × HasNames names ys
+names_split names [] ys h = (tt, h)
+names_split names (x ∷ xs) ys h = let rest = names_split names xs ys h.1 in ((h.0, rest.0), rest.1)
+
 pub present : (names others : List (List ℕ)) → HasNames names others → with_names names others ≡ names
 present names [] h = refl
 present names (n ∷ others) h =

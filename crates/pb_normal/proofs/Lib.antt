@@ -5,6 +5,7 @@ pub mod Counts
 pub mod Entries
 pub mod Faults
 pub mod Keeps
+pub mod Loaded
 pub mod Maps
 pub mod Measures
 pub mod Merging

@@ -4,5 +4,6 @@ pub mod Rules
 pub mod Names
 pub mod HashKeys
 pub mod Written
+pub mod Constraints
 pub mod Raw
 pub use Rattle.pb_text.specs.Limits

@@ -2,6 +2,7 @@
 #![tactic(auto)]
 
 mod collect;
+mod constraints;
 mod entry;
 mod fault;
 mod form;
@@ -15,6 +16,7 @@ mod rules;
 mod side;
 mod written;
 
+pub use constraints::load;
 pub use entry::Entry;
 pub use fault::NormalFault;
 pub use form::Normal;

@@ -6,6 +6,7 @@ use Rattle.pb_proof.specs.Postfix.{Tree, Constraint, True, Sum, Times, Divided, 
 use Rattle.pb_proof.specs.declared.Stage.{Stage}
 use Rattle.pb_proof.specs.declared.Stage.TheVariants.{Opening}
 use Rattle.pb_normal.specs.declared.Side.{Side}
+use Rattle.pb_normal.specs.Constraints.{Fits}
 use Rattle.pb_normal.specs.Form.{Form, Holds, IsOrdered, IsWithin, total}
 use Rattle.pb_normal.specs.Names.{number_in}
 use Rattle.pb_normal.specs.Rules.{IsSum, multiplied, divided, saturated, weakened, axiom_on, assignment}
@@ -14,7 +15,7 @@ use Rattle.pb_replay.specs.declared.fault.Fault.TheVariants.{Overflow, NoSuchId,
 use Rattle.pb_replay.specs.declared.numbered.NumberedLiteral.{NumberedLiteral}
 use Rattle.pb_replay.specs.declared.verdict.Verdict.{Verdict}
 use Rattle.pb_replay.specs.Answer.{Answer, gives, need, each_below, found, some, after}
-use Rattle.pb_replay.specs.Loading.{Problem, Fits, objective_of}
+use Rattle.pb_replay.specs.Loading.{Problem, objective_of}
 use Rattle.pb_replay.specs.Propagation.{only, on, MeetsConflict, IsCompletion}
 
 -- a solution: its values by the numbers of names, and that of the objective

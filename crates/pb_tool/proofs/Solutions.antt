@@ -8,11 +8,12 @@ use Rattle.pb_sums.specs.declared.Relation.TheVariants.{AtLeast, Equal}
 use Rattle.pb_opb.specs.declared.Instance.{Instance}
 use Rattle.pb_normal.specs.declared.Side.{Side}
 use Rattle.pb_normal.specs.declared.Side.TheVariants.{AtLeast as least, AtMost as most}
+use Rattle.pb_normal.specs.Constraints.{AreFormsOf, constraint_names, sides_in, with_sides}
 use Rattle.pb_normal.specs.Form.{Form}
 use Rattle.pb_normal.specs.Names.{AreDistinct, HasNames, with_names}
 use Rattle.pb_normal.specs.Written.{names_of, linear_of, HoldsWritten, IsFormOf, IsSideOf, SameAsForm, SameAsForms}
-use Rattle.pb_tool.specs.Normalised.{AreFormsOf, AreLoaded, IsNormalised, Solves, constraint_names, names_in, objective_names, sides_in, with_sides}
-use Rattle.pb_tool.proofs.Loads.{names_split}
+use Rattle.pb_normal.proofs.Appearing.{names_split}
+use Rattle.pb_tool.specs.Normalised.{AreLoaded, IsNormalised, Solves, names_in, objective_names}
 
 -- each constraint holds
 abbrev AllHold : (List ℕ → Bool) → List Linear → Type 0

@@ -1,46 +1,25 @@
 -- The normal form of an instance: its constraints as the forms that they load as.
-use Rattle.std.specs.Prelude.{◌≡◌, ℕ, ◌+◌, ◌<◌, unsigned_abs, Bool, List, [], ◌∷◌, ◌++◌, map, Option, Some, None, Contains}
-use Rattle.std.specs.List.{flat_map, AllZip, AllByRecursion}
+use Rattle.std.specs.Prelude.{◌≡◌, ℕ, ◌+◌, ◌<◌, unsigned_abs, Bool, List, [], ◌++◌, map, Option, Some, None, Contains}
+use Rattle.std.specs.List.{AllByRecursion}
 use Rattle.pb_sums.specs.declared.Term.{Term}
 use Rattle.pb_sums.specs.declared.Linear.{Linear}
-use Rattle.pb_sums.specs.declared.Relation.{Relation}
-use Rattle.pb_sums.specs.declared.Relation.TheVariants.{AtLeast, Equal}
 use Rattle.pb_opb.specs.declared.Instance.{Instance}
 use Rattle.pb_normal.specs.declared.Side.{Side}
-use Rattle.pb_normal.specs.declared.Side.TheVariants.{AtLeast as least, AtMost as most}
+use Rattle.pb_normal.specs.Constraints.{AreFormsOf, constraint_names, sides_in}
 use Rattle.pb_normal.specs.Form.{Form}
 use Rattle.pb_normal.specs.Names.{with_names}
-use Rattle.pb_normal.specs.Written.{names_of, magnitude, IsSideOf, linear_of, HoldsWritten}
+use Rattle.pb_normal.specs.Written.{names_of, magnitude, linear_of, HoldsWritten}
 
--- the names that are written in an objective, and in constraints, as often as they are
+-- the names that are written in an objective, as often as they are
 abbrev pub objective_names : Option (List Term) → List (List ℕ)
 objective_names None = []
 objective_names (Some terms) = names_of terms
-
-abbrev pub constraint_names : List Linear → List (List ℕ)
-constraint_names = flat_map (λ c. names_of c.terms)
 
 -- the names of an instance, in the order of their first appearance
 abbrev pub names_in : Instance → List (List ℕ)
 names_in v = with_names [] (objective_names v.objective ++ constraint_names v.constraints)
 
--- the sides that a constraint loads as: the one at least, and for an equality then the one at most
-abbrev pub sides_of : Relation → List Side
-sides_of AtLeast = least ∷ []
-sides_of Equal = least ∷ most ∷ []
-
--- each constraint with each of its sides, in order
-abbrev pub with_sides : Relation → Linear → List (Side × Linear)
-with_sides relation c = map (λ side. (side, c)) (sides_of relation)
-
-abbrev pub sides_in : List Linear → List (Side × Linear)
-sides_in = flat_map (λ c. with_sides c.relation c)
-
--- one form for each side, over these names
-abbrev pub AreFormsOf : List (List ℕ) → List (Side × Linear) → List Form → Type 0
-AreFormsOf names = AllZip (λ side r. IsSideOf names side.0 side.1 r)
-
--- the constraints are such forms, written out with the names
+-- the constraints are the forms of such sides, written out with the names
 abbrev pub AreLoaded : List (List ℕ) → List (Side × Linear) → List Linear → Type 0
 AreLoaded names sides cs = (forms : List Form) × AreFormsOf names sides forms × (cs ≡ map (linear_of names) forms)
 

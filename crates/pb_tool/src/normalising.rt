@@ -1,17 +1,17 @@
 //! The normal forms of an instance.
 
-ghost use Rattle.std.specs.Prelude.{◌≡◌, ◌++◌, ◌∷◌, [], List, ◌+◌, ◌<◌, ◌^◌, ◌↔◌, IfOk, OnOk, IsTrue};
+ghost use Rattle.std.specs.Prelude.{◌≡◌, [], ◌+◌, ◌<◌, ◌^◌, ◌↔◌, All, IfOk, OnOk, IsTrue, length, map};
 ghost use Rattle.std.specs.Int.RustNames.{unsigned_abs};
-ghost use Rattle.pb_sums.specs.declared.Linear.{Linear};
 ghost use Rattle.pb_text.specs.Limits.{largest};
-ghost use Rattle.pb_normal.specs.Names.{AreDistinct, HasNames, with_names};
-ghost use Rattle.pb_normal.specs.Written.{magnitude, names_of};
-ghost use Rattle.pb_tool.specs.Normalised.{AreLoaded, IsNormalised, Overflows, Passes, SomePasses};
-ghost use Rattle.pb_tool.specs.Normalised.{constraint_names, objective_names, sides_in, with_sides};
+ghost use Rattle.pb_normal.specs.Constraints.{AreFormsOf, constraint_names, sides_in};
+ghost use Rattle.pb_normal.specs.Names.{with_names};
+ghost use Rattle.pb_normal.specs.Written.{linear_of, magnitude, names_of};
+ghost use Rattle.pb_tool.specs.Normalised.{IsNormalised, Overflows, SomePasses};
+ghost use Rattle.pb_tool.specs.Normalised.{objective_names};
 
-use pb_normal::{HashKeys, Names, Normal, NormalFault, Side};
+use pb_normal::{HashKeys, Names, Normal, NormalFault, load};
 use pb_opb::Instance;
-use pb_sums::{Linear, Relation, Term};
+use pb_sums::{Linear, Term};
 use pb_text::{Bytes, Limits, Sequence};
 use std::alloc::{AllocError, Global};
 
@@ -56,7 +56,8 @@ pub(crate) fn normalised(
     ensures { IfOk result (IsNormalised instance) }
 {
     let mut names = numbered(alloc, keys, &instance.objective)?;
-    let constraints = loaded(alloc, &mut names, instance.constraints.as_slice(), limits)?;
+    let forms = loaded(alloc, &mut names, instance.constraints.as_slice(), limits)?;
+    let constraints = written(alloc, &names, forms)?;
     Ok(Instance {
         variables: instance.variables,
         tail: Bytes::new(alloc),
@@ -91,69 +92,35 @@ fn number_names(names: &mut Names, terms: &[Term]) -> Result<(), AllocError>
     Ok(())
 }
 
-/// The forms of the constraints in turn, written out.
+/// The forms of the constraints in turn.
 fn loaded(
     alloc: Global,
     names: &mut Names,
     constraints: &[Linear],
     limits: Limits,
-) -> Result<Vec<Linear>, AllocError>
-    requires distinct { AreDistinct names.old }
-    requires fits { ¬ SomePasses (largest limits) constraints.now }
-    ensures forms { IfOk result (λ v. AreLoaded names.new (sides_in constraints.now) v.items) }
+) -> Result<Vec<Normal>, AllocError>
+    requires { ¬ SomePasses (largest limits) constraints.now }
+    ensures forms { IfOk result (λ v. AreFormsOf names.new (sides_in constraints.now) v.items) }
     ensures names { OnOk result (names.new ≡ with_names names.old (constraint_names constraints.now)) }
 {
-    let mut forms = Vec::new(alloc);
-    for constraint in constraints {
-        load(alloc, names, constraint, limits, &mut forms)?;
-    }
-    Ok(forms)
-}
-
-/// Adds the forms of a constraint.
-fn load(
-    alloc: Global,
-    names: &mut Names,
-    constraint: &Linear,
-    limits: Limits,
-    forms: &mut Vec<Linear>,
-) -> Result<(), AllocError>
-    requires fits { ¬ Passes (largest limits) constraint.now }
-    ensures forms { OnOk result ((added : List Linear) ×
-        AreLoaded names.new (with_sides constraint.now.relation constraint.now) added ×
-        (forms.new.items ≡ forms.old.items ++ added)) }
-    ensures names { OnOk result (names.new ≡ with_names names.old (names_of constraint.now.terms)) }
-{
-    load_side(alloc, names, constraint, Side::AtLeast, limits, forms)?;
-    match constraint.relation {
-        Relation::AtLeast => Ok(()),
-        Relation::Equal => load_side(alloc, names, constraint, Side::AtMost, limits, forms),
-    }
-}
-
-/// Adds the form of one side of a constraint.
-fn load_side(
-    alloc: Global,
-    names: &mut Names,
-    constraint: &Linear,
-    side: Side,
-    limits: Limits,
-    forms: &mut Vec<Linear>,
-) -> Result<(), AllocError>
-    requires fits { ¬ Passes (largest limits) constraint.now }
-    ensures forms { OnOk result ((added : Linear) × AreLoaded names.new ((side, constraint.now) ∷ []) (added ∷ []) ×
-        (forms.new.items ≡ forms.old.items ++ added ∷ [])) }
-    ensures names { OnOk result (names.new ≡ with_names names.old (names_of constraint.now.terms)) }
-    ensures named { OnOk result (HasNames names.new (names_of constraint.now.terms)) }
-{
-    let form = match Normal::from_linear(alloc, names, constraint, side, limits) {
-        Ok(form) => form,
-        Err(NormalFault::Memory) => return Err(AllocError),
+    match load(alloc, names, constraints, limits) {
+        Ok(forms) => Ok(forms),
+        Err(NormalFault::Memory) => Err(AllocError),
         Err(NormalFault::Overflow) => unreachable!(),
-    };
-    let Ok(linear) = form.to_linear(names) else {
-        return Err(AllocError);
-    };
-    forms.push(linear)?;
-    Ok(())
+    }
+}
+
+/// The forms written out. Each is let go as it was written.
+fn written(alloc: Global, names: &Names, forms: Vec<Normal>) -> Result<Vec<Linear>, AllocError>
+    requires { All (λ f. All (λ t. t.variable < length names.now) f.terms) forms.items }
+    ensures { IfOk result (λ v. v.items ≡ map (linear_of names.now) forms.items) }
+{
+    let mut constraints = Vec::new(alloc);
+    for form in forms {
+        let Ok(linear) = form.to_linear(names) else {
+            return Err(AllocError);
+        };
+        constraints.push(linear)?;
+    }
+    Ok(constraints)
 }

@@ -12,6 +12,7 @@ use Rattle.pb_proof.specs.declared.Conclusion.TheVariants.{Bounds}
 use Rattle.pb_proof.specs.declared.Statement.TheVariants.{Conclude}
 use Rattle.pb_proof.specs.declared.Stage.TheVariants.{Closing}
 use Rattle.pb_normal.specs.declared.Side.TheVariants.{AtLeast as least}
+use Rattle.pb_normal.specs.Constraints.{Fits}
 use Rattle.pb_normal.specs.Form.{Form}
 use Rattle.pb_replay.specs.declared.fault.Fault.{Fault}
 use Rattle.pb_replay.specs.declared.fault.Fault.TheVariants.{Memory, NoSuchId, NotBound}
@@ -21,7 +22,7 @@ use Rattle.pb_replay.specs.declared.verdict.Verdict.TheVariants as verdict
 use Rattle.pb_replay.specs.Answer.{Answer, gives, need}
 use Rattle.pb_replay.specs.Bounds.{Both, HasObjective, IsBelow, IsNamed, IsReached, Lower, ObjectiveShown, Reached, Refutes, ShownAs, ShownReaches, Upper, objective_at_least, upper_of}
 use Rattle.pb_replay.specs.Conclusions.{IsShownBy, contradicted, contradiction, lower_bound, named, none_left, objective_with, propagated, sum, trivial, upper_bound}
-use Rattle.pb_replay.specs.Loading.{Fits, Problem}
+use Rattle.pb_replay.specs.Loading.{Problem}
 use Rattle.pb_replay.specs.Propagation.{IsRup}
 use Rattle.pb_replay.specs.Replay.{IsLive, Live, Logged, State, normal_form, numbered}
 use Rattle.pb_replay.specs.Running.{GoesAt, HasNamed, IsBest, IsProper, Keeps, problem_of, state_of}

@@ -4,6 +4,7 @@ use Rattle.std.proofs.Common.{◌≡◌, ℕ, List, [], ◌∷◌, ◌++◌, sym
 use Rattle.pb_text.specs.Limits.{largest, top_of}
 use Rattle.pb_text.specs.declared.Limits.{Limits}
 use Rattle.pb_proof.specs.declared.Statement.{Statement}
+use Rattle.pb_normal.specs.Constraints.{Fits}
 use Rattle.pb_normal.specs.Form.{Form}
 use Rattle.pb_replay.specs.declared.fault.Fault.{Fault}
 use Rattle.pb_replay.specs.declared.fault.Fault.TheVariants.{NoObjective, Overflow}
@@ -14,7 +15,6 @@ use Rattle.pb_normal.specs.declared.Side.{Side}
 use Rattle.pb_normal.specs.Written.{IsSideOf}
 use Rattle.pb_replay.proofs.lemmas.Accepting.{ok-same}
 use Rattle.pb_replay.proofs.lemmas.Living.{some-same}
-use Rattle.pb_replay.specs.Loading.{Fits}
 use Rattle.pb_replay.specs.Bounds.{Demands, HasObjective}
 use Rattle.pb_replay.specs.Conclusions.{objective_with}
 use Rattle.pb_replay.specs.Loading.{Problem}

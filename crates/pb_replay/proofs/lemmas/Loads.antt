@@ -11,16 +11,17 @@ use Rattle.pb_proof.specs.declared.Bound.{Bound}
 use Rattle.pb_proof.specs.declared.Bound.TheVariants.{Finite, Infinite}
 use Rattle.pb_normal.specs.declared.Side.{Side}
 use Rattle.pb_normal.specs.declared.Side.TheVariants.{AtLeast as least, AtMost as most}
+use Rattle.pb_normal.specs.Constraints.{AreFormsOf, constraint_names, sides_in, with_sides}
 use Rattle.pb_normal.specs.Form.{Form, Holds}
 use Rattle.pb_normal.specs.Names.{has_name, AreDistinct, HasNames, number_in}
 use Rattle.pb_normal.specs.Rules.{assignment}
 use Rattle.pb_normal.specs.Written.{names_of, by_number, true_sum, HoldsWritten}
-use Rattle.pb_normal.proofs.Appearing.{named, distinct}
+use Rattle.pb_normal.proofs.Appearing.{named, names_split, distinct}
 use Rattle.pb_normal.proofs.Numbering.{slice_get-number, number_in-get}
 use Rattle.pb_normal.proofs.WrittenForms.{SameAsForm-from, SameAsForms-from, SameSolutions-side}
 use Rattle.pb_replay.specs.declared.verdict.Verdict.{Verdict}
 use Rattle.pb_replay.specs.declared.verdict.Verdict.TheVariants.{NoClaim, Unsat, Sat, Bounds}
-use Rattle.pb_replay.specs.Loading.{AreFormsOf, Problem, Opened, Solves, written_value, constraint_names, names_in, objective_of, sides_in, with_sides}
+use Rattle.pb_replay.specs.Loading.{Problem, Opened, Solves, written_value, names_in, objective_of}
 use Rattle.pb_replay.specs.Propagation.{HoldAll}
 use Rattle.pb_replay.specs.Replay.{State, by_name, value, first_state}
 use Rattle.pb_replay.specs.Meaning.{IsSolution, Means, MeansWritten, IsAtLeast, IsAtMost, IsProblem, IsSound, Accounted, known, beaten, allowed, AccountedWritten, known_names, beaten_value, allowed_still}
@@ -43,10 +44,6 @@ module _ {X : Type 0} (P : X → Type 0) where
 
   all_rest : (x : X) (xs : List X) → ((y : X) → Contains (x ∷ xs) y → P y) → (y : X) → Contains xs y → P y
   all_rest x xs h y (k, lt, is) = h y (suc k, omega (arith, lt), is)
-
-pub names_split : (names xs ys : List (List ℕ)) → HasNames names (xs ++ ys) → HasNames names xs × HasNames names ys
-names_split names [] ys h = (tt, h)
-names_split names (x ∷ xs) ys h = let rest = names_split names xs ys h.1 in ((h.0, rest.0), rest.1)
 
 -- the forms of one constraint, and then the others
 one_more : (names : List (List ℕ)) (a : List ℕ → Bool) (relation : Relation) (c : Linear) (sides : List (Side × Linear)) (forms : List Form) (P : Type 0) → c.relation ≡ relation → AreDistinct names

@@ -11,6 +11,9 @@ use Rattle.pb_sums.specs.declared.Linear.{Linear}
 use Rattle.pb_opb.specs.declared.Instance.{Instance}
 use Rattle.pb_proof.specs.declared.Statement.{Statement}
 use Rattle.pb_proof.specs.Values.{IsStatementValue}
+use Rattle.pb_normal.specs.declared.NormalFault.{NormalFault}
+use Rattle.pb_normal.specs.declared.NormalFault.TheVariants as normal
+use Rattle.pb_normal.specs.Constraints.{AreFormsOf, Fits, sides_in, constraint_names}
 use Rattle.pb_normal.specs.Form.{Form}
 use Rattle.pb_normal.specs.Names.{with_names}
 use Rattle.pb_normal.specs.Written.{names_of, magnitude}
@@ -18,7 +21,8 @@ use Rattle.pb_normal.proofs.Appearing.{in_turn}
 use Rattle.pb_replay.specs.declared.fault.Fault.{Fault}
 use Rattle.pb_replay.specs.declared.state.Running.{Running}
 use Rattle.pb_replay.specs.declared.verdict.Verdict.{Verdict}
-use Rattle.pb_replay.specs.Loading.{Problem, Opened, AreFormsOf, Fits, names_in, sides_in, objective_of, constraint_names}
+use Rattle.pb_replay.specs.Faults.{fault_of}
+use Rattle.pb_replay.specs.Loading.{Problem, Opened, names_in, objective_of}
 use Rattle.pb_replay.specs.Replay.{Logged, State}
 use Rattle.pb_replay.specs.declared.fault.Fault.TheVariants.{Memory, NotTotal}
 use Rattle.pb_replay.proofs.lemmas.Unvalued.{unvalued-old}
@@ -121,6 +125,13 @@ opened_ok limit i forms o start names cs same objective begins grown fits magnit
       record { constraints = λ c k. All-contains (Fits limit) i.constraints c all_fit k; objective = magnitudes },
       (forms, last, let to : Problem → Result Problem Fault = λ v. Ok v in ap to (same_fields forms forms o i.objective (take own names) (names_in i) refl objective whole)),
     )
+
+-- a constraint that does not fit is why it does not open
+pub opened_err : (limit : ℕ) (i : Instance) (cs : List Linear) (e : NormalFault) (fault : Fault) → cs ≡ i.constraints → fault ≡ fault_of e → (e ≡ normal.Overflow → (c : Linear) × Contains cs c × (Fits limit c → ⊥)) → (fault ≡ Memory) ⊎ Opened limit i (Err fault)
+opened_err limit i cs normal.Memory fault same is past = inl is
+opened_err limit i cs normal.Overflow fault same is past =
+    let (c, has, over) = past refl in
+    inr (inr (λ fits. over (fits.constraints c (subst (λ (xs : List Linear). Contains xs c) same has)), ap (λ (x : Fault). let r : Result Problem Fault = Err x in r) is))
 
 pub none_of : {A : Type 0} (o : Option A) → is_some o ≡ false → o ≡ None
 none_of None e = refl

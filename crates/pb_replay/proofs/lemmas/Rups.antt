@@ -11,6 +11,7 @@ use Rattle.pb_proof.specs.declared.Statement.TheVariants.{F, Rup}
 use Rattle.pb_normal.specs.declared.NormalFault.{NormalFault}
 use Rattle.pb_normal.specs.declared.NormalFault.TheVariants as normal
 use Rattle.pb_normal.specs.declared.Side.TheVariants.{AtLeast as least}
+use Rattle.pb_normal.specs.Constraints.{Fits}
 use Rattle.pb_normal.specs.Form.{Form}
 use Rattle.pb_normal.specs.Names.{AfterFront, with_names}
 use Rattle.pb_normal.specs.Written.{names_of, IsSideOf}
@@ -22,7 +23,6 @@ use Rattle.std.proofs.Common.{subst, map, length}
 use Rattle.pb_text.specs.declared.Limits.{Limits}
 use Rattle.pb_replay.proofs.lemmas.States.{same-state}
 use Rattle.pb_replay.specs.declared.state.Running.{Running}
-use Rattle.pb_replay.specs.Loading.{Fits}
 use Rattle.pb_replay.specs.Propagation.{IsRup}
 use Rattle.pb_replay.specs.Replay.{Live, Logged, State, added}
 use Rattle.pb_replay.specs.Running.{Adding, Goes, Comes, Keeps, problem_of, state_of, with_mentioned}

@@ -14,6 +14,7 @@ use Rattle.pb_proof.specs.declared.Statement.TheVariants.{Header, F, Pol, Rup, S
 use Rattle.pb_proof.specs.Postfix.{Tree, Constraint, True, Sum, Times, Divided, Saturated, Weakened, words}
 use Rattle.pb_normal.specs.declared.Side.{Side}
 use Rattle.pb_normal.specs.declared.Side.TheVariants.{AtLeast as least, AtMost as most}
+use Rattle.pb_normal.specs.Constraints.{AreFormsOf, sides_in}
 use Rattle.pb_normal.specs.Form.{Form}
 use Rattle.pb_normal.specs.Names.{with_names}
 use Rattle.pb_replay.specs.declared.fault.Fault.{Fault}
@@ -23,7 +24,7 @@ use Rattle.pb_replay.specs.Answer.{Answer, gives, need, each_below, found, some,
 use Rattle.pb_normal.specs.Rules.{IsSum, multiplied}
 use Rattle.pb_normal.proofs.Unique.{IsSum-unique, IsRising-same, same_form}
 use Rattle.pb_normal.proofs.WrittenForms.{IsFormOf-unique}
-use Rattle.pb_replay.specs.Loading.{Problem, FitsAll, AreFormsOf, names_in, sides_in}
+use Rattle.pb_replay.specs.Loading.{Problem, FitsAll, names_in}
 use Rattle.pb_replay.specs.Propagation.{on}
 use Rattle.pb_replay.specs.Replay.{State, Live, IsLive, place, TreeForm, normal_form, HasValue, AreValues, Solution, Completed, Shown, logged_of, IsClause, Deleted, added, numbered}
 use Rattle.pb_replay.specs.Conclusions.{none_left, named, objective_with, lower_bound, upper_bound, Concludes}

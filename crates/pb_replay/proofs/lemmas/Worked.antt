@@ -7,6 +7,7 @@ use Rattle.pb_proof.specs.declared.Statement.{Statement}
 use Rattle.pb_proof.specs.declared.Statement.TheVariants.{End, Conclude}
 use Rattle.pb_proof.specs.declared.Conclusion.TheVariants as conclusion
 use Rattle.pb_proof.specs.Postfix.{Tree, Constraint, Sum}
+use Rattle.pb_normal.specs.Constraints.{Fits}
 use Rattle.pb_normal.specs.Form.{Form, coefficient}
 use Rattle.pb_normal.specs.Rules.{IsSum, negation_of}
 use Rattle.pb_normal.specs.Written.{IsFormOf, IsSideOf, written_on}
@@ -16,7 +17,7 @@ use Rattle.pb_replay.specs.declared.verdict.Verdict.TheVariants as verdict
 use Rattle.pb_proof.specs.declared.Bound.TheVariants.{Finite}
 use Rattle.pb_proof.specs.declared.Stage.TheVariants.{Claim}
 use Rattle.pb_replay.specs.declared.numbered.NumberedLiteral.{NumberedLiteral}
-use Rattle.pb_replay.specs.Loading.{Fits, Problem, Opened}
+use Rattle.pb_replay.specs.Loading.{Problem, Opened}
 use Rattle.pb_replay.specs.Propagation.{MayPut, begin, put, broken, With, IsRup}
 use Rattle.pb_replay.specs.Replay.{Live, State, Logged, first_state, logged_of}
 use Rattle.pb_replay.specs.Statements.{Accepts}

@@ -1,87 +1,21 @@
 //! An instance as forms.
 
-ghost use Rattle.std.specs.Prelude.{◌≡◌, ◌<◌, ◌≤◌, option_map, ◌++◌, ◌∷◌, [], List, OnOk, IfOk, IfErr, Err, Ok, All, Contains, ◌⊎◌};
+ghost use Rattle.std.specs.Prelude.{◌≡◌, ◌<◌, ◌≤◌, option_map, OnOk, IfOk, IfErr, Err, Ok, ◌⊎◌};
 ghost use Rattle.pb_text.specs.Limits.{largest};
-ghost use Rattle.pb_sums.specs.declared.Linear.{Linear as Written};
-ghost use Rattle.pb_normal.specs.Form.{Form};
-ghost use Rattle.pb_normal.specs.Names.{AreDistinct, HasNames, with_names};
+ghost use Rattle.pb_normal.specs.Names.{with_names};
 ghost use Rattle.pb_normal.specs.Written.{names_of, magnitude};
-ghost use Rattle.pb_replay.specs.Loading.{AreFormsOf, Fits, Opened, constraint_names, objective_of, sides_in, with_sides};
+ghost use Rattle.pb_replay.specs.Loading.{Opened, objective_of};
 ghost use Rattle.pb_replay.specs.Running.{IsFirst, problem_of};
 
 use crate::fault::Fault;
 use crate::state::Running;
 use crate::state::live::engine_over;
-use pb_normal::{HashKeys, Names, Normal, NormalFault, Side};
+use pb_normal::{HashKeys, Names, Normal, NormalFault, Side, load};
 use pb_opb::Instance;
 use pb_proof::Stage;
 use pb_sums::{Linear, Literal, Name, Relation, Term};
 use pb_text::{Limits, Sequence};
 use std::alloc::{AllocError, Global};
-
-/// Adds the form of one side of a constraint.
-fn load_side(
-    alloc: Global,
-    names: &mut Names,
-    constraint: &Linear,
-    side: Side,
-    limits: Limits,
-    forms: &mut Vec<Normal>,
-) -> Result<(), NormalFault>
-    ensures forms { OnOk result ((added : Form) × AreFormsOf names.new ((side, constraint.now) ∷ []) (added ∷ []) ×
-        (forms.new.items ≡ forms.old.items ++ added ∷ [])) }
-    ensures names { OnOk result (names.new ≡ with_names names.old (names_of constraint.now.terms)) }
-    ensures named { OnOk result (HasNames names.new (names_of constraint.now.terms)) }
-    ensures fits { OnOk result (Fits (largest limits) constraint.now) }
-    ensures overflow { result ≡ Err NormalFault.Overflow → ¬ Fits (largest limits) constraint.now }
-{
-    let form = Normal::from_linear(alloc, names, constraint, side, limits)?;
-    forms.push(form)?;
-    Ok(())
-}
-
-/// Adds the forms of a constraint.
-fn load(
-    alloc: Global,
-    names: &mut Names,
-    constraint: &Linear,
-    limits: Limits,
-    forms: &mut Vec<Normal>,
-) -> Result<(), NormalFault>
-    ensures forms { OnOk result ((added : List Form) ×
-        AreFormsOf names.new (with_sides constraint.now.relation constraint.now) added ×
-        (forms.new.items ≡ forms.old.items ++ added)) }
-    ensures names { OnOk result (names.new ≡ with_names names.old (names_of constraint.now.terms)) }
-    ensures fits { OnOk result (Fits (largest limits) constraint.now) }
-    ensures overflow { result ≡ Err NormalFault.Overflow → ¬ Fits (largest limits) constraint.now }
-{
-    load_side(alloc, names, constraint, Side::AtLeast, limits, forms)?;
-    match constraint.relation {
-        Relation::AtLeast => Ok(()),
-        Relation::Equal => load_side(alloc, names, constraint, Side::AtMost, limits, forms),
-    }
-}
-
-/// The forms of the constraints in turn.
-pub(crate) fn loaded(
-    alloc: Global,
-    names: &mut Names,
-    constraints: &[Linear],
-    limits: Limits,
-) -> Result<Vec<Normal>, NormalFault>
-    requires { AreDistinct names.old }
-    ensures forms { IfOk result (λ v. AreFormsOf names.new (sides_in constraints.now) v.items) }
-    ensures names { OnOk result (names.new ≡ with_names names.old (constraint_names constraints.now)) }
-    ensures fits { OnOk result (All (Fits (largest limits)) constraints.now) }
-    ensures overflow { result ≡ Err NormalFault.Overflow →
-        (c : Written) × Contains constraints.now c × ¬ Fits (largest limits) c }
-{
-    let mut forms = Vec::new(alloc);
-    for constraint in constraints {
-        load(alloc, names, constraint, limits, &mut forms)?;
-    }
-    Ok(forms)
-}
 
 /// Copies of the terms.
 pub(crate) fn copied_terms(alloc: Global, terms: &[Term]) -> Result<Vec<Term>, AllocError>
@@ -161,7 +95,7 @@ pub(crate) fn open(
         Ok(objective) => objective,
         Err(fault) => return Err(Fault::from(fault)),
     };
-    let forms = match loaded(alloc, &mut names, instance.constraints.as_slice(), limits) {
+    let forms = match load(alloc, &mut names, instance.constraints.as_slice(), limits) {
         Ok(forms) => forms,
         Err(fault) => return Err(Fault::from(fault)),
     };

@@ -1,9 +1,9 @@
 use Rattle.std.proofs.Common.{refl}
-use Rattle.pb_tool.proofs.Loads.{first_distinct, loaded_all}
+use Rattle.pb_tool.proofs.Loads.{are_named, loaded_all}
 use Rattle.pb_tool.proofs.normalising.normalised.Goals as goal
 
-pub loaded-requires-clause-distinct : goal.loaded-requires-clause-distinct
-loaded-requires-clause-distinct c = first_distinct _ c.args.instance c.in_ok-names.ensures
+pub written-requires : goal.written-requires
+written-requires c = are_named _ _ _ c.in_ok-forms.ensures.forms
 
 pub returns : goal.returns
 returns c = record {
@@ -11,5 +11,5 @@ returns c = record {
   objective = refl;
   tail = c.new.ensures;
   comments = c.new-2.ensures;
-  constraints = rw c.from_vec.ensures (loaded_all c.args.instance _ _ _ _ c.as_slice.ensures c.in_ok-names.ensures c.in_ok-constraints.ensures.names c.in_ok-constraints.ensures.forms);
+  constraints = rw c.from_vec.ensures (loaded_all c.args.instance _ _ _ _ _ c.as_slice.ensures c.in_ok-names.ensures c.in_ok-forms.ensures.names c.in_ok-forms.ensures.forms c.in_ok-constraints.ensures);
 }

@@ -1,6 +1,11 @@
-use Rattle.pb_replay.proofs.lemmas.Ready.{opened_ok}
+use Rattle.std.proofs.Common.{Err, ap}
+use Rattle.pb_replay.proofs.lemmas.Ready.{opened_ok, opened_err}
 use Rattle.pb_replay.proofs.state.load.open.Goals as goal
 
 pub returns-clause-ok : goal.returns-clause-ok
 returns-clause-ok c =
-    opened_ok _ c.args.instance.now _ _ _ _ _ c.as_slice.ensures c.in-Ok.ensures.terms (rw c.with_hasher-names.ensures at c.in-Ok.ensures.names) c.in-Ok-loaded.ensures.names c.in-Ok-loaded.ensures.fits c.in-Ok.ensures.fits c.in-Ok-loaded.ensures.forms _ c.len-own.ensures.length
+    opened_ok _ c.args.instance.now _ _ _ _ _ c.as_slice.ensures c.in-Ok.ensures.terms (rw c.with_hasher-names.ensures at c.in-Ok.ensures.names) c.in-Ok-load.ensures.names c.in-Ok-load.ensures.fits c.in-Ok.ensures.fits c.in-Ok-load.ensures.forms _ c.len-own.ensures.length
+
+pub returns-in-Err-load-clause-err : goal.returns-in-Err-load-clause-err
+returns-in-Err-load-clause-err c =
+    opened_err _ c.args.instance.now _ c.in-Err-load.fault _ c.as_slice.ensures c.from-in-Err-load.ensures (λ e. c.in-Err-load.ensures.overflow (ap Err e))

@@ -1,20 +1,19 @@
 -- The forms that constraints load as, over the names so far
-use Rattle.std.proofs.Common.{Result, Ok, Err, OnOk, ◌≡◌, ℕ, ◌<◌, List, [], ◌∷◌, ◌++◌, length, refl, sym, ◌∙◌, ap, subst, append_assoc, append-nil, take, get_or, ◌+◌}
+use Rattle.std.proofs.Common.{Result, Ok, Err, OnOk, OnErr, ◌≡◌, ℕ, ◌<◌, List, [], ◌∷◌, ◌++◌, length, zero, suc, arith, refl, sym, ◌∙◌, ap, subst, append_assoc, append-nil, take, get_or, ◌+◌}
 use Rattle.std.specs.List.{AllByRecursion}
 use Rattle.std.proofs.lemmas.Grind.{flat_map-append}
 use Rattle.std.proofs.lemmas.List.{take_more}
-use Rattle.pb_sums.specs.declared.Linear.{Linear}
-use Rattle.pb_sums.specs.declared.Relation.{Relation}
-use Rattle.pb_sums.specs.declared.Relation.TheVariants.{AtLeast, Equal}
-use Rattle.pb_normal.specs.declared.Side.{Side}
-use Rattle.pb_normal.specs.declared.Side.TheVariants.{AtLeast as least, AtMost as most}
+use Rattle.pb_sums.specs.declared.values.Linear.{Linear}
+use Rattle.pb_sums.specs.declared.values.Relation.{Relation}
+use Rattle.pb_sums.specs.declared.values.Relation.TheVariants.{AtLeast, Equal}
+use Rattle.pb_normal.specs.declared.side.Side.{Side}
+use Rattle.pb_normal.specs.declared.side.Side.TheVariants.{AtLeast as least, AtMost as most}
+use Rattle.pb_normal.specs.Constraints.{AreFormsOf, constraint_names, sides_in, with_sides}
 use Rattle.pb_normal.specs.Form.{Form}
-use Rattle.pb_normal.specs.Names.{AreDistinct, HasNames, with_names}
+use Rattle.pb_normal.specs.Names.{AfterFront, AreDistinct, HasNames, with_names}
 use Rattle.pb_normal.specs.Written.{names_of}
-use Rattle.pb_normal.proofs.Appearing.{front, named, distinct, present, in_turn}
+use Rattle.pb_normal.proofs.Appearing.{front, named, names_split, distinct, present, in_turn}
 use Rattle.pb_normal.proofs.WrittenForms.{IsSideOf-append}
-use Rattle.pb_replay.specs.Loading.{AreFormsOf, constraint_names, sides_in, with_sides}
-use Rattle.pb_replay.proofs.lemmas.Loads.{names_split}
 
 -- the names of each side's constraint have numbers
 abbrev pub AreNamed : List (List ℕ) → List (Side × Linear) → Type 0
@@ -104,3 +103,54 @@ pub loaded_at : (old names new : List (List ℕ)) (cs : List Linear) (i : ℕ) (
     → new ≡ with_names names (names_of c.terms) → (added : List Form) × AreFormsOf new (with_sides c.relation c) added × (after ≡ ls ++ added) → LoadedFrom old new (take (i + 1) cs) after
 loaded_at old names new cs i c ls after lt e d before k (added, one, is) =
     rw (take_one cs i c lt e, is) (loaded_next old names new (take i cs) c ls added d before k one)
+
+-- ---- a front of the names
+front_longer : (xs ys : List (List ℕ)) (k : ℕ) → (m : ℕ) × (take m (xs ++ ys) ≡ take k xs)
+front_longer xs ys zero = (0, refl)
+front_longer [] ys (suc k) = (0, refl)
+front_longer (x ∷ xs) ys (suc k) = let rest = front_longer xs ys k in (suc rest.0, ap (λ (ns : List (List ℕ)). x ∷ ns) rest.1)
+
+front_behind : (xs ys : List (List ℕ)) (k : ℕ) → (m : ℕ) × (take m (xs ++ ys) ≡ xs ++ take k ys)
+front_behind [] ys k = (k, refl)
+front_behind (x ∷ xs) ys k = let rest = front_behind xs ys k in (suc rest.0, ap (λ (ns : List (List ℕ)). x ∷ ns) rest.1)
+
+whole : (xs : List (List ℕ)) → (m : ℕ) × (take m xs ≡ xs)
+whole [] = (0, refl)
+whole (x ∷ xs) = let rest = whole xs in (suc rest.0, ap (λ (ns : List (List ℕ)). x ∷ ns) rest.1)
+
+front_named : (names ns : List (List ℕ)) (k : ℕ) → HasNames names ns → HasNames names (take k ns)
+front_named names ns zero h = tt
+front_named names [] (suc k) h = tt
+front_named names (n ∷ ns) (suc k) h = (h.0, front_named names ns k h.1)
+
+pub after_all : (old new ns : List (List ℕ)) → new ≡ with_names old ns → AfterFront old ns new
+after_all old new ns e = let all = whole ns in (all.0, e ∙ ap (with_names old) (sym all.1))
+
+-- the names of the second side are there already
+after_again : (old names new ns : List (List ℕ)) → names ≡ with_names old ns → HasNames names ns → AfterFront names ns new → AfterFront old ns new
+after_again old names new ns e h (k, is) = after_all old new ns (is ∙ present names (take k ns) (front_named names ns k h) ∙ e)
+
+pub second_after : {E : Type 0} (result : Result Unit E) (old names new ns : List (List ℕ)) → names ≡ with_names old ns → HasNames names ns → OnErr result (AfterFront names ns new) → OnErr result (AfterFront old ns new)
+second_after (Ok u) old names new ns e h k = tt
+second_after (Err f) old names new ns e h k = after_again old names new ns e h k
+
+after_others : (old names new before own more : List (List ℕ)) → names ≡ with_names old before → AfterFront names own new → AfterFront old (before ++ (own ++ more)) new
+after_others old names new before own more e (k, is) =
+    let inner = front_longer own more k in
+    let outer = front_behind before (own ++ more) inner.0 in
+    let to : before ++ take k own ≡ take outer.0 (before ++ (own ++ more)) = sym (outer.1 ∙ ap (λ (ns : List (List ℕ)). before ++ ns) inner.1) in
+    (outer.0, is ∙ ap (λ (ks : List (List ℕ)). with_names ks (take k own)) e ∙ sym (in_turn old before (take k own)) ∙ ap (with_names old) to)
+
+-- the names of one constraint stand behind those of the ones before
+names_at : (cs : List Linear) (i : ℕ) (c : Linear) → i < length cs → c ≡ get_or cs i c → (more : List (List ℕ)) × (constraint_names cs ≡ constraint_names (take i cs) ++ (names_of c.terms ++ more))
+names_at [] i c lt e = absurd (omega (arith, lt))
+names_at (x ∷ cs) zero c lt e = (constraint_names cs, ap (λ (y : Linear). names_of y.terms ++ constraint_names cs) (sym e))
+names_at (x ∷ cs) (suc i) c lt e =
+    let rest = names_at cs i c (omega (arith, lt)) e in
+    (rest.0, ap (λ (ns : List (List ℕ)). names_of x.terms ++ ns) rest.1 ∙ sym (append_assoc (names_of x.terms) (constraint_names (take i cs)) (names_of c.terms ++ rest.0)))
+
+pub after_at : (old names new : List (List ℕ)) (cs : List Linear) (i : ℕ) (c : Linear) → i < length cs → c ≡ get_or cs i c → names ≡ with_names old (constraint_names (take i cs)) → AfterFront names (names_of c.terms) new
+    → AfterFront old (constraint_names cs) new
+after_at old names new cs i c lt e k a =
+    let at = names_at cs i c lt e in
+    subst (λ (ns : List (List ℕ)). AfterFront old ns new) (sym at.1) (after_others old names new (constraint_names (take i cs)) (names_of c.terms) at.0 k a)

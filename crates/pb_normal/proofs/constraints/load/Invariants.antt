@@ -1,8 +1,8 @@
 use Rattle.std.proofs.Common.{All, take}
 use Rattle.pb_text.specs.Limits.{largest}
-use Rattle.pb_replay.specs.Loading.{Fits}
-use Rattle.pb_replay.proofs.lemmas.Forms.{LoadedFrom}
-use Rattle.pb_replay.proofs.state.load.loaded.Given as goal
+use Rattle.pb_normal.specs.Constraints.{Fits}
+use Rattle.pb_normal.proofs.Loaded.{LoadedFrom}
+use Rattle.pb_normal.proofs.constraints.load.Given as goal
 
 -- the constraints so far are loaded, and fit
 abbrev pub invariant-loop-constraint : goal.invariant-loop-constraint

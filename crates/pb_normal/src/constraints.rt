@@ -1,0 +1,88 @@
+//! Written constraints as forms.
+
+ghost use Rattle.std.specs.Prelude.{◌≡◌, ◌++◌, ◌∷◌, [], List, OnOk, OnErr, IfOk, Err, All, Contains};
+ghost use Rattle.pb_text.specs.Limits.{largest};
+ghost use Rattle.pb_sums.specs.declared.values.Linear.{Linear as Written};
+ghost use Rattle.pb_normal.specs.Constraints.{AreFormsOf, Fits, constraint_names, sides_in, with_sides};
+ghost use Rattle.pb_normal.specs.Form.{Form};
+ghost use Rattle.pb_normal.specs.Names.{AfterFront, HasNames, with_names};
+ghost use Rattle.pb_normal.specs.Written.{names_of};
+
+use crate::fault::NormalFault;
+use crate::form::Normal;
+use crate::names::Names;
+use crate::side::Side;
+use pb_sums::{Linear, Relation};
+use pb_text::Limits;
+use std::alloc::Global;
+
+// Adds the form of one side of a constraint.
+fn add_side(
+    alloc: Global,
+    names: &mut Names,
+    constraint: &Linear,
+    side: Side,
+    limits: Limits,
+    forms: &mut Vec<Normal>,
+) -> Result<(), NormalFault>
+    ensures forms { OnOk result ((added : Form) × AreFormsOf names.new ((side, constraint.now) ∷ []) (added ∷ []) ×
+        (forms.new.items ≡ forms.old.items ++ added ∷ [])) }
+    ensures names { OnOk result (names.new ≡ with_names names.old (names_of constraint.now.terms)) }
+    ensures named { OnOk result (HasNames names.new (names_of constraint.now.terms)) }
+    ensures fits { OnOk result (Fits (largest limits) constraint.now) }
+    ensures overflow { result ≡ Err NormalFault.Overflow → ¬ Fits (largest limits) constraint.now }
+    ensures err { OnErr result (AfterFront names.old (names_of constraint.now.terms) names.new) }
+{
+    let form = Normal::from_linear(alloc, names, constraint, side, limits)?;
+    forms.push(form)?;
+    Ok(())
+}
+
+// Adds the forms of a constraint.
+fn add(
+    alloc: Global,
+    names: &mut Names,
+    constraint: &Linear,
+    limits: Limits,
+    forms: &mut Vec<Normal>,
+) -> Result<(), NormalFault>
+    ensures forms { OnOk result ((added : List Form) ×
+        AreFormsOf names.new (with_sides constraint.now.relation constraint.now) added ×
+        (forms.new.items ≡ forms.old.items ++ added)) }
+    ensures names { OnOk result (names.new ≡ with_names names.old (names_of constraint.now.terms)) }
+    ensures fits { OnOk result (Fits (largest limits) constraint.now) }
+    ensures overflow { result ≡ Err NormalFault.Overflow → ¬ Fits (largest limits) constraint.now }
+    ensures err { OnErr result (AfterFront names.old (names_of constraint.now.terms) names.new) }
+{
+    add_side(alloc, names, constraint, Side::AtLeast, limits, forms)?;
+    match constraint.relation {
+        Relation::AtLeast => Ok(()),
+        Relation::Equal => add_side(alloc, names, constraint, Side::AtMost, limits, forms),
+    }
+}
+
+/// The forms of the constraints in turn, over the numbers of their names: one of a constraint `>=`, and of an equality
+/// that of its side at least and then that of its side at most.
+///
+/// `Overflow` comes only where some constraint passes the limit, and a form list only where none does. After a fault a
+/// front of the list of names has appeared.
+pub fn load(
+    alloc: Global,
+    names: &mut Names,
+    constraints: &[Linear],
+    limits: Limits,
+) -> Result<Vec<Normal>, NormalFault>
+    ensures forms { IfOk result (λ v. AreFormsOf names.new (sides_in constraints.now) v.items) }
+    ensures names { OnOk result (names.new ≡ with_names names.old (constraint_names constraints.now)) }
+    ensures fits { OnOk result (All (Fits (largest limits)) constraints.now) }
+    ensures overflow { result ≡ Err NormalFault.Overflow →
+        (c : Written) × Contains constraints.now c × ¬ Fits (largest limits) c }
+    ensures err { OnErr result (AfterFront names.old (constraint_names constraints.now) names.new) }
+{
+    names.tell_distinct();
+    let mut forms = Vec::new(alloc);
+    for constraint in constraints {
+        add(alloc, names, constraint, limits, &mut forms)?;
+    }
+    Ok(forms)
+}

@@ -1,7 +1,0 @@
-use Rattle.std.proofs.Common.{take}
-use Rattle.pb_tool.proofs.Loads.{LoadedFrom}
-use Rattle.pb_tool.proofs.normalising.loaded.Given as goal
-
--- the constraints so far are loaded
-abbrev pub invariant-loop-constraint : goal.invariant-loop-constraint
-invariant-loop-constraint l = LoadedFrom l.initial.names l.names (take l.constraint-index l.constraints) l.forms.items
