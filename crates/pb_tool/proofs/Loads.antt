@@ -12,7 +12,8 @@ use Rattle.pb_normal.specs.Form.{Form}
 use Rattle.pb_normal.specs.Names.{with_name, with_names}
 use Rattle.pb_normal.specs.Written.{names_of, linear_of}
 use Rattle.pb_normal.proofs.Appearing.{in_turn}
-use Rattle.pb_tool.specs.Normalised.{AreLoaded, names_in, objective_names}
+use Rattle.pb_replay.specs.Loading.{names_in, objective_of}
+use Rattle.pb_tool.specs.Normalised.{AreLoaded}
 
 -- the forms read names alone
 abbrev IsNamed : List (List ℕ) → Form → Type 0
@@ -29,10 +30,10 @@ pub take_one : {A : Type 0} (xs : List A) (i : ℕ) (x : A) → i < length xs �
 take_one {A} xs i x lt e = take_more xs i x lt ∙ ap (λ (y : A). take i xs ++ y ∷ []) (sym e)
 
 -- what was loaded after the objective's names, written out, is the constraints of the normal form
-pub loaded_all : (v : Instance) (cs : List Linear) (old new : List (List ℕ)) (forms : List Form) (ls : List Linear) → cs ≡ v.constraints → old ≡ with_names [] (objective_names v.objective) → new ≡ with_names old (constraint_names cs)
+pub loaded_all : (v : Instance) (cs : List Linear) (old new : List (List ℕ)) (forms : List Form) (ls : List Linear) → cs ≡ v.constraints → old ≡ with_names [] (names_of (objective_of v.objective)) → new ≡ with_names old (constraint_names cs)
     → AreFormsOf new (sides_in cs) forms → ls ≡ map (linear_of new) forms → AreLoaded (names_in v) (sides_in v.constraints) ls
 loaded_all v cs old new forms ls same e k h is =
-    let start = objective_names v.objective in
+    let start = names_of (objective_of v.objective) in
     let all : new ≡ with_names [] (start ++ constraint_names cs) = k ∙ ap (λ (ks : List (List ℕ)). with_names ks (constraint_names cs)) e ∙ sym (in_turn [] start (constraint_names cs)) in
     subst (λ (xs : List Linear). AreLoaded (with_names [] (start ++ constraint_names xs)) (sides_in xs) ls) same
     (subst (λ (ks : List (List ℕ)). AreLoaded ks (sides_in cs) ls) all (forms, h, is))

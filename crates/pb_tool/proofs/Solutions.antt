@@ -13,7 +13,8 @@ use Rattle.pb_normal.specs.Form.{Form}
 use Rattle.pb_normal.specs.Names.{AreDistinct, HasNames, with_names}
 use Rattle.pb_normal.specs.Written.{names_of, linear_of, HoldsWritten, IsFormOf, IsSideOf, SameAsForm, SameAsForms}
 use Rattle.pb_normal.proofs.Appearing.{names_split}
-use Rattle.pb_tool.specs.Normalised.{AreLoaded, IsNormalised, Solves, names_in, objective_names}
+use Rattle.pb_replay.specs.Loading.{names_in, objective_of}
+use Rattle.pb_tool.specs.Normalised.{AreLoaded, IsNormalised, Solves}
 
 -- each constraint holds
 abbrev AllHold : (List ℕ → Bool) → List Linear → Type 0
@@ -60,8 +61,8 @@ module _
   pub same_solutions : (v w : Instance) → IsNormalised v w → (a : List ℕ → Bool) → Solves a v ↔ Solves a w
   same_solutions v w n a =
       let (forms, f, e) = n.constraints in
-      let has = names_split (names_in v) (objective_names v.objective) (constraint_names v.constraints) (named [] (objective_names v.objective ++ constraint_names v.constraints)) in
-      let apart : AreDistinct (names_in v) = distinct [] (objective_names v.objective ++ constraint_names v.constraints) tt in
+      let has = names_split (names_in v) (names_of (objective_of v.objective)) (constraint_names v.constraints) (named [] (names_of (objective_of v.objective) ++ constraint_names v.constraints)) in
+      let apart : AreDistinct (names_in v) = distinct [] (names_of (objective_of v.objective) ++ constraint_names v.constraints) tt in
       rw e (all_same (names_in v) a v.constraints forms apart has.1 f)
 
 -- What a law says of the forms of a written sum.

@@ -1,23 +1,13 @@
 -- The normal form of an instance: its constraints as the forms that they load as.
-use Rattle.std.specs.Prelude.{◌≡◌, ℕ, ◌+◌, ◌<◌, unsigned_abs, Bool, List, [], ◌++◌, map, Option, Some, None, Contains}
+use Rattle.std.specs.Prelude.{◌≡◌, ℕ, ◌+◌, ◌<◌, unsigned_abs, Bool, List, [], map, Contains}
 use Rattle.std.specs.List.{AllByRecursion}
-use Rattle.pb_sums.specs.declared.Term.{Term}
 use Rattle.pb_sums.specs.declared.Linear.{Linear}
 use Rattle.pb_opb.specs.declared.Instance.{Instance}
 use Rattle.pb_normal.specs.declared.Side.{Side}
-use Rattle.pb_normal.specs.Constraints.{AreFormsOf, constraint_names, sides_in}
+use Rattle.pb_normal.specs.Constraints.{AreFormsOf, sides_in}
 use Rattle.pb_normal.specs.Form.{Form}
-use Rattle.pb_normal.specs.Names.{with_names}
-use Rattle.pb_normal.specs.Written.{names_of, magnitude, linear_of, HoldsWritten}
-
--- the names that are written in an objective, as often as they are
-abbrev pub objective_names : Option (List Term) → List (List ℕ)
-objective_names None = []
-objective_names (Some terms) = names_of terms
-
--- the names of an instance, in the order of their first appearance
-abbrev pub names_in : Instance → List (List ℕ)
-names_in v = with_names [] (objective_names v.objective ++ constraint_names v.constraints)
+use Rattle.pb_normal.specs.Written.{magnitude, linear_of, HoldsWritten}
+use Rattle.pb_replay.specs.Loading.{names_in}
 
 -- the constraints are the forms of such sides, written out with the names
 abbrev pub AreLoaded : List (List ℕ) → List (Side × Linear) → List Linear → Type 0

@@ -6,8 +6,8 @@ ghost use Rattle.pb_text.specs.Limits.{largest};
 ghost use Rattle.pb_normal.specs.Constraints.{AreFormsOf, constraint_names, sides_in};
 ghost use Rattle.pb_normal.specs.Names.{with_names};
 ghost use Rattle.pb_normal.specs.Written.{linear_of, magnitude, names_of};
+ghost use Rattle.pb_replay.specs.Loading.{objective_of};
 ghost use Rattle.pb_tool.specs.Normalised.{IsNormalised, Overflows, SomePasses};
-ghost use Rattle.pb_tool.specs.Normalised.{objective_names};
 
 use pb_normal::{HashKeys, Names, Normal, NormalFault, load};
 use pb_opb::Instance;
@@ -73,7 +73,7 @@ fn numbered(
     keys: HashKeys,
     objective: &Option<Sequence<Term>>,
 ) -> Result<Names, AllocError>
-    ensures { IfOk result (λ names. names ≡ with_names [] (objective_names objective.now)) }
+    ensures { IfOk result (λ names. names ≡ with_names [] (names_of (objective_of objective.now))) }
 {
     let mut names = Names::with_hasher(alloc, keys);
     if let Some(terms) = objective {
