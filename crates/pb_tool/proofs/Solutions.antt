@@ -1,6 +1,7 @@
 -- The solutions of a normal form, of which an instance has one.
 use Rattle.std.proofs.Common.{◌≡◌, ◌↔◌, ℕ, ℤ, Bool, List, [], ◌∷◌, ◌++◌, map, refl, sym, ◌∙◌, ap}
-use Rattle.std.specs.List.{AllByRecursion}
+use Rattle.std.specs.List.{AllByRecursion, Contains}
+use Rattle.std.proofs.lemmas.List.Elements.{All-contains, All-contains_itself, All-from_recursion, All-weaker, recursion_from_All}
 use Rattle.pb_sums.specs.declared.Term.{Term}
 use Rattle.pb_sums.specs.declared.Linear.{Linear}
 use Rattle.pb_sums.specs.declared.Relation.{Relation}
@@ -13,12 +14,18 @@ use Rattle.pb_normal.specs.Form.{Form}
 use Rattle.pb_normal.specs.Names.{AreDistinct, HasNames, with_names}
 use Rattle.pb_normal.specs.Written.{names_of, linear_of, HoldsWritten, IsFormOf, IsSideOf, SameAsForm, SameAsForms}
 use Rattle.pb_normal.proofs.Appearing.{names_split}
-use Rattle.pb_replay.specs.Loading.{names_in, objective_of}
-use Rattle.pb_tool.specs.Normalised.{AreLoaded, IsNormalised, Solves}
+use Rattle.pb_replay.specs.Loading.{Solves, names_in, objective_of}
+use Rattle.pb_tool.specs.Normalised.{AreLoaded, IsNormalised}
 
 -- each constraint holds
 abbrev AllHold : (List ℕ → Bool) → List Linear → Type 0
 AllHold a = AllByRecursion (HoldsWritten a)
+
+each_holds : (a : List ℕ → Bool) (cs : List Linear) → AllHold a cs ↔ ((c : Linear) → Contains cs c → HoldsWritten a c)
+each_holds a cs = (
+  λ h c k. All-contains (HoldsWritten a) cs c (All-from_recursion (HoldsWritten a) cs h) k,
+  λ h. recursion_from_All (HoldsWritten a) cs (All-weaker (Contains cs) (HoldsWritten a) h cs (All-contains_itself cs)),
+)
 
 -- What laws say of names, and of the forms of a constraint.
 module _
@@ -58,12 +65,15 @@ module _
       let parts = names_split names (names_of c.terms) (constraint_names cs) h in
       one_more names a c.relation c (sides_in cs) forms (AllHold a cs) refl d parts.0 (λ fs g. all_same names a cs fs d parts.1 g) f
 
-  pub same_solutions : (v w : Instance) → IsNormalised v w → (a : List ℕ → Bool) → Solves a v ↔ Solves a w
+  pub same_solutions : (v w : Instance) → IsNormalised v w → (a : List ℕ → Bool) → Solves v a ↔ Solves w a
   same_solutions v w n a =
       let (forms, f, e) = n.constraints in
       let has = names_split (names_in v) (names_of (objective_of v.objective)) (constraint_names v.constraints) (named [] (names_of (objective_of v.objective) ++ constraint_names v.constraints)) in
       let apart : AreDistinct (names_in v) = distinct [] (names_of (objective_of v.objective) ++ constraint_names v.constraints) tt in
-      rw e (all_same (names_in v) a v.constraints forms apart has.1 f)
+      let same : AllHold a v.constraints ↔ AllHold a w.constraints = rw e (all_same (names_in v) a v.constraints forms apart has.1 f) in
+      let before = each_holds a v.constraints in
+      let after = each_holds a w.constraints in
+      (λ h. after.0 (same.0 (before.1 h)), λ h. before.0 (same.1 (after.1 h)))
 
 -- What a law says of the forms of a written sum.
 module _ (unique : (names : List (List ℕ)) (ts : List Term) (d : ℤ) (r s : Form) → IsFormOf names ts d r → IsFormOf names ts d s → r ≡ s) where

@@ -1,12 +1,11 @@
 -- The normal form of an instance: its constraints as the forms that they load as.
-use Rattle.std.specs.Prelude.{◌≡◌, ℕ, ◌+◌, ◌<◌, unsigned_abs, Bool, List, [], map, Contains}
-use Rattle.std.specs.List.{AllByRecursion}
+use Rattle.std.specs.Prelude.{◌≡◌, ℕ, ◌+◌, ◌<◌, unsigned_abs, List, [], map, Contains}
 use Rattle.pb_sums.specs.declared.Linear.{Linear}
 use Rattle.pb_opb.specs.declared.Instance.{Instance}
 use Rattle.pb_normal.specs.declared.Side.{Side}
 use Rattle.pb_normal.specs.Constraints.{AreFormsOf, sides_in}
 use Rattle.pb_normal.specs.Form.{Form}
-use Rattle.pb_normal.specs.Written.{magnitude, linear_of, HoldsWritten}
+use Rattle.pb_normal.specs.Written.{magnitude, linear_of}
 use Rattle.pb_replay.specs.Loading.{names_in}
 
 -- the constraints are the forms of such sides, written out with the names
@@ -34,7 +33,3 @@ SomePasses limit cs = (c : Linear) × Contains cs c × Passes limit c
 -- some constraint of the instance does
 abbrev pub Overflows : ℕ → Instance → Type 0
 Overflows limit v = SomePasses limit v.constraints
-
--- each constraint of the instance holds, as it is written
-abbrev pub Solves : (List ℕ → Bool) → Instance → Type 0
-Solves a v = AllByRecursion (HoldsWritten a) v.constraints

@@ -2,13 +2,14 @@
 
 ghost use Rattle.std.specs.Prelude.{◌≡◌, ◌↔◌, ℕ, Bool, List};
 ghost use Rattle.pb_opb.specs.declared.Instance.{Instance};
-ghost use Rattle.pb_tool.specs.Normalised.{IsNormalised, Solves};
+ghost use Rattle.pb_replay.specs.Loading.{Solves};
+ghost use Rattle.pb_tool.specs.Normalised.{IsNormalised};
 ghost use Rattle.pb_tool.specs.Staying.{HasNoFault, IsTakenForInstance, StaysAsIs};
 ghost use Rattle.pb_tool.specs.Staying.{IsTakenForProof, ProofHasNoFault, ProofStaysAsIs};
 
 /// The normal form of an instance has exactly its solutions.
 pub fn normal_forms_keep_solutions()
-    ensures { (v w : Instance) → IsNormalised v w → (a : List ℕ → Bool) → Solves a v ↔ Solves a w }
+    ensures { (v w : Instance) → IsNormalised v w → (a : List ℕ → Bool) → Solves v a ↔ Solves w a }
 {
     pb_normal::laws::names_keep_their_numbers();
     pb_normal::laws::written_forms_are_exact();
