@@ -21,5 +21,6 @@ pub use entry::Entry;
 pub use fault::NormalFault;
 pub use form::Normal;
 pub use hash_keys::HashKeys;
+pub use linear::fits;
 pub use names::Names;
 pub use side::Side;

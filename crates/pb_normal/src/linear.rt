@@ -3,6 +3,7 @@
 ghost use Rattle.std.specs.Prelude.{◌≡◌, ◌+◌, ◌<◌, ◌≤◌, ◌^◌, ◌↔◌, ◌+ℤ◌, pos, IfOk, OnOk, OnErr, IsTrue, map, Err};
 ghost use Rattle.std.specs.Int.RustNames.{unsigned_abs};
 ghost use Rattle.pb_text.specs.Limits.{largest};
+ghost use Rattle.pb_normal.specs.Constraints.{Fits};
 ghost use Rattle.pb_normal.specs.Form.{IsNormal, IsWithin};
 ghost use Rattle.pb_normal.specs.Names.{AreDistinct, with_names, AfterFront, HasNames};
 ghost use Rattle.pb_normal.specs.Raw.{entry_of, raw_of, shift};
@@ -55,6 +56,14 @@ impl Normal {
             degree,
         })
     }
+}
+
+/// Whether a constraint fits: the magnitudes of all coefficients and of the degree are within the limit together. It asks
+/// for no memory, and the forms of both sides overflow exactly where it does not fit.
+pub fn fits(linear: &Linear, limits: Limits) -> bool
+    ensures { IsTrue result ↔ Fits (largest limits) linear.now }
+{
+    is_within(linear.terms.as_slice(), linear.degree, limits.largest())
 }
 
 // Whether the magnitudes of all coefficients and of the degree are within the limit together.

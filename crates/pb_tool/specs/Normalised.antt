@@ -1,11 +1,11 @@
 -- The normal form of an instance: its constraints as the forms that they load as.
-use Rattle.std.specs.Prelude.{◌≡◌, ℕ, ◌+◌, ◌<◌, unsigned_abs, List, [], map, Contains}
+use Rattle.std.specs.Prelude.{◌≡◌, ℕ, List, [], map, Contains}
 use Rattle.pb_sums.specs.declared.Linear.{Linear}
 use Rattle.pb_opb.specs.declared.Instance.{Instance}
 use Rattle.pb_normal.specs.declared.Side.{Side}
-use Rattle.pb_normal.specs.Constraints.{AreFormsOf, sides_in}
+use Rattle.pb_normal.specs.Constraints.{AreFormsOf, Fits, sides_in}
 use Rattle.pb_normal.specs.Form.{Form}
-use Rattle.pb_normal.specs.Written.{magnitude, linear_of}
+use Rattle.pb_normal.specs.Written.{linear_of}
 use Rattle.pb_replay.specs.Loading.{names_in}
 
 -- the constraints are the forms of such sides, written out with the names
@@ -22,14 +22,10 @@ pub record IsNormalised (v w : Instance) : Type 0 where
   pub comments : w.comments ≡ []
   pub constraints : AreLoaded (names_in v) (sides_in v.constraints) w.constraints
 
--- the magnitudes of a constraint's coefficients and of its degree together pass the limit
-abbrev pub Passes : ℕ → Linear → Type 0
-Passes limit c = limit < magnitude c.terms + unsigned_abs c.degree
-
--- some constraint does
+-- some constraint does not fit: its numbers pass the limit together
 abbrev pub SomePasses : ℕ → List Linear → Type 0
-SomePasses limit cs = (c : Linear) × Contains cs c × Passes limit c
+SomePasses limit cs = (c : Linear) × Contains cs c × ¬ Fits limit c
 
--- some constraint of the instance does
+-- some constraint of the instance does not
 abbrev pub Overflows : ℕ → Instance → Type 0
 Overflows limit v = SomePasses limit v.constraints

@@ -1,46 +1,26 @@
 //! The normal forms of an instance.
 
-ghost use Rattle.std.specs.Prelude.{◌≡◌, [], ◌+◌, ◌<◌, ◌^◌, ◌↔◌, All, IfOk, OnOk, IsTrue, length, map};
-ghost use Rattle.std.specs.Int.RustNames.{unsigned_abs};
+ghost use Rattle.std.specs.Prelude.{◌≡◌, [], ◌<◌, ◌↔◌, All, IfOk, OnOk, IsTrue, length, map};
 ghost use Rattle.pb_text.specs.Limits.{largest};
 ghost use Rattle.pb_normal.specs.Constraints.{AreFormsOf, constraint_names, sides_in};
 ghost use Rattle.pb_normal.specs.Names.{with_names};
-ghost use Rattle.pb_normal.specs.Written.{linear_of, magnitude, names_of};
+ghost use Rattle.pb_normal.specs.Written.{linear_of, names_of};
 ghost use Rattle.pb_replay.specs.Loading.{objective_of};
 ghost use Rattle.pb_tool.specs.Normalised.{IsNormalised, Overflows, SomePasses};
 
-use pb_normal::{HashKeys, Names, Normal, NormalFault, load};
+use pb_normal::{HashKeys, Names, Normal, NormalFault, fits, load};
 use pb_opb::Instance;
 use pb_sums::{Linear, Term};
 use pb_text::{Bytes, Limits, Sequence};
 use std::alloc::{AllocError, Global};
 
-/// Whether some constraint passes the limit: the magnitudes of its coefficients and of its degree do together. It asks
-/// for no memory.
+/// Whether some constraint does not fit. It asks for no memory.
 pub(crate) fn overflows(constraints: &[Linear], limits: Limits) -> bool
     ensures { IsTrue result ↔ SomePasses (largest limits) constraints.now }
 {
-    let limit = limits.largest();
-    constraints.iter().any(|constraint| passes(
-        constraint.terms.as_slice(),
-        constraint.degree,
-        limit,
-    ))
-}
-
-/// Whether the magnitudes of some coefficients and of a degree pass the limit together.
-fn passes(terms: &[Term], degree: i128, limit: u128) -> bool
-    requires { limit < 2 ^ 127 }
-    ensures { IsTrue result ↔ (limit < magnitude terms.now + unsigned_abs degree) }
-{
-    let mut sum = degree.unsigned_abs();
-    for term in terms {
-        if sum > limit {
-            return true;
-        }
-        sum += term.coefficient.unsigned_abs();
-    }
-    sum > limit
+    constraints
+        .iter()
+        .any(|constraint| !fits(constraint, limits))
 }
 
 /// The instance with each constraint in normal form, an equality as two: the side at least, and then the side at most.
