@@ -21,6 +21,6 @@ pub use entry::Entry;
 pub use fault::NormalFault;
 pub use form::Normal;
 pub use hash_keys::HashKeys;
-pub use linear::fits;
+pub use linear::{fits, terms_fit};
 pub use names::Names;
 pub use side::Side;

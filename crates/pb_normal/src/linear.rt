@@ -66,6 +66,14 @@ pub fn fits(linear: &Linear, limits: Limits) -> bool
     is_within(linear.terms.as_slice(), linear.degree, limits.largest())
 }
 
+/// Whether the magnitudes of all coefficients are within the limit together, as those of an objective have to be. It asks
+/// for no memory.
+pub fn terms_fit(terms: &[Term], limits: Limits) -> bool
+    ensures { IsTrue result ↔ (magnitude terms.now ≤ largest limits) }
+{
+    is_within(terms, 0, limits.largest())
+}
+
 // Whether the magnitudes of all coefficients and of the degree are within the limit together.
 fn is_within(terms: &[Term], degree: i128, limit: u128) -> bool
     requires { limit < 2 ^ 127 }

@@ -5,7 +5,7 @@ ghost use Rattle.std.specs.Prelude.{ℕ, ◌<◌, ◌≡◌, Ok, Err, None, Some
 ghost use Rattle.std.specs.Option.{option_copied};
 ghost use Rattle.pb_text.specs.Limits.{largest, top_of};
 ghost use Rattle.pb_proof.specs.Values.{IsStatementValue};
-ghost use Rattle.pb_replay.specs.Loading.{Opened};
+ghost use Rattle.pb_replay.specs.Loading.{FitsAll, Opened};
 ghost use Rattle.pb_replay.specs.Replay.{first_state};
 ghost use Rattle.pb_replay.specs.Meaning.{IsFront, Means, MeansWritten};
 ghost use Rattle.pb_replay.specs.Running.{StandsFor, StepsAs, verdict_in, constraint_in};
@@ -63,6 +63,8 @@ impl Replay {
         ensures running { IfOk result (λ r. r.fault ≡ None) }
         ensures visits { IfOk result (λ r. r.visits ≡ 0) }
         ensures refused { IfErr result (λ e. (e ≡ Fault.Memory) ⊎ Opened (largest limits) instance.now (Err e)) }
+        // Overflow is decided before any memory is asked for.
+        ensures memory { result ≡ Err Fault.Memory → FitsAll (largest limits) instance.now }
     {
         Replay::with_hasher(alloc, HashKeys::Fixed, instance, limits)
     }
@@ -80,6 +82,8 @@ impl Replay {
         ensures running { IfOk result (λ r. r.fault ≡ None) }
         ensures visits { IfOk result (λ r. r.visits ≡ 0) }
         ensures refused { IfErr result (λ e. (e ≡ Fault.Memory) ⊎ Opened (largest limits) instance.now (Err e)) }
+        // Overflow is decided before any memory is asked for.
+        ensures memory { result ≡ Err Fault.Memory → FitsAll (largest limits) instance.now }
     {
         match open(alloc, keys, instance, limits) {
             Ok(running) => Ok(Replay {

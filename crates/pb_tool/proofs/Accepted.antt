@@ -117,7 +117,7 @@ module _ (limits : Limits) (longest n : ℕ) (is : longest ≡ n) {W : Type 0} (
       by (Overflow of_instance) h = (h.0, h.1, h.2, kept, same)
       by (Overflow File) h = absurd h
       by (Overflow of_proof) h = absurd h
-      by (Memory of_instance) h = (h.0, h.1, kept, same)
+      by (Memory of_instance) h = (h.0, h.1, h.2, kept, same)
       by (Memory File) h = absurd h
       by (Memory of_proof) h = absurd h
       by (Open input) h = absurd h

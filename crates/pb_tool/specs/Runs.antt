@@ -8,7 +8,7 @@ use Rattle.pb_opb.specs.declared.Instance.{Instance}
 use Rattle.pb_proof.specs.Proofs.{statements_of}
 use Rattle.pb_proof.specs.declared.Proof.{Proof}
 use Rattle.pb_proof.specs.declared.Statement.{Statement}
-use Rattle.pb_replay.specs.Loading.{Problem, Opened}
+use Rattle.pb_replay.specs.Loading.{FitsAll, Problem, Opened}
 use Rattle.pb_replay.specs.Meaning.{IsFront}
 use Rattle.pb_replay.specs.Replay.{State, first_state}
 use Rattle.pb_replay.specs.Running.{Replaying}
@@ -62,7 +62,7 @@ module _ (limits : Limits) (longest : ℕ) where
   abbrev pub IsNoReplay : Option (List ℕ) → Option (List ℕ) → ToolFault → Type 0
   IsNoReplay before after (Text of_instance s) = IsNoOpbFile limits longest before after s
   IsNoReplay before after (Overflow of_instance) = (v : Instance) × IsOpbFile limits longest before after v × Opened (largest limits) v (Err over)
-  IsNoReplay before after (Memory of_instance) = (v : Instance) × IsOpbFile limits longest before after v
+  IsNoReplay before after (Memory of_instance) = (v : Instance) × IsOpbFile limits longest before after v × FitsAll (largest limits) v
   IsNoReplay before after _ = ⊥
 
   module _ (v : Problem) (first : State) (before : Option (List ℕ)) where

@@ -13,7 +13,7 @@ use Rattle.pb_proof.specs.Canonical.{bound_bytes}
 use Rattle.pb_proof.specs.Proofs.{statements_of}
 use Rattle.pb_proof.specs.declared.Proof.{Proof}
 use Rattle.pb_proof.specs.declared.Statement.{Statement}
-use Rattle.pb_replay.specs.Loading.{Problem, Opened}
+use Rattle.pb_replay.specs.Loading.{FitsAll, Problem, Opened}
 use Rattle.pb_replay.specs.Replay.{State, first_state}
 use Rattle.pb_replay.specs.Statements.{Outcome, Accepts}
 use Rattle.pb_replay.specs.declared.fault.Fault.{Fault}
@@ -86,7 +86,8 @@ module _ (limits : Limits) where
     ChecksFiles i p old (Err (Text of_instance s)) i' p' new = IsNoOpbFile limits longest i i' s × (p' ≡ p) × (new ≡ old)
     ChecksFiles i p old (Err (Overflow of_instance)) i' p' new =
         (v : Instance) × IsOpbFile limits longest i i' v × Opened (largest limits) v (Err over) × (p' ≡ p) × (new ≡ old)
-    ChecksFiles i p old (Err (Memory of_instance)) i' p' new = (v : Instance) × IsOpbFile limits longest i i' v × (p' ≡ p) × (new ≡ old)
+    ChecksFiles i p old (Err (Memory of_instance)) i' p' new =
+        (v : Instance) × IsOpbFile limits longest i i' v × FitsAll (largest limits) v × (p' ≡ p) × (new ≡ old)
     ChecksFiles i p old (Err (Step place e name)) i' p' new =
         (v : Instance) × IsOpbFile limits longest i i' v × (problem : Problem) × Opened (largest limits) v (Ok problem)
         × IsRefusedStep longest problem (first_state problem) p p' place e (string_bytes name) × (new ≡ old)

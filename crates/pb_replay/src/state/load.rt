@@ -1,16 +1,17 @@
 //! An instance as forms.
 
-ghost use Rattle.std.specs.Prelude.{◌≡◌, ◌<◌, ◌≤◌, option_map, OnOk, IfOk, IfErr, Err, Ok, ◌⊎◌};
+ghost use Rattle.std.specs.Prelude.{◌≡◌, ◌<◌, ◌≤◌, ◌↔◌, option_map, All, OnOk, IfOk, IfErr, IsTrue, Err, Ok, ◌⊎◌};
 ghost use Rattle.pb_text.specs.Limits.{largest};
+ghost use Rattle.pb_normal.specs.Constraints.{Fits};
 ghost use Rattle.pb_normal.specs.Names.{with_names};
 ghost use Rattle.pb_normal.specs.Written.{names_of, magnitude};
-ghost use Rattle.pb_replay.specs.Loading.{Opened, objective_of};
+ghost use Rattle.pb_replay.specs.Loading.{FitsAll, Opened, objective_of};
 ghost use Rattle.pb_replay.specs.Running.{IsFirst, problem_of};
 
 use crate::fault::Fault;
 use crate::state::Running;
 use crate::state::live::engine_over;
-use pb_normal::{HashKeys, Names, Normal, NormalFault, Side, load};
+use pb_normal::{HashKeys, Names, Normal, NormalFault, Side, fits, load, terms_fit};
 use pb_opb::Instance;
 use pb_proof::Stage;
 use pb_sums::{Linear, Literal, Name, Relation, Term};
@@ -78,6 +79,33 @@ fn kept_objective(
     }
 }
 
+/// Whether each constraint fits, and the coefficients of the objective do together. It asks for no memory.
+fn fits_all(instance: &Instance, limits: Limits) -> bool
+    ensures { IsTrue result ↔ FitsAll (largest limits) instance.now }
+{
+    objective_fits(&instance.objective, limits)
+        && constraints_fit(instance.constraints.as_slice(), limits)
+}
+
+/// Whether the coefficients of an objective fit together, where there is one.
+fn objective_fits(objective: &Option<Sequence<Term>>, limits: Limits) -> bool
+    ensures { IsTrue result ↔ (magnitude (objective_of objective.now) ≤ largest limits) }
+{
+    match objective {
+        None => true,
+        Some(terms) => terms_fit(terms.as_slice(), limits),
+    }
+}
+
+/// Whether each of the constraints fits.
+fn constraints_fit(constraints: &[Linear], limits: Limits) -> bool
+    ensures { IsTrue result ↔ All (Fits (largest limits)) constraints.now }
+{
+    constraints
+        .iter()
+        .all(|constraint| fits(constraint, limits))
+}
+
 /// What a replay of the instance begins with, where the names are hashed by these keys.
 pub(crate) fn open(
     alloc: Global,
@@ -89,7 +117,11 @@ pub(crate) fn open(
     ensures first { IfOk result (λ r. IsFirst limits r) }
     ensures fits { IfOk result (λ r. magnitude (objective_of (problem_of r).objective) ≤ largest limits) }
     ensures err { IfErr result (λ e. (e ≡ Fault.Memory) ⊎ Opened (largest limits) instance.now (Err e)) }
+    ensures memory { result ≡ Err Fault.Memory → FitsAll (largest limits) instance.now }
 {
+    if !fits_all(instance, limits) {
+        return Err(Fault::Overflow);
+    }
     let mut names = Names::with_hasher(alloc, keys);
     let objective = match kept_objective(alloc, &mut names, &instance.objective, limits) {
         Ok(objective) => objective,
