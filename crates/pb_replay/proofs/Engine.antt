@@ -27,3 +27,6 @@ pub mod Rests
 pub mod Wider
 pub mod Assumed
 pub mod Bounds
+pub mod Seats
+pub mod Slots
+pub mod Placed

@@ -6,4 +6,5 @@ pub mod Fields
 pub mod Forms
 pub mod Live
 pub mod Rest
+pub mod Slots
 pub mod Laws

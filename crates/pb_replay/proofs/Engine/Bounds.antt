@@ -1,7 +1,7 @@
 -- How often a propagation looks, in terms of the live forms.
-use Rattle.std.specs.Prelude.{sum_by, All, map, Option, Some, None, filter}
-use Rattle.std.proofs.Common.{◌≡◌, ℕ, zero, suc, ◌+◌, ◌-◌, ◌*◌, ◌^◌, ◌<◌, ◌≤◌, ◌∷◌, [], List, Bool, true, false, refl, sym, ◌∙◌, ap, arith, inl, inr, length, get_or}
-use Rattle.std.proofs.lemmas.Bool.{cases_eq, cases_lt}
+use Rattle.std.specs.Prelude.{sum_by, map, Option, Some, None, filter}
+use Rattle.std.proofs.Common.{◌≡◌, ℕ, ◌+◌, ◌-◌, ◌*◌, ◌^◌, ◌<◌, ◌≤◌, ◌∷◌, [], List, Bool, true, false, refl, ap, arith, inl, inr, length}
+use Rattle.std.proofs.lemmas.Bool.{cases_lt, cases_Bool}
 use Rattle.std.proofs.lemmas.List.{length-map}
 use Rattle.std.proofs.lemmas.List.Sums.{sum_by-cons}
 use Rattle.std.proofs.lemmas.List.Sorted.{length_permutation}
@@ -12,9 +12,7 @@ use Rattle.pb_replay.specs.Engine.Forms.{entry_of}
 use Rattle.pb_replay.specs.Engine.Counts.{AreFound}
 use Rattle.pb_replay.specs.Engine.Fields.{shapes_of, kept_shape}
 use Rattle.pb_replay.specs.Engine.Live.{terms_in, one_in}
-use Rattle.pb_replay.specs.Engine.Rest.{IsSlot, AreSlots, AreRising, waits}
-use Rattle.pb_replay.specs.Engine.Rest.{IsEager}
-use Rattle.pb_replay.proofs.Engine.Rests.{eager-filter, slots-length}
+use Rattle.pb_replay.specs.Engine.Rest.{IsSlot, AreSlots, eager_one}
 
 -- the terms of the kept forms are those of the live ones
 slot-terms : (o : Option Form) (x : Shape) → IsSlot o x → length x.terms ≡ terms_in o
@@ -28,78 +26,30 @@ slots-terms (o ∷ os) [] a = absurd (let e : true ≡ false = a in cc)
 slots-terms (o ∷ os) (x ∷ xs) a =
     omega (arith, slot-terms o x a.0, slots-terms os xs a.1, sum_by-cons (λ (f : Shape). length f.terms) x xs, sum_by-cons terms_in o os)
 
--- a form that waits is live
-waits-one : (os : List (Option Form)) (keep : List Kept) (s : ℕ) → AreSlots os (shapes_of keep) → waits keep s ≡ true → one_in (get_or os s None) ≡ 1
-waits-one os [] s a w = absurd (let e : false ≡ true = w in cc)
-waits-one [] (k ∷ ks) s a w = absurd (let e : true ≡ false = a in cc)
-waits-one (None ∷ os) (k ∷ ks) zero a w =
-    let some = k.busy w in
-    absurd (omega (arith, some, ap length a.0.0, a.0.1))
-waits-one (Some f ∷ os) (k ∷ ks) zero a w = refl
-waits-one (o ∷ os) (k ∷ ks) (suc s) a w = waits-one os ks s a.1 w
-
-rising-from : (m : ℕ) (xs : List ℕ) → AreRising m xs → (i d : ℕ) → i < length xs → m ≤ get_or xs i d
-rising-from m [] r i d h = absurd (omega (arith, h))
-rising-from m (x ∷ xs) r zero d h = r.0
-rising-from m (x ∷ xs) r (suc i) d h =
-    let later = rising-from (x + 1) xs r.1 i d (omega (arith, h)) in
-    omega (arith, later, r.0)
-
--- numbers that rise, each of a live form, are no more than the live forms
-pub rising-count : (os : List (Option Form)) (es : List ℕ) (n : ℕ) → AreRising n es → All (λ s. s < n + length os) es → All (λ s. one_in (get_or os (s - n) None) ≡ 1) es → length es ≤ sum_by one_in os
-rising-count os [] n r inside ones = omega arith
-rising-count [] (s ∷ ss) n r inside ones =
-    let less : s < n + 0 = inside 0 s (omega arith) in
-    absurd (omega (arith, less, r.0))
-rising-count (o ∷ os) (s ∷ ss) n r inside ones =
-    elim (cases_eq s n) [
-      | inl here ↦
-          let one : one_in (get_or (o ∷ os) (s - n) None) ≡ 1 = ones 0 s (omega arith) in
-          let first : one_in o ≡ 1 = sym (ap (λ i. one_in (get_or (o ∷ os) i None)) (zero_of s n here)) ∙ one in
-          let rest = rising-count os ss (n + 1) (rw here at r.1) (λ i d h. shift (get_or ss i d) (inside (suc i) d (omega (arith, h)))) (λ i d h. later (get_or ss i d) (omega (arith, rising-from (s + 1) ss r.1 i d h, here)) (ones (suc i) d (omega (arith, h)))) in
-          omega (arith, first, rest, sum_by-cons one_in o os)
-      | inr other ↦
-          let beyond : n + 1 ≤ s = above s n r.0 other in
-          let rest = rising-count os (s ∷ ss) (n + 1) (beyond, r.1) (λ i d h. shift (get_or (s ∷ ss) i d) (inside i d h)) (λ i d h. later (get_or (s ∷ ss) i d) (rising-from (n + 1) (s ∷ ss) (beyond, r.1) i d h) (ones i d h)) in
-          omega (arith, rest, sum_by-cons one_in o os)
+-- a form that may put a literal on the empty list is live
+pub slots-eager : (os : List (Option Form)) (keep : List Kept) → AreSlots os (shapes_of keep) → sum_by eager_one keep ≤ sum_by one_in os
+slots-eager os [] a = omega arith
+slots-eager [] (k ∷ ks) a = absurd (let e : true ≡ false = a in cc)
+slots-eager (o ∷ os) (k ∷ ks) a = omega (arith, first o k a.0, slots-eager os ks a.1, sum_by-cons eager_one k ks, sum_by-cons one_in o os)
+  where
+    first : (p : Option Form) (x : Kept) → IsSlot p (kept_shape x) → eager_one x ≤ one_in p
+    first p x s = elim (cases_Bool x.eager) [
+      | inr idle ↦ rw idle (omega arith)
+      | inl eager ↦ rw eager (live p s (x.busy eager))
     ]
-  where
-    zero_of : (a b : ℕ) → a ≡ b → a - b ≡ 0
-    zero_of a b e = omega (arith, e)
-
-    above : (a b : ℕ) → b ≤ a → (a ≡ b → ⊥) → b + 1 ≤ a
-    above a b h k = grind arith
-
-    shift : (x : ℕ) → x < n + length (o ∷ os) → x < (n + 1) + length os
-    shift x h = omega (arith, h)
-
-    later : (x : ℕ) → n + 1 ≤ x → one_in (get_or (o ∷ os) (x - n) None) ≡ 1 → one_in (get_or os (x - (n + 1)) None) ≡ 1
-    later x h e = sym (ap (λ i. one_in (get_or (o ∷ os) i None)) (step x n h)) ∙ e
       where
-        step : (a b : ℕ) → b + 1 ≤ a → a - b ≡ suc (a - (b + 1))
-        step a b h = omega (arith, h)
+        live : (q : Option Form) → IsSlot q (kept_shape x) → 0 < x.degree + length x.terms.items → 1 ≤ one_in q
+        live None e some = absurd (omega (arith, some, ap length e.0, e.1))
+        live (Some f) e some = omega arith
 
-filter-true : (p : ℕ → Bool) (xs : List ℕ) → All (λ s. p s ≡ true) (filter p xs)
-filter-true p [] = λ i d h. absurd (omega (arith, h))
-filter-true p (x ∷ xs) = by_head (p x) refl (filter-true p xs)
+-- no more forms wait than stand on the list
+pub filter-few : (p : ℕ → Bool) (xs : List ℕ) → length (filter p xs) ≤ length xs
+filter-few p [] = omega arith
+filter-few p (x ∷ xs) = by_head (p x) refl (filter-few p xs)
   where
-    grown : p x ≡ true → (ys : List ℕ) → All (λ s. p s ≡ true) ys → All (λ s. p s ≡ true) (x ∷ ys)
-    grown e ys a zero d h = e
-    grown e ys a (suc i) d h = a i d (omega (arith, h))
-
-    by_head : (b : Bool) → p x ≡ b → All (λ s. p s ≡ true) (filter p xs) → All (λ s. p s ≡ true) (filter p (x ∷ xs))
-    by_head true e a = rw e (grown e (filter p xs) a)
-    by_head false e a = rw e a
-
-less-zero : (a : ℕ) → a - 0 ≡ a
-less-zero a = omega arith
-
-pub eager-count : (os : List (Option Form)) (keep : List Kept) (eager : List ℕ) → AreSlots os (shapes_of keep) → IsEager keep eager → length (filter (waits keep) eager) ≤ sum_by one_in os
-eager-count os keep eager a g =
-    let e = eager-filter keep eager g in
-    rising-count os (filter (waits keep) eager) 0 e.rising
-    (λ i d h. let named = e.named i d h in omega (arith, named, slots-length os (shapes_of keep) a, length-map keep kept_shape))
-    (λ i d h. rw (less-zero (get_or (filter (waits keep) eager) i d)) (waits-one os keep (get_or (filter (waits keep) eager) i d) a (filter-true (waits keep) eager i d h)))
+    by_head : (b : Bool) → p x ≡ b → length (filter p xs) ≤ length xs → length (filter p (x ∷ xs)) ≤ length (x ∷ xs)
+    by_head true e h = rw e (omega (arith, h))
+    by_head false e h = rw e (omega (arith, h))
 
 -- the list is no longer than the looks were many
 pub found-least : (n v n0 v0 : ℕ) → n0 ≡ 0 → v0 ≡ 0 → AreFound n0 n v0 v → n < 2 ^ 64 → n ≤ v

@@ -1,6 +1,7 @@
 -- The store after a form came, left, or was made empty.
 use Rattle.std.specs.Prelude.{map}
 use Rattle.std.proofs.Common.{◌≡◌, ℕ, ◌+◌, ◌<◌, ◌++◌, ◌∷◌, [], List, Vec, Global, refl, sym, ◌∙◌, ap, subst, arith, inl, inr, length, get_or, take, set, length-set, length-append, get_or-set_same, get_or-set_other, zero, suc}
+use Rattle.std.proofs.Math.Seq.{set-append_seam}
 use Rattle.std.proofs.lemmas.Bool.{cases_eq, cases_lt}
 use Rattle.std.proofs.lemmas.List.{map-append, length-map, take_more, take_all, length-take-le, get_or_append_left, map-set}
 use Rattle.std.proofs.lemmas.List.Elements.{All-push, All-set, All-take}
@@ -9,47 +10,92 @@ use Rattle.pb_replay.specs.declared.propagate.term.Occurrence.{Occurrence}
 use Rattle.pb_replay.specs.declared.propagate.kept.Kept.{Kept}
 use Rattle.pb_replay.specs.Engine.Lists.{Shape, AreInside}
 use Rattle.pb_replay.specs.Engine.Fields.{shapes_of, kept_shape, spots_of, entries_of}
-use Rattle.pb_replay.specs.Engine.Links.{terms_at, IsLinked, IsStored, cut}
+use Rattle.pb_replay.specs.Engine.Links.{terms_at, degree_at, IsLinked, IsStored, cut}
 use Rattle.pb_replay.proofs.Engine.Gets.{last-is}
 use Rattle.pb_replay.proofs.Engine.Places.{entries-length}
 use Rattle.pb_replay.proofs.Engine.Links.{cut-length}
 use Rattle.pb_replay.proofs.Engine.Storages.{linked-named, link-start, link-end, link-vacant, cut-all}
 
-pub entered-stored : (keep : List Kept) (k : Kept) (sp : List (Vec ℕ Global)) (v : Vec ℕ Global) (occ occ' : List (Vec Occurrence Global)) (n form : ℕ) (terms : List Term) →
-    form ≡ length keep → terms ≡ k.terms.items → length occ' ≡ length occ → length v.items ≡ length terms → AreInside n k.terms.items →
-    ((base : List Shape) (others : List (List ℕ)) → form < length base → terms_at base form ≡ terms → length others ≡ form → IsLinked (cut base form 0) (others ++ [] ∷ []) (entries_of occ) → IsLinked (cut base form (length terms)) (others ++ v.items ∷ []) (entries_of occ')) →
-    IsStored (shapes_of keep) (spots_of sp) (entries_of occ) n → IsStored (shapes_of (keep ++ (k ∷ []))) (spots_of (sp ++ (v ∷ []))) (entries_of occ') n
-entered-stored keep k sp v occ occ' n form terms form_is terms_is sizes count inside link old =
+-- what stands at the end is replaced
+pub set-end : {X : Type 0} (xs ys : List X) (n : ℕ) (y z : X) → ys ≡ xs ++ (y ∷ []) → n ≡ length xs → set ys n z ≡ xs ++ (z ∷ [])
+set-end xs ys n y z e at = ap (λ zs. set zs n z) e ∙ ap (λ m. set (xs ++ (y ∷ [])) m z) at ∙ set-append_seam xs y [] z
+
+pub empty-end : (keep keep' : List Kept) (k : Kept) (n : ℕ) → keep' ≡ keep ++ (k ∷ []) → n ≡ length keep → k.terms.items ≡ [] → terms_at (shapes_of keep') n ≡ []
+empty-end keep keep' k n e at empty =
+    rw (e, map-append kept_shape keep (k ∷ [])) (ap (λ (f : Shape). f.terms) (last-is (shapes_of keep) (kept_shape k) (record { terms = []; degree = 0 }) n (at ∙ sym (length-map keep kept_shape))) ∙ empty)
+
+-- an empty form behind the others
+pub widened-forms : (keep : List Kept) (k : Kept) (sp : List (Vec ℕ Global)) (v : Vec ℕ Global) (occ : List (Vec Occurrence Global)) (n : ℕ) → k.terms.items ≡ [] → v.items ≡ [] →
+    IsStored (shapes_of keep) (spots_of sp) (entries_of occ) n → IsStored (shapes_of (keep ++ (k ∷ []))) (spots_of (sp ++ (v ∷ []))) (entries_of occ) n
+widened-forms keep k sp v occ n empty no_spots old =
     let forms = shapes_of keep in
     let x : Shape = kept_shape k in
     let base = forms ++ (x ∷ []) in
-    let forms_size : length forms ≡ length keep = length-map keep kept_shape in
     let long : length base ≡ length forms + 1 = length-append forms (x ∷ []) in
-    let at : form ≡ length forms = omega (arith, form_is, forms_size) in
-    let form_in : form < length base = omega (arith, at, long) in
-    let terms_here : terms_at base form ≡ terms = ap (λ (f : Shape). f.terms) (last-is forms x (record { terms = []; degree = 0 }) form at) ∙ sym terms_is in
-    let others_size : length (spots_of sp) ≡ form = old.whole.sizes ∙ sym at in
-    let start : IsLinked (cut base form 0) (spots_of sp ++ ([] ∷ [])) (entries_of occ) = rw at (link-start forms (spots_of sp) (entries_of occ) x old.whole) in
-    let done : IsLinked (cut base form (length terms)) (spots_of sp ++ (v.items ∷ [])) (entries_of occ') = link base (spots_of sp) form_in terms_here others_size start in
-    let whole : IsLinked base (spots_of sp ++ (v.items ∷ [])) (entries_of occ') = rw (cut-all base form (length terms) (omega (arith, ap length terms_here))) at done in
+    let terms_here : terms_at base (length forms) ≡ [] = ap (λ (f : Shape). f.terms) (last-is forms x (record { terms = []; degree = 0 }) (length forms) refl) ∙ empty in
+    let whole : IsLinked base (spots_of sp ++ ([] ∷ [])) (entries_of occ) = rw (cut-all base (length forms) 0 (omega (arith, ap length terms_here))) at (link-start forms (spots_of sp) (entries_of occ) x old.whole) in
     let forms_more : shapes_of (keep ++ (k ∷ [])) ≡ base = map-append kept_shape keep (k ∷ []) in
-    let spots_more : spots_of (sp ++ (v ∷ [])) ≡ spots_of sp ++ (v.items ∷ []) = map-append (λ (w : Vec ℕ Global). w.items) sp (v ∷ []) in
+    let spots_more : spots_of (sp ++ (v ∷ [])) ≡ spots_of sp ++ ([] ∷ []) = map-append (λ (w : Vec ℕ Global). w.items) sp (v ∷ []) ∙ ap (λ ys. spots_of sp ++ (ys ∷ [])) no_spots in
     rw (forms_more, spots_more) (record {
       whole = whole;
-      named = linked-named base (spots_of sp ++ (v.items ∷ [])) (entries_of occ') whole;
-      places = omega (arith, old.places, sizes, entries-length occ, entries-length occ');
-      inside = All-push (λ (f : Shape). AreInside n f.terms) forms x old.inside inside;
+      named = linked-named base (spots_of sp ++ ([] ∷ [])) (entries_of occ) whole;
+      places = old.places;
+      inside = All-push (λ (f : Shape). AreInside n f.terms) forms x old.inside (none_inside k.terms.items empty);
       rooms = λ s less. elim (cases_lt s (length forms)) [
         | inl before ↦
-            ap length (get_or_append_left (spots_of sp) (v.items ∷ []) [] s (omega (arith, before, old.whole.sizes)))
+            ap length (get_or_append_left (spots_of sp) ([] ∷ []) [] s (omega (arith, before, old.whole.sizes)))
             ∙ old.rooms s before ∙ sym (ap (λ (f : Shape). length f.terms) (get_or_append_left forms (x ∷ []) (record { terms = []; degree = 0 }) s before))
         | inr after ↦
             let here : s ≡ length forms = omega (arith, after, less, long) in
-            let mine : length (get_or (spots_of sp ++ (v.items ∷ [])) s []) ≡ length terms = ap length (last-is (spots_of sp) v.items [] s (omega (arith, here, old.whole.sizes))) ∙ count in
-            let its : length (terms_at base s) ≡ length terms = ap (λ (f : Shape). length f.terms) (last-is forms x (record { terms = []; degree = 0 }) s here) ∙ ap length (sym terms_is) in
+            let mine : length (get_or (spots_of sp ++ ([] ∷ [])) s []) ≡ 0 = ap length (last-is (spots_of sp) [] [] s (omega (arith, here, old.whole.sizes))) in
+            let its : length (terms_at base s) ≡ 0 = ap (λ (f : Shape). length f.terms) (last-is forms x (record { terms = []; degree = 0 }) s here) ∙ ap length empty in
             mine ∙ sym its
       ];
     })
+  where
+    none_inside : (ts : List Term) → ts ≡ [] → AreInside n ts
+    none_inside ts h i d less = absurd (omega (arith, less, ap length h))
+
+-- a form where an empty one stood
+pub filled-stored : (keep : List Kept) (k : Kept) (sp : List (Vec ℕ Global)) (v : Vec ℕ Global) (occ occ' : List (Vec Occurrence Global)) (n form : ℕ) (terms : List Term) →
+    form < length keep → terms_at (shapes_of keep) form ≡ [] → terms ≡ k.terms.items → length occ' ≡ length occ → length v.items ≡ length terms → AreInside n k.terms.items →
+    ((base : List Shape) (all : List (List ℕ)) → form < length base → terms_at base form ≡ terms → form < length all → IsLinked (cut base form 0) (set all form []) (entries_of occ) → IsLinked (cut base form (length terms)) (set all form v.items) (entries_of occ')) →
+    IsStored (shapes_of keep) (spots_of sp) (entries_of occ) n → IsStored (shapes_of (set keep form k)) (spots_of (set sp form v)) (entries_of occ') n
+filled-stored keep k sp v occ occ' n form terms room empty terms_is sizes count inside link old =
+    let forms = shapes_of keep in
+    let x : Shape = kept_shape k in
+    let base = set forms form x in
+    let none : Shape = record { terms = []; degree = 0 } in
+    let here : form < length forms = omega (arith, room, length-map keep kept_shape) in
+    let wide : form < length (spots_of sp) = omega (arith, here, old.whole.sizes) in
+    let form_in : form < length base = omega (arith, here, length-set forms form x) in
+    let terms_here : terms_at base form ≡ terms = ap (λ (f : Shape). f.terms) (get_or-set_same forms form x none here) ∙ sym terms_is in
+    let bare : IsLinked (cut forms form 0) (spots_of sp) (entries_of occ) = rw (cut-all forms form 0 (omega (arith, ap length empty))) old.whole in
+    let first : Shape = record { terms = take 0 (terms_at base form); degree = degree_at base form } in
+    let start : IsLinked (cut base form 0) (set (spots_of sp) form []) (entries_of occ) = rw (set-twice forms form x first) (link-vacant forms (spots_of sp) (entries_of occ) form first here (nothing (terms_at base form)) bare) in
+    let done : IsLinked (cut base form (length terms)) (set (spots_of sp) form v.items) (entries_of occ') = link base (spots_of sp) form_in terms_here wide start in
+    let whole : IsLinked base (set (spots_of sp) form v.items) (entries_of occ') = rw (cut-all base form (length terms) (omega (arith, ap length terms_here))) at done in
+    let forms_set : shapes_of (set keep form k) ≡ base = map-set kept_shape keep form k in
+    let spots_set : spots_of (set sp form v) ≡ set (spots_of sp) form v.items = map-set (λ (w : Vec ℕ Global). w.items) sp form v in
+    rw (forms_set, spots_set) (record {
+      whole = whole;
+      named = linked-named base (set (spots_of sp) form v.items) (entries_of occ') whole;
+      places = omega (arith, old.places, sizes, entries-length occ, entries-length occ');
+      inside = All-set (λ (f : Shape). AreInside n f.terms) forms form x inside old.inside;
+      rooms = λ s less. elim (cases_eq s form) [
+        | inl same ↦ rw same (ap length (get_or-set_same (spots_of sp) form v.items [] wide) ∙ count ∙ sym (ap length terms_here))
+        | inr other ↦ ap length (get_or-set_other (spots_of sp) form s v.items [] other) ∙ old.rooms s (omega (arith, less, length-set forms form x)) ∙ sym (ap (λ (f : Shape). length f.terms) (get_or-set_other forms form s x none other))
+      ];
+    })
+  where
+    nothing : (ts : List Term) → take 0 ts ≡ []
+    nothing [] = refl
+    nothing (t ∷ ts) = refl
+
+    set-twice : {X : Type 0} (xs : List X) (i : ℕ) (y z : X) → set (set xs i y) i z ≡ set xs i z
+    set-twice [] i y z = refl
+    set-twice (w ∷ xs) zero y z = refl
+    set-twice (w ∷ xs) (suc i) y z = ap (λ ys. w ∷ ys) (set-twice xs i y z)
 
 split-last : {X : Type 0} (xs : List X) (n : ℕ) (d : X) → length xs ≡ n + 1 → xs ≡ take n xs ++ (get_or xs n d ∷ [])
 split-last xs n d h = sym (take_all (n + 1) xs (omega (arith, h))) ∙ take_more xs n d (omega (arith, h))

@@ -1,6 +1,6 @@
 -- Entering and leaving, by what the program reads.
 use Rattle.std.specs.Prelude.{Some, slice_get, swap_remove, All}
-use Rattle.std.proofs.Common.{◌≡◌, ℕ, ◌+◌, ◌-◌, ◌*◌, ◌<◌, ◌≤◌, ◌⊎◌, ◌++◌, ◌∷◌, [], List, Vec, Global, refl, sym, ◌∙◌, ap, subst, arith, inl, inr, length, get_or, set, length-set, length-append, get_or-set_same, get_or-set_other}
+use Rattle.std.proofs.Common.{◌≡◌, ℕ, ◌+◌, ◌-◌, ◌*◌, ◌<◌, ◌≤◌, ◌⊎◌, ◌++◌, ◌∷◌, [], List, Vec, Global, refl, sym, ◌∙◌, ap, subst, arith, inl, inr, length, get_or, set, length-set, get_or-set_same, get_or-set_other}
 use Rattle.std.proofs.lemmas.Bool.{cases_eq, cases_lt}
 use Rattle.std.proofs.lemmas.List.{get_or_default, map-set, length-map, get_or-map, set_past}
 use Rattle.std.proofs.lemmas.Option.{slice_get-get_or, slice_get_within, get_or_from_slice_get}
@@ -10,7 +10,7 @@ use Rattle.pb_replay.specs.Engine.Lists.{Shape, AreInside}
 use Rattle.pb_replay.specs.Engine.Counts.{place}
 use Rattle.pb_replay.specs.Engine.Fields.{entries_of, spots_of}
 use Rattle.pb_replay.specs.Engine.Links.{terms_at, Moved, none, last, IsLinked, cut}
-use Rattle.pb_replay.proofs.Engine.Gets.{get-push_same, get-push_other, last-is, not_last}
+use Rattle.pb_replay.proofs.Engine.Gets.{get-push_same, get-push_other}
 use Rattle.pb_replay.proofs.Engine.Crosses.{Same}
 use Rattle.pb_replay.proofs.Engine.Links.{link-next}
 use Rattle.pb_replay.proofs.Engine.Unlinks.{swap-here, swap-length, unlink-next, named-spot, named-entry}
@@ -23,11 +23,11 @@ use Rattle.pb_replay.proofs.Engine.Puts.{entries-at, place-inside}
 pub entries-length : (occ : List (Vec Occurrence Global)) → length (entries_of occ) ≡ length occ
 entries-length occ = length-map occ (λ (v : Vec Occurrence Global). v.items)
 
-pub link-by : (base : List Shape) (others : List (List ℕ)) (occ : List (Vec Occurrence Global)) (form i : ℕ) (terms : List Term) (d : Term) (p : ℕ) (idx v0 v1 : Vec Occurrence Global) (spots spots' : List ℕ) (spot : ℕ) →
-    form < length base → terms_at base form ≡ terms → length others ≡ form → i < length terms → p ≡ place (get_or terms i d).literal → p < length occ → idx ≡ get_or occ p idx → spot ≡ length idx.items → v0 ≡ get_or occ p v0 →
+pub link-by : (base : List Shape) (all : List (List ℕ)) (occ : List (Vec Occurrence Global)) (form i : ℕ) (terms : List Term) (d : Term) (p : ℕ) (idx v0 v1 : Vec Occurrence Global) (spots spots' : List ℕ) (spot : ℕ) →
+    form < length base → terms_at base form ≡ terms → form < length all → i < length terms → p ≡ place (get_or terms i d).literal → p < length occ → idx ≡ get_or occ p idx → spot ≡ length idx.items → v0 ≡ get_or occ p v0 →
     v1.items ≡ v0.items ++ (record { form = form; index = i; coefficient = (get_or terms i d).coefficient } ∷ []) → spots' ≡ spots ++ (spot ∷ []) → length spots ≡ i →
-    IsLinked (cut base form i) (others ++ spots ∷ []) (entries_of occ) → IsLinked (cut base form (i + 1)) (others ++ spots' ∷ []) (entries_of (set occ p v1))
-link-by base others occ form i terms d p idx v0 v1 spots spots' spot inside same count within at room index_is spot_is value pushed longer size old =
+    IsLinked (cut base form i) (set all form spots) (entries_of occ) → IsLinked (cut base form (i + 1)) (set all form spots') (entries_of (set occ p v1))
+link-by base all occ form i terms d p idx v0 v1 spots spots' spot inside same wide within at room index_is spot_is value pushed longer size old =
     let t : Term = get_or terms i d in
     let e : Occurrence = record { form = form; index = i; coefficient = t.coefficient } in
     let within_base : i < length (terms_at base form) = omega (arith, within, ap length same) in
@@ -37,19 +37,19 @@ link-by base others occ form i terms d p idx v0 v1 spots spots' spot inside same
     let room_place : place t.literal < length (entries_of occ) = omega (arith, room, at, entries-length occ) in
     let grown : entries_of (set occ p v1) ≡ set (entries_of occ) (place t.literal) (get_or (entries_of occ) (place t.literal) [] ++ (e ∷ [])) =
     map-set (λ (v : Vec Occurrence Global). v.items) occ p v1 ∙ ap (λ xs. set (entries_of occ) p xs) (pushed ∙ ap (λ xs. xs ++ (e ∷ [])) (sym es_v0)) ∙ ap (λ q. set (entries_of occ) q (get_or (entries_of occ) q [] ++ (e ∷ []))) at in
-    let those : get_or (others ++ spots' ∷ []) form [] ≡ spots' = last-is others spots' [] form (sym count) in
-    let spot_now : slice_get (get_or (others ++ spots' ∷ []) form []) i ≡ Some (length (get_or (entries_of occ) (place t.literal) [])) =
-    ap (λ (xs : List ℕ). slice_get xs i) (those ∙ longer) ∙ get-push_same spots i spot (sym size) ∙ ap (λ n. Some n) (spot_is ∙ ap length (sym es_idx) ∙ ap (λ q. length (get_or (entries_of occ) q [])) at) in
-    link-next base (others ++ spots ∷ []) (others ++ spots' ∷ []) (entries_of occ) (entries_of (set occ p v1)) form i t e inside within_base is room_place refl refl refl grown spot_now
+    let spot_now : slice_get (get_or (set all form spots') form []) i ≡ Some (length (get_or (entries_of occ) (place t.literal) [])) =
+    ap (λ (xs : List ℕ). slice_get xs i) (get_or-set_same all form spots' [] wide ∙ longer) ∙ get-push_same spots i spot (sym size) ∙ ap (λ n. Some n) (spot_is ∙ ap length (sym es_idx) ∙ ap (λ q. length (get_or (entries_of occ) q [])) at) in
+    link-next base (set all form spots) (set all form spots') (entries_of occ) (entries_of (set occ p v1)) form i t e inside within_base is room_place refl refl refl grown spot_now
     (λ s j n. agree s j n (cases_eq s form))
-    (omega (arith, length-append others (spots ∷ []), length-append others (spots' ∷ [])))
+    (omega (arith, length-set all form spots, length-set all form spots'))
     old
   where
-    agree : (s j : ℕ) → (Same s j form i → ⊥) → (s ≡ form) ⊎ (s ≡ form → ⊥) → slice_get (get_or (others ++ spots' ∷ []) s []) j ≡ slice_get (get_or (others ++ spots ∷ []) s []) j
-    agree s j n (inr other) = ap (λ (xs : List ℕ). slice_get xs j) (not_last others spots' spots [] s (λ h. other (h ∙ count)))
+    agree : (s j : ℕ) → (Same s j form i → ⊥) → (s ≡ form) ⊎ (s ≡ form → ⊥) → slice_get (get_or (set all form spots') s []) j ≡ slice_get (get_or (set all form spots) s []) j
+    agree s j n (inr other) = ap (λ (xs : List ℕ). slice_get xs j) (get_or-set_other all form s spots' [] other ∙ sym (get_or-set_other all form s spots [] other))
     agree s j n (inl here) =
-        let here_count : s ≡ length others = here ∙ sym count in
-        ap (λ (xs : List ℕ). slice_get xs j) (last-is others spots' [] s here_count ∙ longer) ∙ get-push_other spots j spot (λ h. n (here, h ∙ size)) ∙ sym (ap (λ (xs : List ℕ). slice_get xs j) (last-is others spots [] s here_count))
+        let now : get_or (set all form spots') s [] ≡ spots' = ap (λ k. get_or (set all form spots') k []) here ∙ get_or-set_same all form spots' [] wide in
+        let was : get_or (set all form spots) s [] ≡ spots = ap (λ k. get_or (set all form spots) k []) here ∙ get_or-set_same all form spots [] wide in
+        ap (λ (xs : List ℕ). slice_get xs j) (now ∙ longer) ∙ get-push_other spots j spot (λ h. n (here, h ∙ size)) ∙ sym (ap (λ (xs : List ℕ). slice_get xs j) was)
 
 -- an entry is taken out
 pub taken-lists : (occ : List (Vec Occurrence Global)) (p q : ℕ) (v0 v1 : Vec Occurrence Global) (e : Occurrence) → p < length occ → v0 ≡ get_or occ p v0 → e ≡ get_or v0.items q e → v1.items ≡ swap_remove v0.items q e → (x : Occurrence) × (x ≡ get_or (get_or (entries_of occ) p []) q x) × (entries_of (set occ p v1) ≡ set (entries_of occ) p (swap_remove (get_or (entries_of occ) p []) q x))

@@ -1,9 +1,9 @@
 -- The engine between two calls: what a call finds, and what it leaves.
 use Rattle.std.specs.Prelude.{All, map, filter, Option, Some, None, slice_get, Contains}
-use Rattle.std.proofs.Common.{◌≡◌, ℕ, zero, suc, ◌+◌, ◌-◌, ◌<◌, ◌≤◌, ◌⊎◌, ◌++◌, ◌∷◌, [], List, Bool, true, false, refl, sym, ◌∙◌, ap, subst, arith, inl, inr, cond, length, get_or, take, set, get_or-set_other, length-set, length-append}
+use Rattle.std.proofs.Common.{◌≡◌, ℕ, zero, suc, ◌+◌, ◌-◌, ◌<◌, ◌≤◌, ◌⊎◌, ◌++◌, ◌∷◌, [], List, Bool, true, false, refl, sym, ◌∙◌, ap, subst, arith, inl, inr, length, get_or, take, set, length-append}
 use Rattle.std.proofs.lemmas.Bool.{cases_lt, cases_Bool, both_ways}
-use Rattle.std.proofs.lemmas.List.{length-map, map-append, map-set, get_or_append_left, append-nil, take_more_set}
-use Rattle.std.proofs.lemmas.List.Elements.{All-nil, All-cons, filter-append, filter_more}
+use Rattle.std.proofs.lemmas.List.{length-map, map-append, get_or_append_left, append-nil}
+use Rattle.std.proofs.lemmas.List.Elements.{All-nil, All-cons, filter-append}
 use Rattle.pb_normal.specs.Form.{Form}
 use Rattle.pb_normal.specs.Rules.{opposite}
 use Rattle.pb_normal.specs.declared.entry.Entry.{Entry}
@@ -11,8 +11,8 @@ use Rattle.pb_replay.specs.declared.propagate.kept.Kept.{Kept}
 use Rattle.pb_replay.specs.Engine.Lists.{Shape, size}
 use Rattle.pb_replay.specs.Engine.Forms.{IsKeptAs}
 use Rattle.pb_replay.specs.Engine.Counts.{IsAbsent, IsCalm, IsUndone, IsTidy}
-use Rattle.pb_replay.specs.Engine.Fields.{shapes_of, kept_shape, HasEntered, IsEmpty}
-use Rattle.pb_replay.specs.Engine.Rest.{IsSlot, AreSlots, AreRising, waits, kept_waits, IsEager, AreAtRest}
+use Rattle.pb_replay.specs.Engine.Fields.{shapes_of, kept_shape, HasEntered}
+use Rattle.pb_replay.specs.Engine.Rest.{IsSlot, AreSlots, waits, kept_waits, IsEager, AreAtRest}
 use Rattle.pb_replay.specs.Engine.Live.{Live}
 use Rattle.pb_replay.specs.Propagation.{With}
 use Rattle.pb_replay.proofs.Engine.Rested.{IsEager as IsCalmBut, rest-tidy}
@@ -123,23 +123,10 @@ filter-all P p (x ∷ xs) all = by_head (p x) refl (filter-all P p xs (λ i d h.
     by_head true e a = rw e (grown (filter p xs) a)
     by_head false e a = rw e a
 
-rising-less : (n m : ℕ) (xs : List ℕ) → m ≤ n → AreRising n xs → AreRising m xs
-rising-less n m [] h r = r
-rising-less n m (x ∷ xs) h r = (omega (arith, h, r.0), r.1)
-
-filter-rising : (p : ℕ → Bool) (n : ℕ) (xs : List ℕ) → AreRising n xs → AreRising n (filter p xs)
-filter-rising p n [] r = r
-filter-rising p n (x ∷ xs) r = by_head (p x) refl (filter-rising p (x + 1) xs r.1)
-  where
-    by_head : (b : Bool) → p x ≡ b → AreRising (x + 1) (filter p xs) → AreRising n (filter p (x ∷ xs))
-    by_head true e a = rw e (r.0, a)
-    by_head false e a = rw e (rising-less (x + 1) n (filter p xs) (omega (arith, r.0)) a)
-
 -- the list without the forms that left
 pub eager-filter : (keep : List Kept) (eager : List ℕ) → IsEager keep eager → IsEager keep (filter (waits keep) eager)
 eager-filter keep eager e = record {
   named = filter-all (λ s. s < length keep) (waits keep) eager e.named;
-  rising = filter-rising (waits keep) 0 eager e.rising;
   aside = λ s less gone. elim (cases_Bool (waits keep s)) [
     | inr idle ↦ idle
     | inl waiting ↦ absurd (both_ways _ (e.aside s less (filter-has (waits keep) eager s waiting gone)) waiting)
@@ -147,16 +134,10 @@ eager-filter keep eager e = record {
 }
 
 -- a form has come
-waits-before : (keep : List Kept) (k : Kept) (s : ℕ) → s < length keep → waits (keep ++ (k ∷ [])) s ≡ waits keep s
+pub waits-before : (keep : List Kept) (k : Kept) (s : ℕ) → s < length keep → waits (keep ++ (k ∷ [])) s ≡ waits keep s
 waits-before [] k s h = absurd (omega (arith, h))
 waits-before (x ∷ xs) k zero h = refl
 waits-before (x ∷ xs) k (suc s) h = waits-before xs k s (omega (arith, h))
-
-rising-push : (n : ℕ) (xs : List ℕ) (y : ℕ) → n ≤ y → All (λ s. s < y) xs → AreRising n xs → AreRising n (xs ++ (y ∷ []))
-rising-push n [] y h all r = (h, tt)
-rising-push n (x ∷ xs) y h all r =
-    let less : x < y = all 0 x (omega arith) in
-    (r.0, rising-push (x + 1) xs y (omega (arith, less)) (λ i d k. all (suc i) d (omega (arith, k))) r.1)
 
 absent-front : (xs ys : List ℕ) (s : ℕ) → IsAbsent (xs ++ ys) 0 s → IsAbsent xs 0 s
 absent-front xs ys s gone i from less at = gone i from (omega (arith, less, length-append xs ys)) (get_or_append_left xs ys 0 i less ∙ at)
@@ -170,16 +151,12 @@ eager-entered keep keep' k eager eager' number same at more e = rw more (by_head
     idle_before : (s : ℕ) → s < length keep → waits keep' s ≡ waits keep s
     idle_before s less = ap (λ (xs : List Kept). waits xs s) same ∙ waits-before keep k s less
 
-    below : All (λ s. s < number) eager
-    below i d h = let named = e.named i d h in omega (arith, named, at)
-
     by_head : (b : Bool) → waits keep' number ≡ b → IsEager keep' (eager ++ filter (waits keep') (number ∷ []))
     by_head true h = rw h (record {
       named = λ i d less. elim (cases_lt i (length eager)) [
         | inl before ↦ let named = e.named i d before in rw (get_or_append_left eager (number ∷ []) d i before) (omega (arith, named, long))
         | inr after ↦ rw (last-is eager number d i (omega (arith, after, less, length-append eager (number ∷ [])))) (omega (arith, at, long))
       ];
-      rising = rising-push 0 eager number (omega arith) below e.rising;
       aside = λ s less gone. elim (cases_lt s (length keep)) [
         | inl before ↦ idle_before s before ∙ e.aside s before (absent-front eager (number ∷ []) s gone)
         | inr after ↦
@@ -189,7 +166,6 @@ eager-entered keep keep' k eager eager' number same at more e = rw more (by_head
     })
     by_head false h = rw (h, append-nil eager) (record {
       named = λ i d less. let named = e.named i d less in omega (arith, named, long);
-      rising = e.rising;
       aside = λ s less gone. elim (cases_lt s (length keep)) [
         | inl before ↦ idle_before s before ∙ e.aside s before gone
         | inr after ↦
@@ -204,15 +180,15 @@ rest-entered f keep keep' opens opens' cands cands' h r = record {
   passed = h.candidates ∙ ap (λ (xs : List ℕ). xs ++ (0 ∷ [])) r.passed ∙ sym (ap (map (λ k. 0)) h.keeps ∙ map-append (λ (k : Kept). 0) keep (h.kept ∷ []));
 }
 
-slots-push : (os : List (Option Form)) (xs : List Shape) (f : Form) (x : Shape) → AreSlots os xs → IsKeptAs f x → AreSlots (os ++ (Some f ∷ [])) (xs ++ (x ∷ []))
-slots-push [] [] f x a k = (k, tt)
-slots-push [] (y ∷ ys) f x a k = absurd (let e : true ≡ false = a in cc)
-slots-push (o ∷ os) [] f x a k = absurd (let e : true ≡ false = a in cc)
-slots-push (o ∷ os) (y ∷ ys) f x a k = (a.0, slots-push os ys f x a.1 k)
+pub slots-more : (os : List (Option Form)) (xs : List Shape) (p : Option Form) (x : Shape) → AreSlots os xs → IsSlot p x → AreSlots (os ++ (p ∷ [])) (xs ++ (x ∷ []))
+slots-more [] [] p x a k = (k, tt)
+slots-more [] (y ∷ ys) p x a k = absurd (let e : true ≡ false = a in cc)
+slots-more (o ∷ os) [] p x a k = absurd (let e : true ≡ false = a in cc)
+slots-more (o ∷ os) (y ∷ ys) p x a k = (a.0, slots-more os ys p x a.1 k)
 
 pub slots-entered : (os : List (Option Form)) (f : Form) (keep keep' : List Kept) (opens opens' cands cands' : List ℕ) → HasEntered f keep keep' opens opens' cands cands' → AreSlots os (shapes_of keep) → AreSlots (os ++ (Some f ∷ [])) (shapes_of keep')
 slots-entered os f keep keep' opens opens' cands cands' h a =
-    rw (h.keeps, map-append kept_shape keep (h.kept ∷ [])) (slots-push os (shapes_of keep) f (kept_shape h.kept) a h.is)
+    rw (h.keeps, map-append kept_shape keep (h.kept ∷ [])) (slots-more os (shapes_of keep) (Some f) (kept_shape h.kept) a h.is)
 
 pub slots-length : (os : List (Option Form)) (xs : List Shape) → AreSlots os xs → length xs ≡ length os
 slots-length [] [] a = refl
@@ -306,41 +282,18 @@ with-kept os g xs a =
       back = λ f w. k.back f (push-live os g f w);
     }
 
--- an empty form where one has left
-slots-set : (os : List (Option Form)) (xs : List Shape) (s : ℕ) (x : Shape) → IsSlot None x → AreSlots os xs → AreSlots (set os s None) (set xs s x)
-slots-set [] [] s x e a = a
-slots-set [] (y ∷ ys) s x e a = absurd (let f : true ≡ false = a in cc)
-slots-set (o ∷ os) [] s x e a = absurd (let f : true ≡ false = a in cc)
-slots-set (o ∷ os) (y ∷ ys) zero x e a = (e, a.1)
-slots-set (o ∷ os) (y ∷ ys) (suc s) x e a = (a.0, slots-set os ys s x e a.1)
+-- another form in a slot
+pub slots-set : (os : List (Option Form)) (xs : List Shape) (s : ℕ) (p : Option Form) (x : Shape) → IsSlot p x → AreSlots os xs → AreSlots (set os s p) (set xs s x)
+slots-set [] [] s p x e a = a
+slots-set [] (y ∷ ys) s p x e a = absurd (let f : true ≡ false = a in cc)
+slots-set (o ∷ os) [] s p x e a = absurd (let f : true ≡ false = a in cc)
+slots-set (o ∷ os) (y ∷ ys) zero p x e a = (e, a.1)
+slots-set (o ∷ os) (y ∷ ys) (suc s) p x e a = (a.0, slots-set os ys s p x e a.1)
 
-pub slots-vacated : (os : List (Option Form)) (keep keep' : List Kept) (s : ℕ) (k : Kept) → IsEmpty k → keep' ≡ set keep s k → AreSlots os (shapes_of keep) → AreSlots (set os s None) (shapes_of keep')
-slots-vacated os keep keep' s k e same a = rw (same, map-set kept_shape keep s k) (slots-set os (shapes_of keep) s (kept_shape k) (e.terms, e.degree) a)
-
-map-zero : (keep : List Kept) (s : ℕ) (k : Kept) → map {B = ℕ} (λ k. 0) (set keep s k) ≡ map (λ k. 0) keep
+pub map-zero : (keep : List Kept) (s : ℕ) (k : Kept) → map {B = ℕ} (λ k. 0) (set keep s k) ≡ map (λ k. 0) keep
 map-zero [] s k = refl
 map-zero (x ∷ xs) zero k = refl
 map-zero (x ∷ xs) (suc s) k = ap (λ ys. 0 ∷ ys) (map-zero xs s k)
-
-pub rest-vacated : (keep keep' : List Kept) (s : ℕ) (k : Kept) (opens opens' cands cands' : List ℕ) → s < length keep → IsEmpty k → keep' ≡ set keep s k → opens' ≡ set opens s 0 → cands' ≡ cands → AreAtRest keep opens cands → AreAtRest keep' opens' cands'
-rest-vacated keep keep' s k opens opens' cands cands' inside e same o c r = record {
-  opened = o ∙ ap (λ (xs : List ℕ). set xs s 0) r.opened ∙ sym (ap (map (λ x. x.total)) same ∙ map-set (λ (x : Kept). x.total) keep s k ∙ ap (set (map (λ (x : Kept). x.total) keep) s) e.total);
-  passed = c ∙ r.passed ∙ sym (ap (map (λ x. 0)) same ∙ map-zero keep s k);
-}
-
-waits-set : (keep : List Kept) (s t : ℕ) (k : Kept) → k.eager ≡ false → waits keep t ≡ false → waits (set keep s k) t ≡ false
-waits-set [] s t k e w = w
-waits-set (x ∷ xs) zero zero k e w = e
-waits-set (x ∷ xs) zero (suc t) k e w = w
-waits-set (x ∷ xs) (suc s) zero k e w = w
-waits-set (x ∷ xs) (suc s) (suc t) k e w = waits-set xs s t k e w
-
-pub eager-vacated : (keep keep' : List Kept) (s : ℕ) (k : Kept) (eager : List ℕ) → IsEmpty k → keep' ≡ set keep s k → IsEager keep eager → IsEager keep' eager
-eager-vacated keep keep' s k eager e same g = record {
-  named = λ i d h. let named = g.named i d h in omega (arith, named, ap length same, length-set keep s k);
-  rising = g.rising;
-  aside = λ t less gone. ap (λ (xs : List Kept). waits xs t) same ∙ waits-set keep s t k e.eager (g.aside t (omega (arith, less, ap length same, length-set keep s k)) gone);
-}
 
 pub opposite-inside : (es : List Entry) (n : ℕ) → All (λ e. e.variable < n) es → All (λ e. e.variable < n) (map opposite es)
 opposite-inside es n all k d h =
@@ -366,9 +319,6 @@ filter-twice p x = at (p x) refl
     at true e = rw (e, e) refl
     at false e = rw e refl
 
-pub first-count : (p : ℕ → Bool) (eager : List ℕ) (x : ℕ) → length (filter p (eager ++ filter p (x ∷ []))) ≡ length (filter p eager) + length (filter p (x ∷ []))
-first-count p eager x = ap length (filter-append p eager (filter p (x ∷ [])) ∙ ap (λ (ys : List ℕ). filter p eager ++ ys) (filter-twice p x)) ∙ length-append (filter p eager) (filter p (x ∷ []))
-
 pub rest-tidy-first : (keep : List Kept) (eager opens cands work trail : List ℕ) (number : ℕ) → number < length keep → work ≡ filter (waits keep) (number ∷ []) → trail ≡ filter (waits keep) (number ∷ []) → AreAtRest keep opens cands → IsEager keep (eager ++ filter (waits keep) (number ∷ [])) → IsTidy (filter (waits keep) eager) (shapes_of keep) opens cands [] work trail 0 (length keep)
 rest-tidy-first keep eager opens cands work trail number inside is noted rest e =
     let waiting = filter (waits keep) eager in
@@ -380,32 +330,3 @@ rest-tidy-first keep eager opens cands work trail number inside is noted rest e 
     let named = filter-all P (waits keep) (number ∷ []) (All-cons P number [] (omega (arith, inside, length-map keep kept_shape)) (All-nil P)) in
     let tidy = rest-tidy waiting (shapes_of keep) opens cands first (rest-undone keep opens cands rest) named (calm-but keep (waiting ++ first) whole) in
     rw (is, noted) (rw (length-map keep kept_shape) at tidy)
-
--- the first i numbers of a list were tried, and those that pass stand at its front
-pub record IsPruned (p : ℕ → Bool) (old new : List ℕ) (i kept : ℕ) : Type 0 where
-  pub front : take kept new ≡ filter p (take i old)
-  pub back : (j : ℕ) → i ≤ j → get_or new j 0 ≡ get_or old j 0
-  pub size : length new ≡ length old
-  pub less : kept ≤ i
-
-pub pruned-drop : (p : ℕ → Bool) (old new : List ℕ) (i kept x : ℕ) → i < length old → x ≡ get_or new i 0 → p x ≡ false → IsPruned p old new i kept → IsPruned p old new (i + 1) kept
-pruned-drop p old new i kept x inside is out r = record {
-  front =
-      let same : x ≡ get_or old i 0 = is ∙ r.back i (omega arith) in
-      let none : cond (p (get_or old i 0)) (get_or old i 0 ∷ []) [] ≡ [] = ap (λ b. cond b (get_or old i 0 ∷ []) []) (ap p (sym same) ∙ out) in
-      r.front ∙ sym (filter_more p old i 0 inside ∙ ap (λ (ys : List ℕ). filter p (take i old) ++ ys) none ∙ append-nil (filter p (take i old)));
-  back = λ j h. r.back j (omega (arith, h));
-  size = r.size;
-  less = omega (arith, r.less);
-}
-
-pub pruned-keep : (p : ℕ → Bool) (old new new' : List ℕ) (i kept x : ℕ) → i < length old → x ≡ get_or new i 0 → p x ≡ true → new' ≡ set new kept x → IsPruned p old new i kept → IsPruned p old new' (i + 1) (kept + 1)
-pruned-keep p old new new' i kept x inside is passes written r = rw written (record {
-  front =
-      let same : x ≡ get_or old i 0 = is ∙ r.back i (omega arith) in
-      let one : cond (p (get_or old i 0)) (get_or old i 0 ∷ []) [] ≡ x ∷ [] = ap (λ b. cond b (get_or old i 0 ∷ []) []) (ap p (sym same) ∙ passes) ∙ ap (λ y. y ∷ []) (sym same) in
-      take_more_set new kept x (omega (arith, inside, r.less, r.size)) ∙ ap (λ (ys : List ℕ). ys ++ (x ∷ [])) r.front ∙ sym (filter_more p old i 0 inside ∙ ap (λ (ys : List ℕ). filter p (take i old) ++ ys) one);
-  back = λ j h. get_or-set_other new kept j x 0 (λ e. absurd (omega (arith, e, h, r.less))) ∙ r.back j (omega (arith, h));
-  size = length-set new kept x ∙ r.size;
-  less = omega (arith, r.less);
-})

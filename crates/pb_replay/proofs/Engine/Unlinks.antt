@@ -15,7 +15,7 @@ use Rattle.pb_replay.proofs.Engine.Links.{Gains, linked-less, totals-back, term-
 use Rattle.pb_replay.proofs.Engine.Crosses.{to, to-parts, to-none, Same, crossed-drop, crossed-move}
 
 -- a list without one of its entries
-swap-other : (es : List Occurrence) (q k : ℕ) (d : Occurrence) → (k ≡ q → ⊥) → (k ≡ length es - 1 → ⊥) → slice_get (swap_remove es q d) k ≡ slice_get es k
+pub swap-other : {X : Type 0} (es : List X) (q k : ℕ) (d : X) → (k ≡ q → ⊥) → (k ≡ length es - 1 → ⊥) → slice_get (swap_remove es q d) k ≡ slice_get es k
 swap-other es q k d n m =
     elim (cases_lt k (length es - 1)) [
       | inl less ↦ get-take_less (set es q (get_or es (length es - 1) d)) (length es - 1) k less ∙ get-set_other es q k (get_or es (length es - 1) d) n
@@ -25,16 +25,16 @@ swap-other es q k d n m =
     beyond : (a b : ℕ) → b - 1 ≤ a → (a ≡ b - 1 → ⊥) → b ≤ a
     beyond a b h k = grind arith
 
-swap-last : (es : List Occurrence) (q : ℕ) (d : Occurrence) → slice_get (swap_remove es q d) (length es - 1) ≡ None
+pub swap-last : {X : Type 0} (es : List X) (q : ℕ) (d : X) → slice_get (swap_remove es q d) (length es - 1) ≡ None
 swap-last es q d = get-take_past (set es q (get_or es (length es - 1) d)) (length es - 1) (length es - 1) (omega arith)
 
-pub swap-here : (es : List Occurrence) (q : ℕ) (d e : Occurrence) → q + 1 < length es → slice_get es (length es - 1) ≡ Some e → slice_get (swap_remove es q d) q ≡ Some e
+pub swap-here : {X : Type 0} (es : List X) (q : ℕ) (d e : X) → q + 1 < length es → slice_get es (length es - 1) ≡ Some e → slice_get (swap_remove es q d) q ≡ Some e
 swap-here es q d e more is =
     get-take_less (set es q (get_or es (length es - 1) d)) (length es - 1) q (omega (arith, more))
     ∙ get-set_same es q (get_or es (length es - 1) d) (omega (arith, more))
     ∙ ap (λ x. Some x) (get_or_from_slice_get es (length es - 1) e d is)
 
-pub swap-length : (es : List Occurrence) (q : ℕ) (d : Occurrence) → q < length es → length (swap_remove es q d) + 1 ≡ length es
+pub swap-length : {X : Type 0} (es : List X) (q : ℕ) (d : X) → q < length es → length (swap_remove es q d) + 1 ≡ length es
 swap-length es q d inside =
     let put = length-set es q (get_or es (length es - 1) d) in
     let rest = length-take-le (length es - 1) (set es q (get_or es (length es - 1) d)) (omega (arith, put)) in

@@ -1,5 +1,5 @@
 -- The engine's fields as lists.
-use Rattle.std.specs.Prelude.{◌≡◌, ℕ, false, [], ◌∷◌, ◌++◌, List, map, Vec}
+use Rattle.std.specs.Prelude.{◌≡◌, ℕ, false, [], ◌∷◌, ◌++◌, List, map, slice_set, Vec}
 use Rattle.std.specs.Global.{Global}
 use Rattle.pb_replay.specs.declared.propagate.term.Occurrence.{Occurrence}
 use Rattle.pb_replay.specs.declared.propagate.kept.Kept.{Kept}
@@ -32,6 +32,13 @@ pub record HasEntered (f : Form) (keep keep' : List Kept) (opens opens' cands ca
   pub keeps : keep' ≡ keep ++ (kept ∷ [])
   pub opened : opens' ≡ opens ++ (kept.total ∷ [])
   pub candidates : cands' ≡ cands ++ (0 ∷ [])
+
+-- a form stands where an empty one stood, with its open sum as at rest
+pub record HasFilled (f : Form) (slot : ℕ) (keep keep' : List Kept) (opens opens' : List ℕ) : Type 0 where
+  pub kept : Kept
+  pub is : IsKeptAs f (kept_shape kept)
+  pub keeps : keep' ≡ slice_set keep slot kept
+  pub opened : opens' ≡ slice_set opens slot kept.total
 
 -- a form that says nothing
 pub record IsEmpty (k : Kept) : Type 0 where

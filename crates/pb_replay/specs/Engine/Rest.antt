@@ -1,9 +1,10 @@
 -- The engine between two calls.
-use Rattle.std.specs.Prelude.{◌≡◌, ℕ, ◌+◌, ◌<◌, ◌≤◌, List, [], ◌∷◌, map, length, All, Contains, Option, Some, None, Bool, slice_get, true, false}
+use Rattle.std.specs.Prelude.{◌≡◌, ℕ, ◌<◌, ◌≤◌, List, [], ◌∷◌, map, length, sum_by, All, Contains, Option, Some, None, Bool, slice_get, true, false, if◌then◌else◌}
 use Rattle.pb_normal.specs.Form.{Form}
 use Rattle.pb_replay.specs.declared.propagate.kept.Kept.{Kept}
 use Rattle.pb_replay.specs.declared.propagate.store.Store.{Store}
 use Rattle.pb_replay.specs.declared.propagate.run.Run.{Run}
+use Rattle.pb_replay.specs.declared.propagate.eager.Eager.{Eager}
 use Rattle.pb_replay.specs.Engine.Forms.{IsKeptAs}
 use Rattle.pb_replay.specs.declared.numbered.NumberedLiteral.{NumberedLiteral}
 use Rattle.pb_replay.specs.Engine.Lists.{Shape, negation, has, IsWithin, Derives, Conflicts, IsSettled}
@@ -21,11 +22,6 @@ AreSlots [] (x ∷ xs) = true ≡ false
 AreSlots (o ∷ os) [] = true ≡ false
 AreSlots (o ∷ os) (x ∷ xs) = IsSlot o x × AreSlots os xs
 
--- the numbers rise, from one on
-abbrev pub AreRising : ℕ → List ℕ → Type 0
-AreRising n [] = Unit {0}
-AreRising n (s ∷ ss) = (n ≤ s) × AreRising (s + 1) ss
-
 -- whether the form of a number may put a literal on the empty list
 abbrev pub kept_waits : Option Kept → Bool
 kept_waits None = false
@@ -34,10 +30,17 @@ kept_waits (Some k) = k.eager
 abbrev pub waits : List Kept → ℕ → Bool
 waits keep s = kept_waits (slice_get keep s)
 
+-- one where a form may put a literal on the empty list
+abbrev pub eager_one : Kept → ℕ
+eager_one k = if k.eager then 1 else 0
+
+-- each form on the list may put a literal on the empty list
+abbrev pub AllWait : List Kept → List ℕ → Type 0
+AllWait keep list = (i s : ℕ) → slice_get list i ≡ Some s → waits keep s ≡ true
+
 -- each form that may put a literal on the empty list stands on the list
 pub record IsEager (keep : List Kept) (eager : List ℕ) : Type 0 where
   pub named : All (λ s. s < length keep) eager
-  pub rising : AreRising 0 eager
   pub aside : (s : ℕ) → s < length keep → IsAbsent eager 0 s → waits keep s ≡ false
 
 -- the open sums and candidates are those of the empty list
@@ -45,7 +48,7 @@ pub record AreAtRest (keep : List Kept) (opens cands : List ℕ) : Type 0 where
   pub opened : opens ≡ map (λ k. k.total) keep
   pub passed : cands ≡ map (λ k. 0) keep
 
-pub record IsAtRest (store : Store) (run : Run) (waiting : List ℕ) (forms : List (Option Form)) : Type 0 where
+pub record IsAtRest (store : Store) (run : Run) (waiting : Eager) (forms : List (Option Form)) : Type 0 where
   pub sound : IsSound store
   pub slots : AreSlots forms (shapes_of store.kept.items)
   pub rest : AreAtRest store.kept.items run.opens.items run.candidates.items
@@ -54,7 +57,10 @@ pub record IsAtRest (store : Store) (run : Run) (waiting : List ℕ) (forms : Li
   pub work : run.work.items ≡ []
   pub trail : run.trail.items ≡ []
   pub next : run.next ≡ 0
-  pub eager : IsEager store.kept.items waiting
+  pub eager : IsEager store.kept.items waiting.list.items
+  pub exact : AllWait store.kept.items waiting.list.items
+  pub few : length waiting.list.items ≤ sum_by eager_one store.kept.items
+  pub seats : length waiting.seats.items ≡ length store.kept.items
 
 -- a derivation from the literals that are given, whatever their order
 pub record IsDerived (shapes : List Shape) (given list : List NumberedLiteral) : Type 0 where

@@ -14,8 +14,10 @@ ghost use Rattle.pb_replay.specs.Engine.Rest.{AreAtRest, waits, IsRefuted, IsEnd
 
 use crate::numbered::NumberedLiteral;
 use crate::propagate::assignment::Assignment;
-use crate::propagate::links::{enter, leave, vacate};
+use crate::propagate::eager::Eager;
+use crate::propagate::links::{enter, leave};
 use crate::propagate::run::{Run, choose, propagate, try_put, undo_forms};
+use crate::propagate::slots::{occupy, quit, vacancy};
 use crate::propagate::store::Store;
 use pb_normal::{Normal, NormalFault};
 use std::alloc::{AllocError, Global};
@@ -26,9 +28,13 @@ use std::marker::Model;
 pub struct Engine {
     store: Store,
     run: Run,
-    // The forms that may put a literal on the empty list, in order, and perhaps some that have left.
-    eager: Vec<usize>,
+    eager: Eager,
+    // The forms by slot. A slot that a form has left is used again.
     forms: Vec<Option<Normal>>,
+    // For each number the slot of its form, and no slot where it has left.
+    places: Vec<usize>,
+    // The slots that forms have left.
+    free: Vec<usize>,
     // Set while a call runs: memory was refused in the middle of one.
     spent: bool,
 }
@@ -40,36 +46,11 @@ impl Model for Engine {
 
     ghost use Rattle.std.specs.Prelude.{◌≡◌, false};
     ghost use Rattle.pb_replay.specs.Engine.Rest.{IsAtRest};
+    ghost use Rattle.pb_replay.specs.Engine.Slots.{numbered, ArePlaced};
 
-    ghost view = { λ e. record { forms = e.forms.items; variables = e.store.variables; visits = e.run.visits; spent = e.spent } };
+    ghost view = { λ e. record { forms = numbered e.forms.items e.places.items; variables = e.store.variables; visits = e.run.visits; spent = e.spent } };
 
-    ghost invariant = { λ e. e.spent ≡ false → IsAtRest e.store e.run e.eager.items e.forms.items };
-}
-
-// Whether a number is that of a form that may put a literal on the empty list.
-fn is_waiting(store: &Store, form: usize) -> bool
-    ensures { result ≡ waits store.now.kept.items form }
-{
-    match store.kept.get(form) {
-        Some(kept) => kept.eager,
-        None => false,
-    }
-}
-
-// Keeps of the forms in a list those that may put a literal on the empty list.
-fn prune(store: &Store, eager: &mut Vec<usize>)
-    ensures { eager.new.items ≡ filter (waits store.now.kept.items) eager.old.items }
-{
-    let mut kept = 0;
-    'forms: for i in 0..eager.len() {
-        let form = eager[i];
-        if !is_waiting(store, form) {
-            continue;
-        }
-        eager[kept] = form;
-        kept += 1;
-    }
-    eager.truncate(kept);
+    ghost invariant = { λ e. e.spent ≡ false → IsAtRest e.store e.run e.eager e.forms.items × ArePlaced e.forms.items e.places.items };
 }
 
 // Puts the given literals on the list; whether two of them are opposite.
@@ -176,8 +157,10 @@ impl Engine {
                 trail: Vec::new(alloc),
                 visits: 0,
             },
-            eager: Vec::new(alloc),
+            eager: Eager::new(alloc),
             forms: Vec::new(alloc),
+            places: Vec::new(alloc),
+            free: Vec::new(alloc),
             spent: false,
         }
     }
@@ -211,10 +194,22 @@ impl Engine {
         ensures ready { OnOk result (self.new.spent ≡ false) }
     {
         self.spent = true;
-        let number = self.forms.len();
-        enter(&mut self.store, &mut self.run, &form)?;
-        choose(&self.store, number, &mut self.eager)?;
-        self.forms.push(Some(form))?;
+        let slot = vacancy(
+            &mut self.store,
+            &mut self.run,
+            &mut self.eager,
+            &mut self.forms,
+            &mut self.free,
+        )?;
+        occupy(
+            &mut self.store,
+            &mut self.run,
+            &mut self.eager,
+            &mut self.forms,
+            slot,
+            form,
+        )?;
+        self.places.push(slot)?;
         self.spent = false;
         Ok(())
     }
@@ -228,8 +223,19 @@ impl Engine {
         ensures visits { self.new.visits ≡ self.old.visits }
         ensures ready { self.new.spent ≡ false }
     {
-        vacate(&mut self.store, &mut self.run, number);
-        self.forms[number] = None;
+        let slot = self.places[number];
+        if slot >= self.forms.len() {
+            return;
+        }
+        self.places[number] = usize::MAX;
+        quit(
+            &mut self.store,
+            &mut self.run,
+            &mut self.eager,
+            &mut self.forms,
+            slot,
+        );
+        let _noted = self.free.push(slot);
     }
 
     /// The form of a number.
@@ -238,14 +244,17 @@ impl Engine {
         ensures some { IfSome result (λ f. slice_index_or self.now.forms number None ≡ Some f.now) }
         ensures none { IfNone result (slice_index_or self.now.forms number None ≡ None) }
     {
-        self.forms[number].as_ref()
+        match self.forms.get(self.places[number]) {
+            Some(form) => form.as_ref(),
+            None => None,
+        }
     }
 
     /// How many numbers were given.
     pub fn len(&self) -> usize
         ensures { result ≡ length self.now.forms }
     {
-        self.forms.len()
+        self.places.len()
     }
 
     /// How often the last `rup` looked at a term or an entry of one.
@@ -283,14 +292,13 @@ impl Engine {
         enter(&mut self.store, &mut self.run, &negation)?;
         choose(&self.store, number, &mut self.run.trail)?;
         choose(&self.store, number, &mut self.run.work)?;
-        let found = propagate(&self.store, &mut self.run, self.eager.as_slice())?;
+        let found = propagate(&self.store, &mut self.run, self.eager.list.as_slice())?;
         rest(&self.store, &mut self.run);
         leave(&mut self.store, &mut self.run);
         self.spent = false;
         if found {
             return Ok(true);
         }
-        prune(&self.store, &mut self.eager);
         Ok(false)
     }
 
@@ -313,8 +321,12 @@ impl Engine {
     {
         let visits = self.run.visits;
         self.spent = true;
-        prune(&self.store, &mut self.eager);
-        let found = settle(&self.store, &mut self.run, given, self.eager.as_slice())?;
+        let found = settle(
+            &self.store,
+            &mut self.run,
+            given,
+            self.eager.list.as_slice(),
+        )?;
         let mut values = Vec::new(*self.forms.allocator());
         values.extend_from_slice(self.run.assignment.values.as_slice())?;
         rest(&self.store, &mut self.run);

@@ -6,7 +6,7 @@ ghost use Rattle.pb_replay.specs.declared.propagate.kept.Kept.{Kept};
 ghost use Rattle.pb_replay.specs.Engine.Lists.{Shape, AreInside};
 ghost use Rattle.pb_replay.specs.Engine.Counts.{AreFalling, IsCalm, place};
 ghost use Rattle.pb_replay.specs.Engine.Forms.{entry_of, IsKeptAs};
-ghost use Rattle.pb_replay.specs.Engine.Fields.{kept_shape, shapes_of, spots_of, entries_of, IsSound, HasEntered, IsEmpty};
+ghost use Rattle.pb_replay.specs.Engine.Fields.{kept_shape, shapes_of, spots_of, entries_of, IsSound, HasEntered, HasFilled, IsEmpty};
 ghost use Rattle.pb_replay.specs.Engine.Links.{IsLinked, Moved, cut, terms_at};
 
 use crate::numbered::NumberedLiteral;
@@ -98,7 +98,7 @@ fn link(
     requires empty { spots.old.items ≡ [] }
     ensures sizes { length lists.new.items ≡ length lists.old.items }
     ensures count { OnOk result (length spots.new.items ≡ length terms.now) }
-    ensures linked { OnOk result ((base : List Shape) (others : List (List ℕ)) → form < length base → terms_at base form ≡ terms.now → length others ≡ form → IsLinked (cut base form 0) (others ++ [] ∷ []) (entries_of lists.old.items) → IsLinked (cut base form (length terms.now)) (others ++ spots.new.items ∷ []) (entries_of lists.new.items)) }
+    ensures linked { OnOk result ((base : List Shape) (all : List (List ℕ)) → form < length base → terms_at base form ≡ terms.now → form < length all → IsLinked (cut base form 0) (slice_set all form []) (entries_of lists.old.items) → IsLinked (cut base form (length terms.now)) (slice_set all form spots.new.items) (entries_of lists.new.items)) }
 {
     'terms: for i in 0..terms.len() {
         let term = terms[i];
@@ -156,30 +156,80 @@ fn unlink(store: &mut Store, form: usize)
     }
 }
 
+// A form that says nothing.
+fn empty_kept(alloc: Global) -> Kept
+    ensures { IsEmpty result }
+{
+    Kept {
+        terms: Vec::new(alloc),
+        degree: 0,
+        total: 0,
+        bound: 0,
+        eager: false,
+    }
+}
+
+/// An empty form behind the others.
+pub fn widen(store: &mut Store, run: &mut Run) -> Result<(), AllocError>
+    requires sound { IsSound store.old }
+    ensures sound { OnOk result (IsSound store.new) }
+    ensures kept { OnOk result ((k : Kept) × IsEmpty k × (store.new.kept.items ≡ store.old.kept.items ++ k ∷ [])) }
+    ensures opens { OnOk result (run.new.opens.items ≡ run.old.opens.items ++ 0 ∷ []) }
+    ensures candidates { OnOk result (run.new.candidates.items ≡ run.old.candidates.items ++ 0 ∷ []) }
+    ensures variables { store.new.variables ≡ store.old.variables }
+    ensures trail { run.new.trail ≡ run.old.trail }
+    ensures rest { (run.new.assignment ≡ run.old.assignment) × (run.new.work ≡ run.old.work) × (run.new.next ≡ run.old.next) × (run.new.visits ≡ run.old.visits) }
+{
+    let alloc = *store.kept.allocator();
+    run.opens.push(0)?;
+    run.candidates.push(0)?;
+    store.spots.push(Vec::new(alloc))?;
+    store.kept.push(empty_kept(alloc))?;
+    Ok(())
+}
+
+/// Enters a form where an empty one stands.
+pub fn fill(store: &mut Store, run: &mut Run, slot: usize, form: &Normal) -> Result<(), AllocError>
+    requires sound { IsSound store.old }
+    requires inside { All (λ t. t.variable < store.old.variables) form.now.terms }
+    requires slot { slot < length store.old.kept.items }
+    requires empty { terms_at (shapes_of store.old.kept.items) slot ≡ [] }
+    requires opens { length run.old.opens.items ≡ length store.old.kept.items }
+    ensures sound { OnOk result (IsSound store.new) }
+    ensures filled { OnOk result (HasFilled form.now slot store.old.kept.items store.new.kept.items run.old.opens.items run.new.opens.items) }
+    ensures variables { store.new.variables ≡ store.old.variables }
+    ensures trail { run.new.trail ≡ run.old.trail }
+    ensures rest { (run.new.candidates ≡ run.old.candidates) × (run.new.assignment ≡ run.old.assignment) × (run.new.work ≡ run.old.work) × (run.new.next ≡ run.old.next) × (run.new.visits ≡ run.old.visits) }
+{
+    let alloc = *store.kept.allocator();
+    let kept = kept_of(alloc, form)?;
+    let mut spots = Vec::with_capacity(alloc, kept.terms.len())?;
+    link(
+        kept.terms.as_slice(),
+        slot,
+        &mut store.occurrences,
+        &mut spots,
+    )?;
+    run.opens[slot] = kept.total;
+    store.spots[slot] = spots;
+    store.kept[slot] = kept;
+    Ok(())
+}
+
 /// Enters a form behind the others.
 pub fn enter(store: &mut Store, run: &mut Run, form: &Normal) -> Result<(), AllocError>
     requires sound { IsSound store.old }
     requires inside { All (λ t. t.variable < store.old.variables) form.now.terms }
+    requires opens { length run.old.opens.items ≡ length store.old.kept.items }
     ensures sound { OnOk result (IsSound store.new) }
     ensures entered { OnOk result (HasEntered form.now store.old.kept.items store.new.kept.items run.old.opens.items run.new.opens.items run.old.candidates.items run.new.candidates.items) }
     ensures variables { store.new.variables ≡ store.old.variables }
     ensures trail { run.new.trail ≡ run.old.trail }
     ensures rest { (run.new.assignment ≡ run.old.assignment) × (run.new.work ≡ run.old.work) × (run.new.next ≡ run.old.next) × (run.new.visits ≡ run.old.visits) }
 {
-    let alloc = *store.kept.allocator();
-    let kept = kept_of(alloc, form)?;
-    let number = store.kept.len();
-    let mut spots = Vec::with_capacity(alloc, kept.terms.len())?;
-    link(
-        kept.terms.as_slice(),
-        number,
-        &mut store.occurrences,
-        &mut spots,
-    )?;
-    run.opens.push(kept.total)?;
-    run.candidates.push(0)?;
-    store.spots.push(spots)?;
-    store.kept.push(kept)?;
+    let slot = store.kept.len();
+    widen(store, run)?;
+    fill(store, run, slot, form)?;
     Ok(())
 }
 
@@ -201,19 +251,6 @@ pub fn leave(store: &mut Store, run: &mut Run)
     store.spots.pop();
     run.opens.pop();
     run.candidates.pop();
-}
-
-// A form that says nothing.
-fn empty_kept(alloc: Global) -> Kept
-    ensures { IsEmpty result }
-{
-    Kept {
-        terms: Vec::new(alloc),
-        degree: 0,
-        total: 0,
-        bound: 0,
-        eager: false,
-    }
 }
 
 /// Takes a form away. An empty one stands in its place.

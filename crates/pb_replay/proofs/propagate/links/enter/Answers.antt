@@ -1,31 +1,37 @@
-use Rattle.std.proofs.Common.{get_or, arith}
-use Rattle.pb_replay.proofs.Engine.Places.{entries-length}
-use Rattle.pb_replay.proofs.Engine.Puts.{place-inside}
-use Rattle.pb_replay.proofs.Engine.Storages.{kept-inside}
-use Rattle.pb_replay.proofs.Engine.Changes.{entered-stored}
+use Rattle.std.proofs.Common.{Vec, Global, ℕ, ◌≡◌, ◌∷◌, [], sym, ◌∙◌, ap, arith, length, length-append}
+use Rattle.pb_replay.proofs.Engine.Changes.{set-end, empty-end}
 use Rattle.pb_replay.proofs.propagate.links.enter.Goals as goal
 
-pub link-requires-clause-inside : goal.link-requires-clause-inside
-link-requires-clause-inside c = λ k d h.
-    let store = c.args.store.now in
-    let all = kept-inside c.in_ok-kept.kept.terms.items c.args.form.now.terms store.variables c.in_ok-kept.ensures.terms c.requires.inside in
-    let variable = rw (← c.as_slice.ensures.value) at all in
-    omega (arith, place-inside (get_or c.as_slice.result.now k d).literal store.variables (variable k d h), c.requires.sound.places, entries-length store.occurrences.items)
+pub fill-requires-clause-slot : goal.fill-requires-clause-slot
+fill-requires-clause-slot c =
+    let keep = c.args.store.now.kept.items in
+    let k = c.in_ok-widen.ensures.kept in
+    omega (arith, c.len-slot.ensures, c.args.store.now.kept.ok.0, ap length k.2, length-append keep (k.0 ∷ []))
 
-pub returns-clause-sound : goal.returns-clause-sound
-returns-clause-sound c =
-    let store = c.args.store.now in
-    let k = c.in_ok-kept.kept in
-    rw (c.in_ok-push-4.ensures.items, c.in_ok-push-3.ensures.items)
-    (entered-stored store.kept.items k store.spots.items c.link.new.spots store.occurrences.items c.link.new.lists.items store.variables c.len-number.result c.as_slice.result.now
-    (omega (arith, c.len-number.ensures, store.kept.ok.0)) c.as_slice.ensures.value c.in_ok-link.ensures.sizes c.in_ok-link.ensures.count
-    (kept-inside k.terms.items c.args.form.now.terms store.variables c.in_ok-kept.ensures.terms c.requires.inside) c.in_ok-link.ensures.linked c.requires.sound)
+pub fill-requires-clause-empty : goal.fill-requires-clause-empty
+fill-requires-clause-empty c =
+    let keep = c.args.store.now.kept.items in
+    let k = c.in_ok-widen.ensures.kept in
+    empty-end keep c.widen.new.store.kept.items k.0 c.len-slot.result k.2 (omega (arith, c.len-slot.ensures, c.args.store.now.kept.ok.0)) k.1.terms
+
+pub fill-requires-clause-opens : goal.fill-requires-clause-opens
+fill-requires-clause-opens c =
+    let keep = c.args.store.now.kept.items in
+    let opens = c.args.run.now.opens.items in
+    let k = c.in_ok-widen.ensures.kept in
+    omega (arith, c.requires.opens, ap length k.2, length-append keep (k.0 ∷ []), ap length c.in_ok-widen.ensures.opens, length-append opens (0 ∷ []))
 
 pub returns-clause-entered : goal.returns-clause-entered
-returns-clause-entered c = record {
-  kept = c.in_ok-kept.kept;
-  is = c.in_ok-kept.ensures;
-  keeps = c.in_ok-push-4.ensures.items;
-  opened = c.in_ok-push.ensures.items;
-  candidates = c.in_ok-push-2.ensures.items;
-}
+returns-clause-entered c =
+    let store = c.args.store.now in
+    let run = c.args.run.now in
+    let k = c.in_ok-widen.ensures.kept in
+    let h = c.in_ok-fill.ensures.filled in
+    let slot : c.len-slot.result ≡ length store.kept.items = omega (arith, c.len-slot.ensures, store.kept.ok.0) in
+    record {
+      kept = h.kept;
+      is = h.is;
+      keeps = h.keeps ∙ set-end store.kept.items c.widen.new.store.kept.items c.len-slot.result k.0 h.kept k.2 slot;
+      opened = h.opened ∙ set-end run.opens.items c.widen.new.run.opens.items c.len-slot.result 0 h.kept.total c.in_ok-widen.ensures.opens (slot ∙ sym c.requires.opens);
+      candidates = ap (λ (v : Vec ℕ Global). v.items) c.fill.ensures.rest.0 ∙ c.in_ok-widen.ensures.candidates;
+    }

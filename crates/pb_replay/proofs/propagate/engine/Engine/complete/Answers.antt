@@ -2,86 +2,99 @@ use Rattle.std.proofs.Common.{◌++◌, ◌∙◌, ap}
 use Rattle.pb_replay.specs.Engine.Live.{Standing, Live}
 use Rattle.pb_replay.specs.Engine.Fields.{shapes_of}
 use Rattle.pb_replay.proofs.Engine.Rested.{rest-counted}
-use Rattle.pb_replay.proofs.Engine.Rests.{rest-undone, rest-tidy-all, eager-filter, slots-kept}
+use Rattle.pb_replay.proofs.Engine.Rests.{rest-undone, rest-tidy-all, slots-kept}
+use Rattle.pb_replay.specs.Engine.Slots.{numbered}
+use Rattle.pb_replay.proofs.Engine.Placed.{placed-kept}
 use Rattle.pb_replay.proofs.Engine.Assumed.{refuted-meets, ended-free, ended-completion}
 use Rattle.pb_replay.proofs.propagate.engine.Engine.complete.Goals as goal
 
 pub settle-requires-clause-counted : goal.settle-requires-clause-counted
 settle-requires-clause-counted c =
     let e = c.self.inside in
-    let r = c.self.invariant (ap (λ (v : Standing). v.spent) c.self.view_is ∙ c.requires.ready) in
+    let both = c.self.invariant (ap (λ (v : Standing). v.spent) c.self.view_is ∙ c.requires.ready) in
+    let r = both.0 in
     rw r.list (rest-counted (shapes_of e.store.kept.items) e.run.opens.items e.run.candidates.items (rest-undone e.store.kept.items e.run.opens.items e.run.candidates.items r.rest))
 
 pub settle-requires-clause-tidy : goal.settle-requires-clause-tidy
 settle-requires-clause-tidy c =
     let e = c.self.inside in
-    let r = c.self.invariant (ap (λ (v : Standing). v.spent) c.self.view_is ∙ c.requires.ready) in
+    let both = c.self.invariant (ap (λ (v : Standing). v.spent) c.self.view_is ∙ c.requires.ready) in
+    let r = both.0 in
     let keep = e.store.kept.items in
-    let eager = rw (← c.prune.ensures) at (eager-filter keep e.eager.items r.eager) in
-    let tidy = rest-tidy-all keep c.prune.new.eager.items e.run.opens.items e.run.candidates.items r.rest eager in
+    let tidy = rest-tidy-all keep e.eager.list.items e.run.opens.items e.run.candidates.items r.rest r.eager in
     rw (c.as_slice.ensures.value, r.list, r.work, r.trail, r.next) tidy
 
 pub settle-requires-clause-waiting : goal.settle-requires-clause-waiting
 settle-requires-clause-waiting c =
-    let e = c.self.inside in
-    let r = c.self.invariant (ap (λ (v : Standing). v.spent) c.self.view_is ∙ c.requires.ready) in
-    let keep = e.store.kept.items in
-    let eager = rw (← c.prune.ensures) at (eager-filter keep e.eager.items r.eager) in
-    rw c.as_slice.ensures.value eager.named
+    let both = c.self.invariant (ap (λ (v : Standing). v.spent) c.self.view_is ∙ c.requires.ready) in
+    rw c.as_slice.ensures.value both.0.eager.named
 
 pub invariant_of-self-then-found : goal.invariant_of-self-then-found
 invariant_of-self-then-found c = λ ready.
     let e = c.self.inside in
-    let r = c.self.invariant (ap (λ (v : Standing). v.spent) c.self.view_is ∙ c.requires.ready) in
-    let keep = e.store.kept.items in
-    record {
-      sound = r.sound;
-      slots = r.slots;
-      rest = c.rest.ensures.rest;
-      values = c.rest.ensures.values ∙ c.in_ok-found.ensures.values ∙ r.values;
-      list = c.rest.ensures.list;
-      work = c.rest.ensures.work;
-      trail = c.rest.ensures.trail;
-      next = c.rest.ensures.next;
-      eager = rw (← c.prune.ensures) at (eager-filter keep e.eager.items r.eager);
-    }
+    let both = c.self.invariant (ap (λ (v : Standing). v.spent) c.self.view_is ∙ c.requires.ready) in
+    let r = both.0 in (
+      record {
+        sound = r.sound;
+        slots = r.slots;
+        rest = c.rest.ensures.rest;
+        values = c.rest.ensures.values ∙ c.in_ok-found.ensures.values ∙ r.values;
+        list = c.rest.ensures.list;
+        work = c.rest.ensures.work;
+        trail = c.rest.ensures.trail;
+        next = c.rest.ensures.next;
+        eager = r.eager;
+        exact = r.exact;
+        few = r.few;
+        seats = r.seats;
+      },
+      both.1,
+    )
 
 pub returns-then-found-clause-conflict : goal.returns-then-found-clause-conflict
 returns-then-found-clause-conflict c =
     let e = c.self.inside in
-    let r = c.self.invariant (ap (λ (v : Standing). v.spent) c.self.view_is ∙ c.requires.ready) in
+    let both = c.self.invariant (ap (λ (v : Standing). v.spent) c.self.view_is ∙ c.requires.ready) in
+    let r = both.0 in
     let shapes = shapes_of e.store.kept.items in
-    rw (← c.self.view_is) (refuted-meets (Live e.forms.items) shapes c.args.given.now c.settle.new.run.assignment.list.items (slots-kept e.forms.items shapes r.slots) (c.in_ok-found.ensures.refuted c.if-found.true))
+    rw (← c.self.view_is) (refuted-meets (Live (numbered e.forms.items e.places.items)) shapes c.args.given.now c.settle.new.run.assignment.list.items (placed-kept e.forms.items e.places.items shapes both.1 (slots-kept e.forms.items shapes r.slots)) (c.in_ok-found.ensures.refuted c.if-found.true))
 
 pub invariant_of-self-2 : goal.invariant_of-self-2
 invariant_of-self-2 c = λ ready.
     let e = c.self.inside in
-    let r = c.self.invariant (ap (λ (v : Standing). v.spent) c.self.view_is ∙ c.requires.ready) in
-    let keep = e.store.kept.items in
-    record {
-      sound = r.sound;
-      slots = r.slots;
-      rest = c.rest.ensures.rest;
-      values = c.rest.ensures.values ∙ c.in_ok-found.ensures.values ∙ r.values;
-      list = c.rest.ensures.list;
-      work = c.rest.ensures.work;
-      trail = c.rest.ensures.trail;
-      next = c.rest.ensures.next;
-      eager = rw (← c.prune.ensures) at (eager-filter keep e.eager.items r.eager);
-    }
+    let both = c.self.invariant (ap (λ (v : Standing). v.spent) c.self.view_is ∙ c.requires.ready) in
+    let r = both.0 in (
+      record {
+        sound = r.sound;
+        slots = r.slots;
+        rest = c.rest.ensures.rest;
+        values = c.rest.ensures.values ∙ c.in_ok-found.ensures.values ∙ r.values;
+        list = c.rest.ensures.list;
+        work = c.rest.ensures.work;
+        trail = c.rest.ensures.trail;
+        next = c.rest.ensures.next;
+        eager = r.eager;
+        exact = r.exact;
+        few = r.few;
+        seats = r.seats;
+      },
+      both.1,
+    )
 
 pub returns-clause-no_conflict : goal.returns-clause-no_conflict
 returns-clause-no_conflict c =
     let e = c.self.inside in
-    let r = c.self.invariant (ap (λ (v : Standing). v.spent) c.self.view_is ∙ c.requires.ready) in
+    let both = c.self.invariant (ap (λ (v : Standing). v.spent) c.self.view_is ∙ c.requires.ready) in
+    let r = both.0 in
     let shapes = shapes_of e.store.kept.items in
     let done = c.settle.new.run.assignment in
-    rw (← c.self.view_is) (ended-free (Live e.forms.items) shapes c.args.given.now done.list.items done.values.items (slots-kept e.forms.items shapes r.slots) done.agrees (c.in_ok-found.ensures.ended c.if-found.false))
+    rw (← c.self.view_is) (ended-free (Live (numbered e.forms.items e.places.items)) shapes c.args.given.now done.list.items done.values.items (placed-kept e.forms.items e.places.items shapes both.1 (slots-kept e.forms.items shapes r.slots)) done.agrees (c.in_ok-found.ensures.ended c.if-found.false))
 
 pub returns-clause-completed : goal.returns-clause-completed
 returns-clause-completed c =
     let e = c.self.inside in
-    let r = c.self.invariant (ap (λ (v : Standing). v.spent) c.self.view_is ∙ c.requires.ready) in
+    let both = c.self.invariant (ap (λ (v : Standing). v.spent) c.self.view_is ∙ c.requires.ready) in
+    let r = both.0 in
     let shapes = shapes_of e.store.kept.items in
     let done = c.settle.new.run.assignment in
-    rw (← c.self.view_is) (ended-completion (Live e.forms.items) shapes c.args.given.now done.list.items done.values.items _ (slots-kept e.forms.items shapes r.slots) done.agrees (c.in_ok-extend_from_slice.ensures.items ∙ ap (λ xs. xs ++ c.as_slice-2.result.now) c.new-values.ensures.items ∙ c.as_slice-2.ensures.value) (c.in_ok-found.ensures.ended c.if-found.false))
+    rw (← c.self.view_is) (ended-completion (Live (numbered e.forms.items e.places.items)) shapes c.args.given.now done.list.items done.values.items _ (placed-kept e.forms.items e.places.items shapes both.1 (slots-kept e.forms.items shapes r.slots)) done.agrees (c.in_ok-extend_from_slice.ensures.items ∙ ap (λ xs. xs ++ c.as_slice-2.result.now) c.new-values.ensures.items ∙ c.as_slice-2.ensures.value) (c.in_ok-found.ensures.ended c.if-found.false))

@@ -1,36 +1,32 @@
-use Rattle.std.proofs.Common.{Vec, Global, ℕ, ◌≡◌, ◌<◌, sym, ◌∙◌, ap, length, arith}
-use Rattle.std.proofs.lemmas.List.{length-map}
-use Rattle.pb_replay.specs.declared.propagate.assignment.Assignment.{Assignment}
+use Rattle.std.specs.Prelude.{None}
+use Rattle.std.proofs.Common.{◌<◌, sym, ◌∙◌, ap, length, set, arith}
 use Rattle.pb_replay.specs.Engine.Live.{Standing}
-use Rattle.pb_replay.specs.Engine.Fields.{shapes_of, kept_shape}
-use Rattle.pb_replay.proofs.Engine.Rests.{slots-length, slots-vacated, rest-vacated, eager-vacated}
+use Rattle.pb_replay.proofs.Engine.Placed.{numbered-length, numbered-none, numbered-left, placed-left, taken-by}
 use Rattle.pb_replay.proofs.propagate.engine.Engine.remove.Goals as goal
 
-pub vacate-requires-clause-form : goal.vacate-requires-clause-form
-vacate-requires-clause-form c =
-    let e = c.self.inside in
+pub quit-requires-clause-rest : goal.quit-requires-clause-rest
+quit-requires-clause-rest c =
     let r = c.self.invariant (ap (λ (v : Standing). v.spent) c.self.view_is ∙ c.requires.ready) in
-    let count : length e.forms.items ≡ length c.args.self.now.forms = ap (λ (v : Standing). length v.forms) c.self.view_is in
-    omega (arith, count, c.requires.number, slots-length e.forms.items (shapes_of e.store.kept.items) r.slots, length-map e.store.kept.items kept_shape)
+    r.0
 
 pub invariant_of-self : goal.invariant_of-self
 invariant_of-self c = λ ready.
     let e = c.self.inside in
     let r = c.self.invariant ready in
-    let keep = e.store.kept.items in
-    let new = c.vacate.new in
-    let k = c.vacate.ensures.kept in
-    let same = c.vacate.ensures.rest in
-    let count : length e.forms.items ≡ length c.args.self.now.forms = ap (λ (v : Standing). length v.forms) c.self.view_is in
-    let inside : c.args.number < length keep = omega (arith, count, c.requires.number, slots-length e.forms.items (shapes_of keep) r.slots, length-map keep kept_shape) in
-    record {
-      sound = c.vacate.ensures.sound;
-      slots = slots-vacated e.forms.items keep new.store.kept.items c.args.number k.0 k.1 k.2 r.slots;
-      rest = rest-vacated keep new.store.kept.items c.args.number k.0 e.run.opens.items new.run.opens.items e.run.candidates.items new.run.candidates.items inside k.1 k.2 c.vacate.ensures.opens (ap (λ (v : Vec ℕ Global). v.items) same.0) r.rest;
-      values = ap (λ (a : Assignment). length a.values.items) same.1 ∙ r.values ∙ sym c.vacate.ensures.variables;
-      list = ap (λ (a : Assignment). a.list.items) same.1 ∙ r.list;
-      work = ap (λ (v : Vec ℕ Global). v.items) same.2 ∙ r.work;
-      trail = ap (λ (v : Vec ℕ Global). v.items) c.vacate.ensures.trail ∙ r.trail;
-      next = same.3 ∙ r.next;
-      eager = eager-vacated keep new.store.kept.items c.args.number k.0 e.eager.items k.1 k.2 r.eager;
-    }
+    let inside : c.args.number < length e.places.items = omega (arith, c.requires.number, ap (λ (v : Standing). length v.forms) c.self.view_is, numbered-length e.forms.items e.places.items) in
+    let t = taken-by e.forms.items e.places.items c.args.number c.index-slot.result.now inside c.index-slot.ensures (omega (arith, c.if-slot-len.false, c.len.ensures, e.forms.ok.0)) (omega (arith, e.forms.ok.0, e.forms.ok.1)) r.1 in
+    (c.quit.ensures.rest, rw c.quit.ensures.forms (placed-left e.forms.items e.places.items c.args.number c.index-slot.result.now t r.1))
+
+pub returns-then-slot-len-clause-forms : goal.returns-then-slot-len-clause-forms
+returns-then-slot-len-clause-forms c =
+    let e = c.self.inside in
+    let inside : c.args.number < length e.places.items = omega (arith, c.requires.number, ap (λ (v : Standing). length v.forms) c.self.view_is, numbered-length e.forms.items e.places.items) in
+    sym (ap (λ (v : Standing). v.forms) c.self.view_is) ∙ numbered-none e.forms.items e.places.items c.args.number c.index-slot.result.now inside c.index-slot.ensures (omega (arith, c.if-slot-len.true, c.len.ensures, e.forms.ok.0)) ∙ ap (λ (v : Standing). set v.forms c.args.number None) c.self.view_is
+
+pub returns-clause-forms : goal.returns-clause-forms
+returns-clause-forms c =
+    let e = c.self.inside in
+    let r = c.self.invariant (ap (λ (v : Standing). v.spent) c.self.view_is ∙ c.requires.ready) in
+    let inside : c.args.number < length e.places.items = omega (arith, c.requires.number, ap (λ (v : Standing). length v.forms) c.self.view_is, numbered-length e.forms.items e.places.items) in
+    let t = taken-by e.forms.items e.places.items c.args.number c.index-slot.result.now inside c.index-slot.ensures (omega (arith, c.if-slot-len.false, c.len.ensures, e.forms.ok.0)) (omega (arith, e.forms.ok.0, e.forms.ok.1)) r.1 in
+    rw c.quit.ensures.forms (numbered-left e.forms.items e.places.items c.args.number c.index-slot.result.now t r.1 ∙ ap (λ (v : Standing). set v.forms c.args.number None) c.self.view_is)

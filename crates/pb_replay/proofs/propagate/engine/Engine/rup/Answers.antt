@@ -19,9 +19,11 @@ use Rattle.pb_replay.proofs.Engine.Bridge.{derives, conflicts, is-closed, has-no
 use Rattle.std.proofs.lemmas.List.Sums.{sum_by_push}
 use Rattle.pb_normal.specs.Rules.{opposite as opposite_entry}
 use Rattle.pb_replay.specs.Engine.Lists.{Shape}
-use Rattle.pb_replay.proofs.Engine.Bounds.{slots-terms, eager-count, found-least, most-looks}
+use Rattle.pb_replay.specs.Engine.Slots.{numbered}
+use Rattle.pb_replay.proofs.Engine.Placed.{placed-with}
+use Rattle.pb_replay.proofs.Engine.Bounds.{slots-terms, slots-eager, filter-few, found-least, most-looks}
 use Rattle.pb_replay.proofs.Engine.Completions.{closed-none}
-use Rattle.pb_replay.proofs.Engine.Rests.{first-count, slots-length, slots-entered, rest-entered, rest-tidy-first, rest-undone, rest-lengths, rest-left, eager-filter, eager-entered, with-kept, opposite-inside}
+use Rattle.pb_replay.proofs.Engine.Rests.{slots-length, slots-entered, rest-entered, rest-tidy-first, rest-undone, rest-lengths, rest-left, eager-entered, with-kept, opposite-inside}
 use Rattle.pb_replay.proofs.propagate.engine.Engine.rup.Goals as goal
 
 pub enter-requires-clause-inside : goal.enter-requires-clause-inside
@@ -36,7 +38,8 @@ enter-requires-clause-inside c =
 pub choose-requires : goal.choose-requires
 choose-requires c =
     let e = c.self.inside in
-    let r = c.self.invariant (ap (λ (v : Standing). v.spent) c.self.view_is ∙ c.requires.ready) in
+    let both = c.self.invariant (ap (λ (v : Standing). v.spent) c.self.view_is ∙ c.requires.ready) in
+    let r = both.0 in
     let keep = e.store.kept.items in
     let h = c.in_ok-enter.ensures.entered in
     omega (arith, c.len-number.ensures, e.forms.ok.0, slots-length e.forms.items (shapes_of keep) r.slots, length-map keep kept_shape, ap length h.keeps, length-append keep (h.kept ∷ []))
@@ -44,7 +47,8 @@ choose-requires c =
 pub choose-requires-2 : goal.choose-requires-2
 choose-requires-2 c =
     let e = c.self.inside in
-    let r = c.self.invariant (ap (λ (v : Standing). v.spent) c.self.view_is ∙ c.requires.ready) in
+    let both = c.self.invariant (ap (λ (v : Standing). v.spent) c.self.view_is ∙ c.requires.ready) in
+    let r = both.0 in
     let keep = e.store.kept.items in
     let h = c.in_ok-enter.ensures.entered in
     omega (arith, c.len-number.ensures, e.forms.ok.0, slots-length e.forms.items (shapes_of keep) r.slots, length-map keep kept_shape, ap length h.keeps, length-append keep (h.kept ∷ []))
@@ -52,26 +56,30 @@ choose-requires-2 c =
 pub propagate-requires-clause-opens : goal.propagate-requires-clause-opens
 propagate-requires-clause-opens c =
     let e = c.self.inside in
-    let r = c.self.invariant (ap (λ (v : Standing). v.spent) c.self.view_is ∙ c.requires.ready) in
+    let both = c.self.invariant (ap (λ (v : Standing). v.spent) c.self.view_is ∙ c.requires.ready) in
+    let r = both.0 in
     let new = c.enter.new in
     (rest-lengths new.store.kept.items new.run.opens.items new.run.candidates.items (rest-entered c.in-Ok.negation e.store.kept.items new.store.kept.items e.run.opens.items new.run.opens.items e.run.candidates.items new.run.candidates.items c.in_ok-enter.ensures.entered r.rest)).0
 
 pub propagate-requires-clause-candidates : goal.propagate-requires-clause-candidates
 propagate-requires-clause-candidates c =
     let e = c.self.inside in
-    let r = c.self.invariant (ap (λ (v : Standing). v.spent) c.self.view_is ∙ c.requires.ready) in
+    let both = c.self.invariant (ap (λ (v : Standing). v.spent) c.self.view_is ∙ c.requires.ready) in
+    let r = both.0 in
     let new = c.enter.new in
     (rest-lengths new.store.kept.items new.run.opens.items new.run.candidates.items (rest-entered c.in-Ok.negation e.store.kept.items new.store.kept.items e.run.opens.items new.run.opens.items e.run.candidates.items new.run.candidates.items c.in_ok-enter.ensures.entered r.rest)).1
 
 pub propagate-requires-clause-single : goal.propagate-requires-clause-single
 propagate-requires-clause-single c =
-    let r = c.self.invariant (ap (λ (v : Standing). v.spent) c.self.view_is ∙ c.requires.ready) in
+    let both = c.self.invariant (ap (λ (v : Standing). v.spent) c.self.view_is ∙ c.requires.ready) in
+    let r = both.0 in
     rw (ap (λ (a : Assignment). a.list.items) c.enter.ensures.rest.0, r.list) none
 
 pub propagate-requires-clause-counted : goal.propagate-requires-clause-counted
 propagate-requires-clause-counted c =
     let e = c.self.inside in
-    let r = c.self.invariant (ap (λ (v : Standing). v.spent) c.self.view_is ∙ c.requires.ready) in
+    let both = c.self.invariant (ap (λ (v : Standing). v.spent) c.self.view_is ∙ c.requires.ready) in
+    let r = both.0 in
     let new = c.enter.new in
     let rest = rest-entered c.in-Ok.negation e.store.kept.items new.store.kept.items e.run.opens.items new.run.opens.items e.run.candidates.items new.run.candidates.items c.in_ok-enter.ensures.entered r.rest in
     rw (ap (λ (a : Assignment). a.list.items) c.enter.ensures.rest.0, r.list) (rest-counted (shapes_of new.store.kept.items) new.run.opens.items new.run.candidates.items (rest-undone new.store.kept.items new.run.opens.items new.run.candidates.items rest))
@@ -79,7 +87,8 @@ propagate-requires-clause-counted c =
 pub propagate-requires-clause-tidy : goal.propagate-requires-clause-tidy
 propagate-requires-clause-tidy c =
     let e = c.self.inside in
-    let r = c.self.invariant (ap (λ (v : Standing). v.spent) c.self.view_is ∙ c.requires.ready) in
+    let both = c.self.invariant (ap (λ (v : Standing). v.spent) c.self.view_is ∙ c.requires.ready) in
+    let r = both.0 in
     let keep = e.store.kept.items in
     let new = c.enter.new in
     let h = c.in_ok-enter.ensures.entered in
@@ -88,16 +97,17 @@ propagate-requires-clause-tidy c =
     let inside : c.len-number.result < length new.store.kept.items = omega (arith, number_is, ap length h.keeps, length-append keep (h.kept ∷ [])) in
     let work_is = ap (λ (v : Vec ℕ Global). v.items) c.enter.ensures.rest.1 ∙ r.work in
     let first = c.in_ok-choose-2.ensures ∙ ap (λ (xs : List ℕ). xs ++ filter (waits new.store.kept.items) (c.len-number.result ∷ [])) work_is in
-    let waiting = eager-entered keep new.store.kept.items h.kept e.eager.items _ c.len-number.result h.keeps number_is refl r.eager in
+    let waiting = eager-entered keep new.store.kept.items h.kept e.eager.list.items _ c.len-number.result h.keeps number_is refl r.eager in
     let trail_is = ap (λ (v : Vec ℕ Global). v.items) c.enter.ensures.trail ∙ r.trail in
     let noted = c.in_ok-choose.ensures ∙ ap (λ (xs : List ℕ). xs ++ filter (waits new.store.kept.items) (c.len-number.result ∷ [])) trail_is in
-    let tidy = rest-tidy-first new.store.kept.items e.eager.items new.run.opens.items new.run.candidates.items c.choose-2.new.work.items c.choose.new.work.items c.len-number.result inside first noted rest waiting in
+    let tidy = rest-tidy-first new.store.kept.items e.eager.list.items new.run.opens.items new.run.candidates.items c.choose-2.new.work.items c.choose.new.work.items c.len-number.result inside first noted rest waiting in
     rw (c.as_slice.ensures.value, ap (λ (a : Assignment). a.list.items) c.enter.ensures.rest.0, r.list, c.enter.ensures.rest.2, r.next) tidy
 
 pub invariant_of-self-then-found : goal.invariant_of-self-then-found
 invariant_of-self-then-found c = λ ready.
     let e = c.self.inside in
-    let r = c.self.invariant (ap (λ (v : Standing). v.spent) c.self.view_is ∙ c.requires.ready) in
+    let both = c.self.invariant (ap (λ (v : Standing). v.spent) c.self.view_is ∙ c.requires.ready) in
+    let r = both.0 in
     let keep = e.store.kept.items in
     let new = c.enter.new in
     let h = c.in_ok-enter.ensures.entered in
@@ -105,23 +115,29 @@ invariant_of-self-then-found c = λ ready.
     let last = c.leave.new in
     let left = rest-left c.in-Ok.negation keep new.store.kept.items last.store.kept.items e.run.opens.items new.run.opens.items e.run.candidates.items new.run.candidates.items done.opens.items last.run.opens.items done.candidates.items last.run.candidates.items h c.rest.ensures.rest c.leave.ensures.kept c.leave.ensures.opens c.leave.ensures.candidates in
     let same = c.leave.ensures.rest in
-    let entered = c.enter.ensures.rest in
-    record {
-      sound = c.leave.ensures.sound;
-      slots = rw left.0 r.slots;
-      rest = left.1;
-      values = ap (λ (a : Assignment). length a.values.items) same.0 ∙ c.rest.ensures.values ∙ c.in_ok-found.ensures.values ∙ ap (λ (a : Assignment). length a.values.items) entered.0 ∙ r.values ∙ sym c.in_ok-enter.ensures.variables ∙ sym c.leave.ensures.variables;
-      list = ap (λ (a : Assignment). a.list.items) same.0 ∙ c.rest.ensures.list;
-      work = ap (λ (v : Vec ℕ Global). v.items) same.1 ∙ c.rest.ensures.work;
-      trail = ap (λ (v : Vec ℕ Global). v.items) c.leave.ensures.trail ∙ c.rest.ensures.trail;
-      next = same.2 ∙ c.rest.ensures.next;
-      eager = rw left.0 r.eager;
-    }
+    let entered = c.enter.ensures.rest in (
+      record {
+        sound = c.leave.ensures.sound;
+        slots = rw left.0 r.slots;
+        rest = left.1;
+        values = ap (λ (a : Assignment). length a.values.items) same.0 ∙ c.rest.ensures.values ∙ c.in_ok-found.ensures.values ∙ ap (λ (a : Assignment). length a.values.items) entered.0 ∙ r.values ∙ sym c.in_ok-enter.ensures.variables ∙ sym c.leave.ensures.variables;
+        list = ap (λ (a : Assignment). a.list.items) same.0 ∙ c.rest.ensures.list;
+        work = ap (λ (v : Vec ℕ Global). v.items) same.1 ∙ c.rest.ensures.work;
+        trail = ap (λ (v : Vec ℕ Global). v.items) c.leave.ensures.trail ∙ c.rest.ensures.trail;
+        next = same.2 ∙ c.rest.ensures.next;
+        eager = rw left.0 r.eager;
+        exact = rw left.0 r.exact;
+        few = rw left.0 r.few;
+        seats = rw left.0 r.seats;
+      },
+      both.1,
+    )
 
 pub invariant_of-self-2 : goal.invariant_of-self-2
 invariant_of-self-2 c = λ ready.
     let e = c.self.inside in
-    let r = c.self.invariant (ap (λ (v : Standing). v.spent) c.self.view_is ∙ c.requires.ready) in
+    let both = c.self.invariant (ap (λ (v : Standing). v.spent) c.self.view_is ∙ c.requires.ready) in
+    let r = both.0 in
     let keep = e.store.kept.items in
     let new = c.enter.new in
     let h = c.in_ok-enter.ensures.entered in
@@ -129,23 +145,29 @@ invariant_of-self-2 c = λ ready.
     let last = c.leave.new in
     let left = rest-left c.in-Ok.negation keep new.store.kept.items last.store.kept.items e.run.opens.items new.run.opens.items e.run.candidates.items new.run.candidates.items done.opens.items last.run.opens.items done.candidates.items last.run.candidates.items h c.rest.ensures.rest c.leave.ensures.kept c.leave.ensures.opens c.leave.ensures.candidates in
     let same = c.leave.ensures.rest in
-    let entered = c.enter.ensures.rest in
-    record {
-      sound = c.leave.ensures.sound;
-      slots = rw left.0 r.slots;
-      rest = left.1;
-      values = ap (λ (a : Assignment). length a.values.items) same.0 ∙ c.rest.ensures.values ∙ c.in_ok-found.ensures.values ∙ ap (λ (a : Assignment). length a.values.items) entered.0 ∙ r.values ∙ sym c.in_ok-enter.ensures.variables ∙ sym c.leave.ensures.variables;
-      list = ap (λ (a : Assignment). a.list.items) same.0 ∙ c.rest.ensures.list;
-      work = ap (λ (v : Vec ℕ Global). v.items) same.1 ∙ c.rest.ensures.work;
-      trail = ap (λ (v : Vec ℕ Global). v.items) c.leave.ensures.trail ∙ c.rest.ensures.trail;
-      next = same.2 ∙ c.rest.ensures.next;
-      eager = rw (← c.prune.ensures) at (eager-filter last.store.kept.items e.eager.items (rw left.0 r.eager));
-    }
+    let entered = c.enter.ensures.rest in (
+      record {
+        sound = c.leave.ensures.sound;
+        slots = rw left.0 r.slots;
+        rest = left.1;
+        values = ap (λ (a : Assignment). length a.values.items) same.0 ∙ c.rest.ensures.values ∙ c.in_ok-found.ensures.values ∙ ap (λ (a : Assignment). length a.values.items) entered.0 ∙ r.values ∙ sym c.in_ok-enter.ensures.variables ∙ sym c.leave.ensures.variables;
+        list = ap (λ (a : Assignment). a.list.items) same.0 ∙ c.rest.ensures.list;
+        work = ap (λ (v : Vec ℕ Global). v.items) same.1 ∙ c.rest.ensures.work;
+        trail = ap (λ (v : Vec ℕ Global). v.items) c.leave.ensures.trail ∙ c.rest.ensures.trail;
+        next = same.2 ∙ c.rest.ensures.next;
+        eager = rw left.0 r.eager;
+        exact = rw left.0 r.exact;
+        few = rw left.0 r.few;
+        seats = rw left.0 r.seats;
+      },
+      both.1,
+    )
 
 pub returns-then-found-clause-implied : goal.returns-then-found-clause-implied
 returns-then-found-clause-implied c = λ found.
     let e = c.self.inside in
-    let r = c.self.invariant (ap (λ (v : Standing). v.spent) c.self.view_is ∙ c.requires.ready) in
+    let both = c.self.invariant (ap (λ (v : Standing). v.spent) c.self.view_is ∙ c.requires.ready) in
+    let r = both.0 in
     let keep = e.store.kept.items in
     let new = c.enter.new in
     let h = c.in_ok-enter.ensures.entered in
@@ -153,16 +175,18 @@ returns-then-found-clause-implied c = λ found.
     let forms = e.forms.items in
     let told = c.in_ok-found.ensures in
     let shapes = shapes_of new.store.kept.items in
-    let a = with-kept forms g shapes (slots-entered forms g keep new.store.kept.items e.run.opens.items new.run.opens.items e.run.candidates.items new.run.candidates.items h r.slots) in
+    let a = placed-with forms e.places.items g shapes both.1 (with-kept forms g shapes (slots-entered forms g keep new.store.kept.items e.run.opens.items new.run.opens.items e.run.candidates.items new.run.candidates.items h r.slots)) in
+    let shown = numbered forms e.places.items in
     let empty = ap (λ (x : Assignment). x.list.items) c.enter.ensures.rest.0 ∙ r.list in
-    let d = derives (With (Live forms) g) shapes [] [] c.propagate.new.run.assignment.list.items a (λ v n. sym (on-none (record { variable = v; negated = n }))) (rw empty at told.derived) in
-    let meets : MeetsConflict (With (Live forms) g) [] = record { list = d.list; derived = d.derived; conflict = conflicts (With (Live forms) g) shapes d.list c.propagate.new.run.assignment.list.items a d.matches (told.conflict c.if-found.true) } in
+    let d = derives (With (Live shown) g) shapes [] [] c.propagate.new.run.assignment.list.items a (λ v n. sym (on-none (record { variable = v; negated = n }))) (rw empty at told.derived) in
+    let meets : MeetsConflict (With (Live shown) g) [] = record { list = d.list; derived = d.derived; conflict = conflicts (With (Live shown) g) shapes d.list c.propagate.new.run.assignment.list.items a d.matches (told.conflict c.if-found.true) } in
     rw (← c.self.view_is) (inr (rw c.in-Ok.ensures.negation at meets))
 
 pub returns-clause-not_implied : goal.returns-clause-not_implied
 returns-clause-not_implied c = λ found rup.
     let e = c.self.inside in
-    let r = c.self.invariant (ap (λ (v : Standing). v.spent) c.self.view_is ∙ c.requires.ready) in
+    let both = c.self.invariant (ap (λ (v : Standing). v.spent) c.self.view_is ∙ c.requires.ready) in
+    let r = both.0 in
     let keep = e.store.kept.items in
     let new = c.enter.new in
     let h = c.in_ok-enter.ensures.entered in
@@ -171,14 +195,15 @@ returns-clause-not_implied c = λ found rup.
     let told = c.in_ok-found.ensures in
     let run = c.propagate.new.run in
     let shapes = shapes_of new.store.kept.items in
-    let a = with-kept forms g shapes (slots-entered forms g keep new.store.kept.items e.run.opens.items new.run.opens.items e.run.candidates.items new.run.candidates.items h r.slots) in
+    let a = placed-with forms e.places.items g shapes both.1 (with-kept forms g shapes (slots-entered forms g keep new.store.kept.items e.run.opens.items new.run.opens.items e.run.candidates.items new.run.candidates.items h r.slots)) in
+    let shown = numbered forms e.places.items in
     let empty = ap (λ (x : Assignment). x.list.items) c.enter.ensures.rest.0 ∙ r.list in
-    let d = derives (With (Live forms) g) shapes [] [] run.assignment.list.items a (λ v n. sym (on-none (record { variable = v; negated = n }))) (rw empty at told.derived) in
-    let free : MeetsConflict (With (Live forms) g) [] → ⊥ = closed-none (With (Live forms) g) [] d.list d.derived
-    (is-closed (With (Live forms) g) shapes d.list run.assignment.list.items a d.matches (told.settled c.if-found.false))
-    (has-none (With (Live forms) g) shapes d.list run.assignment.list.items a d.matches (λ l on. opposite run.assignment.values.items run.assignment.list.items l run.assignment.agrees on) (told.settled c.if-found.false)) in
-    let free_goal : MeetsConflict (With (Live forms) (negation_of c.args.goal.now)) [] → ⊥ = rw c.in-Ok.ensures.negation at free in
-    let same : forms ≡ c.args.self.now.forms = ap (λ (v : Standing). v.forms) c.self.view_is in
+    let d = derives (With (Live shown) g) shapes [] [] run.assignment.list.items a (λ v n. sym (on-none (record { variable = v; negated = n }))) (rw empty at told.derived) in
+    let free : MeetsConflict (With (Live shown) g) [] → ⊥ = closed-none (With (Live shown) g) [] d.list d.derived
+    (is-closed (With (Live shown) g) shapes d.list run.assignment.list.items a d.matches (told.settled c.if-found.false))
+    (has-none (With (Live shown) g) shapes d.list run.assignment.list.items a d.matches (λ l on. opposite run.assignment.values.items run.assignment.list.items l run.assignment.agrees on) (told.settled c.if-found.false)) in
+    let free_goal : MeetsConflict (With (Live shown) (negation_of c.args.goal.now)) [] → ⊥ = rw c.in-Ok.ensures.negation at free in
+    let same : shown ≡ c.args.self.now.forms = ap (λ (v : Standing). v.forms) c.self.view_is in
     elim rup [
       | inl nothing ↦ c.if-degree-eq0.false (ap (of_z w128) (c.degree.ensures.degree ∙ ap pos nothing))
       | inr m ↦ free_goal (rw (← same) at m)
@@ -187,7 +212,8 @@ returns-clause-not_implied c = λ found rup.
 pub returns-then-found-clause-most : goal.returns-then-found-clause-most
 returns-then-found-clause-most c =
     let e = c.self.inside in
-    let r = c.self.invariant (ap (λ (v : Standing). v.spent) c.self.view_is ∙ c.requires.ready) in
+    let both = c.self.invariant (ap (λ (v : Standing). v.spent) c.self.view_is ∙ c.requires.ready) in
+    let r = both.0 in
     let keep = e.store.kept.items in
     let new = c.enter.new in
     let h = c.in_ok-enter.ensures.entered in
@@ -198,24 +224,24 @@ returns-then-found-clause-most c =
     let slots = slots-entered forms g keep new.store.kept.items e.run.opens.items new.run.opens.items e.run.candidates.items new.run.candidates.items h r.slots in
     let terms = slots-terms (forms ++ (Some g ∷ [])) shapes slots in
     let more = sum_by_push terms_in forms (Some g) in
-    let one = sum_by_push one_in forms (Some g) in
     let goal_terms : length g.terms ≡ length c.args.goal.now.terms = ap (λ (f : Form). length f.terms) c.in-Ok.ensures.negation ∙ length-map c.args.goal.now.terms opposite_entry in
     let number_is : number ≡ length keep = omega (arith, c.len-number.ensures, e.forms.ok.0, slots-length forms (shapes_of keep) r.slots, length-map keep kept_shape) in
-    let eager = eager-entered keep new.store.kept.items h.kept e.eager.items _ number h.keeps number_is refl r.eager in
-    let few = eager-count (forms ++ (Some g ∷ [])) new.store.kept.items _ slots eager in
-    let parts = first-count (waits new.store.kept.items) e.eager.items number in
+    let few = slots-eager forms keep r.slots in
+    let first = filter-few (waits new.store.kept.items) (number ∷ []) in
+    let stand = filter-few (waits new.store.kept.items) e.eager.list.items in
     let work_is : length new.run.work.items ≡ 0 = ap (λ (v : Vec ℕ Global). length v.items) c.enter.ensures.rest.1 ∙ ap length r.work in
     let work = ap length c.in_ok-choose-2.ensures ∙ length-append new.run.work.items (filter (waits new.store.kept.items) (number ∷ [])) in
     let waiting = ap (λ (xs : List ℕ). length (filter (waits new.store.kept.items) xs)) c.as_slice.ensures.value in
-    let same : forms ≡ c.args.self.now.forms = ap (λ (v : Standing). v.forms) c.self.view_is in
+    let same : numbered forms e.places.items ≡ c.args.self.now.forms = ap (λ (v : Standing). v.forms) c.self.view_is in
     let looks = most-looks c.propagate.new.run.visits (sum new.run.candidates.items) new.run.visits (length c.choose-2.new.work.items + length (filter (waits new.store.kept.items) c.as_slice.result.now)) new.run.next (sum_by length (entries_of new.store.occurrences.items)) (sum c.propagate.new.run.candidates.items) (sum_by (λ (f : Shape). length f.terms) shapes) (sum_by one_in forms + 1)
-    c.propagate.ensures.upper c.enter.ensures.rest.3 c.propagate.ensures.bounded c.in_ok-enter.ensures.sound.whole.totals (omega (arith, few, parts, work_is, work, waiting, one)) in
-    rw (← same) (omega (arith, looks, terms, more, goal_terms, c.leave.ensures.rest.3, c.rest.ensures.visits))
+    c.propagate.ensures.upper c.enter.ensures.rest.3 c.propagate.ensures.bounded c.in_ok-enter.ensures.sound.whole.totals (omega (arith, few, r.few, first, stand, work_is, work, waiting)) in
+    rw (← same) (omega (arith, both.1.alike terms_in refl, both.1.alike one_in refl, looks, terms, more, goal_terms, c.leave.ensures.rest.3, c.rest.ensures.visits))
 
 pub returns-clause-most : goal.returns-clause-most
 returns-clause-most c =
     let e = c.self.inside in
-    let r = c.self.invariant (ap (λ (v : Standing). v.spent) c.self.view_is ∙ c.requires.ready) in
+    let both = c.self.invariant (ap (λ (v : Standing). v.spent) c.self.view_is ∙ c.requires.ready) in
+    let r = both.0 in
     let keep = e.store.kept.items in
     let new = c.enter.new in
     let h = c.in_ok-enter.ensures.entered in
@@ -226,24 +252,24 @@ returns-clause-most c =
     let slots = slots-entered forms g keep new.store.kept.items e.run.opens.items new.run.opens.items e.run.candidates.items new.run.candidates.items h r.slots in
     let terms = slots-terms (forms ++ (Some g ∷ [])) shapes slots in
     let more = sum_by_push terms_in forms (Some g) in
-    let one = sum_by_push one_in forms (Some g) in
     let goal_terms : length g.terms ≡ length c.args.goal.now.terms = ap (λ (f : Form). length f.terms) c.in-Ok.ensures.negation ∙ length-map c.args.goal.now.terms opposite_entry in
     let number_is : number ≡ length keep = omega (arith, c.len-number.ensures, e.forms.ok.0, slots-length forms (shapes_of keep) r.slots, length-map keep kept_shape) in
-    let eager = eager-entered keep new.store.kept.items h.kept e.eager.items _ number h.keeps number_is refl r.eager in
-    let few = eager-count (forms ++ (Some g ∷ [])) new.store.kept.items _ slots eager in
-    let parts = first-count (waits new.store.kept.items) e.eager.items number in
+    let few = slots-eager forms keep r.slots in
+    let first = filter-few (waits new.store.kept.items) (number ∷ []) in
+    let stand = filter-few (waits new.store.kept.items) e.eager.list.items in
     let work_is : length new.run.work.items ≡ 0 = ap (λ (v : Vec ℕ Global). length v.items) c.enter.ensures.rest.1 ∙ ap length r.work in
     let work = ap length c.in_ok-choose-2.ensures ∙ length-append new.run.work.items (filter (waits new.store.kept.items) (number ∷ [])) in
     let waiting = ap (λ (xs : List ℕ). length (filter (waits new.store.kept.items) xs)) c.as_slice.ensures.value in
-    let same : forms ≡ c.args.self.now.forms = ap (λ (v : Standing). v.forms) c.self.view_is in
+    let same : numbered forms e.places.items ≡ c.args.self.now.forms = ap (λ (v : Standing). v.forms) c.self.view_is in
     let looks = most-looks c.propagate.new.run.visits (sum new.run.candidates.items) new.run.visits (length c.choose-2.new.work.items + length (filter (waits new.store.kept.items) c.as_slice.result.now)) new.run.next (sum_by length (entries_of new.store.occurrences.items)) (sum c.propagate.new.run.candidates.items) (sum_by (λ (f : Shape). length f.terms) shapes) (sum_by one_in forms + 1)
-    c.propagate.ensures.upper c.enter.ensures.rest.3 c.propagate.ensures.bounded c.in_ok-enter.ensures.sound.whole.totals (omega (arith, few, parts, work_is, work, waiting, one)) in
-    rw (← same) (omega (arith, looks, terms, more, goal_terms, c.leave.ensures.rest.3, c.rest.ensures.visits))
+    c.propagate.ensures.upper c.enter.ensures.rest.3 c.propagate.ensures.bounded c.in_ok-enter.ensures.sound.whole.totals (omega (arith, few, r.few, first, stand, work_is, work, waiting)) in
+    rw (← same) (omega (arith, both.1.alike terms_in refl, both.1.alike one_in refl, looks, terms, more, goal_terms, c.leave.ensures.rest.3, c.rest.ensures.visits))
 
 pub returns-in_err-found-clause-most : goal.returns-in_err-found-clause-most
 returns-in_err-found-clause-most c =
     let e = c.self.inside in
-    let r = c.self.invariant (ap (λ (v : Standing). v.spent) c.self.view_is ∙ c.requires.ready) in
+    let both = c.self.invariant (ap (λ (v : Standing). v.spent) c.self.view_is ∙ c.requires.ready) in
+    let r = both.0 in
     let keep = e.store.kept.items in
     let new = c.enter.new in
     let h = c.in_ok-enter.ensures.entered in
@@ -254,24 +280,24 @@ returns-in_err-found-clause-most c =
     let slots = slots-entered forms g keep new.store.kept.items e.run.opens.items new.run.opens.items e.run.candidates.items new.run.candidates.items h r.slots in
     let terms = slots-terms (forms ++ (Some g ∷ [])) shapes slots in
     let more = sum_by_push terms_in forms (Some g) in
-    let one = sum_by_push one_in forms (Some g) in
     let goal_terms : length g.terms ≡ length c.args.goal.now.terms = ap (λ (f : Form). length f.terms) c.in-Ok.ensures.negation ∙ length-map c.args.goal.now.terms opposite_entry in
     let number_is : number ≡ length keep = omega (arith, c.len-number.ensures, e.forms.ok.0, slots-length forms (shapes_of keep) r.slots, length-map keep kept_shape) in
-    let eager = eager-entered keep new.store.kept.items h.kept e.eager.items _ number h.keeps number_is refl r.eager in
-    let few = eager-count (forms ++ (Some g ∷ [])) new.store.kept.items _ slots eager in
-    let parts = first-count (waits new.store.kept.items) e.eager.items number in
+    let few = slots-eager forms keep r.slots in
+    let first = filter-few (waits new.store.kept.items) (number ∷ []) in
+    let stand = filter-few (waits new.store.kept.items) e.eager.list.items in
     let work_is : length new.run.work.items ≡ 0 = ap (λ (v : Vec ℕ Global). length v.items) c.enter.ensures.rest.1 ∙ ap length r.work in
     let work = ap length c.in_ok-choose-2.ensures ∙ length-append new.run.work.items (filter (waits new.store.kept.items) (number ∷ [])) in
     let waiting = ap (λ (xs : List ℕ). length (filter (waits new.store.kept.items) xs)) c.as_slice.ensures.value in
-    let same : forms ≡ c.args.self.now.forms = ap (λ (v : Standing). v.forms) c.self.view_is in
+    let same : numbered forms e.places.items ≡ c.args.self.now.forms = ap (λ (v : Standing). v.forms) c.self.view_is in
     let looks = most-looks c.propagate.new.run.visits (sum new.run.candidates.items) new.run.visits (length c.choose-2.new.work.items + length (filter (waits new.store.kept.items) c.as_slice.result.now)) new.run.next (sum_by length (entries_of new.store.occurrences.items)) (sum c.propagate.new.run.candidates.items) (sum_by (λ (f : Shape). length f.terms) shapes) (sum_by one_in forms + 1)
-    c.propagate.ensures.upper c.enter.ensures.rest.3 c.propagate.ensures.bounded c.in_ok-enter.ensures.sound.whole.totals (omega (arith, few, parts, work_is, work, waiting, one)) in
-    rw (← same) (omega (arith, looks, terms, more, goal_terms))
+    c.propagate.ensures.upper c.enter.ensures.rest.3 c.propagate.ensures.bounded c.in_ok-enter.ensures.sound.whole.totals (omega (arith, few, r.few, first, stand, work_is, work, waiting)) in
+    rw (← same) (omega (arith, both.1.alike terms_in refl, both.1.alike one_in refl, looks, terms, more, goal_terms))
 
 pub returns-then-found-clause-conflict : goal.returns-then-found-clause-conflict
 returns-then-found-clause-conflict c = λ found.
     let e = c.self.inside in
-    let r = c.self.invariant (ap (λ (v : Standing). v.spent) c.self.view_is ∙ c.requires.ready) in
+    let both = c.self.invariant (ap (λ (v : Standing). v.spent) c.self.view_is ∙ c.requires.ready) in
+    let r = both.0 in
     let keep = e.store.kept.items in
     let new = c.enter.new in
     let h = c.in_ok-enter.ensures.entered in
@@ -280,18 +306,20 @@ returns-then-found-clause-conflict c = λ found.
     let told = c.in_ok-found.ensures in
     let run = c.propagate.new.run in
     let shapes = shapes_of new.store.kept.items in
-    let a = with-kept forms g shapes (slots-entered forms g keep new.store.kept.items e.run.opens.items new.run.opens.items e.run.candidates.items new.run.candidates.items h r.slots) in
+    let a = placed-with forms e.places.items g shapes both.1 (with-kept forms g shapes (slots-entered forms g keep new.store.kept.items e.run.opens.items new.run.opens.items e.run.candidates.items new.run.candidates.items h r.slots)) in
+    let shown = numbered forms e.places.items in
     let empty = ap (λ (x : Assignment). x.list.items) c.enter.ensures.rest.0 ∙ r.list in
-    let d = derives (With (Live forms) g) shapes [] [] run.assignment.list.items a (λ v n. sym (on-none (record { variable = v; negated = n }))) (rw empty at told.derived) in
+    let d = derives (With (Live shown) g) shapes [] [] run.assignment.list.items a (λ v n. sym (on-none (record { variable = v; negated = n }))) (rw empty at told.derived) in
     let least = found-least (length run.assignment.list.items) run.visits (length new.run.assignment.list.items) new.run.visits (ap length empty) c.enter.ensures.rest.3 told.found (omega (arith, run.assignment.list.ok.0, run.assignment.list.ok.1)) in
     let small : length d.list ≤ c.leave.new.run.visits = omega (arith, least, d.count, c.leave.ensures.rest.3, c.rest.ensures.visits) in
-    let meets : (m : MeetsConflict (With (Live forms) g) []) × (length m.list ≤ c.leave.new.run.visits) = (record { list = d.list; derived = d.derived; conflict = conflicts (With (Live forms) g) shapes d.list run.assignment.list.items a d.matches (told.conflict c.if-found.true) }, small) in
+    let meets : (m : MeetsConflict (With (Live shown) g) []) × (length m.list ≤ c.leave.new.run.visits) = (record { list = d.list; derived = d.derived; conflict = conflicts (With (Live shown) g) shapes d.list run.assignment.list.items a d.matches (told.conflict c.if-found.true) }, small) in
     rw (← c.self.view_is) (inr (rw c.in-Ok.ensures.negation at meets))
 
 pub returns-clause-completion : goal.returns-clause-completion
 returns-clause-completion c = λ found.
     let e = c.self.inside in
-    let r = c.self.invariant (ap (λ (v : Standing). v.spent) c.self.view_is ∙ c.requires.ready) in
+    let both = c.self.invariant (ap (λ (v : Standing). v.spent) c.self.view_is ∙ c.requires.ready) in
+    let r = both.0 in
     let keep = e.store.kept.items in
     let new = c.enter.new in
     let h = c.in_ok-enter.ensures.entered in
@@ -300,18 +328,20 @@ returns-clause-completion c = λ found.
     let told = c.in_ok-found.ensures in
     let run = c.propagate.new.run in
     let shapes = shapes_of new.store.kept.items in
-    let a = with-kept forms g shapes (slots-entered forms g keep new.store.kept.items e.run.opens.items new.run.opens.items e.run.candidates.items new.run.candidates.items h r.slots) in
+    let a = placed-with forms e.places.items g shapes both.1 (with-kept forms g shapes (slots-entered forms g keep new.store.kept.items e.run.opens.items new.run.opens.items e.run.candidates.items new.run.candidates.items h r.slots)) in
+    let shown = numbered forms e.places.items in
     let empty = ap (λ (x : Assignment). x.list.items) c.enter.ensures.rest.0 ∙ r.list in
-    let d = derives (With (Live forms) g) shapes [] [] run.assignment.list.items a (λ v n. sym (on-none (record { variable = v; negated = n }))) (rw empty at told.derived) in
+    let d = derives (With (Live shown) g) shapes [] [] run.assignment.list.items a (λ v n. sym (on-none (record { variable = v; negated = n }))) (rw empty at told.derived) in
     let least = found-least (length run.assignment.list.items) run.visits (length new.run.assignment.list.items) new.run.visits (ap length empty) c.enter.ensures.rest.3 told.found (omega (arith, run.assignment.list.ok.0, run.assignment.list.ok.1)) in
     let small : length d.list ≤ c.leave.new.run.visits = omega (arith, least, d.count, c.leave.ensures.rest.3, c.rest.ensures.visits) in
-    let done : IsCompletion (With (Live forms) g) [] d.list = record { derived = d.derived; closed = is-closed (With (Live forms) g) shapes d.list run.assignment.list.items a d.matches (told.settled c.if-found.false) } in
-    let whole : (list : List NumberedLiteral) × IsCompletion (With (Live forms) g) [] list × (length list ≤ c.leave.new.run.visits) = (d.list, done, small) in
+    let done : IsCompletion (With (Live shown) g) [] d.list = record { derived = d.derived; closed = is-closed (With (Live shown) g) shapes d.list run.assignment.list.items a d.matches (told.settled c.if-found.false) } in
+    let whole : (list : List NumberedLiteral) × IsCompletion (With (Live shown) g) [] list × (length list ≤ c.leave.new.run.visits) = (d.list, done, small) in
     rw (← c.self.view_is) (rw c.in-Ok.ensures.negation at whole)
 
 pub propagate-requires-clause-waiting : goal.propagate-requires-clause-waiting
 propagate-requires-clause-waiting c =
     let e = c.self.inside in
-    let r = c.self.invariant (ap (λ (v : Standing). v.spent) c.self.view_is ∙ c.requires.ready) in
+    let both = c.self.invariant (ap (λ (v : Standing). v.spent) c.self.view_is ∙ c.requires.ready) in
+    let r = both.0 in
     let h = c.in_ok-enter.ensures.entered in
     rw c.as_slice.ensures.value (λ k d less. omega (arith, r.eager.named k d less, ap length h.keeps, length-append e.store.kept.items (h.kept ∷ [])))

@@ -1,0 +1,19 @@
+use Rattle.std.specs.Prelude.{Option, Some}
+use Rattle.std.proofs.Common.{◌++◌, ◌∷◌, [], List, sym, ◌∙◌, ap, take, map}
+use Rattle.std.proofs.lemmas.List.{map_more}
+use Rattle.pb_normal.specs.Form.{Form}
+use Rattle.pb_replay.proofs.state.live.engine_of.Goals as goal
+
+pub loop-form-preserved : goal.loop-form-preserved
+loop-form-preserved c =
+    let i = c.loop-form.invariant in
+    let k = c.loop-form.form-index in
+    let forms = c.args.forms.now in
+    let told = c.in_ok-insert.ensures in
+    let some : Form → Option Form = λ f. Some f in (
+      told.forms ∙ ap (λ (xs : List (Option Form)). xs ++ (Some c.in_ok-copy.copy ∷ [])) i.0
+          ∙ ap (λ (g : Form). map some (take k forms) ++ (Some g ∷ [])) (c.in_ok-copy.ensures.copy ∙ c.form-item.is)
+          ∙ sym (map_more some forms k c.form-item.result c.loop-form-test.true),
+      told.variables ∙ i.1,
+      told.ready,
+    )
