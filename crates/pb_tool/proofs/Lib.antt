@@ -3,6 +3,9 @@ mod Named
 mod Parsed
 mod Sequence
 mod Feeds
+mod ProofLines
+mod Ordered
+mod InstanceLines
 mod Shown
 mod ShownLine
 mod Chosen

@@ -4,10 +4,12 @@ pub mod Deciding
 pub mod Faults
 pub mod Files
 pub mod Headline
+pub mod InstanceText
 pub mod Given
 pub mod Normalised
 mod Opening
 pub mod Pieces
+pub mod ProofText
 pub mod Refusals
 pub mod Runs
 pub mod Showing

@@ -4,10 +4,14 @@
 mod check_laws;
 mod checker;
 mod fault;
+mod instance_text;
+mod instance_tidying;
 mod laws;
 mod limiting;
 mod normalising;
 mod opening;
+mod page;
+mod proof_text;
 mod proof_tidying;
 mod refusal;
 mod showing;

@@ -1,6 +1,6 @@
 //! `pb tidy`: the canonical spelling of a file.
 
-ghost use Rattle.std.specs.Prelude.{◌≡◌, ◌<◌, ◌^◌, None, unwrap_or, IfSome, IfOk, IfErr};
+ghost use Rattle.std.specs.Prelude.{◌≡◌, ◌<◌, ◌^◌, true, None, unwrap_or, IfSome, IfOk, IfErr};
 ghost use Rattle.pb_text.specs.Limits.{largest};
 ghost use Rattle.pb_text.specs.Pulling.{faults_after};
 ghost use Rattle.pb_text.specs.Writing.{Writes};
@@ -11,6 +11,7 @@ ghost use Rattle.pb_tool.specs.Tidying.{is_bare, tidied, IsAsked, IsDenied, IsNo
 ghost use Rattle.pb_tool.specs.Wants.{IfStopped, WantsInstance, WantsTidying};
 
 use crate::fault::{Input, ToolFault, refused};
+use crate::instance_tidying::tidy_instance;
 use crate::normalising::{normalised, overflows};
 use crate::opening::{Format, format_of, unread_file};
 use crate::proof_tidying::tidy_proof;
@@ -70,28 +71,28 @@ pub fn tidy_with_hasher<S: Source, W: Sink>(
 {
     let longest = longest.unwrap_or(BYTE_LIMIT);
     if normal {
-        return tidy_instance(alloc, keys, input, true, out, longest, limits);
+        return tidy_normal(alloc, keys, input, out, longest, limits);
     }
     match format_of(input) {
         Ok(Format::Proof) => tidy_proof(alloc, input, out, longest, limits),
-        Ok(Format::Instance) => tidy_instance(alloc, keys, input, false, out, longest, limits),
+        Ok(Format::Instance) => tidy_instance(alloc, input, out, longest, limits),
         Err(Failed) => Err(unread_file(alloc, limits)),
     }
 }
 
-/// The same for an instance.
-fn tidy_instance<S: Source, W: Sink>(
+/// Reads an instance, behind which only white space and comments may stand, and writes its normal form and a line feed if
+/// that does not end in one.
+fn tidy_normal<S: Source, W: Sink>(
     alloc: Global,
     keys: HashKeys,
     input: &mut S,
-    normal: bool,
     out: &mut W,
     longest: u64,
     limits: Limits,
 ) -> Result<(), ToolFault>
     requires { 0 < longest }
-    ensures tidies { Tidies limits longest normal W.contents W.faults (S.left input.old) out.old result (S.left input.new) out.new }
-    ensures given { OfGiven (λ left rest. Tidies limits longest normal W.contents W.faults left out.old result rest out.new) (S.history input.old) (S.history input.new) }
+    ensures tidies { Tidies limits longest true W.contents W.faults (S.left input.old) out.old result (S.left input.new) out.new }
+    ensures given { OfGiven (λ left rest. Tidies limits longest true W.contents W.faults left out.old result rest out.new) (S.history input.old) (S.history input.new) }
     ensures memory { IfStopped result (WantsInstance limits longest (S.left input.old) (S.left input.new)) }
     ensures faults { S.faults input.new ≡ faults_told result (S.faults input.old) }
 {
@@ -99,11 +100,11 @@ fn tidy_instance<S: Source, W: Sink>(
         Ok(instance) => instance,
         Err(stop) => return Err(refused(stop)),
     };
-    let written = match asked(alloc, keys, instance, normal, limits) {
-        Ok(written) => written,
+    let form = match normal_form(alloc, keys, instance, limits) {
+        Ok(form) => form,
         Err(fault) => return Err(fault),
     };
-    match write_tidied(&written, out) {
+    match write_tidied(&form, out) {
         Ok(()) => Ok(()),
         Err(Failed) => Err(ToolFault::Write),
     }
@@ -134,20 +135,16 @@ pub(crate) fn read_file<S: Source>(
     }
 }
 
-/// The instance that is to be written: this one, or its normal form.
-fn asked(
+/// The normal form of an instance.
+fn normal_form(
     alloc: Global,
     keys: HashKeys,
     instance: Instance,
-    normal: bool,
     limits: Limits,
 ) -> Result<Instance, ToolFault>
-    ensures asked { IfOk result (IsAsked normal (largest limits) instance) }
-    ensures denied { IfErr result (IsDenied normal (largest limits) instance) }
+    ensures asked { IfOk result (IsAsked true (largest limits) instance) }
+    ensures denied { IfErr result (IsDenied true (largest limits) instance) }
 {
-    if !normal {
-        return Ok(instance);
-    }
     if overflows(instance.constraints.as_slice(), limits) {
         return Err(ToolFault::Overflow(Input::File));
     }

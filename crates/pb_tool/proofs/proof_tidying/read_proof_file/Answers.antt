@@ -7,6 +7,7 @@ use Rattle.pb_proof.specs.Proofs.{IsProofOf}
 use Rattle.pb_proof.specs.Whole.{IsRead, ReadsValue}
 use Rattle.pb_tool.proofs.Given.{given_file, given_stray}
 use Rattle.pb_tool.proofs.Feeds.{took_join}
+use Rattle.pb_tool.proofs.ProofLines.{whole, with_proof}
 use Rattle.pb_tool.proofs.Shown.{after_offset}
 use Rattle.pb_tool.proofs.proof_tidying.read_proof_file.Goals as goal
 
@@ -16,11 +17,17 @@ returns-in-Ok-rest_is_blank-clause-file g c =
     let (rest, more, blank, bound) = c.in-Ok-rest_is_blank.ensures.blank in
     let at = ap (λ (q : Place). q.offset) read.past ∙ after_offset used in
     let within : length (used ++ rest) ≤ byte_limit = omega (arith, bound, at, length-append used rest) in
-    record { used = used; rest = rest; within = within; took = took_join _ _ _ used rest seen [] took more; read = c.in-Ok.read; spelled = read; blank = blank; value = refl }
+    let (v, is, text) = with_proof (IsVeri c.args.limits) c.args.longest used c.in-Ok.read read in
+    (v, record { used = used; rest = rest; within = within; took = took_join _ _ _ used rest seen [] took more; read = whole (IsVeri c.args.limits) c.args.longest v c.in-Ok.read; spelled = is; blank = blank; value = refl }, text)
 
 pub returns-in-Err-rest_is_blank-clause-refused : goal.returns-in-Err-rest_is_blank-clause-refused
 returns-in-Err-rest_is_blank-clause-refused g c =
-    InRest c.in-Ok.read (g.S.Source.left c.read_proof_within.new.input) c.in-Ok.ensures.reads c.in-Err-rest_is_blank.ensures.blank
+    let (used, seen, took, read) = c.in-Ok.ensures.reads in
+    let (v, is, text) = with_proof (IsVeri c.args.limits) c.args.longest used c.in-Ok.read read in
+    InRest (whole (IsVeri c.args.limits) c.args.longest v c.in-Ok.read) (g.S.Source.left c.read_proof_text.new.input) (used, seen, took, is) c.in-Err-rest_is_blank.ensures.blank
+
+pub returns-in-Err-clause-refused : goal.returns-in-Err-clause-refused
+returns-in-Err-clause-refused g c = InText c.in-Err.ensures.reads
 
 pub returns-in-Err-clause-refused_given : goal.returns-in-Err-clause-refused_given
 returns-in-Err-clause-refused_given g c =
@@ -30,9 +37,12 @@ returns-in-Err-clause-refused_given g c =
 pub returns-in-Ok-rest_is_blank-clause-given : goal.returns-in-Ok-rest_is_blank-clause-given
 returns-in-Ok-rest_is_blank-clause-given g c =
     let (used, e, read) = c.in-Ok.ensures.given in
-    given_file (IsRead (IsVeri c.args.limits) c.args.longest IsProofOf) c.in-Ok.read _ _ _ used e read read.past c.in-Ok-rest_is_blank.ensures.given
+    let (v, is, text) = with_proof (IsVeri c.args.limits) c.args.longest used c.in-Ok.read read in
+    let (given, seen, k, file) = given_file (IsRead (IsVeri c.args.limits) c.args.longest IsProofOf) (whole (IsVeri c.args.limits) c.args.longest v c.in-Ok.read) _ _ _ used e is read.past c.in-Ok-rest_is_blank.ensures.given in
+    (given, seen, k, (v, file, text))
 
 pub returns-in-Err-rest_is_blank-clause-refused_given : goal.returns-in-Err-rest_is_blank-clause-refused_given
 returns-in-Err-rest_is_blank-clause-refused_given g c =
     let (used, e, read) = c.in-Ok.ensures.given in
-    given_stray (ReadsValue (IsVeri c.args.limits) c.args.longest IsProofOf) c.in-Ok.read c.in-Err-rest_is_blank.stop _ _ _ used e (λ seen. (used, seen, (refl, refl), read)) c.in-Err-rest_is_blank.ensures.given
+    let (v, is, text) = with_proof (IsVeri c.args.limits) c.args.longest used c.in-Ok.read read in
+    given_stray (ReadsValue (IsVeri c.args.limits) c.args.longest IsProofOf) (whole (IsVeri c.args.limits) c.args.longest v c.in-Ok.read) c.in-Err-rest_is_blank.stop _ _ _ used e (λ seen. (used, seen, (refl, refl), is)) c.in-Err-rest_is_blank.ensures.given

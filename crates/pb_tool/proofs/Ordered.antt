@@ -1,0 +1,167 @@
+-- The statements of an instance come in the order in which its canonical text has them.
+use Rattle.std.proofs.Common.{◌≡◌, ℕ, suc, zero, ◌+◌, ◌≤◌, List, [], ◌∷◌, ◌++◌, take, drop, length, Bool, true, false, IsTrue, cond, nat_le, Option, Some, None, refl, sym, ap, ap₂, subst, ◌∙◌, append_assoc, arith}
+use Rattle.pb_text.specs.Spelling.{Item, Letter}
+use Rattle.pb_text.specs.Whole.{gathered, events_of}
+use Rattle.pb_sums.specs.declared.Term.{Term}
+use Rattle.pb_sums.specs.declared.Linear.{Linear}
+use Rattle.pb_opb.specs.Canonical.{header_bytes, event_bytes, lines, objective_events, constraint_events, comment_events, due, in_order, body_events, instance_bytes}
+use Rattle.pb_opb.specs.Instances.{IsEntry, IsBody}
+use Rattle.pb_opb.specs.Values.{last_or, variables_in, tails_in, objectives_in, constraints_in, comments_in, comment_at}
+use Rattle.pb_opb.specs.declared.Instance.{Instance}
+use Rattle.pb_opb.specs.declared.Comment as comment
+use Rattle.pb_opb.specs.declared.OpbEvent.{OpbEvent}
+use Rattle.pb_opb.specs.declared.OpbEvent.TheVariants.{Header, Comment, Objective, Constraint}
+use Rattle.pb_tool.specs.InstanceText.{line}
+use Rattle.pb_tool.specs.Tidying.{is_bare, tidied}
+use Rattle.pb_tool.proofs.Feeds.{tidied_bare, tidied_more}
+
+-- the objectives and the constraints
+abbrev mains_in : List OpbEvent → List OpbEvent
+mains_in [] = []
+mains_in (Header n m t ∷ events) = mains_in events
+mains_in (Comment t ∷ events) = mains_in events
+mains_in (Objective t ∷ events) = Objective t ∷ mains_in events
+mains_in (Constraint l ∷ events) = Constraint l ∷ mains_in events
+
+le_false : (m n : ℕ) → nat_le m n ≡ false → n + 1 ≤ m
+le_false m n h = grind (arith, h)
+
+le_true : (m n : ℕ) → nat_le m n ≡ true → m ≤ n
+le_true m n h = grind (arith, h)
+
+-- a comment that comes now stands first
+comment_first : (k : ℕ) (t : List ℕ) (cs : List comment.Comment) (e : OpbEvent) (ms : List OpbEvent) → in_order k (comment_at k t ∷ cs) (e ∷ ms) ≡ Comment t ∷ in_order k cs (e ∷ ms)
+comment_first k t cs e ms = first (nat_le k k) refl
+  where
+    first : (b : Bool) → nat_le k k ≡ b
+        → comment_events (take (cond b (1 + due k cs) 0) (comment_at k t ∷ cs)) ++ e ∷ in_order (k + 1) (drop (cond b (1 + due k cs) 0) (comment_at k t ∷ cs)) ms
+        ≡ Comment t ∷ (comment_events (take (due k cs) cs) ++ e ∷ in_order (k + 1) (drop (due k cs) cs) ms)
+    first true h =
+        let one : 1 + due k cs ≡ suc (due k cs) = omega arith in
+        rw one refl
+    first false h = absurd (let late : k + 1 ≤ k = le_false k k h in omega arith)
+
+-- no comment behind a later statement comes now
+late : (events : List OpbEvent) (k j : ℕ) → k + 1 ≤ j → due k (comments_in j events) ≡ 0
+late [] k j h = refl
+late (Header n m t ∷ events) k j h = late events k j h
+late (Comment t ∷ events) k j h = none (nat_le j k) refl
+  where
+    none : (b : Bool) → nat_le j k ≡ b → cond b (1 + due k (comments_in j events)) 0 ≡ 0
+    none true e = absurd (let i : j ≤ k = le_true j k e in omega arith)
+    none false e = refl
+late (Objective t ∷ events) k j h = late events k (j + 1) (omega arith)
+late (Constraint l ∷ events) k j h = late events k (j + 1) (omega arith)
+
+-- a statement before which no comment comes stands first
+main_first : (k : ℕ) (cs : List comment.Comment) (e : OpbEvent) (ms : List OpbEvent) → due k cs ≡ 0 → in_order k cs (e ∷ ms) ≡ e ∷ in_order (k + 1) cs ms
+main_first k cs e ms h = rw h refl
+
+-- What the statements behind a header say, of which n are constraints.
+pub record Follows (may : Bool) (n : ℕ) (events : List OpbEvent) : Type 0 where
+  pub variables : variables_in events ≡ []
+  pub tails : tails_in events ≡ []
+  pub count : length (constraints_in events) ≡ n
+  pub some : 1 ≤ n → ((l : Linear) × (ls : List Linear) × (constraints_in events ≡ l ∷ ls)) × ((e : OpbEvent) × (ms : List OpbEvent) × (mains_in events ≡ e ∷ ms))
+  pub in_place : (k : ℕ) → in_order k (comments_in k events) (mains_in events) ≡ events
+  pub only_constraints : may ≡ false → (objectives_in events ≡ []) × (mains_in events ≡ constraint_events (constraints_in events))
+  pub mains : mains_in events ≡ objective_events (last_or None (objectives_in events)) ++ constraint_events (constraints_in events)
+
+module _ (limit : ℕ) where
+  follows-entry : (may : Bool) (n : ℕ) (text : List Letter) (e : OpbEvent) (rest : List (Item OpbEvent))
+      → ((m : Bool) (k : ℕ) → IsBody limit m k rest → Follows m k (events_of rest))
+      → IsEntry limit may n text (λ m k. IsBody limit m k rest) e → Follows may (suc n) (e ∷ events_of rest)
+  follows-entry may n text (Header a b t) rest ih h = absurd h
+  follows-entry may n text (Comment t) rest ih h =
+      let r : Follows may (suc n) (events_of rest) = ih may (suc n) h.2 in
+      record {
+        variables = r.variables;
+        tails = r.tails;
+        count = r.count;
+        some = r.some;
+        in_place = λ k.
+            let (f, ms, is) = (r.some (omega arith)).1 in
+            let same : in_order k (comments_in k (events_of rest)) (f ∷ ms) ≡ events_of rest = subst (λ (xs : List OpbEvent). in_order k (comments_in k (events_of rest)) xs ≡ events_of rest) is (r.in_place k) in
+            ap (in_order k (comment_at k t ∷ comments_in k (events_of rest))) is ∙ (comment_first k t (comments_in k (events_of rest)) f ms ∙ ap (λ (xs : List OpbEvent). Comment t ∷ xs) same);
+        only_constraints = r.only_constraints;
+        mains = r.mains;
+      }
+  follows-entry may n text (Objective t) rest ih h =
+      let r : Follows false (suc n) (events_of rest) = ih false (suc n) h.2 in
+      let only = r.only_constraints refl in
+      let first : OpbEvent = Objective t in
+      record {
+        variables = r.variables;
+        tails = r.tails;
+        count = r.count;
+        some = λ i. ((r.some i).0, (first, mains_in (events_of rest), refl));
+        in_place = λ k.
+            main_first k (comments_in (k + 1) (events_of rest)) first (mains_in (events_of rest)) (late (events_of rest) k (k + 1) (omega arith))
+            ∙ ap (λ (xs : List OpbEvent). first ∷ xs) (r.in_place (k + 1));
+        only_constraints = λ e. absurd (not_both may h.0 e);
+        mains = rw (only.0, only.1) refl;
+      }
+    where
+      not_both : (b : Bool) → IsTrue b → b ≡ false → ⊥
+      not_both true i e = cc
+      not_both false i e = cc
+  follows-entry may n text (Constraint l) rest ih h =
+      let r : Follows false n (events_of rest) = ih false n h.1 in
+      let only = r.only_constraints refl in
+      let first : OpbEvent = Constraint l in
+      let all : mains_in (first ∷ events_of rest) ≡ constraint_events (constraints_in (first ∷ events_of rest)) = ap (λ (xs : List OpbEvent). first ∷ xs) only.1 in
+      record {
+        variables = r.variables;
+        tails = r.tails;
+        count = ap suc r.count;
+        some = λ i. ((l, constraints_in (events_of rest), refl), (first, mains_in (events_of rest), refl));
+        in_place = λ k.
+            main_first k (comments_in (k + 1) (events_of rest)) first (mains_in (events_of rest)) (late (events_of rest) k (k + 1) (omega arith))
+            ∙ ap (λ (xs : List OpbEvent). first ∷ xs) (r.in_place (k + 1));
+        only_constraints = λ e. (only.0, all);
+        mains = rw (only.0) all;
+      }
+
+  pub follows : (may : Bool) (n : ℕ) (items : List (Item OpbEvent)) → IsBody limit may n items → Follows may n (events_of items)
+  follows may zero [] h = record { variables = refl; tails = refl; count = refl; some = λ i. absurd (let j : 1 ≤ 0 = i in omega arith); in_place = λ k. refl; only_constraints = λ e. (refl, refl); mains = refl }
+  follows may zero (i ∷ rest) h = absurd h
+  follows may (suc n) [] h = absurd h
+  follows may (suc n) (i ∷ rest) h = follows-entry may n i.text i.event rest (λ m k b. follows m k rest b) h.1
+
+abbrev pub line_more : List ℕ → OpbEvent → List ℕ
+line_more text e = text ++ line e
+
+-- the lines so far, and then those of the other statements
+ended : (e : OpbEvent) (rest : List OpbEvent) (text : List ℕ) → gathered line_more text (e ∷ rest) ≡ text ++ (lines (e ∷ rest) ++ 10 ∷ [])
+ended e [] text = refl
+ended e (f ∷ rest) text =
+    ended f rest (line_more text e)
+    ∙ (append_assoc text (event_bytes e ++ 10 ∷ []) (lines (f ∷ rest) ++ 10 ∷ [])
+    ∙ ap (λ (x : List ℕ). text ++ x) (append_assoc (event_bytes e) (10 ∷ []) (lines (f ∷ rest) ++ 10 ∷ []) ∙ sym (append_assoc (event_bytes e) (10 ∷ lines (f ∷ rest)) (10 ∷ []))))
+
+-- the value of a header and what follows it
+abbrev pub value_of : ℕ → List ℕ → List OpbEvent → Instance
+value_of n tail events = record { variables = n; tail = tail; objective = last_or None (objectives_in events); comments = comments_in 0 events; constraints = constraints_in events }
+
+module _ (limit top : ℕ) where
+  bare_not : (o : Option (List Term)) (l : Linear) (ls : List Linear) → is_bare o (l ∷ ls) ≡ false
+  bare_not None l ls = refl
+  bare_not (Some t) l ls = refl
+
+  pub text_behind : (n m : ℕ) (tail : List ℕ) (rest : List (Item OpbEvent)) → IsBody limit true m rest → gathered line_more [] (Header n m tail ∷ events_of rest) ≡ tidied (value_of n tail (events_of rest))
+  text_behind n zero tail [] h = sym (tidied_bare (value_of n tail []) refl)
+  text_behind n zero tail (i ∷ rest) h = absurd h
+  text_behind n (suc m) tail [] h = absurd h
+  text_behind n (suc m) tail (i ∷ rest) h =
+      let events : List OpbEvent = i.event ∷ events_of rest in
+      let r : Follows true (suc m) events = follows limit true (suc m) (i ∷ rest) h in
+      let v : Instance = value_of n tail events in
+      let body : body_events v ≡ events = ap (in_order 0 (comments_in 0 events)) (sym r.mains) ∙ r.in_place 0 in
+      let (l, ls, some) = (r.some (omega arith)).0 in
+      let full : is_bare v.objective v.constraints ≡ false = ap (is_bare v.objective) some ∙ bare_not v.objective l ls in
+      let head : List ℕ = header_bytes n (suc m) tail in
+      let bytes : instance_bytes v ≡ head ++ (10 ∷ lines events) = ap₂ (λ (x : ℕ) (y : List OpbEvent). header_bytes n x tail ++ (10 ∷ lines y)) r.count body in
+      ended i.event (events_of rest) (head ++ 10 ∷ [])
+      ∙ (append_assoc head (10 ∷ []) (lines events ++ 10 ∷ [])
+      ∙ (sym (append_assoc head (10 ∷ lines events) (10 ∷ []))
+      ∙ (ap (λ (x : List ℕ). x ++ 10 ∷ []) (sym bytes) ∙ sym (tidied_more v full))))

@@ -1,0 +1,38 @@
+-- The text of an instance, as its statements come.
+use Rattle.std.specs.Prelude.{◌≡◌, ℕ, Bool, true, false, List, [], ◌∷◌, ◌++◌, Option, Some, None}
+use Rattle.pb_opb.specs.Canonical.{event_bytes}
+use Rattle.pb_opb.specs.Values.{IsValueOf}
+use Rattle.pb_opb.specs.declared.Instance.{Instance}
+use Rattle.pb_opb.specs.declared.OpbEvent.{OpbEvent}
+use Rattle.pb_opb.specs.declared.OpbEvent.TheVariants.{Header, Objective}
+use Rattle.pb_tool.specs.Tidying.{tidied}
+use Rattle.pb_tool.specs.declared.instance_text.InstanceText.{InstanceText}
+
+-- the line of a statement
+abbrev pub line : OpbEvent → List ℕ
+line e = event_bytes e ++ 10 ∷ []
+
+-- the line of a statement that may be there
+abbrev pub line_if : Option OpbEvent → List ℕ
+line_if None = []
+line_if (Some e) = line e
+
+-- The statements with one more. The header and an objective are kept as they are, an objective until the next statement.
+abbrev pub with : InstanceText → OpbEvent → InstanceText
+with t (Header variables constraints tail) = record t { header = Some (Header variables constraints tail) }
+with t (Objective terms) = record t { objective = Some (Objective terms) }
+with t e = record t { page = record t.page { text = t.page.text ++ (line_if t.objective ++ line e) }; objective = None }
+
+-- whether to keep a statement may ask for memory
+abbrev pub asks : OpbEvent → Bool
+asks (Header variables constraints tail) = false
+asks (Objective terms) = false
+asks e = true
+
+-- the text of the statements so far
+abbrev pub text_of : InstanceText → List ℕ
+text_of t = line_if t.header ++ (t.page.text ++ line_if t.objective)
+
+-- the text is what is written for the instance of these statements
+abbrev pub IsTextOf : List OpbEvent → InstanceText → Type 0
+IsTextOf events t = (v : Instance) × IsValueOf events v × (text_of t ≡ tidied v)

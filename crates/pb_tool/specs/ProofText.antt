@@ -1,0 +1,37 @@
+-- The text of a proof, as its statements come.
+use Rattle.std.specs.Prelude.{◌≡◌, ℕ, List, [], ◌∷◌, ◌++◌}
+use Rattle.pb_proof.specs.Canonical.{statement_bytes}
+use Rattle.pb_proof.specs.Proofs.{IsProofOf}
+use Rattle.pb_proof.specs.declared.proof.Proof.{Proof}
+use Rattle.pb_proof.specs.declared.statement.Statement.{Statement}
+use Rattle.pb_proof.specs.declared.statement.Statement.TheVariants.{Header, F, Output, Conclude, End}
+use Rattle.pb_tool.specs.Files.{tidied_proof}
+use Rattle.pb_tool.specs.declared.proof_text.ProofText.{ProofText}
+
+-- the line of a statement
+abbrev pub line : Statement → List ℕ
+line s = statement_bytes s ++ 10 ∷ []
+
+-- The statements with one more. Steps are kept as text, and the count of `f` and the conclusion as they are.
+abbrev pub with : ProofText → Statement → ProofText
+with t Header = t
+with t (F count) = record t { count = count }
+with t Output = t
+with t (Conclude conclusion) = record t { conclusion = Conclude conclusion }
+with t End = t
+with t step = record t { steps = record t.steps { text = t.steps.text ++ line step } }
+
+-- the lines before the steps, and those behind them
+abbrev pub front_of : ProofText → List ℕ
+front_of t = line Header ++ line (F t.count)
+
+abbrev pub back_of : ProofText → List ℕ
+back_of t = line Output ++ (line t.conclusion ++ line End)
+
+-- the text of the statements
+abbrev pub text_of : ProofText → List ℕ
+text_of t = front_of t ++ (t.steps.text ++ back_of t)
+
+-- the text is what is written for the proof of these statements
+abbrev pub IsTextOf : List Statement → ProofText → Type 0
+IsTextOf statements t = (v : Proof) × IsProofOf statements v × (text_of t ≡ tidied_proof v)

@@ -1,0 +1,83 @@
+//! Text that is kept until it may be written.
+
+ghost use Rattle.std.specs.Prelude.{◌≡◌, [], length, take};
+
+use pb_text::{Failed, Sink};
+use std::alloc::Global;
+use std::marker::Model;
+
+/// A text in memory, which contracts see as its bytes.
+#[derive(Drop)]
+pub(crate) struct Text {
+    bytes: Vec<u8>,
+}
+
+impl Model for Text {
+    ghost use Rattle.std.specs.Prelude.{List, ℕ};
+
+    ghost Value = { List ℕ };
+
+    ghost view = { λ t. t.bytes.items };
+}
+
+/// A sink in memory. It fails where memory ran out.
+#[derive(Drop)]
+pub(crate) struct Page {
+    text: Text,
+    failures: u64,
+}
+
+impl Page {
+    /// Before any byte.
+    pub(crate) fn new(alloc: Global) -> Page
+        ensures text { result.text ≡ [] }
+        ensures failures { result.failures ≡ 0 }
+    {
+        let text = Text {
+            bytes: Vec::new(alloc),
+        };
+        Page { text, failures: 0 }
+    }
+
+    /// Its bytes.
+    pub(crate) fn as_slice(&self) -> &[u8]
+        ensures { result.now ≡ self.now.text }
+    {
+        self.text.bytes.as_slice()
+    }
+
+    /// Where it stands: how many bytes it holds, and how often it has failed.
+    pub(crate) fn mark(&self) -> (usize, u64)
+        ensures { result ≡ (length self.now.text, self.now.failures) }
+    {
+        (self.text.bytes.len(), self.failures)
+    }
+
+    /// Takes back what came behind a mark.
+    pub(crate) fn back_to(&mut self, mark: (usize, u64))
+        ensures { self.new ≡ record { text = take mark.0 self.old.text; failures = mark.1 } }
+    {
+        self.text.bytes.truncate(mark.0);
+        self.failures = mark.1;
+    }
+}
+
+impl Sink for Page {
+    ghost use Rattle.std.specs.Prelude.{Some};
+
+    ghost contents = { λ p. Some p.text };
+
+    ghost faults = { λ p. p.failures };
+
+    fn take(&mut self, piece: &[u8]) -> Result<usize, Failed> {
+        if self.text.bytes.extend_from_slice(piece).is_err() {
+            self.failures = self.failures.saturating_add(1);
+            return Err(Failed);
+        }
+        Ok(piece.len())
+    }
+
+    fn failures(&self) -> u64 {
+        self.failures
+    }
+}
