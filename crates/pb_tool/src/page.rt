@@ -27,6 +27,13 @@ pub(crate) struct Page {
     failures: u64,
 }
 
+/// Where a page stands: how many bytes it holds, and how often it has failed.
+#[derive(Clone, Copy)]
+pub(crate) struct Mark {
+    bytes: usize,
+    failures: u64,
+}
+
 impl Page {
     /// Before any byte.
     pub(crate) fn new(alloc: Global) -> Page
@@ -46,19 +53,24 @@ impl Page {
         self.text.bytes.as_slice()
     }
 
-    /// Where it stands: how many bytes it holds, and how often it has failed.
-    pub(crate) fn mark(&self) -> (usize, u64)
-        ensures { result ≡ (length self.now.text, self.now.failures) }
+    /// Where it stands.
+    pub(crate) fn mark(&self) -> Mark
+        ensures bytes { result.bytes ≡ length self.now.text }
+        ensures failures { result.failures ≡ self.now.failures }
     {
-        (self.text.bytes.len(), self.failures)
+        Mark {
+            bytes: self.text.bytes.len(),
+            failures: self.failures,
+        }
     }
 
     /// Takes back what came behind a mark.
-    pub(crate) fn back_to(&mut self, mark: (usize, u64))
-        ensures { self.new ≡ record { text = take mark.0 self.old.text; failures = mark.1 } }
+    pub(crate) fn back_to(&mut self, mark: Mark)
+        ensures text { self.new.text ≡ take mark.bytes self.old.text }
+        ensures failures { self.new.failures ≡ mark.failures }
     {
-        self.text.bytes.truncate(mark.0);
-        self.failures = mark.1;
+        self.text.bytes.truncate(mark.bytes);
+        self.failures = mark.failures;
     }
 }
 
