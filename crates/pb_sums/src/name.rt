@@ -76,6 +76,16 @@ impl Name {
     }
 }
 
+impl Clone for Name {
+    ghost is_clone = { λ x y. y ≡ x };
+
+    fn clone(&self) -> Result<Name, AllocError> {
+        Ok(Name {
+            text: self.text.clone()?,
+        })
+    }
+}
+
 impl PartialEq for Name {
     ghost eq = { λ x y. pointwise eqb x y };
 

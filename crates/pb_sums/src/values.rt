@@ -1,7 +1,10 @@
 //! The values of the grammar.
 
+ghost use Rattle.std.specs.Prelude.{◌≡◌};
+
 use crate::Name;
 use pb_text::Sequence;
+use std::alloc::AllocError;
 
 /// A name or its negation.
 #[derive(Debug, Drop, PartialEq)]
@@ -10,11 +13,33 @@ pub struct Literal {
     pub negated: bool,
 }
 
+impl Clone for Literal {
+    ghost is_clone = { λ x y. y ≡ x };
+
+    fn clone(&self) -> Result<Literal, AllocError> {
+        Ok(Literal {
+            name: self.name.clone()?,
+            negated: self.negated,
+        })
+    }
+}
+
 /// A weighted literal.
 #[derive(Debug, Drop, PartialEq)]
 pub struct Term {
     pub coefficient: i128,
     pub literal: Literal,
+}
+
+impl Clone for Term {
+    ghost is_clone = { λ x y. y ≡ x };
+
+    fn clone(&self) -> Result<Term, AllocError> {
+        Ok(Term {
+            coefficient: self.coefficient,
+            literal: self.literal.clone()?,
+        })
+    }
 }
 
 /// How a sum compares with its degree.

@@ -14,28 +14,9 @@ use crate::state::live::engine_over;
 use pb_normal::{HashKeys, Names, Normal, NormalFault, Side, fits, load, terms_fit};
 use pb_opb::Instance;
 use pb_proof::Stage;
-use pb_sums::{Linear, Literal, Name, Relation, Term};
+use pb_sums::{Linear, Relation, Term};
 use pb_text::{Limits, Sequence};
-use std::alloc::{AllocError, Global};
-
-/// Copies of the terms.
-pub(crate) fn copied_terms(alloc: Global, terms: &[Term]) -> Result<Vec<Term>, AllocError>
-    ensures { IfOk result (λ v. v.items ≡ terms.now) }
-{
-    let mut out = Vec::new(alloc);
-    for t in terms {
-        let name = Name::from_text(alloc, t.literal.name.as_str())?;
-        let literal = Literal {
-            name,
-            negated: t.literal.negated,
-        };
-        out.push(Term {
-            coefficient: t.coefficient,
-            literal,
-        })?;
-    }
-    Ok(out)
-}
+use std::alloc::Global;
 
 /// The objective's terms as a constraint, once their names have numbers.
 fn objective_of_terms(
@@ -50,7 +31,7 @@ fn objective_of_terms(
     ensures overflow { result ≡ Err NormalFault.Overflow → largest limits < magnitude terms.now }
 {
     let linear = Linear {
-        terms: Sequence::from_vec(copied_terms(alloc, terms)?),
+        terms: Sequence::from_vec(Vec::from_clones(alloc, terms)?),
         relation: Relation::AtLeast,
         degree: 0,
     };
