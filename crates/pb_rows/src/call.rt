@@ -26,6 +26,7 @@ pub enum Verb {
     Check,
     Checker,
     Steps,
+    Refuted,
 }
 
 /// The grammar of the text.
@@ -157,6 +158,7 @@ fn other_verb(word: &str) -> Result<Verb, Broken> {
         "check" => Ok(Verb::Check),
         "checker" => Ok(Verb::Checker),
         "steps" => Ok(Verb::Steps),
+        "refuted" => Ok(Verb::Refuted),
         _ => Err(Broken::Call),
     }
 }

@@ -11,6 +11,7 @@ use crate::judge::{run_judge, run_limits};
 use crate::name::{run_names, run_numbers};
 use crate::page::{Done, is_same};
 use crate::read::run_read;
+use crate::refuted::run_refuted;
 use crate::row::Row;
 use crate::spell::add_line;
 use crate::steps::run_steps;
@@ -170,5 +171,6 @@ fn run_call(alloc: Global, call: &Call, row: &Row<'_>) -> Result<Done, Broken> {
         Verb::Limits => run_limits(alloc, call),
         Verb::Checker => run_checker(alloc, call, text, &row.wanted),
         Verb::Steps => run_steps(alloc, call, text),
+        Verb::Refuted => run_refuted(alloc, text),
     }
 }

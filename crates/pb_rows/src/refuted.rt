@@ -1,0 +1,19 @@
+//! Rows of the first program.
+
+use crate::broken::Broken;
+use crate::check::inputs_of;
+use crate::command::tell_fault;
+use crate::first::is_refuted;
+use crate::page::{Done, answered, page, tell_either};
+use std::alloc::Global;
+
+/// Tells whether a proof shows that an instance has no solution, or the line of the fault.
+pub fn run_refuted(alloc: Global, text: &[u8]) -> Result<Done, Broken> {
+    let (instance, proof) = inputs_of(text)?;
+    let mut told = page(alloc);
+    match is_refuted(alloc, instance, proof) {
+        Ok(is_so) => tell_either(is_so, b"refuted\n", b"not refuted\n", &mut told)?,
+        Err(fault) => tell_fault(&fault, &mut told)?,
+    }
+    Ok(answered(alloc, told))
+}
