@@ -1,3 +1,4 @@
+pub mod Faults
 pub mod Form
 pub mod Adds
 pub mod Rules

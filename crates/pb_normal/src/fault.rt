@@ -1,9 +1,12 @@
 //! Why an operation on forms gives no form.
 
-ghost use Rattle.std.specs.Prelude.{◌≡◌};
+ghost use Rattle.std.specs.Prelude.{◌≡◌, Some};
+ghost use Rattle.pb_normal.specs.Faults.{fault_text};
 ghost use Rattle.pb_normal.specs.declared.fault.NormalFault.TheVariants.{Memory};
 
 use std::alloc::{AllocError, AllocFailed};
+use std::error::Error;
+use std::fmt;
 
 /// Why there is no form.
 #[derive(Clone, Copy, Debug, PartialEq, Eq)]
@@ -13,6 +16,19 @@ pub enum NormalFault {
     /// A growth was refused.
     Memory,
 }
+
+impl fmt::Display for NormalFault {
+    ghost output = { λ fault. Some (fault_text fault) };
+
+    fn fmt<W: fmt::Write>(&self, f: &mut fmt::Formatter<W>) -> fmt::Result {
+        f.write_str(match self {
+            NormalFault::Overflow => "overflow",
+            NormalFault::Memory => "out of memory",
+        })
+    }
+}
+
+impl Error for NormalFault {}
 
 impl From<AllocError> for NormalFault {
     ghost from_gives = { λ _ e. e ≡ Memory };

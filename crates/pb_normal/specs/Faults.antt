@@ -1,0 +1,8 @@
+-- What a fault of a form says.
+use Rattle.std.specs.Prelude.{ℕ, List, codes}
+use Rattle.pb_normal.specs.declared.fault.NormalFault.{NormalFault}
+use Rattle.pb_normal.specs.declared.fault.NormalFault.TheVariants.{Overflow, Memory}
+
+abbrev pub fault_text : NormalFault → List ℕ
+fault_text Overflow = codes "overflow"
+fault_text Memory = codes "out of memory"
