@@ -10,6 +10,7 @@ pub mod FeederParts
 pub mod FixedMarks
 pub mod Follows
 pub mod Formats
+pub mod HexDigits
 pub mod Languages
 pub mod Lists
 pub mod Numbers

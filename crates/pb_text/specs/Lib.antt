@@ -13,6 +13,7 @@ pub mod Parts
 pub mod Pouring
 pub mod Pulling
 pub mod Reading
+pub mod Reasons
 pub mod Rows
 pub mod Source
 pub mod Spelling

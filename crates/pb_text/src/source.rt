@@ -1,6 +1,6 @@
 //! Where bytes come from.
 
-ghost use Rattle.std.specs.Prelude.{◌≡◌, ◌∷◌, ℕ, List, Option, Some, None, false, OnOk, OnErr};
+ghost use Rattle.std.specs.Prelude.{◌≡◌, ◌∷◌, ℕ, List, Option, Some, None, codes, false, OnOk, OnErr};
 ghost use Rattle.pb_text.specs.Automaton.{IsState};
 ghost use Rattle.pb_text.specs.Feeding.{state_of, halt_of, is_complete};
 ghost use Rattle.pb_text.specs.Pouring.{Pours};
@@ -9,10 +9,22 @@ ghost use Rattle.pb_text.specs.Writing.{one_more};
 
 use crate::feeder::Feeder;
 use crate::machine::Machine;
+use std::error::Error;
+use std::fmt;
 
 /// A reader or a writer failed.
 #[derive(Clone, Copy, Debug, PartialEq, Eq)]
 pub struct Failed;
+
+impl fmt::Display for Failed {
+    ghost output = { λ _. Some (codes "a reader or a writer failed") };
+
+    fn fmt<W: fmt::Write>(&self, f: &mut fmt::Formatter<W>) -> fmt::Result {
+        f.write_str("a reader or a writer failed")
+    }
+}
+
+impl Error for Failed {}
 
 /// A source of bytes, of which the next may be looked at.
 pub trait Source {

@@ -1,9 +1,12 @@
 -- The line and the exit status of a fault, and what it says of the source.
-use Rattle.std.specs.Prelude.{ℕ, ◌/◌, ◌%◌, List, [], ◌∷◌, ◌++◌, codes, decimal, slice_index, string_bytes, Result, Ok, Err}
+use Rattle.std.specs.Prelude.{ℕ, List, [], ◌∷◌, ◌++◌, codes, string_bytes, Result, Ok, Err}
 use Rattle.pb_text.specs.Pulling.{faults_with}
-use Rattle.pb_text.specs.declared.place.Place.{Place}
+use Rattle.pb_text.specs.Reasons.{place_text, reason_of, stop_text}
 use Rattle.pb_text.specs.declared.place.Why.{Why}
 use Rattle.pb_text.specs.declared.place.Why.TheVariants as why
+use Rattle.pb_replay.specs.Faults.{fault_text}
+use Rattle.pb_tool.specs.declared.checker.CheckFault.{CheckFault}
+use Rattle.pb_tool.specs.declared.checker.CheckFault.TheVariants as check
 use Rattle.pb_tool.specs.declared.fault.Input.{Input}
 use Rattle.pb_tool.specs.declared.fault.Input.TheVariants.{File, Instance, Proof}
 use Rattle.pb_tool.specs.declared.fault.ToolFault.{ToolFault}
@@ -16,24 +19,10 @@ prefix_of File = codes "file: "
 prefix_of Instance = codes "instance: "
 prefix_of Proof = codes "proof: "
 
-abbrev pub place_text : Place → List ℕ
-place_text place = codes "line " ++ decimal place.line ++ codes " column " ++ decimal place.column ++ codes ": "
-
--- two hexadecimal digits, in lower case
-abbrev pub hex_digit : ℕ → ℕ
-hex_digit n = slice_index (codes "0123456789abcdef") n
-
-abbrev pub hex_of : ℕ → List ℕ
-hex_of byte = hex_digit (byte / 16) ∷ hex_digit (byte % 16) ∷ []
-
--- why a reader stopped
-abbrev pub reason_of : Why → List ℕ
-reason_of (why.Byte byte) = codes "byte 0x" ++ hex_of byte
-reason_of why.TooLarge = codes "number too large"
-reason_of why.Ended = codes "input ended"
-reason_of why.TooLong = codes "input too long"
-reason_of why.Read = codes "read fault"
-reason_of why.Memory = codes "out of memory"
+-- the fault of a proof, behind its place
+abbrev pub check_fault_text : CheckFault → List ℕ
+check_fault_text (check.Text stop) = stop_text stop
+check_fault_text (check.Step place e) = place_text place ++ fault_text e
 
 -- the line on standard error, with its line feed
 abbrev pub fault_line : ToolFault → List ℕ

@@ -1,12 +1,13 @@
 //! Checks a proof, in whatever pieces its text comes.
 
-ghost use Rattle.std.specs.Prelude.{◌≡◌, ◌<◌, ℕ, Err, Result, length};
+ghost use Rattle.std.specs.Prelude.{◌≡◌, ◌<◌, ℕ, Err, Result, Some, length};
 ghost use Rattle.pb_text.specs.Limits.{largest, top_of};
 ghost use Rattle.pb_proof.specs.Values.{IsStatementValue};
 ghost use Rattle.pb_replay.specs.Replay.{State};
 ghost use Rattle.pb_replay.specs.declared.fault.Fault.{Fault as AFault};
 ghost use Rattle.pb_replay.specs.Meaning.{IsFront};
 ghost use Rattle.pb_tool.specs.Checker.{IsAt, StepsFrom, TextsAreRead};
+ghost use Rattle.pb_tool.specs.Faults.{check_fault_text};
 
 use pb_proof::{ProofMachine, Statement, no_front, proofs_are_exact, reads_are_of_proofs};
 use pb_replay::laws::{replays_have_states, whole_proofs_conclude};
@@ -14,6 +15,8 @@ use pb_replay::{Fault, Replay, Verdict};
 use pb_text::laws::standing_is_reading;
 use pb_text::{BYTE_LIMIT, Feeder, Place, Spanned, Stop, Why};
 use std::alloc::Global;
+use std::error::Error;
+use std::fmt;
 use std::marker::Model;
 
 /// Why a proof is refused.
@@ -24,6 +27,22 @@ pub enum CheckFault {
     /// The statement that begins at the place was refused.
     Step(Place, Fault),
 }
+
+impl fmt::Display for CheckFault {
+    ghost output = { λ fault. Some (check_fault_text fault) };
+
+    fn fmt<W: fmt::Write>(&self, f: &mut fmt::Formatter<W>) -> fmt::Result {
+        match *self {
+            CheckFault::Text(stop) => write!(f, "{stop}"),
+            CheckFault::Step(place, fault) => {
+                let (line, column) = (place.line, place.column);
+                write!(f, "line {line} column {column}: {fault}")
+            }
+        }
+    }
+}
+
+impl Error for CheckFault {}
 
 /// How far a piece was taken: so many bytes of it, and whether a statement ends there.
 #[derive(Clone, Copy, Debug, PartialEq, Eq)]

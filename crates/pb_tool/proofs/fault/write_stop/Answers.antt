@@ -1,5 +1,6 @@
 use Rattle.std.proofs.Common.{◌∷◌, []}
-use Rattle.pb_tool.specs.Faults.{place_text, prefix_of, reason_of}
+use Rattle.pb_text.specs.Reasons.{place_text, reason_of}
+use Rattle.pb_tool.specs.Faults.{prefix_of}
 use Rattle.pb_tool.proofs.Sequence.{broke_first, broke_second, broke_third, wrote_three}
 use Rattle.pb_tool.proofs.fault.write_stop.Goals as goal
 

@@ -1,5 +1,5 @@
 use Rattle.std.proofs.Common.{◌∷◌, []}
-use Rattle.pb_tool.specs.Faults.{place_text}
+use Rattle.pb_text.specs.Reasons.{place_text}
 use Rattle.pb_tool.specs.Refusals.{refusal_text}
 use Rattle.std.specs.Prelude.{codes}
 use Rattle.pb_tool.proofs.Sequence.{broke_first, broke_second, broke_third, wrote_three}
