@@ -13,10 +13,10 @@ use Rattle.pb_replay.specs.declared.fault.Fault.TheVariants.{Memory, NoObjective
 use Rattle.pb_replay.specs.declared.numbered.NumberedLiteral.{NumberedLiteral}
 use Rattle.pb_replay.specs.declared.state.Running.{Running}
 use Rattle.pb_replay.specs.Answer.{Answer, gives, need, found}
-use Rattle.pb_replay.specs.Loading.{Problem}
+use Rattle.pb_replay.specs.Problem.{Problem}
 use Rattle.pb_replay.specs.Replay.{Logged, IsLive, Shown, normal_form, added}
 use Rattle.pb_replay.specs.Conclusions.{IsShownBy, lower_bound, objective_with}
-use Rattle.pb_replay.specs.Running.{IsBest, problem_of, state_of}
+use Rattle.pb_replay.specs.Kept.{IsBest, problem_of, state_of}
 
 -- the form of one side of the objective, compared with a degree
 abbrev pub HasObjective : ℕ → List (List ℕ) → Option (List Term) → Side → ℤ → Answer Form

@@ -15,7 +15,7 @@ use Rattle.pb_replay.specs.declared.fault.Fault.TheVariants.{NoSuchId, NoObjecti
 use Rattle.pb_replay.specs.declared.verdict.Verdict.{Verdict}
 use Rattle.pb_replay.specs.declared.verdict.Verdict.TheVariants as verdict
 use Rattle.pb_replay.specs.Answer.{Answer, gives, need, found}
-use Rattle.pb_replay.specs.Loading.{Problem}
+use Rattle.pb_replay.specs.Problem.{Problem}
 use Rattle.pb_replay.specs.Propagation.{IsRup}
 use Rattle.pb_replay.specs.Replay.{State, Logged, Live, IsLive, Shown, normal_form, numbered}
 

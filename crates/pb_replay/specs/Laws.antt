@@ -14,10 +14,10 @@ use Rattle.pb_replay.specs.declared.fault.Fault.TheVariants.{NotTotal}
 use Rattle.pb_replay.specs.declared.numbered.NumberedLiteral.{NumberedLiteral}
 use Rattle.pb_replay.specs.declared.verdict.Verdict.{Verdict}
 use Rattle.pb_replay.specs.Answer.{Answer}
-use Rattle.pb_replay.specs.Loading.{Problem, Opened, Solves}
+use Rattle.pb_replay.specs.Problem.{Problem, Opened, Solves}
 use Rattle.pb_replay.specs.Propagation.{on, Derivation, MeetsConflict, IsCompletion}
 use Rattle.pb_replay.specs.Replay.{State, first_state}
-use Rattle.pb_replay.specs.Running.{Replaying, StandsFor, verdict_at}
+use Rattle.pb_replay.specs.Kept.{Replaying, StandsFor, verdict_at}
 use Rattle.pb_replay.specs.Statements.{Outcome, Accepts}
 use Rattle.pb_replay.specs.Meaning.{Means, MeansWritten, AccountedWritten, IsProblem, IsSound}
 

@@ -10,7 +10,7 @@ use Rattle.pb_normal.specs.Written.{names_of, by_number}
 use Rattle.pb_replay.specs.Replay.{Logged}
 use Rattle.pb_replay.specs.declared.verdict.Verdict.{Verdict}
 use Rattle.pb_replay.specs.declared.verdict.Verdict.TheVariants.{NoClaim, Unsat, Sat, Bounds}
-use Rattle.pb_replay.specs.Loading.{Problem, objective_of, Solves, written_value}
+use Rattle.pb_replay.specs.Problem.{Problem, objective_of, Solves, written_value}
 use Rattle.pb_replay.specs.Propagation.{HoldAll}
 use Rattle.pb_replay.specs.Replay.{State, Live, value, by_name}
 

@@ -15,7 +15,7 @@ use Rattle.pb_replay.specs.declared.fault.Fault.TheVariants.{Overflow, NoSuchId,
 use Rattle.pb_replay.specs.declared.numbered.NumberedLiteral.{NumberedLiteral}
 use Rattle.pb_replay.specs.declared.verdict.Verdict.{Verdict}
 use Rattle.pb_replay.specs.Answer.{Answer, gives, need, each_below, found, some, after}
-use Rattle.pb_replay.specs.Loading.{Problem, objective_of}
+use Rattle.pb_replay.specs.Problem.{Problem, objective_of}
 use Rattle.pb_replay.specs.Propagation.{only, on, MeetsConflict, IsCompletion}
 
 -- a solution: its values by the numbers of names, and that of the objective

@@ -4,7 +4,7 @@ use Rattle.pb_normal.specs.Form.{Form, Holds}
 use Rattle.pb_normal.specs.Rules.{assignment}
 use Rattle.pb_replay.specs.declared.fault.Fault.TheVariants.{NotTotal, Violates}
 use Rattle.pb_replay.specs.Answer.{Answer, gives, each_below, some, after}
-use Rattle.pb_replay.specs.Loading.{Problem}
+use Rattle.pb_replay.specs.Problem.{Problem}
 use Rattle.pb_replay.specs.Replay.{Logged, no_form, logged_of}
 
 -- each of so many names has this value

@@ -15,7 +15,7 @@ use Rattle.pb_normal.specs.Names.{with_names}
 use Rattle.pb_normal.specs.Written.{names_of}
 use Rattle.pb_replay.specs.declared.fault.Fault.TheVariants.{FormulaCount, NotImplied, NoObjective, IdsSpent, Order}
 use Rattle.pb_replay.specs.Answer.{Answer, gives, need, found, some, after}
-use Rattle.pb_replay.specs.Loading.{Problem}
+use Rattle.pb_replay.specs.Problem.{Problem}
 use Rattle.pb_replay.specs.Propagation.{IsRup}
 use Rattle.pb_replay.specs.Replay.{State, Live, TreeForm, normal_form, numbered, Completed, IsClause, Deleted, added}
 use Rattle.pb_replay.specs.Conclusions.{Concludes, objective_with, verdict_of}

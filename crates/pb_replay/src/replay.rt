@@ -5,10 +5,10 @@ ghost use Rattle.std.specs.Prelude.{ℕ, ◌<◌, ◌≡◌, Ok, Err, None, Some
 ghost use Rattle.std.specs.Option.{option_copied};
 ghost use Rattle.pb_text.specs.Limits.{largest, top_of};
 ghost use Rattle.pb_proof.specs.Values.{IsStatementValue};
-ghost use Rattle.pb_replay.specs.Loading.{FitsAll, Opened};
+ghost use Rattle.pb_replay.specs.Problem.{FitsAll, Opened};
 ghost use Rattle.pb_replay.specs.Replay.{first_state};
 ghost use Rattle.pb_replay.specs.Meaning.{IsFront, Means, MeansWritten};
-ghost use Rattle.pb_replay.specs.Running.{StandsFor, StepsAs, verdict_in, constraint_in};
+ghost use Rattle.pb_replay.specs.Kept.{StandsFor, StepsAs, verdict_in, constraint_in};
 ghost use Rattle.pb_replay.specs.Statements.{MayWant};
 ghost use Rattle.pb_replay.specs.Visits.{LooksOf};
 ghost use Rattle.pb_replay.specs.declared.fault.Fault.{Fault as AFault};
@@ -33,7 +33,7 @@ pub struct Replay {
 }
 
 impl Model for Replay {
-    ghost use Rattle.pb_replay.specs.Running.{Replaying, IsKept, problem_of};
+    ghost use Rattle.pb_replay.specs.Kept.{Replaying, IsKept, problem_of};
 
     ghost Value = { Replaying };
 

@@ -4,7 +4,7 @@ ghost use Rattle.std.specs.Prelude.{◌≡◌, ◌↔◌, Err, IsTrue, OnOk};
 ghost use Rattle.pb_text.specs.Limits.{largest, top_of};
 ghost use Rattle.pb_proof.specs.Order.{stage_of};
 ghost use Rattle.pb_proof.specs.Values.{IsStatementValue};
-ghost use Rattle.pb_replay.specs.Running.{Keeps, Goes, Comes, IsLinked, IsReady};
+ghost use Rattle.pb_replay.specs.Kept.{Keeps, Goes, Comes, IsLinked, IsReady};
 ghost use Rattle.pb_replay.specs.Statements.{IsCount, MayWant};
 ghost use Rattle.pb_replay.specs.Visits.{LooksOf, counted_from};
 

@@ -7,7 +7,7 @@ use Rattle.pb_text.specs.declared.Place.{Place}
 use Rattle.pb_text.specs.declared.Spanned.{Spanned}
 use Rattle.pb_proof.specs.declared.Statement.{Statement}
 use Rattle.pb_replay.specs.Laws.{OutcomesAreSingle}
-use Rattle.pb_replay.specs.Loading.{Problem}
+use Rattle.pb_replay.specs.Problem.{Problem}
 use Rattle.pb_replay.specs.Replay.{State}
 use Rattle.pb_replay.specs.Statements.{Outcome, Accepts}
 use Rattle.pb_replay.specs.declared.fault.Fault.{Fault}

@@ -12,10 +12,10 @@ use Rattle.pb_text.specs.declared.Stop.{Stop}
 use Rattle.pb_proof.specs.Formats.{ReadsProofs}
 use Rattle.pb_proof.specs.State.{begin, proofs}
 use Rattle.pb_proof.specs.declared.Statement.{Statement}
-use Rattle.pb_replay.specs.Loading.{Problem}
+use Rattle.pb_replay.specs.Problem.{Problem}
 use Rattle.pb_replay.specs.Meaning.{IsFront}
 use Rattle.pb_replay.specs.Replay.{State}
-use Rattle.pb_replay.specs.Running.{Replaying, StandsFor, verdict_in}
+use Rattle.pb_replay.specs.Kept.{Replaying, StandsFor, verdict_in}
 use Rattle.pb_replay.specs.Statements.{Accepts}
 use Rattle.pb_replay.specs.declared.fault.Fault.{Fault}
 use Rattle.pb_replay.specs.declared.verdict.Verdict.{Verdict}

@@ -27,9 +27,9 @@ use Rattle.pb_proof.specs.declared.Statement.{Statement}
 use Rattle.pb_proof.specs.declared.Statement.TheVariants.{Header, F, Output, Conclude, End}
 use Rattle.pb_proof.specs.declared.Stage.{Stage}
 use Rattle.pb_replay.specs.Laws.{ReplaysHaveStates, WholeProofsConclude}
-use Rattle.pb_replay.specs.Loading.{Problem}
+use Rattle.pb_replay.specs.Problem.{Problem}
 use Rattle.pb_replay.specs.Replay.{State}
-use Rattle.pb_replay.specs.Running.{Replaying, StandsFor, StepsAs, verdict_at, verdict_in}
+use Rattle.pb_replay.specs.Kept.{Replaying, StandsFor, StepsAs, verdict_at, verdict_in}
 use Rattle.pb_replay.specs.Statements.{Outcome, Accepts}
 use Rattle.pb_replay.specs.declared.fault.Fault.{Fault}
 use Rattle.pb_replay.specs.declared.verdict.Verdict.{Verdict}

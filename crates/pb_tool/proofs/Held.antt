@@ -14,9 +14,9 @@ use Rattle.pb_proof.specs.Formats.{NoFront, ReadsProofs}
 use Rattle.pb_proof.specs.Proofs.{IsProof}
 use Rattle.pb_proof.specs.State.{ProofState, begin}
 use Rattle.pb_proof.specs.declared.Statement.{Statement}
-use Rattle.pb_replay.specs.Loading.{Problem}
+use Rattle.pb_replay.specs.Problem.{Problem}
 use Rattle.pb_replay.specs.Replay.{State}
-use Rattle.pb_replay.specs.Running.{Replaying}
+use Rattle.pb_replay.specs.Kept.{Replaying}
 use Rattle.pb_replay.specs.declared.fault.Fault.{Fault}
 use Rattle.pb_tool.specs.Checker.{ProofFeeder, Stands, TextsAreRead}
 use Rattle.pb_tool.specs.Pieces.{EndsStatement, HoldsOpen}

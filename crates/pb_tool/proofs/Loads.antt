@@ -12,7 +12,7 @@ use Rattle.pb_normal.specs.Form.{Form}
 use Rattle.pb_normal.specs.Names.{with_name, with_names}
 use Rattle.pb_normal.specs.Written.{names_of, linear_of}
 use Rattle.pb_normal.proofs.Appearing.{in_turn}
-use Rattle.pb_replay.specs.Loading.{names_in, objective_of}
+use Rattle.pb_replay.specs.Problem.{names_in, objective_of}
 use Rattle.pb_tool.specs.Normalised.{AreLoaded}
 
 -- the forms read names alone

@@ -26,7 +26,7 @@ use Rattle.pb_proof.specs.ValueLaws.{OneValue}
 use Rattle.pb_proof.specs.declared.Proof.{Proof}
 use Rattle.pb_proof.specs.declared.Statement.{Statement}
 use Rattle.pb_replay.specs.Laws.{OpeningsAreSingle, OutcomesAreSingle}
-use Rattle.pb_replay.specs.Loading.{Problem, Opened}
+use Rattle.pb_replay.specs.Problem.{Problem, Opened}
 use Rattle.pb_replay.specs.Replay.{State, first_state}
 use Rattle.pb_replay.specs.Statements.{Accepts}
 use Rattle.pb_replay.specs.declared.fault.Fault.{Fault}

@@ -17,17 +17,17 @@ use Rattle.pb_proof.specs.declared.Statement.{Statement}
 use Rattle.pb_proof.specs.declared.Stage.{Stage}
 use Rattle.pb_proof.specs.declared.Stage.TheVariants.{Opening, Formula, Steps, Claim, Closing, Complete}
 use Rattle.pb_replay.specs.Laws.{ReplaysHaveStates, WholeProofsConclude}
-use Rattle.pb_replay.specs.Loading.{Problem}
+use Rattle.pb_replay.specs.Problem.{Problem}
 use Rattle.pb_replay.specs.Meaning.{IsFront}
 use Rattle.pb_replay.specs.Replay.{State}
-use Rattle.pb_replay.specs.Running.{Replaying, verdict_at, verdict_in}
+use Rattle.pb_replay.specs.Kept.{Replaying, verdict_at, verdict_in}
 use Rattle.pb_replay.specs.Statements.{Outcome, Accepts}
 use Rattle.pb_replay.specs.declared.fault.Fault.{Fault}
 use Rattle.pb_replay.specs.declared.fault.Fault.TheVariants as fault
 use Rattle.pb_replay.specs.declared.verdict.Verdict.{Verdict}
 use Rattle.pb_tool.specs.Checker.{IsAt, StepsFrom}
 use Rattle.pb_tool.specs.Checks.{statements_at, Refuses, Takes}
-use Rattle.pb_replay.specs.Running.{StandsFor}
+use Rattle.pb_replay.specs.Kept.{StandsFor}
 use Rattle.pb_tool.specs.Files.{IsVeri}
 use Rattle.pb_tool.specs.Runs.{KeepsNames, Runs, faults_of_text}
 use Rattle.pb_tool.specs.Verified.{IsAccepted}

@@ -14,7 +14,7 @@ use Rattle.pb_normal.specs.Form.{Form}
 use Rattle.pb_normal.specs.Names.{AreDistinct, HasNames, with_names}
 use Rattle.pb_normal.specs.Written.{names_of, linear_of, HoldsWritten, IsFormOf, IsSideOf, SameAsForm, SameAsForms}
 use Rattle.pb_normal.proofs.Appearing.{names_split}
-use Rattle.pb_replay.specs.Loading.{Solves, names_in, objective_of}
+use Rattle.pb_replay.specs.Problem.{Solves, names_in, objective_of}
 use Rattle.pb_tool.specs.Normalised.{AreLoaded, IsNormalised}
 
 -- each constraint holds

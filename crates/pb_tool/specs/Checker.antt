@@ -9,10 +9,10 @@ use Rattle.pb_text.specs.declared.Feeder.{Feeder}
 use Rattle.pb_proof.specs.Proofs.{IsProof}
 use Rattle.pb_proof.specs.State.{ProofState, begin, proofs}
 use Rattle.pb_proof.specs.declared.Statement.{Statement}
-use Rattle.pb_replay.specs.Loading.{Problem}
+use Rattle.pb_replay.specs.Problem.{Problem}
 use Rattle.pb_replay.specs.Replay.{State}
-use Rattle.pb_replay.specs.Running.{Replaying}
-use Rattle.pb_replay.specs.Running.{StandsFor}
+use Rattle.pb_replay.specs.Kept.{Replaying}
+use Rattle.pb_replay.specs.Kept.{StandsFor}
 use Rattle.pb_replay.specs.declared.fault.Fault.{Fault}
 use Rattle.pb_tool.specs.Checks.{statements_at, Checks, Leads, Takes, Refuses}
 use Rattle.pb_tool.specs.declared.checker.CheckFault.{CheckFault}

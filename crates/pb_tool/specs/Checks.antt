@@ -8,9 +8,9 @@ use Rattle.pb_text.specs.declared.Spanned.{Spanned}
 use Rattle.pb_text.specs.declared.Stop.{Stop}
 use Rattle.pb_proof.specs.Proofs.{IsProof}
 use Rattle.pb_proof.specs.declared.Statement.{Statement}
-use Rattle.pb_replay.specs.Loading.{Problem}
+use Rattle.pb_replay.specs.Problem.{Problem}
 use Rattle.pb_replay.specs.Replay.{State}
-use Rattle.pb_replay.specs.Running.{verdict_at}
+use Rattle.pb_replay.specs.Kept.{verdict_at}
 use Rattle.pb_replay.specs.Statements.{Outcome, Accepts}
 use Rattle.pb_replay.specs.declared.fault.Fault.{Fault}
 use Rattle.pb_replay.specs.declared.fault.Fault.TheVariants as fault

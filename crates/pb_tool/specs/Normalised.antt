@@ -6,7 +6,7 @@ use Rattle.pb_normal.specs.declared.Side.{Side}
 use Rattle.pb_normal.specs.Constraints.{AreFormsOf, Fits, sides_in}
 use Rattle.pb_normal.specs.Form.{Form}
 use Rattle.pb_normal.specs.Written.{linear_of}
-use Rattle.pb_replay.specs.Loading.{names_in}
+use Rattle.pb_replay.specs.Problem.{names_in}
 
 -- the constraints are the forms of such sides, written out with the names
 abbrev pub AreLoaded : List (List ℕ) → List (Side × Linear) → List Linear → Type 0

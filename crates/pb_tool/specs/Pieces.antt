@@ -12,7 +12,7 @@ use Rattle.pb_text.specs.declared.place.Why.TheVariants.{Read, Memory}
 use Rattle.pb_proof.specs.Proofs.{IsProof}
 use Rattle.pb_proof.specs.State.{begin, proofs}
 use Rattle.pb_proof.specs.declared.Statement.{Statement}
-use Rattle.pb_replay.specs.Loading.{Problem}
+use Rattle.pb_replay.specs.Problem.{Problem}
 use Rattle.pb_replay.specs.Replay.{State}
 use Rattle.pb_replay.specs.declared.fault.Fault.{Fault}
 use Rattle.pb_tool.specs.Checker.{Checking, Stands}

@@ -8,15 +8,15 @@ use Rattle.pb_opb.specs.declared.Instance.{Instance}
 use Rattle.pb_proof.specs.Proofs.{statements_of}
 use Rattle.pb_proof.specs.declared.Proof.{Proof}
 use Rattle.pb_proof.specs.declared.Statement.{Statement}
-use Rattle.pb_replay.specs.Loading.{FitsAll, Problem, Opened}
+use Rattle.pb_replay.specs.Problem.{FitsAll, Problem, Opened}
 use Rattle.pb_replay.specs.Meaning.{IsFront}
 use Rattle.pb_replay.specs.Replay.{State, first_state}
-use Rattle.pb_replay.specs.Running.{Replaying}
+use Rattle.pb_replay.specs.Kept.{Replaying}
 use Rattle.pb_replay.specs.Statements.{Outcome, Accepts}
 use Rattle.pb_replay.specs.declared.fault.Fault.{Fault}
 use Rattle.pb_replay.specs.declared.fault.Fault.TheVariants.{Memory as no_memory, Overflow as over, NotTotal}
 use Rattle.pb_replay.specs.declared.verdict.Verdict.{Verdict}
-use Rattle.pb_replay.specs.Running.{StandsFor}
+use Rattle.pb_replay.specs.Kept.{StandsFor}
 use Rattle.pb_tool.specs.Files.{IsProofFile}
 use Rattle.pb_tool.specs.Tidying.{IsOpbFile, IsNoOpbFile}
 use Rattle.pb_tool.specs.Verified.{ComesTo, IsAccepted, IsRefusedStep, IsRefusedText, IsTold}

@@ -13,7 +13,7 @@ use Rattle.pb_proof.specs.Canonical.{bound_bytes}
 use Rattle.pb_proof.specs.Proofs.{statements_of}
 use Rattle.pb_proof.specs.declared.Proof.{Proof}
 use Rattle.pb_proof.specs.declared.Statement.{Statement}
-use Rattle.pb_replay.specs.Loading.{FitsAll, Problem, Opened}
+use Rattle.pb_replay.specs.Problem.{FitsAll, Problem, Opened}
 use Rattle.pb_replay.specs.Replay.{State, first_state}
 use Rattle.pb_replay.specs.Statements.{Outcome, Accepts}
 use Rattle.pb_replay.specs.declared.fault.Fault.{Fault}

@@ -78,7 +78,7 @@ impl Checker {
     ghost use Rattle.std.specs.Option.{option_copied};
     ghost use Rattle.pb_text.specs.Blank.{IsInReach};
     ghost use Rattle.pb_text.specs.declared.Limits.{Limits};
-    ghost use Rattle.pb_replay.specs.Loading.{Problem};
+    ghost use Rattle.pb_replay.specs.Problem.{Problem};
     ghost use Rattle.pb_tool.specs.Checks.{Ends};
     ghost use Rattle.pb_tool.specs.Pieces.{ChecksAt, ChecksOnce, EndsStatement, HoldsOpen, IsOpen, IsUnread, WantsMemory, bytes_gone, fault_in, fault_of, is_whole, place_in};
     ghost use Rattle.pb_tool.specs.declared.checker.CheckFault.{CheckFault as ACheckFault};

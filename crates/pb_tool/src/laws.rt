@@ -2,7 +2,7 @@
 
 ghost use Rattle.std.specs.Prelude.{◌≡◌, ◌↔◌, ℕ, Bool, List};
 ghost use Rattle.pb_opb.specs.declared.Instance.{Instance};
-ghost use Rattle.pb_replay.specs.Loading.{Solves};
+ghost use Rattle.pb_replay.specs.Problem.{Solves};
 ghost use Rattle.pb_tool.specs.Normalised.{IsNormalised};
 ghost use Rattle.pb_tool.specs.Staying.{HasNoFault, IsTakenForInstance, StaysAsIs};
 ghost use Rattle.pb_tool.specs.Staying.{IsTakenForProof, ProofHasNoFault, ProofStaysAsIs};

@@ -5,7 +5,7 @@ ghost use Rattle.pb_text.specs.Limits.{largest};
 ghost use Rattle.pb_normal.specs.Constraints.{AreFormsOf, constraint_names, sides_in};
 ghost use Rattle.pb_normal.specs.Names.{with_names};
 ghost use Rattle.pb_normal.specs.Written.{linear_of, names_of};
-ghost use Rattle.pb_replay.specs.Loading.{objective_of};
+ghost use Rattle.pb_replay.specs.Problem.{objective_of};
 ghost use Rattle.pb_tool.specs.Normalised.{IsNormalised, Overflows, SomePasses};
 
 use pb_normal::{HashKeys, Names, Normal, NormalFault, fits, load};

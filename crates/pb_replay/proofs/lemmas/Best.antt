@@ -4,7 +4,7 @@ use Rattle.std.proofs.Common.{◌≡◌, ◌⊎◌, List, [], ◌∷◌, ◌++�
 use Rattle.std.proofs.lemmas.Int.{ints}
 use Rattle.std.proofs.lemmas.List.Elements.{Contains-push, Contains-append_left, Contains-push_cases}
 use Rattle.pb_replay.specs.Replay.{Logged}
-use Rattle.pb_replay.specs.Running.{IsBest, IsBetter}
+use Rattle.pb_replay.specs.Kept.{IsBest, IsBetter}
 
 none-some : {A B : Type 0} {x : A} → (let o : Option A = None in o) ≡ Some x → B
 none-some h = absurd cc

@@ -22,10 +22,10 @@ use Rattle.pb_replay.specs.declared.verdict.Verdict.TheVariants as verdict
 use Rattle.pb_replay.specs.Answer.{Answer, gives, need}
 use Rattle.pb_replay.specs.Bounds.{Both, HasObjective, IsBelow, IsNamed, IsReached, Lower, ObjectiveShown, Reached, Refutes, ShownAs, ShownReaches, Upper, objective_at_least, upper_of}
 use Rattle.pb_replay.specs.Conclusions.{IsShownBy, contradicted, contradiction, lower_bound, named, none_left, objective_with, propagated, sum, trivial, upper_bound}
-use Rattle.pb_replay.specs.Loading.{Problem}
+use Rattle.pb_replay.specs.Problem.{Problem}
 use Rattle.pb_replay.specs.Propagation.{IsRup}
 use Rattle.pb_replay.specs.Replay.{IsLive, Live, Logged, State, normal_form, numbered}
-use Rattle.pb_replay.specs.Running.{GoesAt, HasNamed, IsBest, IsProper, Keeps, problem_of, state_of}
+use Rattle.pb_replay.specs.Kept.{GoesAt, HasNamed, IsBest, IsProper, Keeps, problem_of, state_of}
 use Rattle.pb_replay.proofs.lemmas.Best.{below}
 use Rattle.pb_replay.proofs.lemmas.Concluded.{contains-none}
 use Rattle.pb_replay.proofs.lemmas.Going.{form-of}

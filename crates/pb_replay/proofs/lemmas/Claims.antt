@@ -18,10 +18,10 @@ use Rattle.pb_normal.specs.Names.{with_names}
 use Rattle.pb_replay.specs.declared.verdict.Verdict.{Verdict}
 use Rattle.pb_replay.specs.Answer.{Answer}
 use Rattle.pb_replay.specs.Laws.{HasClaim, VerdictsAreThere, WholeProofsConclude}
-use Rattle.pb_replay.specs.Loading.{Problem}
+use Rattle.pb_replay.specs.Problem.{Problem}
 use Rattle.pb_replay.specs.Replay.{State}
 use Rattle.pb_replay.specs.Conclusions.{none_left, named, lower_bound, upper_bound, Concludes}
-use Rattle.pb_replay.specs.Running.{verdict_at}
+use Rattle.pb_replay.specs.Kept.{verdict_at}
 use Rattle.pb_replay.specs.Statements.{Does, Accepts, mentioned}
 use Rattle.pb_replay.proofs.lemmas.Accepting.{needed, followed, ok-same}
 use Rattle.pb_replay.proofs.lemmas.Concluded.{contradicted-has}

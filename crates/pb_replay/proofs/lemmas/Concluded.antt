@@ -18,7 +18,7 @@ use Rattle.pb_normal.proofs.Maps.{total-le-each, Holds-negation_back}
 use Rattle.pb_normal.proofs.Sums.{Holds-sum}
 use Rattle.pb_replay.specs.Replay.{Logged}
 use Rattle.pb_replay.specs.Answer.{Answer}
-use Rattle.pb_replay.specs.Loading.{Problem}
+use Rattle.pb_replay.specs.Problem.{Problem}
 use Rattle.pb_replay.specs.Propagation.{HoldAll}
 use Rattle.pb_replay.specs.Replay.{State, Live, value, numbered}
 use Rattle.pb_replay.specs.Conclusions.{contradicted, none_left, named, objective_with, IsShownBy, trivial, contradiction, sum, propagated, lower_bound, upper_bound, Concludes, verdict_of}

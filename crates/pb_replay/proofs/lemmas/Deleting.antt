@@ -5,7 +5,7 @@ use Rattle.pb_proof.specs.declared.Statement.TheVariants.{Delete}
 use Rattle.pb_replay.specs.declared.fault.Fault.{Fault}
 use Rattle.pb_replay.specs.declared.state.Running.{Running}
 use Rattle.pb_replay.specs.Replay.{Deleted, State}
-use Rattle.pb_replay.specs.Running.{Goes, IsInside, IsLinked}
+use Rattle.pb_replay.specs.Kept.{Goes, IsInside, IsLinked}
 use Rattle.pb_replay.proofs.lemmas.Rups.{goes-ok, goes-err}
 use Rattle.pb_replay.proofs.lemmas.States.{same-state}
 use Rattle.pb_replay.proofs.lemmas.Sound.{Deleted-live}

@@ -11,10 +11,10 @@ use Rattle.pb_replay.specs.declared.fault.Fault.{Fault}
 use Rattle.pb_replay.specs.declared.numbered.NumberedLiteral.{NumberedLiteral}
 use Rattle.pb_replay.specs.declared.state.Running.{Running}
 use Rattle.pb_replay.specs.Bounds.{Demands}
-use Rattle.pb_replay.specs.Loading.{Problem}
+use Rattle.pb_replay.specs.Problem.{Problem}
 use Rattle.pb_replay.specs.Propagation.{only, on, begin, opposed}
 use Rattle.pb_replay.specs.Replay.{Completed, IsClause, Live, Logged, numbered}
-use Rattle.pb_replay.specs.Running.{GoesAt, IsInside, Logs, problem_of}
+use Rattle.pb_replay.specs.Kept.{GoesAt, IsInside, Logs, problem_of}
 use Rattle.std.proofs.lemmas.Bool.{or_cases}
 use Rattle.std.proofs.lemmas.List.Elements.{All-head, All-tail}
 use Rattle.pb_normal.specs.declared.entry.Entry.{Entry}

@@ -17,9 +17,9 @@ use Rattle.pb_replay.proofs.lemmas.Accepting.{ok-same}
 use Rattle.pb_replay.proofs.lemmas.Living.{some-same}
 use Rattle.pb_replay.specs.Bounds.{Demands, HasObjective}
 use Rattle.pb_replay.specs.Conclusions.{objective_with}
-use Rattle.pb_replay.specs.Loading.{Problem}
+use Rattle.pb_replay.specs.Problem.{Problem}
 use Rattle.pb_replay.specs.Replay.{Logged, State, added, normal_form}
-use Rattle.pb_replay.specs.Running.{Adding, Goes, GoesAt, HasNamed, IsBest, IsBetter, IsProper, Keeps, Logs, problem_of, state_of, with_mentioned}
+use Rattle.pb_replay.specs.Kept.{Adding, Goes, GoesAt, HasNamed, IsBest, IsBetter, IsProper, Keeps, Logs, problem_of, state_of, with_mentioned}
 use Rattle.pb_replay.specs.Statements.{Does, mentioned}
 use Rattle.pb_replay.proofs.lemmas.Best.{best-push}
 use Rattle.pb_replay.proofs.lemmas.Ready.{same_problem}

@@ -13,7 +13,7 @@ use Rattle.pb_normal.specs.Rules.{multiplied, divided, saturated, weakened, with
 use Rattle.pb_normal.proofs.Keeps.{IsOver-sum, IsOver-mapped, IsOver-filtered, IsOver-below}
 use Rattle.pb_normal.proofs.Numbering.{number_in-below}
 use Rattle.pb_replay.specs.Replay.{Live, TreeForm}
-use Rattle.pb_replay.specs.Running.{IsInside}
+use Rattle.pb_replay.specs.Kept.{IsInside}
 use Rattle.pb_replay.specs.Statements.{word_names}
 use Rattle.pb_replay.proofs.lemmas.Accepting.{needed, followed, ok-same}
 use Rattle.pb_replay.proofs.lemmas.Evaluation.{word_names-append}

@@ -18,7 +18,7 @@ use Rattle.pb_replay.specs.declared.fault.Fault.{Fault}
 use Rattle.pb_replay.specs.Replay.{Logged}
 use Rattle.pb_replay.specs.Answer.{Answer, need, found, some, after}
 use Rattle.pb_normal.specs.Rules.{IsSum}
-use Rattle.pb_replay.specs.Loading.{Problem}
+use Rattle.pb_replay.specs.Problem.{Problem}
 use Rattle.pb_replay.specs.Replay.{State, Live, Completed, TreeForm, limited, normal_form, added, numbered}
 use Rattle.pb_replay.specs.Conclusions.{named, objective_with, lower_bound, Concludes}
 use Rattle.pb_replay.specs.Statements.{Does, mentioned}

@@ -8,7 +8,7 @@ use Rattle.pb_normal.proofs.Appearing.{front}
 use Rattle.pb_replay.specs.declared.state.Running.{Running}
 use Rattle.pb_replay.specs.Meaning.{IsFront}
 use Rattle.pb_replay.specs.Replay.{Live}
-use Rattle.pb_replay.specs.Running.{IsInside, IsLinked}
+use Rattle.pb_replay.specs.Kept.{IsInside, IsLinked}
 use Rattle.pb_replay.proofs.lemmas.Living.{Live-loaded, some-same}
 
 pub inside-more : (n m : ℕ) (f : Form) → n ≤ m → IsInside n f → IsInside m f

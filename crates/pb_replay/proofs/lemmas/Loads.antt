@@ -21,7 +21,7 @@ use Rattle.pb_normal.proofs.Numbering.{slice_get-number, number_in-get}
 use Rattle.pb_normal.proofs.WrittenForms.{SameAsForm-from, SameAsForms-from, SameSolutions-side}
 use Rattle.pb_replay.specs.declared.verdict.Verdict.{Verdict}
 use Rattle.pb_replay.specs.declared.verdict.Verdict.TheVariants.{NoClaim, Unsat, Sat, Bounds}
-use Rattle.pb_replay.specs.Loading.{Problem, Opened, Solves, written_value, names_in, objective_of}
+use Rattle.pb_replay.specs.Problem.{Problem, Opened, Solves, written_value, names_in, objective_of}
 use Rattle.pb_replay.specs.Propagation.{HoldAll}
 use Rattle.pb_replay.specs.Replay.{State, by_name, value, first_state}
 use Rattle.pb_replay.specs.Meaning.{IsSolution, Means, MeansWritten, IsAtLeast, IsAtMost, IsProblem, IsSound, Accounted, known, beaten, allowed, AccountedWritten, known_names, beaten_value, allowed_still}

@@ -16,7 +16,7 @@ use Rattle.pb_replay.specs.declared.state.Running.{Running}
 use Rattle.pb_replay.specs.Engine.Live.{terms_in, one_in}
 use Rattle.pb_replay.specs.Propagation.{MeetsConflict, IsCompletion, With}
 use Rattle.pb_replay.specs.Replay.{Live, added}
-use Rattle.pb_replay.specs.Running.{Adding, state_of}
+use Rattle.pb_replay.specs.Kept.{Adding, state_of}
 use Rattle.pb_replay.specs.Visits.{Looks, IsFew, CoversConflict, CoversCompletion}
 
 err-same : {A : Type 0} {d e : Fault} → (let r : Result A Fault = Err d in r) ≡ Err e → d ≡ e

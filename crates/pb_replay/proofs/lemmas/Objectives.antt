@@ -10,7 +10,7 @@ use Rattle.pb_normal.specs.Written.{magnitude, names_of, side_number, side_terms
 use Rattle.pb_normal.proofs.Appearing.{present}
 use Rattle.pb_replay.specs.declared.state.Running.{Running}
 use Rattle.pb_replay.specs.Bounds.{HasObjective}
-use Rattle.pb_replay.specs.Running.{IsInside, IsProper, problem_of}
+use Rattle.pb_replay.specs.Kept.{IsInside, IsProper, problem_of}
 use Rattle.pb_replay.proofs.lemmas.Values.{objective-has}
 
 module _ (r : Running) (linear : Linear) where

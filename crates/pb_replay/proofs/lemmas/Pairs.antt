@@ -7,7 +7,7 @@ use Rattle.pb_normal.specs.declared.entry.Entry.{Entry}
 use Rattle.pb_normal.specs.Form.{Form, Holds, total}
 use Rattle.pb_normal.specs.Rules.{assignment}
 use Rattle.pb_replay.specs.declared.numbered.NumberedLiteral.{NumberedLiteral}
-use Rattle.pb_replay.specs.Loading.{Problem}
+use Rattle.pb_replay.specs.Problem.{Problem}
 use Rattle.pb_replay.specs.Propagation.{only, on, begin, MayPut}
 use Rattle.pb_replay.specs.Replay.{Live, HasValue, AreValues, IsClause, Completed, logged_of}
 use Rattle.pb_replay.specs.Example.{name_x, name_y}

@@ -13,7 +13,7 @@ use Rattle.pb_replay.specs.declared.state.Running.{Running}
 use Rattle.pb_replay.specs.Answer.{some}
 use Rattle.pb_replay.specs.Meaning.{IsFront}
 use Rattle.pb_replay.specs.Replay.{Live, Logged, State, TreeForm, added}
-use Rattle.pb_replay.specs.Running.{Adding, Goes, IsInside, IsLinked, state_of, with_mentioned}
+use Rattle.pb_replay.specs.Kept.{Adding, Goes, IsInside, IsLinked, state_of, with_mentioned}
 use Rattle.pb_replay.specs.Statements.{word_names}
 use Rattle.pb_replay.proofs.lemmas.Insides.{tree-inside}
 use Rattle.pb_replay.proofs.lemmas.Linked.{front-longer, inside-more}

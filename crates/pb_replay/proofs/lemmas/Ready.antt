@@ -22,14 +22,14 @@ use Rattle.pb_replay.specs.declared.fault.Fault.{Fault}
 use Rattle.pb_replay.specs.declared.state.Running.{Running}
 use Rattle.pb_replay.specs.declared.verdict.Verdict.{Verdict}
 use Rattle.pb_replay.specs.Faults.{fault_of}
-use Rattle.pb_replay.specs.Loading.{Problem, Opened, names_in, objective_of}
+use Rattle.pb_replay.specs.Problem.{Problem, Opened, names_in, objective_of}
 use Rattle.pb_replay.specs.Replay.{Logged, State}
 use Rattle.pb_replay.specs.declared.fault.Fault.TheVariants.{Memory, NotTotal}
 use Rattle.pb_replay.proofs.lemmas.Unvalued.{unvalued-old}
 use Rattle.pb_replay.specs.Statements.{Outcome}
 use Rattle.pb_replay.proofs.lemmas.States.{same-state}
 use Rattle.pb_replay.specs.Meaning.{IsFront, IsSound, Means, MeansWritten}
-use Rattle.pb_replay.specs.Running.{Comes, Keeps, IsBest, IsFirst, IsInside, IsKept, IsLinked, IsProper, IsReady, problem_of, state_of}
+use Rattle.pb_replay.specs.Kept.{Comes, Keeps, IsBest, IsFirst, IsInside, IsKept, IsLinked, IsProper, IsReady, problem_of, state_of}
 use Rattle.pb_text.specs.declared.Limits.{Limits}
 use Rattle.pb_replay.proofs.lemmas.Concluded.{contains-none}
 use Rattle.pb_replay.proofs.lemmas.Loads.{problems-proper, loaded-inside, meanings-agree}

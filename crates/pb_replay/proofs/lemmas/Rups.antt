@@ -25,7 +25,7 @@ use Rattle.pb_replay.proofs.lemmas.States.{same-state}
 use Rattle.pb_replay.specs.declared.state.Running.{Running}
 use Rattle.pb_replay.specs.Propagation.{IsRup}
 use Rattle.pb_replay.specs.Replay.{Live, Logged, State, added}
-use Rattle.pb_replay.specs.Running.{Adding, Goes, Comes, Keeps, problem_of, state_of, with_mentioned}
+use Rattle.pb_replay.specs.Kept.{Adding, Goes, Comes, Keeps, problem_of, state_of, with_mentioned}
 use Rattle.pb_replay.specs.Statements.{Does, IsCount}
 use Rattle.pb_replay.specs.Meaning.{IsFront}
 

@@ -12,10 +12,10 @@ use Rattle.pb_replay.specs.declared.fault.Fault.TheVariants.{Conflict, Memory, N
 use Rattle.pb_replay.specs.declared.numbered.NumberedLiteral.{NumberedLiteral}
 use Rattle.pb_replay.specs.declared.state.Running.{Running}
 use Rattle.pb_replay.specs.declared.verdict.Verdict.TheVariants as verdict
-use Rattle.pb_replay.specs.Loading.{Problem}
+use Rattle.pb_replay.specs.Problem.{Problem}
 use Rattle.pb_replay.specs.Propagation.{MeetsConflict}
 use Rattle.pb_replay.specs.Replay.{Completed, Live, Logged, Shown, State, numbered}
-use Rattle.pb_replay.specs.Running.{GoesAt, IsBest, problem_of, state_of}
+use Rattle.pb_replay.specs.Kept.{GoesAt, IsBest, problem_of, state_of}
 use Rattle.pb_replay.proofs.lemmas.Living.{Live-loaded}
 use Rattle.pb_replay.proofs.lemmas.Solved.{completed-to, conflicting}
 

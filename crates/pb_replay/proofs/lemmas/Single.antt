@@ -24,7 +24,7 @@ use Rattle.pb_replay.specs.Answer.{Answer, gives, need, each_below, found, some,
 use Rattle.pb_normal.specs.Rules.{IsSum, multiplied}
 use Rattle.pb_normal.proofs.Unique.{IsSum-unique, IsRising-same, same_form}
 use Rattle.pb_normal.proofs.WrittenForms.{IsFormOf-unique}
-use Rattle.pb_replay.specs.Loading.{Problem, FitsAll, names_in}
+use Rattle.pb_replay.specs.Problem.{Problem, FitsAll, names_in}
 use Rattle.pb_replay.specs.Propagation.{on}
 use Rattle.pb_replay.specs.Replay.{State, Live, IsLive, place, TreeForm, normal_form, HasValue, AreValues, Solution, Completed, Shown, logged_of, IsClause, Deleted, added, numbered}
 use Rattle.pb_replay.specs.Conclusions.{none_left, named, objective_with, lower_bound, upper_bound, Concludes}

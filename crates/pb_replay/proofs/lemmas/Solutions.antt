@@ -7,7 +7,7 @@ use Rattle.pb_normal.specs.Form.{Form, Holds, total, true_at}
 use Rattle.pb_normal.specs.Rules.{assignment}
 use Rattle.pb_replay.specs.Replay.{Logged}
 use Rattle.pb_replay.specs.declared.numbered.NumberedLiteral.{NumberedLiteral}
-use Rattle.pb_replay.specs.Loading.{Problem}
+use Rattle.pb_replay.specs.Problem.{Problem}
 use Rattle.pb_replay.specs.Propagation.{only, on, HoldAll, MeetsConflict, IsCompletion}
 use Rattle.pb_replay.specs.Replay.{Completed, HasValue, AreValues, IsClause, value, no_form, logged_of}
 use Rattle.pb_replay.specs.Meaning.{IsSolution}

@@ -7,7 +7,7 @@ use Rattle.pb_replay.specs.declared.fault.Fault.{Fault}
 use Rattle.pb_replay.specs.declared.fault.Fault.TheVariants.{Conflict, Memory, NotTotal, Violates}
 use Rattle.pb_replay.specs.declared.numbered.NumberedLiteral.{NumberedLiteral}
 use Rattle.pb_replay.specs.Engine.Live.{Gives, value_says}
-use Rattle.pb_replay.specs.Loading.{Problem}
+use Rattle.pb_replay.specs.Problem.{Problem}
 use Rattle.pb_replay.specs.Propagation.{on, MayPut, Derivation, begin, put, HasConflict, opposed, broken, MeetsConflict, IsCompletion}
 use Rattle.pb_replay.specs.Replay.{Logged, HasValue, AreValues, Solution, Completed, Shown, no_form, logged_of, value}
 use Rattle.pb_replay.proofs.lemmas.Single.{single-completed}

@@ -19,7 +19,7 @@ use Rattle.pb_normal.specs.Rules.{assignment}
 use Rattle.pb_normal.specs.Written.{true_sum, IsSideOf}
 use Rattle.pb_normal.proofs.Appearing.{distinct}
 use Rattle.pb_replay.specs.Replay.{Logged}
-use Rattle.pb_replay.specs.Loading.{Problem}
+use Rattle.pb_replay.specs.Problem.{Problem}
 use Rattle.pb_replay.specs.Propagation.{HoldAll}
 use Rattle.pb_replay.specs.Replay.{State, Live, value, by_name, Deleted, place, numbered}
 use Rattle.pb_replay.specs.Conclusions.{objective_with, verdict_of}

@@ -3,7 +3,7 @@ use Rattle.std.specs.Prelude.{Option, Some, None, ℤ}
 use Rattle.std.proofs.Common.{List, [], ◌∷◌, refl}
 use Rattle.pb_replay.specs.Laws.{ReplaysHaveStates}
 use Rattle.pb_replay.specs.Replay.{Logged}
-use Rattle.pb_replay.specs.Running.{IsBest}
+use Rattle.pb_replay.specs.Kept.{IsBest}
 use Rattle.pb_replay.proofs.lemmas.Best.{best-push}
 
 some-best : (best : Option ℤ) → (logged : List Logged) × IsBest logged best

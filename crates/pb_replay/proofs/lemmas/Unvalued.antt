@@ -30,7 +30,7 @@ use Rattle.pb_normal.specs.declared.Side.TheVariants.{AtLeast as least, AtMost a
 use Rattle.pb_normal.specs.Rules.{IsSum}
 use Rattle.pb_replay.specs.Replay.{Logged}
 use Rattle.pb_replay.specs.Answer.{Answer, gives, need, found, some, after}
-use Rattle.pb_replay.specs.Loading.{Problem}
+use Rattle.pb_replay.specs.Problem.{Problem}
 use Rattle.pb_replay.specs.Conclusions.{none_left, named, objective_with, lower_bound, upper_bound, Concludes}
 use Rattle.pb_replay.specs.Laws.{UnvaluedAreOld}
 use Rattle.pb_replay.proofs.lemmas.Completing.{derivation-keeps}

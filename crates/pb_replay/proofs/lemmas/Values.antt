@@ -14,9 +14,9 @@ use Rattle.pb_normal.specs.Names.{has_name, HasNames, number_in}
 use Rattle.pb_normal.specs.Written.{magnitude, names_of, true_sum}
 use Rattle.pb_normal.proofs.Numbering.{number_in-append, number_in-below}
 use Rattle.pb_replay.specs.declared.state.Running.{Running}
-use Rattle.pb_replay.specs.Loading.{objective_of}
+use Rattle.pb_replay.specs.Problem.{objective_of}
 use Rattle.pb_replay.specs.Replay.{by_name, value}
-use Rattle.pb_replay.specs.Running.{IsProper, problem_of}
+use Rattle.pb_replay.specs.Kept.{IsProper, problem_of}
 use Rattle.pb_replay.proofs.lemmas.Naming.{HasNames-append, objective-named, value-over}
 
 pub magnitude-append : (xs ys : List Term) → magnitude (xs ++ ys) ≡ magnitude xs + magnitude ys

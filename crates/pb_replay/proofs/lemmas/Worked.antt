@@ -17,7 +17,7 @@ use Rattle.pb_replay.specs.declared.verdict.Verdict.TheVariants as verdict
 use Rattle.pb_proof.specs.declared.Bound.TheVariants.{Finite}
 use Rattle.pb_proof.specs.declared.Stage.TheVariants.{Claim}
 use Rattle.pb_replay.specs.declared.numbered.NumberedLiteral.{NumberedLiteral}
-use Rattle.pb_replay.specs.Loading.{Problem, Opened}
+use Rattle.pb_replay.specs.Problem.{Problem, Opened}
 use Rattle.pb_replay.specs.Propagation.{MayPut, begin, put, broken, With, IsRup}
 use Rattle.pb_replay.specs.Replay.{Live, State, Logged, first_state, logged_of}
 use Rattle.pb_replay.specs.Statements.{Accepts}

@@ -5,8 +5,8 @@ ghost use Rattle.pb_text.specs.Limits.{largest};
 ghost use Rattle.pb_normal.specs.Constraints.{Fits};
 ghost use Rattle.pb_normal.specs.Names.{with_names};
 ghost use Rattle.pb_normal.specs.Written.{names_of, magnitude};
-ghost use Rattle.pb_replay.specs.Loading.{FitsAll, Opened, objective_of};
-ghost use Rattle.pb_replay.specs.Running.{IsFirst, problem_of};
+ghost use Rattle.pb_replay.specs.Problem.{FitsAll, Opened, objective_of};
+ghost use Rattle.pb_replay.specs.Kept.{IsFirst, problem_of};
 
 use crate::fault::Fault;
 use crate::state::Running;

@@ -4,7 +4,7 @@ ghost use Rattle.std.specs.Prelude.{◌≡◌, ◌⊎◌, IfOk, IfErr, OnOk, Ok,
 ghost use Rattle.pb_text.specs.Limits.{largest};
 ghost use Rattle.pb_normal.specs.Form.{Form};
 ghost use Rattle.pb_replay.specs.Bounds.{HasObjective};
-ghost use Rattle.pb_replay.specs.Running.{IsInside, IsProper, Keeps, problem_of};
+ghost use Rattle.pb_replay.specs.Kept.{IsInside, IsProper, Keeps, problem_of};
 
 use crate::fault::Fault;
 use crate::state::Running;

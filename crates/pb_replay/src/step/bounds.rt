@@ -7,7 +7,7 @@ ghost use Rattle.pb_normal.specs.Form.{Form};
 ghost use Rattle.pb_replay.specs.Bounds.{IsBelow, IsNamed, IsReached, Lower, ObjectiveShown, Refutes, ShownAs, ShownReaches, Upper};
 ghost use Rattle.pb_replay.specs.Conclusions.{IsShownBy};
 ghost use Rattle.pb_replay.specs.Replay.{Live, Logged, IsLive};
-ghost use Rattle.pb_replay.specs.Running.{IsBest, IsInside, IsLinked, IsProper, Keeps, HasNamed, problem_of, state_of};
+ghost use Rattle.pb_replay.specs.Kept.{IsBest, IsInside, IsLinked, IsProper, Keeps, HasNamed, problem_of, state_of};
 
 use crate::fault::Fault;
 use crate::numbered::NumberedLiteral;

@@ -4,7 +4,7 @@ ghost use Rattle.std.specs.Prelude.{◌≡◌, ◌<◌, All, Err, IfSome, IsSome
 ghost use Rattle.pb_sums.specs.declared.values.Literal.{Literal as Written};
 ghost use Rattle.pb_replay.specs.Bounds.{Both};
 ghost use Rattle.pb_replay.specs.Replay.{numbered};
-ghost use Rattle.pb_replay.specs.Running.{Keeps, Goes, GoesAt, HasNamed, IsLinked, IsProper, IsReady};
+ghost use Rattle.pb_replay.specs.Kept.{Keeps, Goes, GoesAt, HasNamed, IsLinked, IsProper, IsReady};
 ghost use Rattle.pb_replay.specs.Statements.{MayWant};
 
 use crate::fault::Fault;

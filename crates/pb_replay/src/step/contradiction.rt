@@ -6,7 +6,7 @@ ghost use Rattle.pb_normal.specs.Rules.{IsContradiction};
 ghost use Rattle.pb_replay.specs.Conclusions.{has_contradiction, none_left};
 ghost use Rattle.pb_replay.specs.Answer.{gives};
 ghost use Rattle.pb_replay.specs.Replay.{Logged};
-ghost use Rattle.pb_replay.specs.Running.{IsBest, state_of};
+ghost use Rattle.pb_replay.specs.Kept.{IsBest, state_of};
 
 use crate::fault::Fault;
 use crate::propagate::engine::Engine;

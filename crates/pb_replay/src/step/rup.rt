@@ -3,7 +3,7 @@
 ghost use Rattle.std.specs.Prelude.{◌≡◌, OnOk};
 ghost use Rattle.pb_normal.specs.Names.{with_names};
 ghost use Rattle.pb_normal.specs.Written.{names_of};
-ghost use Rattle.pb_replay.specs.Running.{Keeps, Goes, IsLinked, IsReady};
+ghost use Rattle.pb_replay.specs.Kept.{Keeps, Goes, IsLinked, IsReady};
 ghost use Rattle.pb_replay.specs.Visits.{Looks};
 
 use crate::fault::Fault;

@@ -4,7 +4,7 @@ ghost use Rattle.std.specs.Prelude.{◌≡◌, ◌<◌, ◌^◌, ◌⊎◌, All,
 ghost use Rattle.pb_replay.specs.Engine.Live.{Live, Gives};
 ghost use Rattle.pb_replay.specs.Propagation.{MeetsConflict, IsCompletion, on};
 ghost use Rattle.pb_replay.specs.Replay.{Completed, IsClause, Logged, numbered};
-ghost use Rattle.pb_replay.specs.Running.{Keeps, Goes, GoesAt, Logs, HasNamed, IsBetter, IsInside, IsLinked, IsProper, IsReady, problem_of};
+ghost use Rattle.pb_replay.specs.Kept.{Keeps, Goes, GoesAt, Logs, HasNamed, IsBetter, IsInside, IsLinked, IsProper, IsReady, problem_of};
 ghost use Rattle.pb_replay.specs.Statements.{literal_names};
 ghost use Rattle.pb_sums.specs.declared.values.Literal.{Literal as Written};
 ghost use Rattle.pb_replay.specs.Bounds.{Demands};

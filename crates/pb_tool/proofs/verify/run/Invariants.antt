@@ -8,7 +8,7 @@ use Rattle.pb_proof.specs.declared.Statement.{Statement}
 use Rattle.pb_replay.specs.Replay.{State}
 use Rattle.pb_replay.specs.Statements.{Accepts}
 use Rattle.pb_tool.specs.Checks.{statements_at}
-use Rattle.pb_replay.specs.Running.{StandsFor}
+use Rattle.pb_replay.specs.Kept.{StandsFor}
 use Rattle.pb_tool.proofs.GivenRow.{HasGiven}
 use Rattle.pb_tool.proofs.verify.run.Given as goal
 

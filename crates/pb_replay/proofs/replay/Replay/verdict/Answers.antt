@@ -1,5 +1,5 @@
 use Rattle.std.proofs.Common.{refl, ◌∙◌, sym}
-use Rattle.pb_replay.specs.Running.{problem_of, state_of}
+use Rattle.pb_replay.specs.Kept.{problem_of, state_of}
 use Rattle.pb_replay.proofs.lemmas.Ready.{meant, meant-written, none_of}
 use Rattle.pb_replay.proofs.replay.Replay.verdict.Goals as goal
 

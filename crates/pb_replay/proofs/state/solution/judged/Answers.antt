@@ -1,5 +1,5 @@
 use Rattle.std.specs.Int.{w128}
-use Rattle.pb_replay.specs.Running.{problem_of}
+use Rattle.pb_replay.specs.Kept.{problem_of}
 use Rattle.std.proofs.Common.{inr, ◌∙◌, FitsSigned}
 use Rattle.std.proofs.lemmas.Int.{fits_signed_from_abs, to_z-of_z}
 use Rattle.pb_replay.proofs.lemmas.Solved.{judged-ok, judged-err}

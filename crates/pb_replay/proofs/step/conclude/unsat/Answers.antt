@@ -1,5 +1,5 @@
 use Rattle.std.proofs.Common.{inr, refl}
-use Rattle.pb_replay.specs.Running.{state_of}
+use Rattle.pb_replay.specs.Kept.{state_of}
 use Rattle.pb_replay.proofs.lemmas.Bounding.{left-then, left-stop}
 use Rattle.pb_replay.proofs.step.conclude.unsat.Goals as goal
 

@@ -1,4 +1,4 @@
-use Rattle.pb_replay.specs.Running.{problem_of}
+use Rattle.pb_replay.specs.Kept.{problem_of}
 use Rattle.pb_replay.specs.Replay.{Live}
 use Rattle.pb_replay.proofs.lemmas.Shows.{own-ok, own-err, own-conflict}
 use Rattle.pb_replay.proofs.lemmas.Solved.{completed-ok, completed-err}

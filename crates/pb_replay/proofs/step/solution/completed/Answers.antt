@@ -1,6 +1,6 @@
 use Rattle.std.proofs.Common.{length}
 use Rattle.pb_replay.specs.Replay.{Live}
-use Rattle.pb_replay.specs.Running.{problem_of}
+use Rattle.pb_replay.specs.Kept.{problem_of}
 use Rattle.pb_replay.proofs.lemmas.Solved.{completed-ok, completed-err}
 use Rattle.pb_replay.proofs.step.solution.completed.Goals as goal
 

@@ -1,5 +1,5 @@
 use Rattle.std.proofs.Common.{◌≡◌, None, ◌+◌, ◌-◌, ◌≤◌, ◌++◌, ℕ, List, length, take, Result}
-use Rattle.pb_replay.specs.Loading.{Problem}
+use Rattle.pb_replay.specs.Problem.{Problem}
 use Rattle.pb_replay.specs.Replay.{State}
 use Rattle.pb_replay.specs.declared.fault.Fault.{Fault}
 use Rattle.pb_text.specs.declared.Limits.{Limits}

@@ -12,7 +12,7 @@ use Rattle.pb_replay.specs.declared.fault.Fault.{Fault}
 use Rattle.pb_replay.specs.declared.fault.Fault.TheVariants.{Memory, NotTotal}
 use Rattle.pb_replay.specs.declared.verdict.Verdict.{Verdict}
 use Rattle.pb_replay.specs.declared.state.Running.{Running}
-use Rattle.pb_replay.specs.Loading.{Problem, objective_of}
+use Rattle.pb_replay.specs.Problem.{Problem, objective_of}
 use Rattle.pb_replay.specs.Replay.{State, Logged, Live, added, first_state}
 use Rattle.pb_replay.specs.Statements.{Does, Outcome, mentioned}
 use Rattle.pb_replay.specs.Meaning.{IsFront, IsProblem, IsSound}
