@@ -1,7 +1,7 @@
 //! The replay of a proof.
 
 ghost use Rattle.pb_opb.specs.declared.Instance.{Instance as AnInstance};
-ghost use Rattle.std.specs.Prelude.{ℕ, ◌<◌, ◌≡◌, Ok, Err, None, Some, OnOk, IfOk, IfErr, IfSome, ◌⊎◌, length, slice_get};
+ghost use Rattle.std.specs.Prelude.{ℕ, ◌<◌, ◌≡◌, Ok, Err, None, Some, IfOk, IfErr, IfSome, ◌⊎◌, length, slice_get};
 ghost use Rattle.std.specs.Option.{option_copied};
 ghost use Rattle.pb_text.specs.Limits.{largest, top_of};
 ghost use Rattle.pb_proof.specs.Values.{IsStatementValue};

@@ -1,12 +1,11 @@
 //! Given literals by the numbers of their names.
 
-ghost use Rattle.std.specs.Prelude.{◌≡◌, ◌<◌, All, IfErr, IfOk, OnOk, OnErr, length};
+ghost use Rattle.std.specs.Prelude.{◌≡◌, ◌<◌, All, IfOk, OnOk, length};
 ghost use Rattle.pb_normal.specs.Names.{HasNames, with_names};
 ghost use Rattle.pb_replay.specs.Meaning.{IsFront};
 ghost use Rattle.pb_replay.specs.Replay.{numbered};
 ghost use Rattle.pb_replay.specs.Statements.{literal_names};
 
-use crate::fault::Fault;
 use crate::numbered::NumberedLiteral;
 use crate::state::find::number_of;
 use pb_normal::Names;

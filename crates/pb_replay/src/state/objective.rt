@@ -2,7 +2,6 @@
 
 ghost use Rattle.std.specs.Prelude.{◌≡◌, ◌⊎◌, IfOk, IfErr, OnOk, Ok, Err, Some, length};
 ghost use Rattle.pb_text.specs.Limits.{largest};
-ghost use Rattle.pb_normal.specs.Form.{Form};
 ghost use Rattle.pb_replay.specs.Bounds.{HasObjective};
 ghost use Rattle.pb_replay.specs.Kept.{IsInside, IsProper, Keeps, problem_of};
 

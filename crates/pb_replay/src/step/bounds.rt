@@ -1,13 +1,11 @@
 //! `BOUNDS`.
 
-ghost use Rattle.std.specs.Prelude.{◌≡◌, ◌<◌, ◌⊎◌, ◌↔◌, All, Contains, IfOk, IfErr, IfSome, IsTrue, List, OnOk, Ok, Err, length, option_map, [], ◌≤ℤ◌, false, Option, ℤ};
-ghost use Rattle.pb_text.specs.Limits.{largest};
-ghost use Rattle.pb_sums.specs.declared.values.Term.{Term};
+ghost use Rattle.std.specs.Prelude.{◌≡◌, ◌<◌, ◌↔◌, All, IfOk, IfErr, IfSome, IsTrue, OnOk, Ok, Err, length, option_map, [], false, Option, ℤ};
 ghost use Rattle.pb_normal.specs.Form.{Form};
 ghost use Rattle.pb_replay.specs.Bounds.{IsBelow, IsNamed, IsReached, Lower, ObjectiveShown, Refutes, ShownAs, ShownReaches, Upper};
 ghost use Rattle.pb_replay.specs.Conclusions.{IsShownBy};
-ghost use Rattle.pb_replay.specs.Replay.{Live, Logged, IsLive};
-ghost use Rattle.pb_replay.specs.Kept.{IsBest, IsInside, IsLinked, IsProper, Keeps, HasNamed, problem_of, state_of};
+ghost use Rattle.pb_replay.specs.Replay.{IsLive};
+ghost use Rattle.pb_replay.specs.Kept.{IsInside, IsLinked, IsProper, Keeps, HasNamed, problem_of};
 
 use crate::fault::Fault;
 use crate::numbered::NumberedLiteral;
