@@ -5,6 +5,7 @@ use crate::call::Call;
 use crate::check::{inputs_of, opened, tell_verdict};
 use crate::command::tell_fault;
 use crate::constraint::{Named, write_form};
+use crate::name::lines_of;
 use crate::page::{Done, Page, answered, finished, page, tell_count, tell_either};
 use pb_proof::{ProofMachine, Statement, statement_is_value};
 use pb_replay::{Fault, Replay};
@@ -14,15 +15,25 @@ use pb_tool::ToolFault;
 use std::alloc::Global;
 use std::str::FromStr;
 
+/// What a proof has at least before its `f`, its steps and its output, its conclusion, and its closing words.
+const HEADER: &[u8] = b"pseudo-Boolean proof version 2.0\n";
+
+const BEFORE_STEPS: &[u8] = b"pseudo-Boolean proof version 2.0\nf\n";
+
+const BEFORE_CONCLUSION: &[u8] = b"pseudo-Boolean proof version 2.0\nf\noutput NONE\n";
+
+const BEFORE_END: &[u8] = b"pseudo-Boolean proof version 2.0\nf\noutput NONE\nconclusion NONE\n";
+
 impl Named for Replay {
     fn text_of(&self, number: usize) -> Option<&str> {
         self.name_of(number)
     }
 }
 
-/// Steps a replay over the instance through the statements of a proof, whose header is not written in the row. Writes the
-/// constraints that are live then, each behind its id, and tells the verdict if there is one, or the first refusal; with
-/// `looks-least` and `looks-most` whether the looks of the last `rup` lie between these.
+/// Steps a replay over the instance through the statements of a proof, whose header is not written in the row, or with
+/// `alone` through those of the lines, each read by itself. Writes the constraints that are live then, each behind its id,
+/// and tells the verdict if there is one, or the first refusal; with `looks-least` and `looks-most` whether the looks of
+/// the last `rup` lie between these.
 pub fn run_steps(alloc: Global, call: &Call, text: &[u8]) -> Result<Done, Broken> {
     let (instance, lines) = inputs_of(text)?;
     let mut told = page(alloc);
@@ -43,15 +54,29 @@ pub fn run_steps(alloc: Global, call: &Call, text: &[u8]) -> Result<Done, Broken
     Ok(finished(out, told))
 }
 
-/// The statements of a proof, whose header is put before its lines.
+/// The statements of the lines of a row.
 fn statements_of(
     alloc: Global,
     call: &Call,
     lines: &[u8],
 ) -> Result<Vec<Spanned<Statement>>, Broken> {
+    if call.is_alone {
+        each_alone(alloc, call, lines_of(lines)?)
+    } else {
+        read_behind(alloc, call, HEADER, lines)
+    }
+}
+
+/// The statements of a proof that begins with a front and goes on with lines.
+fn read_behind(
+    alloc: Global,
+    call: &Call,
+    front: &[u8],
+    lines: &[u8],
+) -> Result<Vec<Spanned<Statement>>, Broken> {
     let mut feeder = Feeder::new(ProofMachine::new(alloc, call.limits()?));
     let mut text = Vec::new(alloc);
-    text.extend_from_slice(b"pseudo-Boolean proof version 2.0\n")?;
+    text.extend_from_slice(front)?;
     text.extend_from_slice(lines)?;
     let mut statements = Vec::new(alloc);
     let mut rest = text.as_slice();
@@ -66,6 +91,46 @@ fn statements_of(
         }
     }
     Ok(statements)
+}
+
+/// The statement of each line, read by itself, so that they may stand in any order.
+fn each_alone(alloc: Global, call: &Call, lines: &str) -> Result<Vec<Spanned<Statement>>, Broken> {
+    let mut statements = Vec::new(alloc);
+    let mut number = 0u64;
+    for line in lines.lines() {
+        number = number.saturating_add(1);
+        let mut read = alone(alloc, call, line)?;
+        read.first.line = number;
+        statements.push(read)?;
+    }
+    Ok(statements)
+}
+
+/// The statement of a line, read behind the least that a proof has before it.
+fn alone(alloc: Global, call: &Call, line: &str) -> Result<Spanned<Statement>, Broken> {
+    let front = front_of(line);
+    let mut text = Vec::new(alloc);
+    text.extend_from_slice(line.as_bytes())?;
+    text.push(b'\n')?;
+    let mut statements = read_behind(alloc, call, front, text.as_slice())?;
+    let Some(read) = statements.pop() else {
+        return Err(Broken::Value);
+    };
+    if read.first.offset < front.len() as u64 {
+        return Err(Broken::Value);
+    }
+    Ok(read)
+}
+
+/// The least that a proof has before a statement with the first word of the line.
+fn front_of(line: &str) -> &'static [u8] {
+    match line.split_whitespace().next() {
+        Some("pseudo-Boolean") => b"",
+        Some("f") => HEADER,
+        Some("conclusion") => BEFORE_CONCLUSION,
+        Some("end") => BEFORE_END,
+        _ => BEFORE_STEPS,
+    }
 }
 
 /// Steps through each statement, and answers the first that is refused.
