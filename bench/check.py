@@ -38,8 +38,14 @@ def instructions_of(words, folder):
     return int(re.search(r"Collected : (\d+)", told)[1])
 
 
+def looks_of(rows, files):
+    """The statements of a proof, and the looks that their propagation takes, as the program of the rows tells them."""
+    told = subprocess.run([rows, "--looks", *files], capture_output=True, text=True, check=True).stdout
+    return [int(number) for number in re.fullmatch(r"(\d+) statements, (\d+) looks\n", told).groups()]
+
+
 def main():
-    program, folder, count, times = sys.argv[1], sys.argv[2], int(sys.argv[3]), int(sys.argv[4])
+    program, rows, folder, count, times = sys.argv[1], sys.argv[2], sys.argv[3], int(sys.argv[4]), int(sys.argv[5])
     for kind in KINDS:
         peaks = []
         for size in [count, 10 * count]:
@@ -52,7 +58,10 @@ def main():
             number, name = LEFT[kind]
             print(f"{kind}: {(peaks[1] - peaks[0]) * 1e6 / (9 * count * number):.0f} bytes a {name}", flush=True)
         size = max(count // 10, 1)
-        instructions = instructions_of([program, "check"] + files_of(kind, size, folder), folder)
+        files = files_of(kind, size, folder)
+        statements, looks = looks_of(rows, files)
+        print(f"{kind} {size}: {looks} looks in {statements} statements, {looks / size:.1f} a step", flush=True)
+        instructions = instructions_of([program, "check"] + files, folder)
         if instructions is not None:
             print(f"{kind} {size}: {instructions / size:.0f} instructions a step", flush=True)
 

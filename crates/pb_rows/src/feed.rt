@@ -162,11 +162,26 @@ fn feed_over<E: Shown + Drop, M: Machine<Event = E>>(
     shape: Shape,
     out: &mut Page,
 ) -> End {
-    let _ = feed_pieces(feeder, text, cut, shape, out);
+    let fed = feed_pieces(feeder, text, cut, shape, out);
     End {
-        end: feeder.finish(),
+        end: end_of(feeder, fed, text),
         place: feeder.place(),
         held: feeder.held(),
+    }
+}
+
+/// What a feeder answers at the end. One that stopped has to answer its stop again to each call, whatever it is fed.
+fn end_of<E: Drop, M: Machine<Event = E>>(
+    feeder: &mut Feeder<M>,
+    fed: Result<(), Stop>,
+    text: &[u8],
+) -> Result<(), Stop> {
+    let Err(stop) = fed else {
+        return feeder.finish();
+    };
+    match (feeder.feed(text), feeder.finish()) {
+        (Err(again), Err(end)) if again == stop && end == stop => Err(stop),
+        _ => Ok(()),
     }
 }
 

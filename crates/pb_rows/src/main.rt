@@ -11,6 +11,7 @@ mod feed;
 mod first;
 mod job;
 mod judge;
+mod looks;
 mod name;
 mod page;
 mod read;
@@ -24,6 +25,7 @@ mod turns;
 mod value;
 
 use crate::broken::Broken;
+use crate::looks::write_looks;
 use crate::rows::{Count, Told, run_rows, write_counts};
 use pb_text::Over;
 use std::io::{self, Write};
@@ -40,12 +42,21 @@ const FAILED: u8 = 3;
 /// The word that asks for a line before each row, so that one that does not end is known.
 const EACH: &str = "--each";
 
+/// The word that asks for the looks of a proof in place of rows. The files of an instance and of a proof of it stand behind it.
+const LOOKS: &str = "--looks";
+
 fn main(rt: HostRuntime) -> ExitCode {
     ExitCode::from(run(&rt, &mut rt.stderr()))
 }
 
 /// Runs the rows of all files and answers the exit status.
 fn run<R: Env + Files + Print + AllocGlobal, E: Write>(rt: &R, errors: &mut E) -> u8 {
+    if let Some((instance, proof)) = asks_for_looks(rt) {
+        return match tell_looks(rt, instance.as_str(), proof.as_str()) {
+            Ok(()) => 0,
+            Err(_) => FAILED,
+        };
+    }
     let Ok(count) = run_files(rt, errors) else {
         return FAILED;
     };
@@ -54,6 +65,31 @@ fn run<R: Env + Files + Print + AllocGlobal, E: Write>(rt: &R, errors: &mut E) -
         Ok(()) => DIFFERS,
         Err(_) => FAILED,
     }
+}
+
+/// The two files whose looks are asked for, where the first word asks for these.
+fn asks_for_looks<R: Env + AllocGlobal>(rt: &R) -> Option<(String, String)> {
+    let mut words = env::args(rt).ok()?.skip(1);
+    if words.next()?.as_str() != LOOKS {
+        return None;
+    }
+    Some((words.next()?, words.next()?))
+}
+
+/// Tells the looks of a proof, both files by their names.
+fn tell_looks<R: Files + Print + AllocGlobal>(
+    rt: &R,
+    instance: &str,
+    proof: &str,
+) -> Result<(), Broken> {
+    let Ok(instance) = fs::read(rt, instance) else {
+        return Err(Broken::File);
+    };
+    let Ok(proof) = fs::read(rt, proof) else {
+        return Err(Broken::File);
+    };
+    let mut out = Over::new(io::writer(rt));
+    write_looks(rt.alloc(), instance.as_slice(), proof.as_slice(), &mut out)
 }
 
 /// Runs the rows of the files that the words name.

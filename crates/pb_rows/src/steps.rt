@@ -147,7 +147,7 @@ fn step_all(
 }
 
 /// Steps through one statement.
-fn step_one(replay: &mut Replay, statement: &Statement) -> Result<Result<(), Fault>, Broken> {
+pub fn step_one(replay: &mut Replay, statement: &Statement) -> Result<Result<(), Fault>, Broken> {
     if !statement_is_value(statement, replay.limits()) {
         return Err(Broken::Value);
     }
