@@ -18,3 +18,4 @@ mod Digits
 mod Names
 mod Behind
 mod NameBytes
+mod Shorts

@@ -6,3 +6,4 @@ pub mod Prefix
 pub mod State
 pub mod Canonical
 pub mod Statements
+pub mod Names

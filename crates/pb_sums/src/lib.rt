@@ -11,6 +11,7 @@ mod piece;
 mod plans;
 mod prefix;
 mod rules;
+mod short;
 mod values;
 mod writing;
 

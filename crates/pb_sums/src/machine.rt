@@ -73,7 +73,7 @@ fn flush(
             return Err(AllocError);
         }
     }
-    if !name.as_str().is_empty() {
+    if !name.as_bytes().is_empty() {
         *name = Name::new(alloc);
     }
     Ok(())
@@ -112,7 +112,7 @@ fn count_units(terms: &[Term]) -> usize
 {
     let mut count: usize = 0;
     for term in terms {
-        let more = term.literal.name.as_str().len().saturating_add(1);
+        let more = term.literal.name.as_bytes().len().saturating_add(1);
         count = count.saturating_add(more);
     }
     count
@@ -164,7 +164,7 @@ impl SumMachine {
         ensures state { IsState sums self.new }
     {
         let _ = self.is_done();
-        if !begins_number(self.phase) || !self.name.as_str().is_empty() {
+        if !begins_number(self.phase) || !self.name.as_bytes().is_empty() {
             return 0;
         }
         let (sign, negative) = sign_prefix(text);
@@ -192,10 +192,7 @@ impl SumMachine {
         let Some(phase) = behind_name(self.phase) else {
             return 0;
         };
-        let Ok(spelled) = str::from_utf8(&text[..length]) else {
-            return 0;
-        };
-        let Ok(name) = Name::from_text(self.alloc, spelled) else {
+        let Ok(name) = Name::from_front(self.alloc, text, length) else {
             return 0;
         };
         self.name = name;
@@ -397,6 +394,6 @@ impl Machine for SumMachine {
     fn held(&self) -> usize {
         count_units(self.terms.as_slice())
             .saturating_add(in_hand(self.phase))
-            .saturating_add(self.name.as_str().len())
+            .saturating_add(self.name.as_bytes().len())
     }
 }

@@ -1,33 +1,45 @@
 //! Names.
 
-ghost use Rattle.std.specs.Prelude.{◌≡◌, ◌<◌, ◌∷◌, ◌++◌, [], List, ℕ, eqb, if◌then◌else◌, is_ok, IfOk, string_bytes, length};
+ghost use Rattle.std.specs.Prelude.{◌≡◌, ◌<◌, ◌≤◌, ◌∷◌, ◌++◌, [], List, ℕ, eqb, if◌then◌else◌, is_ok, IfOk, string_bytes, length, take};
 ghost use Rattle.std.specs.Cmp.Lexicographic.{pointwise, nat_list_eq_equiv};
 ghost use Rattle.std.specs.Cmp.{partial_equiv_from_equiv};
+ghost use Rattle.std.specs.Str.{IsUtf8};
 
+use crate::short::{SHORT, ShortText};
 use std::alloc::{AllocError, Global};
+use std::fmt;
 use std::marker::Model;
 
-/// A name, which contracts see as the list of its bytes.
-#[derive(Debug, Drop)]
+/// Where the text of a name is kept.
+#[derive(Drop)]
+pub enum Kept {
+    Short(ShortText),
+    Long(String),
+}
+
+/// A name, which contracts see as the list of its bytes. A name of few bytes takes no memory.
+#[derive(Drop)]
 pub struct Name {
-    text: String,
+    kept: Kept,
 }
 
 impl Model for Name {
-    ghost use Rattle.std.specs.Prelude.{List, ℕ, string_bytes};
+    ghost use Rattle.std.specs.Prelude.{List, ℕ};
+    ghost use Rattle.pb_sums.specs.Names.{bytes_of};
 
     ghost Value = { List ℕ };
 
-    ghost view = { λ n. string_bytes n.text };
+    ghost view = { λ n. bytes_of n.kept };
 }
 
 impl Name {
     /// The empty name, which takes no memory.
+    #[inline(always)]
     pub fn new(alloc: Global) -> Name
         ensures { result ≡ [] }
     {
         Name {
-            text: String::new(alloc),
+            kept: Kept::Short(ShortText::new(alloc)),
         }
     }
 
@@ -35,29 +47,74 @@ impl Name {
     pub fn from_string(text: String) -> Name
         ensures { result ≡ string_bytes text }
     {
-        Name { text }
+        Name {
+            kept: Kept::Long(text),
+        }
     }
 
     /// The name that a text spells.
     pub fn from_text(alloc: Global, text: &str) -> Result<Name, AllocError>
         ensures { IfOk result (λ name. name ≡ text.now) }
     {
+        if text.len() <= SHORT {
+            return Ok(Name {
+                kept: Kept::Short(ShortText::from_text(alloc, text)),
+            });
+        }
         let text = String::from_str(alloc, text)?;
-        Ok(Name { text })
+        Ok(Name {
+            kept: Kept::Long(text),
+        })
+    }
+
+    /// The name at the front of a text.
+    #[inline(always)]
+    pub(crate) fn from_front(alloc: Global, text: &[u8], len: usize) -> Result<Name, AllocError>
+        requires within { len ≤ length text.now }
+        requires text { IsUtf8 (take len text.now) }
+        ensures { IfOk result (λ name. name ≡ take len text.now) }
+    {
+        if len <= SHORT
+            && let Some(block) = text.first_chunk::<SHORT>()
+        {
+            return Ok(Name {
+                kept: Kept::Short(ShortText::from_block(alloc, block, len)),
+            });
+        }
+        // It is a text, as is required.
+        Name::from_text(alloc, unsafe { str::from_utf8_unchecked(&text[..len]) })
     }
 
     /// The string of the name.
-    pub fn into_string(self) -> String
-        ensures { string_bytes result ≡ self }
+    pub fn into_string(self) -> Result<String, AllocError>
+        ensures { IfOk result (λ text. string_bytes text ≡ self) }
     {
-        self.text
+        match self.kept {
+            Kept::Short(text) => String::from_str(text.allocator(), text.as_str()),
+            Kept::Long(text) => Ok(text),
+        }
+    }
+
+    /// The bytes of the name.
+    #[inline(always)]
+    pub fn as_bytes(&self) -> &[u8]
+        ensures { result.now ≡ self.now }
+    {
+        match &self.kept {
+            Kept::Short(text) => text.as_bytes(),
+            Kept::Long(text) => text.as_bytes(),
+        }
     }
 
     /// The name as text.
+    #[inline(always)]
     pub fn as_str(&self) -> &str
         ensures { result.now ≡ self.now }
     {
-        self.text.as_str()
+        match &self.kept {
+            Kept::Short(text) => text.as_str(),
+            Kept::Long(text) => text.as_str(),
+        }
     }
 
     /// Adds an ASCII byte at the end. Where memory ran out the name is unchanged.
@@ -65,24 +122,60 @@ impl Name {
         requires { byte < 128 }
         ensures { self.new ≡ (if is_ok result then self.old ++ byte ∷ [] else self.old) }
     {
-        self.text.push(byte as char)
+        let longer = match &mut self.kept {
+            Kept::Long(text) => return text.push(byte as char),
+            Kept::Short(text) => {
+                if text.push(byte) {
+                    return Ok(());
+                }
+                with_byte(text, byte)?
+            }
+        };
+        self.kept = Kept::Long(longer);
+        Ok(())
     }
 
     /// Adds a text at the end. Where memory ran out the name is unchanged.
     pub fn push_str(&mut self, text: &str) -> Result<(), AllocError>
         ensures { self.new ≡ (if is_ok result then self.old ++ text.now else self.old) }
     {
-        self.text.push_str(text)
+        let longer = match &mut self.kept {
+            Kept::Long(front) => return front.push_str(text),
+            Kept::Short(front) => with_text(front, text)?,
+        };
+        self.kept = Kept::Long(longer);
+        Ok(())
     }
+}
+
+/// The string of a text and an ASCII byte.
+fn with_byte(front: &ShortText, byte: u8) -> Result<String, AllocError>
+    requires { byte < 128 }
+    ensures { IfOk result (λ all. string_bytes all ≡ front.now ++ byte ∷ []) }
+{
+    let mut all = String::from_str(front.allocator(), front.as_str())?;
+    all.push(byte as char)?;
+    Ok(all)
+}
+
+/// The string of a text and another.
+fn with_text(front: &ShortText, text: &str) -> Result<String, AllocError>
+    ensures { IfOk result (λ all. string_bytes all ≡ front.now ++ text.now) }
+{
+    let mut all = String::from_str(front.allocator(), front.as_str())?;
+    all.push_str(text)?;
+    Ok(all)
 }
 
 impl Clone for Name {
     ghost is_clone = { λ x y. y ≡ x };
 
     fn clone(&self) -> Result<Name, AllocError> {
-        Ok(Name {
-            text: self.text.clone()?,
-        })
+        let kept = match &self.kept {
+            Kept::Short(text) => Kept::Short(text.again()),
+            Kept::Long(text) => Kept::Long(text.clone()?),
+        };
+        Ok(Name { kept })
     }
 }
 
@@ -92,10 +185,18 @@ impl PartialEq for Name {
     ghost laws = { partial_equiv_from_equiv nat_list_eq_equiv };
 
     fn eq(&self, other: &Self) -> bool {
-        self.text.as_str() == other.text.as_str()
+        self.as_bytes() == other.as_bytes()
     }
 }
 
 impl Eq for Name {
     ghost laws = { nat_list_eq_equiv };
+}
+
+impl fmt::Debug for Name {
+    fn fmt<W: fmt::Write>(&self, f: &mut fmt::Formatter<W>) -> fmt::Result {
+        f.debug_struct("Name")
+            .field("text", &self.as_str())
+            .finish()
+    }
 }

@@ -55,7 +55,7 @@ fn split_name(name: &Name) -> (&[u8], &[u8])
     ensures short { length result.0.now ≤ FRONT }
     ensures whole { name.now ≡ result.0.now ++ result.1.now }
 {
-    let bytes = name.as_str().as_bytes();
+    let bytes = name.as_bytes();
     bytes.split_at(bytes.len().min(FRONT))
 }
 
@@ -132,7 +132,7 @@ fn write_each<S: Sink>(terms: &[Term], out: &mut S) -> Result<(), Failed>
 fn put_further_term(term: &Term, piece: &mut Piece) -> bool
     ensures { piece.new ≡ (if result then (32 ∷ term_bytes term.now) ++ piece.old else piece.old) }
 {
-    let name = term.literal.name.as_str().as_bytes();
+    let name = term.literal.name.as_bytes();
     if name.len() + LONGEST > piece.room() {
         return false;
     }

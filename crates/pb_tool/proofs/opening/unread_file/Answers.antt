@@ -15,5 +15,5 @@ returns-clause-instance c longest some bytes =
 
 pub returns-clause-proof : goal.returns-clause-proof
 returns-clause-proof c longest some bytes =
-    formats.reads (Accepts proofs c.new-2.result) (IsVeri c.args.limits) (λ items h. (c.new-2.ensures.accepts items).0 h) (λ items h. (c.new-2.ensures.accepts items).1 h) longest bytes [] [] first_place false (Some first_fault)
-    (c.unread-3.ensures.reads (not_done _ (λ d. no_proof (largest c.args.limits) (top_of c.args.limits) ((c.new-2.ensures.accepts []).0 d))) longest some bytes)
+    formats.reads (Accepts proofs c.new-3.result) (IsVeri c.args.limits) (λ items h. (c.new-3.ensures.accepts items).0 h) (λ items h. (c.new-3.ensures.accepts items).1 h) longest bytes [] [] first_place false (Some first_fault)
+    (c.unread-3.ensures.reads (not_done _ (λ d. no_proof (largest c.args.limits) (top_of c.args.limits) ((c.new-3.ensures.accepts []).0 d))) longest some bytes)
