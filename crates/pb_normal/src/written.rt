@@ -35,9 +35,9 @@ fn named_terms(alloc: Global, names: &Names, terms: &[Entry]) -> Result<Vec<Term
 {
     let mut out = Vec::new(alloc);
     for t in terms {
-        let text = String::from_str(alloc, names.text_of(t.variable))?;
+        let name = Name::from_text(alloc, names.text_of(t.variable))?;
         let literal = Literal {
-            name: Name::from_string(text),
+            name,
             negated: t.negated,
         };
         out.push(Term {
