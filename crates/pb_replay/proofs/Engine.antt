@@ -17,6 +17,7 @@ pub mod Sorted
 pub mod Gets
 pub mod Links
 pub mod Unlinks
+pub mod Weights
 pub mod Places
 pub mod Storages
 pub mod Changes

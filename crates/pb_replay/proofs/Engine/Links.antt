@@ -6,8 +6,7 @@ use Rattle.std.proofs.lemmas.List.Sums.{sum_by_push, sum_by-set, sum_by_more}
 use Rattle.std.proofs.lemmas.Option.{slice_get-get_or, slice_get_past}
 use Rattle.pb_replay.specs.declared.numbered.NumberedLiteral.{NumberedLiteral}
 use Rattle.pb_replay.specs.declared.propagate.term.Term.{Term}
-use Rattle.pb_replay.specs.declared.propagate.term.Occurrence.{Occurrence}
-use Rattle.pb_replay.specs.Engine.Lists.{Shape, same}
+use Rattle.pb_replay.specs.Engine.Lists.{Shape, same, Weighted}
 use Rattle.pb_replay.specs.Engine.Counts.{place, entry_weight, weight_in, term_weight, weight_on, AreLinked}
 use Rattle.pb_replay.specs.Engine.Links.{terms_at, degree_at, entry_cross, term_cross, entry_at, term_at, IsLinked, cut}
 use Rattle.pb_replay.proofs.Engine.Runs.{entry_weight-same, entry_weight-other, term_weight-same, term_weight-other}
@@ -27,7 +26,7 @@ pub cut-length : (base : List Shape) (s i : ℕ) → length (cut base s i) ≡ l
 cut-length base s i = length-set base s (record { terms = take i (terms_at base s); degree = degree_at base s })
 
 -- a list that gains an entry
-pub record Gains (lists lists' : List (List Occurrence)) (p : ℕ) (e : Occurrence) : Type 0 where
+pub record Gains (lists lists' : List (List Weighted)) (p : ℕ) (e : Weighted) : Type 0 where
   pub here : (s : ℕ) → weight_in s (get_or lists' p []) ≡ weight_in s (get_or lists p []) + entry_weight s e
   pub others : (q : ℕ) → (q ≡ p → ⊥) → get_or lists' q [] ≡ get_or lists q []
   pub total : sum_by length lists' ≡ sum_by length lists + 1
@@ -47,7 +46,7 @@ record Differs (a a' b b' : ℕ) : Type 0 where
   left : a' ≡ a + by
   right : b' ≡ b + by
 
-differs : (base : List Shape) (lists lists' : List (List Occurrence)) (s0 i : ℕ) (t : Term) (e : Occurrence) → s0 < length base → i < length (terms_at base s0) → t ≡ get_or (terms_at base s0) i t → e.form ≡ s0 → e.coefficient ≡ t.coefficient → Gains lists lists' (place t.literal) e → (s : ℕ) (d : Shape) (l : NumberedLiteral) → s < length base →
+differs : (base : List Shape) (lists lists' : List (List Weighted)) (s0 i : ℕ) (t : Term) (e : Weighted) → s0 < length base → i < length (terms_at base s0) → t ≡ get_or (terms_at base s0) i t → e.form ≡ s0 → e.coefficient ≡ t.coefficient → Gains lists lists' (place t.literal) e → (s : ℕ) (d : Shape) (l : NumberedLiteral) → s < length base →
     Differs (weight_in s (get_or lists (place l) [])) (weight_in s (get_or lists' (place l) [])) (weight_on l (get_or (cut base s0 i) s d).terms) (weight_on l (get_or (cut base s0 (i + 1)) s d).terms)
 differs base lists lists' s0 i t e inside within is form coefficient g s d l there =
     elim (cases_eq s s0) [
@@ -85,14 +84,14 @@ differs base lists lists' s0 i t e inside within is form coefficient g s d l the
     right_more : s ≡ s0 → place l ≡ place t.literal → weight_on l (get_or (cut base s0 (i + 1)) s d).terms ≡ weight_on l (get_or (cut base s0 i) s d).terms + t.coefficient
     right_more here one = omega (arith, right_step here, term_weight-one l t (place-injective l t.literal one))
 
-pub linked-more : (base : List Shape) (lists lists' : List (List Occurrence)) (s0 i : ℕ) (t : Term) (e : Occurrence) → s0 < length base → i < length (terms_at base s0) → t ≡ get_or (terms_at base s0) i t → e.form ≡ s0 → e.coefficient ≡ t.coefficient → Gains lists lists' (place t.literal) e → AreLinked (cut base s0 i) lists → AreLinked (cut base s0 (i + 1)) lists'
+pub linked-more : (base : List Shape) (lists lists' : List (List Weighted)) (s0 i : ℕ) (t : Term) (e : Weighted) → s0 < length base → i < length (terms_at base s0) → t ≡ get_or (terms_at base s0) i t → e.form ≡ s0 → e.coefficient ≡ t.coefficient → Gains lists lists' (place t.literal) e → AreLinked (cut base s0 i) lists → AreLinked (cut base s0 (i + 1)) lists'
 linked-more base lists lists' s0 i t e inside within is form coefficient g old s d l there =
     let here : s < length base = omega (arith, there, cut-length base s0 (i + 1)) in
     let by = differs base lists lists' s0 i t e inside within is form coefficient g s d l here in
     let before = old s d l (omega (arith, here, cut-length base s0 i)) in
     omega (arith, before, by.left, by.right)
 
-pub linked-less : (base : List Shape) (lists lists' : List (List Occurrence)) (s0 i : ℕ) (t : Term) (e : Occurrence) → s0 < length base → i < length (terms_at base s0) → t ≡ get_or (terms_at base s0) i t → e.form ≡ s0 → e.coefficient ≡ t.coefficient → Gains lists lists' (place t.literal) e → AreLinked (cut base s0 (i + 1)) lists' → AreLinked (cut base s0 i) lists
+pub linked-less : (base : List Shape) (lists lists' : List (List Weighted)) (s0 i : ℕ) (t : Term) (e : Weighted) → s0 < length base → i < length (terms_at base s0) → t ≡ get_or (terms_at base s0) i t → e.form ≡ s0 → e.coefficient ≡ t.coefficient → Gains lists lists' (place t.literal) e → AreLinked (cut base s0 (i + 1)) lists' → AreLinked (cut base s0 i) lists
 linked-less base lists lists' s0 i t e inside within is form coefficient g old s d l there =
     let here : s < length base = omega (arith, there, cut-length base s0 i) in
     let by = differs base lists lists' s0 i t e inside within is form coefficient g s d l here in
@@ -152,22 +151,22 @@ term-other base spots spots' s0 i s j inside n same_spot =
     ap (λ o. term_cross o (slice_get (get_or spots' s []) j)) (terms-step base s0 i s j inside n) ∙ ap (term_cross (slice_get (terms_at (cut base s0 i) s) j)) same_spot
 
 -- what the entries name
-pub entry-is : (lists : List (List Occurrence)) (p q : ℕ) (e : Occurrence) → slice_get (get_or lists p []) q ≡ Some e → entry_at lists p q ≡ to e.form e.index e.coefficient
+pub entry-is : (lists : List (List Weighted)) (p q : ℕ) (e : Weighted) → slice_get (get_or lists p []) q ≡ Some e → entry_at lists p q ≡ to e.form e.index e.coefficient
 entry-is lists p q e h = ap entry_cross h
 
-pub entry-none : (lists : List (List Occurrence)) (p q : ℕ) → slice_get (get_or lists p []) q ≡ None → entry_at lists p q ≡ None
+pub entry-none : (lists : List (List Weighted)) (p q : ℕ) → slice_get (get_or lists p []) q ≡ None → entry_at lists p q ≡ None
 entry-none lists p q h = ap entry_cross h
 
 -- a term is entered
-pub link-next : (base : List Shape) (spots spots' : List (List ℕ)) (lists lists' : List (List Occurrence)) (s0 i : ℕ) (t : Term) (e : Occurrence) → s0 < length base → i < length (terms_at base s0) → t ≡ get_or (terms_at base s0) i t → place t.literal < length lists →
+pub link-next : (base : List Shape) (spots spots' : List (List ℕ)) (lists lists' : List (List Weighted)) (s0 i : ℕ) (t : Term) (e : Weighted) → s0 < length base → i < length (terms_at base s0) → t ≡ get_or (terms_at base s0) i t → place t.literal < length lists →
     e.form ≡ s0 → e.index ≡ i → e.coefficient ≡ t.coefficient → lists' ≡ set lists (place t.literal) (get_or lists (place t.literal) [] ++ (e ∷ [])) →
     slice_get (get_or spots' s0 []) i ≡ Some (length (get_or lists (place t.literal) [])) → ((s j : ℕ) → (Same s j s0 i → ⊥) → slice_get (get_or spots' s []) j ≡ slice_get (get_or spots s []) j) → length spots' ≡ length spots →
     IsLinked (cut base s0 i) spots lists → IsLinked (cut base s0 (i + 1)) spots' lists'
 link-next base spots spots' lists lists' s0 i t e inside within is room form index coefficient longer spot agree sizes old =
     let p = place t.literal in
     let es = get_or lists p [] in
-    let now : get_or lists' p [] ≡ es ++ (e ∷ []) = ap (λ (ls : List (List Occurrence)). get_or ls p []) longer ∙ get_or-set_same lists p (es ++ (e ∷ [])) [] room in
-    let apart : (q : ℕ) → (q ≡ p → ⊥) → get_or lists' q [] ≡ get_or lists q [] = λ q n. ap (λ (ls : List (List Occurrence)). get_or ls q []) longer ∙ get_or-set_other lists p q (es ++ (e ∷ [])) [] n in
+    let now : get_or lists' p [] ≡ es ++ (e ∷ []) = ap (λ (ls : List (List Weighted)). get_or ls p []) longer ∙ get_or-set_same lists p (es ++ (e ∷ [])) [] room in
+    let apart : (q : ℕ) → (q ≡ p → ⊥) → get_or lists' q [] ≡ get_or lists q [] = λ q n. ap (λ (ls : List (List Weighted)). get_or ls q []) longer ∙ get_or-set_other lists p q (es ++ (e ∷ [])) [] n in
     let one_more : sum_by length lists' ≡ sum_by length lists + 1 = one_longer (sum_by-set length lists p (es ++ (e ∷ [])) [] room) (ap (sum_by length) longer) in
     let gains : Gains lists lists' p e = record {
       here = λ s. ap (weight_in s) now ∙ sum_by_push (entry_weight s) es e;
@@ -196,11 +195,11 @@ link-next base spots spots' lists lists' s0 i t e inside within is room form ind
 
     entry-other : (q k : ℕ) → (Same q k (place t.literal) (length (get_or lists (place t.literal) [])) → ⊥) → entry_at lists' q k ≡ entry_at lists q k
     entry-other q k n = elim (cases_eq q (place t.literal)) [
-      | inr other ↦ ap (λ xs. entry_cross (slice_get xs k)) (ap (λ (ls : List (List Occurrence)). get_or ls q []) longer ∙ get_or-set_other lists (place t.literal) q (get_or lists (place t.literal) [] ++ (e ∷ [])) [] other)
-      | inl here ↦ rw here (ap (λ xs. entry_cross (slice_get xs k)) (ap (λ (ls : List (List Occurrence)). get_or ls (place t.literal) []) longer ∙ get_or-set_same lists (place t.literal) (get_or lists (place t.literal) [] ++ (e ∷ [])) [] room) ∙ ap entry_cross (push-other (get_or lists (place t.literal) []) k (λ h. n (here, h))))
+      | inr other ↦ ap (λ xs. entry_cross (slice_get xs k)) (ap (λ (ls : List (List Weighted)). get_or ls q []) longer ∙ get_or-set_other lists (place t.literal) q (get_or lists (place t.literal) [] ++ (e ∷ [])) [] other)
+      | inl here ↦ rw here (ap (λ xs. entry_cross (slice_get xs k)) (ap (λ (ls : List (List Weighted)). get_or ls (place t.literal) []) longer ∙ get_or-set_same lists (place t.literal) (get_or lists (place t.literal) [] ++ (e ∷ [])) [] room) ∙ ap entry_cross (push-other (get_or lists (place t.literal) []) k (λ h. n (here, h))))
     ]
       where
-        push-other : (xs : List Occurrence) (k : ℕ) → (k ≡ length xs → ⊥) → slice_get (xs ++ (e ∷ [])) k ≡ slice_get xs k
+        push-other : (xs : List Weighted) (k : ℕ) → (k ≡ length xs → ⊥) → slice_get (xs ++ (e ∷ [])) k ≡ slice_get xs k
         push-other xs k n = elim (cases_lt k (length xs)) [
           | inl less ↦ get-push_less xs k e less
           | inr more ↦ get-push_past xs k e (beyond k (length xs) more n) ∙ sym (slice_get_past xs k more)

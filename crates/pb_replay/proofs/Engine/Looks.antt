@@ -1,19 +1,19 @@
 use Rattle.std.specs.Prelude.{sum, All}
-use Rattle.std.proofs.Common.{◌≡◌, ℕ, ◌+◌, ◌-◌, ◌^◌, ◌<◌, ◌≤◌, ◌∷◌, [], List, refl, sym, ◌∙◌, ap, subst, arith, length, get_or, set, min, length-append, length-set}
+use Rattle.std.proofs.Common.{◌≡◌, ℕ, ◌+◌, ◌-◌, ◌^◌, ◌<◌, ◌≤◌, ◌∷◌, [], List, false, refl, sym, ◌∙◌, ap, subst, arith, length, get_or, set, min, length-append, length-set}
 use Rattle.std.proofs.lemmas.List.{get_or_default, get_or-map, get_or_read, length-map}
 use Rattle.std.proofs.lemmas.List.Sums.{sum_by-set}
 use Rattle.std.proofs.lemmas.List.Elements.{Contains-get_or}
 use Rattle.pb_replay.specs.declared.numbered.NumberedLiteral.{NumberedLiteral}
 use Rattle.pb_replay.specs.declared.propagate.term.Term.{Term}
-use Rattle.pb_replay.specs.declared.propagate.term.Occurrence.{Occurrence}
-use Rattle.pb_replay.specs.Engine.Lists.{Shape, AreInside, open_sum, size, Derives, begin, put, Conflicts, broken}
+use Rattle.pb_replay.specs.Engine.Lists.{Shape, AreInside, open_sum, size, Derives, begin, put, Conflicts, broken, Weighted}
 use Rattle.pb_replay.specs.Engine.Counts.{IsCounted, IsTidy, IsPaid, IsAbsent, Adopted, kept, added, IsCalm, IsDone, AreFound, Grown, pushed, spared, spent, weight_in}
 use Rattle.pb_replay.specs.declared.propagate.kept.Kept.{Kept}
 use Rattle.pb_replay.specs.Engine.Fields.{shapes_of, kept_shape}
+use Rattle.pb_replay.specs.Engine.Links.{coefficient_at}
 use Rattle.pb_replay.proofs.Engine.Runs.{Tidy-pass, Tidy-settle, done-new}
 
 -- a form's terms are being passed; the second state is that before the first of them
-pub record IsLooking (aside : List ℕ) (forms : List Shape) (lists : List (List Occurrence)) (form : ℕ) (list0 : List NumberedLiteral) (cands0 work0 : List ℕ) (visits0 : ℕ) (opens cands : List ℕ) (list : List NumberedLiteral) (work trail : List ℕ) (next visits : ℕ) : Type 0 where
+pub record IsLooking (aside : List ℕ) (forms : List Shape) (lists : List (List Weighted)) (form : ℕ) (list0 : List NumberedLiteral) (cands0 work0 : List ℕ) (visits0 : ℕ) (opens cands : List ℕ) (list : List NumberedLiteral) (work trail : List ℕ) (next visits : ℕ) : Type 0 where
   pub derived : Derives forms list0 list
   pub counted : IsCounted forms opens list []
   pub tidy : IsTidy aside forms opens cands list work trail next form
@@ -56,7 +56,7 @@ open-now forms opens list form d inside c =
     let none : weight_in form [] ≡ 0 = refl in
     omega (arith, all, none)
 
-pub Looking-next : (aside : List ℕ) (forms : List Shape) (lists : List (List Occurrence)) (form : ℕ) (list0 : List NumberedLiteral) (cands0 work0 : List ℕ) (visits0 : ℕ) (opens cands : List ℕ) (list : List NumberedLiteral) (work trail : List ℕ) (next visits seen : ℕ) (opens' cands' : List ℕ) (list' : List NumberedLiteral) (work' trail' : List ℕ) (visits' : ℕ) (f : Shape) (c : ℕ) (t : Term) →
+pub Looking-next : (aside : List ℕ) (forms : List Shape) (lists : List (List Weighted)) (form : ℕ) (list0 : List NumberedLiteral) (cands0 work0 : List ℕ) (visits0 : ℕ) (opens cands : List ℕ) (list : List NumberedLiteral) (work trail : List ℕ) (next visits seen : ℕ) (opens' cands' : List ℕ) (list' : List NumberedLiteral) (work' trail' : List ℕ) (visits' : ℕ) (f : Shape) (c : ℕ) (t : Term) →
     form < length forms → ((d : Shape) → get_or forms form d ≡ f) → c ≡ get_or cands form 0 → c < length f.terms → t ≡ get_or f.terms c t →
     seen ≡ min (visits + 1) (2 ^ 64 - 1) → visits ≤ seen → get_or opens form 0 < f.degree + t.coefficient →
     Adopted t.literal list list' → IsCounted forms opens' list' [] →
@@ -102,7 +102,7 @@ Looking-next aside forms lists form list0 cands0 work0 visits0 opens cands list 
         let old = before small in
         omega (arith, e, up, few, old, one)
 
-pub Looking-settled : (aside : List ℕ) (forms : List Shape) (lists : List (List Occurrence)) (form : ℕ) (list0 : List NumberedLiteral) (cands0 work0 : List ℕ) (visits0 : ℕ) (opens cands : List ℕ) (list : List NumberedLiteral) (work trail : List ℕ) (next visits : ℕ) (f : Shape) → ((d : Shape) → get_or forms form d ≡ f) → IsCalm f (get_or opens form 0) (get_or cands form 0) → IsLooking aside forms lists form list0 cands0 work0 visits0 opens cands list work trail next visits → IsTidy aside forms opens cands list work trail next (length forms)
+pub Looking-settled : (aside : List ℕ) (forms : List Shape) (lists : List (List Weighted)) (form : ℕ) (list0 : List NumberedLiteral) (cands0 work0 : List ℕ) (visits0 : ℕ) (opens cands : List ℕ) (list : List NumberedLiteral) (work trail : List ℕ) (next visits : ℕ) (f : Shape) → ((d : Shape) → get_or forms form d ≡ f) → IsCalm f (get_or opens form 0) (get_or cands form 0) → IsLooking aside forms lists form list0 cands0 work0 visits0 opens cands list work trail next visits → IsTidy aside forms opens cands list work trail next (length forms)
 Looking-settled aside forms lists form list0 cands0 work0 visits0 opens cands list work trail next visits f is calm p =
     Tidy-settle aside forms opens cands list work trail next form f (rw (is f) calm) p.tidy
 
@@ -116,7 +116,7 @@ Looking-conflict forms opens list form f inside is c low =
 pub shape-at : (keep : List Kept) (form : ℕ) (k : Kept) → form < length keep → k ≡ get_or keep form k → (d : Shape) → get_or (shapes_of keep) form d ≡ kept_shape k
 shape-at keep form k inside is d = get_or-map kept_shape keep form k d inside ∙ ap kept_shape (sym is)
 
-pub Looking-start : (aside : List ℕ) (forms : List Shape) (lists : List (List Occurrence)) (form : ℕ) (opens cands : List ℕ) (list : List NumberedLiteral) (work trail : List ℕ) (next visits : ℕ) → IsCounted forms opens list [] → IsTidy aside forms opens cands list work trail next form → (IsAbsent work 0 form → ⊥) → length opens ≡ length forms → length cands ≡ length forms → next ≤ length work → IsLooking aside forms lists form list cands work visits opens cands list work trail next visits
+pub Looking-start : (aside : List ℕ) (forms : List Shape) (lists : List (List Weighted)) (form : ℕ) (opens cands : List ℕ) (list : List NumberedLiteral) (work trail : List ℕ) (next visits : ℕ) → IsCounted forms opens list [] → IsTidy aside forms opens cands list work trail next form → (IsAbsent work 0 form → ⊥) → length opens ≡ length forms → length cands ≡ length forms → next ≤ length work → IsLooking aside forms lists form list cands work visits opens cands list work trail next visits
 Looking-start aside forms lists form opens cands list work trail next visits counted tidy there o c within = record {
   derived = begin;
   counted = counted;
@@ -129,11 +129,11 @@ Looking-start aside forms lists form opens cands list work trail next visits cou
   within = within;
 }
 
-pub Looking-settled_by : (aside : List ℕ) (forms : List Shape) (lists : List (List Occurrence)) (form : ℕ) (list0 : List NumberedLiteral) (cands0 work0 : List ℕ) (visits0 : ℕ) (opens cands : List ℕ) (list : List NumberedLiteral) (work trail : List ℕ) (next visits : ℕ) (f : Shape) (n : ℕ) → length forms ≡ n → ((d : Shape) → get_or forms form d ≡ f) → IsCalm f (get_or opens form 0) (get_or cands form 0) → IsLooking aside forms lists form list0 cands0 work0 visits0 opens cands list work trail next visits → IsTidy aside forms opens cands list work trail next n
+pub Looking-settled_by : (aside : List ℕ) (forms : List Shape) (lists : List (List Weighted)) (form : ℕ) (list0 : List NumberedLiteral) (cands0 work0 : List ℕ) (visits0 : ℕ) (opens cands : List ℕ) (list : List NumberedLiteral) (work trail : List ℕ) (next visits : ℕ) (f : Shape) (n : ℕ) → length forms ≡ n → ((d : Shape) → get_or forms form d ≡ f) → IsCalm f (get_or opens form 0) (get_or cands form 0) → IsLooking aside forms lists form list0 cands0 work0 visits0 opens cands list work trail next visits → IsTidy aside forms opens cands list work trail next n
 Looking-settled_by aside forms lists form list0 cands0 work0 visits0 opens cands list work trail next visits f n e is calm p =
     rw (← e) (Looking-settled aside forms lists form list0 cands0 work0 visits0 opens cands list work trail next visits f is calm p)
 
-pub Looking-next_by : (aside : List ℕ) (keep : List Kept) (lists : List (List Occurrence)) (form : ℕ) (list0 : List NumberedLiteral) (cands0 work0 : List ℕ) (visits0 : ℕ) (opens cands : List ℕ) (list : List NumberedLiteral) (work trail : List ℕ) (next visits seen : ℕ) (opens' mid cands' : List ℕ) (list' : List NumberedLiteral) (work' trail' : List ℕ) (next' visits' : ℕ) (k : Kept) (items : List Term) (o c : ℕ) (t : Term) →
+pub Looking-next_by : (aside : List ℕ) (keep : List Kept) (lists : List (List Weighted)) (form : ℕ) (list0 : List NumberedLiteral) (cands0 work0 : List ℕ) (visits0 : ℕ) (opens cands : List ℕ) (list : List NumberedLiteral) (work trail : List ℕ) (next visits seen : ℕ) (opens' mid cands' : List ℕ) (list' : List NumberedLiteral) (work' trail' : List ℕ) (next' visits' : ℕ) (k : Kept) (items : List Term) (o c : ℕ) (t : Term) →
     form < length keep → k ≡ get_or keep form k → o ≡ get_or opens form o → c ≡ get_or cands form c → items ≡ k.terms.items → c < length items → t ≡ get_or items c t →
     seen ≡ min (visits + 1) (2 ^ 64 - 1) → visits ≤ seen → o < k.degree + t.coefficient →
     mid ≡ cands → next' ≡ next →
@@ -194,3 +194,9 @@ changed-at keep opens form k o inside is room open_is other d e =
     let open_0 = get_or_read opens form o room open_is 0 in
     let shape : size (get_or (shapes_of keep) form d).terms ≡ size k.terms.items = ap (λ (f : Shape). size f.terms) (shape-at keep form k inside is d) in
     other (open_0 ∙ e ∙ shape ∙ sym k.sum)
+
+-- a coefficient that is read
+pub weight-read : (keep : List Kept) (form index : ℕ) (k : Kept) (w : ℕ) → form < length keep → k ≡ get_or keep form k → ((d : Term) → w ≡ (get_or k.terms.items index d).coefficient) → w ≡ coefficient_at (shapes_of keep) form index
+weight-read keep form index k w inside is read =
+    let t : Term = record { literal = record { variable = 0; negated = false }; coefficient = 0 } in
+    read t ∙ ap (λ (f : Shape). (get_or f.terms index t).coefficient) (sym (shape-at keep form k inside is (record { terms = []; degree = 0 })))

@@ -5,9 +5,8 @@ use Rattle.std.proofs.lemmas.List.Elements.{All-push, filter-append}
 use Rattle.std.proofs.lemmas.List.Filters.{length-filter_more}
 use Rattle.std.proofs.lemmas.List.{get_or_read}
 use Rattle.pb_replay.specs.declared.numbered.NumberedLiteral.{NumberedLiteral}
-use Rattle.pb_replay.specs.declared.propagate.term.Occurrence.{Occurrence}
 use Rattle.pb_replay.specs.declared.propagate.kept.Kept.{Kept}
-use Rattle.pb_replay.specs.Engine.Lists.{Shape, Derives, begin, IsSettled}
+use Rattle.pb_replay.specs.Engine.Lists.{Shape, Derives, begin, IsSettled, Weighted}
 use Rattle.pb_replay.specs.Engine.Fields.{shapes_of, kept_shape}
 use Rattle.pb_replay.specs.Engine.Counts.{IsCounted, IsTidy, IsPaid, IsAbsent, AreCovered, AreFound, AreSingle, AreFalling, spent}
 use Rattle.pb_replay.proofs.Engine.Derivations.{derivation-then}
@@ -17,7 +16,7 @@ use Rattle.pb_replay.proofs.Engine.Looks.{open-now}
 use Rattle.pb_replay.proofs.Engine.Spent.{spent-le, derivation-single}
 
 -- a propagation between two looks
-pub record IsPropagating (p : ℕ → Bool) (waiting : List ℕ) (forms : List Shape) (lists : List (List Occurrence)) (n : ℕ) (list0 : List NumberedLiteral) (cands0 work0 : List ℕ) (next0 visits0 taken : ℕ) (opens cands : List ℕ) (list : List NumberedLiteral) (work trail : List ℕ) (next visits : ℕ) : Type 0 where
+pub record IsPropagating (p : ℕ → Bool) (waiting : List ℕ) (forms : List Shape) (lists : List (List Weighted)) (n : ℕ) (list0 : List NumberedLiteral) (cands0 work0 : List ℕ) (next0 visits0 taken : ℕ) (opens cands : List ℕ) (list : List NumberedLiteral) (work trail : List ℕ) (next visits : ℕ) : Type 0 where
   pub derived : Derives forms list0 list
   pub counted : IsCounted forms opens list []
   pub tidy : IsTidy (filter p (drop taken waiting)) forms opens cands list work trail next n
@@ -28,7 +27,7 @@ pub record IsPropagating (p : ℕ → Bool) (waiting : List ℕ) (forms : List S
   pub candidate_sizes : length cands ≡ n
   pub within : next ≤ length work
 
-pub Propagating-start : (p : ℕ → Bool) (waiting : List ℕ) (forms : List Shape) (lists : List (List Occurrence)) (n : ℕ) (opens cands : List ℕ) (list : List NumberedLiteral) (work trail : List ℕ) (next visits : ℕ) → IsCounted forms opens list [] → IsTidy (filter p waiting) forms opens cands list work trail next n → length opens ≡ n → length cands ≡ n → next ≤ length work → IsPropagating p waiting forms lists n list cands work next visits 0 opens cands list work trail next visits
+pub Propagating-start : (p : ℕ → Bool) (waiting : List ℕ) (forms : List Shape) (lists : List (List Weighted)) (n : ℕ) (opens cands : List ℕ) (list : List NumberedLiteral) (work trail : List ℕ) (next visits : ℕ) → IsCounted forms opens list [] → IsTidy (filter p waiting) forms opens cands list work trail next n → length opens ≡ n → length cands ≡ n → next ≤ length work → IsPropagating p waiting forms lists n list cands work next visits 0 opens cands list work trail next visits
 Propagating-start p waiting forms lists n opens cands list work trail next visits counted tidy o c within = record {
   derived = begin;
   counted = counted;
@@ -54,7 +53,7 @@ choose-tidy p rest forms opens cands list work work' trail trail' next busy x tr
 })
 choose-tidy p rest forms opens cands list work work' trail trail' next busy x false h inside within longer noted r = rw (longer, append-nil work, noted, append-nil trail) r
 
-pub Propagating-choose : (p : ℕ → Bool) (waiting : List ℕ) (forms : List Shape) (lists : List (List Occurrence)) (n : ℕ) (list0 : List NumberedLiteral) (cands0 work0 : List ℕ) (next0 visits0 taken : ℕ) (opens cands : List ℕ) (list : List NumberedLiteral) (work trail : List ℕ) (next visits x : ℕ) (work' trail' : List ℕ) → taken < length waiting → x ≡ get_or waiting taken x → x < length forms → work' ≡ work ++ filter p (x ∷ []) → trail' ≡ trail ++ filter p (x ∷ []) →
+pub Propagating-choose : (p : ℕ → Bool) (waiting : List ℕ) (forms : List Shape) (lists : List (List Weighted)) (n : ℕ) (list0 : List NumberedLiteral) (cands0 work0 : List ℕ) (next0 visits0 taken : ℕ) (opens cands : List ℕ) (list : List NumberedLiteral) (work trail : List ℕ) (next visits x : ℕ) (work' trail' : List ℕ) → taken < length waiting → x ≡ get_or waiting taken x → x < length forms → work' ≡ work ++ filter p (x ∷ []) → trail' ≡ trail ++ filter p (x ∷ []) →
     IsPropagating p waiting forms lists n list0 cands0 work0 next0 visits0 taken opens cands list work trail next visits →
     IsPropagating p waiting forms lists n list0 cands0 work0 next0 visits0 (taken + 1) opens cands list work' trail' next visits
 Propagating-choose p waiting forms lists n list0 cands0 work0 next0 visits0 taken opens cands list work trail next visits x work' trail' less is inside longer noted s =
@@ -90,7 +89,7 @@ Propagating-look aside forms n opens cands list work trail next form e inside is
     let busy : IsTidy aside forms opens cands list work trail next (length forms) = rw e t in
     rw read (Tidy-next aside forms opens cands list work trail next busy)
 
-pub Propagating-paid : (lists : List (List Occurrence)) (list0 list list' : List NumberedLiteral) (cands0 cands cands' work0 work work' : List ℕ) (next0 next next' visits0 visits visits' : ℕ) → next' ≡ next + 1 → next0 ≤ next → IsPaid lists list0 list cands0 cands work0 work visits0 visits (next - next0) → IsPaid lists list list' cands cands' work work' visits visits' 1 → IsPaid lists list0 list' cands0 cands' work0 work' visits0 visits' (next' - next0)
+pub Propagating-paid : (lists : List (List Weighted)) (list0 list list' : List NumberedLiteral) (cands0 cands cands' work0 work work' : List ℕ) (next0 next next' visits0 visits visits' : ℕ) → next' ≡ next + 1 → next0 ≤ next → IsPaid lists list0 list cands0 cands work0 work visits0 visits (next - next0) → IsPaid lists list list' cands cands' work work' visits visits' 1 → IsPaid lists list0 list' cands0 cands' work0 work' visits0 visits' (next' - next0)
 Propagating-paid lists list0 list list' cands0 cands cands' work0 work work' next0 next next' visits0 visits visits' e started p q = record {
   upper = upper_on visits visits' visits0 next next' next0 (sum cands0) (sum cands) (sum cands') (spent lists list0) (spent lists list) (spent lists list') p.upper q.upper e started;
   work = omega (arith, p.work, q.work);
@@ -100,7 +99,7 @@ Propagating-paid lists list0 list list' cands0 cands cands' work0 work work' nex
     upper_on : (v w v0 m m' m0 c0 c1 c2 s0 s1 s2 : ℕ) → v + c0 + s0 ≤ v0 + (m - m0) + c1 + s1 → w + c1 + s1 ≤ v + 1 + c2 + s2 → m' ≡ m + 1 → m0 ≤ m → w + c0 + s0 ≤ v0 + (m' - m0) + c2 + s2
     upper_on v w v0 m m' m0 c0 c1 c2 s0 s1 s2 h k q r = omega arith
 
-pub Propagating-next : (p : ℕ → Bool) (waiting : List ℕ) (forms : List Shape) (lists : List (List Occurrence)) (n : ℕ) (list0 : List NumberedLiteral) (cands0 work0 : List ℕ) (next0 visits0 taken : ℕ) (opens cands : List ℕ) (list : List NumberedLiteral) (work trail : List ℕ) (next visits : ℕ) (opens' cands' : List ℕ) (list' : List NumberedLiteral) (work' trail' : List ℕ) (next' visits' : ℕ) →
+pub Propagating-next : (p : ℕ → Bool) (waiting : List ℕ) (forms : List Shape) (lists : List (List Weighted)) (n : ℕ) (list0 : List NumberedLiteral) (cands0 work0 : List ℕ) (next0 visits0 taken : ℕ) (opens cands : List ℕ) (list : List NumberedLiteral) (work trail : List ℕ) (next visits : ℕ) (opens' cands' : List ℕ) (list' : List NumberedLiteral) (work' trail' : List ℕ) (next' visits' : ℕ) →
     next' ≡ next + 1 → Derives forms list list' → IsCounted forms opens' list' [] → IsTidy (filter p (drop taken waiting)) forms opens' cands' list' work' trail' next' n →
     IsPaid lists list list' cands cands' work work' visits visits' 1 → AreFound (length list) (length list') visits visits' →
     length opens' ≡ length opens → length cands' ≡ length cands → next' ≤ length work' →
@@ -130,12 +129,12 @@ fewer : (p : ℕ → Bool) (xs : List ℕ) (k : ℕ) → length (filter p (take 
 fewer p xs k = omega (arith, length-append (filter p (take k xs)) (filter p (drop k xs)), ap length (sym (filter-append p (take k xs) (drop k xs))), ap (λ ys. length (filter p ys)) (take-append-drop k xs))
 
 -- the work list has a bound
-pub Propagating-bound : (p : ℕ → Bool) (waiting : List ℕ) (forms : List Shape) (lists : List (List Occurrence)) (n : ℕ) (list0 : List NumberedLiteral) (cands0 work0 : List ℕ) (next0 visits0 taken : ℕ) (opens cands : List ℕ) (list : List NumberedLiteral) (work trail : List ℕ) (next visits : ℕ) → AreSingle list0 → IsPropagating p waiting forms lists n list0 cands0 work0 next0 visits0 taken opens cands list work trail next visits → length work ≤ length work0 + length (filter p waiting) + sum_by length lists
+pub Propagating-bound : (p : ℕ → Bool) (waiting : List ℕ) (forms : List Shape) (lists : List (List Weighted)) (n : ℕ) (list0 : List NumberedLiteral) (cands0 work0 : List ℕ) (next0 visits0 taken : ℕ) (opens cands : List ℕ) (list : List NumberedLiteral) (work trail : List ℕ) (next visits : ℕ) → AreSingle list0 → IsPropagating p waiting forms lists n list0 cands0 work0 next0 visits0 taken opens cands list work trail next visits → length work ≤ length work0 + length (filter p waiting) + sum_by length lists
 Propagating-bound p waiting forms lists n list0 cands0 work0 next0 visits0 taken opens cands list work trail next visits single s =
     let bound = spent-le lists list (derivation-single forms list0 list single s.derived) in
     omega (arith, bound, s.paid.work, length-append work0 (filter p (take taken waiting)), fewer p waiting taken)
 
-pub Propagating-settled : (p : ℕ → Bool) (waiting : List ℕ) (keep : List Kept) (lists : List (List Occurrence)) (list0 : List NumberedLiteral) (cands0 work0 : List ℕ) (next0 visits0 taken : ℕ) (opens cands : List ℕ) (list : List NumberedLiteral) (work trail : List ℕ) (next visits : ℕ) → length work ≤ next → length waiting ≤ taken → IsPropagating p waiting (shapes_of keep) lists (length keep) list0 cands0 work0 next0 visits0 taken opens cands list work trail next visits → (f : Shape) → Contains (shapes_of keep) f → IsSettled f list
+pub Propagating-settled : (p : ℕ → Bool) (waiting : List ℕ) (keep : List Kept) (lists : List (List Weighted)) (list0 : List NumberedLiteral) (cands0 work0 : List ℕ) (next0 visits0 taken : ℕ) (opens cands : List ℕ) (list : List NumberedLiteral) (work trail : List ℕ) (next visits : ℕ) → length work ≤ next → length waiting ≤ taken → IsPropagating p waiting (shapes_of keep) lists (length keep) list0 cands0 work0 next0 visits0 taken opens cands list work trail next visits → (f : Shape) → Contains (shapes_of keep) f → IsSettled f list
 Propagating-settled p waiting keep lists list0 cands0 work0 next0 visits0 taken opens cands list work trail next visits all none_waits state f (s, inside, is) =
     let from = source kept_shape keep s f inside is in
     let busy : s ≡ length keep → ⊥ = λ e. absurd (omega (arith, e, from.inside)) in
@@ -149,7 +148,7 @@ Propagating-settled p waiting keep lists list0 cands0 work0 next0 visits0 taken 
     calm-settled f (get_or opens s 0) (get_or cands s 0) list falling now calm passed
 
 -- how often it has looked, also where it was given up
-pub Propagating-upper : (p : ℕ → Bool) (waiting : List ℕ) (forms : List Shape) (lists : List (List Occurrence)) (n : ℕ) (list0 : List NumberedLiteral) (cands0 work0 : List ℕ) (next0 visits0 taken : ℕ) (opens cands : List ℕ) (list : List NumberedLiteral) (work trail : List ℕ) (next visits : ℕ) (list' : List NumberedLiteral) (cands' : List ℕ) (visits' looks : ℕ) → AreSingle list0 → next0 ≤ length work0 → IsPropagating p waiting forms lists n list0 cands0 work0 next0 visits0 taken opens cands list work trail next visits → (AreSingle list → AreSingle list') → next + looks ≤ length work → AreCovered lists list list' cands cands' visits visits' looks → visits' + sum cands0 ≤ visits0 + ((length work0 + length (filter p waiting)) - next0) + 2 * sum_by length lists + sum cands'
+pub Propagating-upper : (p : ℕ → Bool) (waiting : List ℕ) (forms : List Shape) (lists : List (List Weighted)) (n : ℕ) (list0 : List NumberedLiteral) (cands0 work0 : List ℕ) (next0 visits0 taken : ℕ) (opens cands : List ℕ) (list : List NumberedLiteral) (work trail : List ℕ) (next visits : ℕ) (list' : List NumberedLiteral) (cands' : List ℕ) (visits' looks : ℕ) → AreSingle list0 → next0 ≤ length work0 → IsPropagating p waiting forms lists n list0 cands0 work0 next0 visits0 taken opens cands list work trail next visits → (AreSingle list → AreSingle list') → next + looks ≤ length work → AreCovered lists list list' cands cands' visits visits' looks → visits' + sum cands0 ≤ visits0 + ((length work0 + length (filter p waiting)) - next0) + 2 * sum_by length lists + sum cands'
 Propagating-upper p waiting forms lists n list0 cands0 work0 next0 visits0 taken opens cands list work trail next visits list' cands' visits' looks single start s still room covered =
     let before = derivation-single forms list0 list single s.derived in
     let bound = spent-le lists list before in

@@ -1,15 +1,17 @@
-use Rattle.std.specs.Prelude.{All, Bool, true, false, if◌then◌else◌}
+use Rattle.std.specs.Prelude.{All, map, Bool, true, false, if◌then◌else◌}
 use Rattle.std.proofs.Common.{◌≡◌, ℕ, ◌+◌, ◌-◌, ◌*◌, ◌^◌, ◌<◌, ◌≤◌, [], List, sym, ◌∙◌, ap, subst, arith, length, get_or, set, drop, min, length-set, Vec, Global}
 use Rattle.std.proofs.lemmas.List.{drop_more, get_or-map, length-map}
+use Rattle.std.proofs.Math.ListN.{get_or-map as get_or-map-default}
 use Rattle.pb_replay.specs.declared.numbered.NumberedLiteral.{NumberedLiteral}
 use Rattle.pb_replay.specs.declared.propagate.term.Occurrence.{Occurrence}
-use Rattle.pb_replay.specs.Engine.Lists.{Shape, negation, size}
+use Rattle.pb_replay.specs.Engine.Lists.{Shape, Weighted, negation, size}
 use Rattle.pb_replay.specs.Engine.Counts.{place, IsCounted, IsTidy, IsAbsent, IsCalm, Grown}
-use Rattle.pb_replay.specs.Engine.Fields.{entries_of}
+use Rattle.pb_replay.specs.Engine.Fields.{entries_of, lists_of}
+use Rattle.pb_replay.specs.Engine.Links.{weighted, coefficient_at}
 use Rattle.pb_replay.proofs.Engine.Runs.{Counted-fits, Counted-lower, Tidy-lower, grown-before, grown-length}
 
 -- the first j entries were taken from the open sums
-pub record IsPutting (forms : List Shape) (es : List Occurrence) (opens0 cands : List ℕ) (list : List NumberedLiteral) (work0 trail0 : List ℕ) (next visits0 : ℕ) (opens work trail : List ℕ) (visits j : ℕ) : Type 0 where
+pub record IsPutting (forms : List Shape) (es : List Weighted) (opens0 cands : List ℕ) (list : List NumberedLiteral) (work0 trail0 : List ℕ) (next visits0 : ℕ) (opens work trail : List ℕ) (visits j : ℕ) : Type 0 where
   pub counted : IsCounted forms opens list (drop j es)
   pub tidy : (aside : List ℕ) (busy : ℕ) → IsTidy aside forms opens0 cands list work0 trail0 next busy → IsTidy aside forms opens cands list work trail next busy
   pub longer : (s : ℕ) → IsAbsent work 0 s → IsAbsent work0 0 s
@@ -19,7 +21,7 @@ pub record IsPutting (forms : List Shape) (es : List Occurrence) (opens0 cands :
   pub upper : visits ≤ visits0 + j
   pub rising : visits0 ≤ visits
 
-pub Putting-start : (forms : List Shape) (es : List Occurrence) (opens cands : List ℕ) (list : List NumberedLiteral) (work trail : List ℕ) (next visits : ℕ) → IsCounted forms opens list es → length opens ≡ length forms → IsPutting forms es opens cands list work trail next visits opens work trail visits 0
+pub Putting-start : (forms : List Shape) (es : List Weighted) (opens cands : List ℕ) (list : List NumberedLiteral) (work trail : List ℕ) (next visits : ℕ) → IsCounted forms opens list es → length opens ≡ length forms → IsPutting forms es opens cands list work trail next visits opens work trail visits 0
 Putting-start forms es opens cands list work trail next visits c s = record {
   counted = c;
   tidy = λ aside busy t. t;
@@ -31,11 +33,11 @@ Putting-start forms es opens cands list work trail next visits c s = record {
   rising = omega arith;
 }
 
-pub Putting-fits : (forms : List Shape) (es : List Occurrence) (opens0 cands : List ℕ) (list : List NumberedLiteral) (work0 trail0 : List ℕ) (next visits0 : ℕ) (opens work trail : List ℕ) (visits j : ℕ) (d : Occurrence) (f : Shape) → j < length es → (get_or es j d).form < length forms → IsPutting forms es opens0 cands list work0 trail0 next visits0 opens work trail visits j → (get_or es j d).coefficient ≤ get_or opens (get_or es j d).form 0
+pub Putting-fits : (forms : List Shape) (es : List Weighted) (opens0 cands : List ℕ) (list : List NumberedLiteral) (work0 trail0 : List ℕ) (next visits0 : ℕ) (opens work trail : List ℕ) (visits j : ℕ) (d : Weighted) (f : Shape) → j < length es → (get_or es j d).form < length forms → IsPutting forms es opens0 cands list work0 trail0 next visits0 opens work trail visits j → (get_or es j d).coefficient ≤ get_or opens (get_or es j d).form 0
 Putting-fits forms es opens0 cands list work0 trail0 next visits0 opens work trail visits j d f inside named p =
     Counted-fits forms opens list (get_or es j d) (drop (j + 1) es) f named (subst (IsCounted forms opens list) (drop_more es j d inside) p.counted)
 
-pub Putting-next : (forms : List Shape) (es : List Occurrence) (opens0 cands : List ℕ) (list : List NumberedLiteral) (work0 trail0 : List ℕ) (next visits0 : ℕ) (opens work trail : List ℕ) (visits j : ℕ) (opens' work' trail' : List ℕ) (visits' : ℕ) (d : Occurrence) → j < length es → (get_or es j d).form < length forms → next ≤ length work0 → opens' ≡ set opens (get_or es j d).form (get_or opens (get_or es j d).form 0 - (get_or es j d).coefficient) → Grown ((f : Shape) (c : ℕ) → IsCalm (get_or forms (get_or es j d).form f) (get_or opens (get_or es j d).form 0 - (get_or es j d).coefficient) c) (get_or es j d).form work work' → Grown ((f : Shape) → get_or opens (get_or es j d).form 0 ≡ size (get_or forms (get_or es j d).form f).terms → ⊥) (get_or es j d).form trail trail' → visits' ≡ min (visits + 1) (2 ^ 64 - 1) → visits ≤ visits' → IsPutting forms es opens0 cands list work0 trail0 next visits0 opens work trail visits j → IsPutting forms es opens0 cands list work0 trail0 next visits0 opens' work' trail' visits' (j + 1)
+pub Putting-next : (forms : List Shape) (es : List Weighted) (opens0 cands : List ℕ) (list : List NumberedLiteral) (work0 trail0 : List ℕ) (next visits0 : ℕ) (opens work trail : List ℕ) (visits j : ℕ) (opens' work' trail' : List ℕ) (visits' : ℕ) (d : Weighted) → j < length es → (get_or es j d).form < length forms → next ≤ length work0 → opens' ≡ set opens (get_or es j d).form (get_or opens (get_or es j d).form 0 - (get_or es j d).coefficient) → Grown ((f : Shape) (c : ℕ) → IsCalm (get_or forms (get_or es j d).form f) (get_or opens (get_or es j d).form 0 - (get_or es j d).coefficient) c) (get_or es j d).form work work' → Grown ((f : Shape) → get_or opens (get_or es j d).form 0 ≡ size (get_or forms (get_or es j d).form f).terms → ⊥) (get_or es j d).form trail trail' → visits' ≡ min (visits + 1) (2 ^ 64 - 1) → visits ≤ visits' → IsPutting forms es opens0 cands list work0 trail0 next visits0 opens work trail visits j → IsPutting forms es opens0 cands list work0 trail0 next visits0 opens' work' trail' visits' (j + 1)
 Putting-next forms es opens0 cands list work0 trail0 next visits0 opens work trail visits j opens' work' trail' visits' d inside named within is queued noted seen small p =
     let e = get_or es j d in
     let room : e.form < length opens = omega (arith, named, p.sizes) in
@@ -54,25 +56,42 @@ Putting-next forms es opens0 cands list work0 trail0 next visits0 opens work tra
     least_upper v w a i e h = omega arith
 
 -- by what the program reads
-pub entries-at : (occ : List (Vec Occurrence Global)) (p q : ℕ) (v : Vec Occurrence Global) → q < length occ → v ≡ get_or occ q v → q ≡ p → get_or (entries_of occ) p [] ≡ v.items
-entries-at occ p q v inside is same =
-    let at : get_or (entries_of occ) q [] ≡ (get_or occ q v).items = get_or-map (λ (w : Vec Occurrence Global). w.items) occ q v [] inside in
+pub lists-at : (occ : List (Vec Occurrence Global)) (p q : ℕ) (v : Vec Occurrence Global) → q < length occ → v ≡ get_or occ q v → q ≡ p → get_or (lists_of occ) p [] ≡ v.items
+lists-at occ p q v inside is same =
+    let at : get_or (lists_of occ) q [] ≡ (get_or occ q v).items = get_or-map (λ (w : Vec Occurrence Global). w.items) occ q v [] inside in
     rw (← same) (at ∙ ap (λ (w : Vec Occurrence Global). w.items) (sym is))
 
-pub Putting-fits_at : (forms : List Shape) (es items : List Occurrence) (opens0 cands : List ℕ) (list : List NumberedLiteral) (work0 trail0 : List ℕ) (next visits0 : ℕ) (opens work trail : List ℕ) (visits j : ℕ) (e : Occurrence) → es ≡ items → e ≡ get_or items j e → j < length items → All (λ x. x.form < length forms) es → IsPutting forms es opens0 cands list work0 trail0 next visits0 opens work trail visits j → e.coefficient ≤ get_or opens e.form 0
-Putting-fits_at forms es items opens0 cands list work0 trail0 next visits0 opens work trail visits j e same is inside named p =
-    let at : e ≡ get_or es j e = rw same is in
-    let inside_es : j < length es = omega (arith, ap length same, inside) in
-    subst (λ (x : Occurrence). x.coefficient ≤ get_or opens x.form 0) (sym at) (Putting-fits forms es opens0 cands list work0 trail0 next visits0 opens work trail visits j e (record { terms = []; degree = 0 }) inside_es (named j e inside_es) p)
+pub entries-at : (forms : List Shape) (occ : List (Vec Occurrence Global)) (p q : ℕ) (v : Vec Occurrence Global) → q < length occ → v ≡ get_or occ q v → q ≡ p → get_or (entries_of forms occ) p [] ≡ map (weighted forms) v.items
+entries-at forms occ p q v inside is same =
+    let at : get_or (entries_of forms occ) q [] ≡ map (weighted forms) (get_or occ q v).items = get_or-map (λ (w : Vec Occurrence Global). map (weighted forms) w.items) occ q v [] inside in
+    rw (← same) (at ∙ ap (λ (w : Vec Occurrence Global). map (weighted forms) w.items) (sym is))
 
-pub Putting-next_at : (forms : List Shape) (es items : List Occurrence) (opens0 cands : List ℕ) (list : List NumberedLiteral) (work0 trail0 : List ℕ) (next visits0 : ℕ) (opens work trail : List ℕ) (visits j : ℕ) (opens' work' trail' : List ℕ) (visits' : ℕ) (e : Occurrence) → es ≡ items → e ≡ get_or items j e → j < length items → All (λ x. x.form < length forms) es → next ≤ length work0 → opens' ≡ set opens e.form (get_or opens e.form 0 - e.coefficient) → Grown ((f : Shape) (c : ℕ) → IsCalm (get_or forms e.form f) (get_or opens e.form 0 - e.coefficient) c) e.form work work' → Grown ((f : Shape) → get_or opens e.form 0 ≡ size (get_or forms e.form f).terms → ⊥) e.form trail trail' → visits' ≡ min (visits + 1) (2 ^ 64 - 1) → visits ≤ visits' → IsPutting forms es opens0 cands list work0 trail0 next visits0 opens work trail visits j → IsPutting forms es opens0 cands list work0 trail0 next visits0 opens' work' trail' visits' (j + 1)
+item-weighted : (forms : List Shape) (es : List Weighted) (items : List Occurrence) (j : ℕ) (e : Occurrence) → es ≡ map (weighted forms) items → e ≡ get_or items j e → weighted forms e ≡ get_or es j (weighted forms e)
+item-weighted forms es items j e same is = rw same (ap (weighted forms) is ∙ sym (get_or-map-default (weighted forms) items j e))
+
+pub form-within : (forms : List Shape) (es : List Weighted) (items : List Occurrence) (j : ℕ) (e : Occurrence) (n : ℕ) → es ≡ map (weighted forms) items → e ≡ get_or items j e → j < length items → All (λ x. x.form < n) es → e.form < n
+form-within forms es items j e n same is inside named =
+    let entry = weighted forms e in
+    let form : e.form ≡ (get_or es j entry).form = ap (λ (x : Weighted). x.form) (item-weighted forms es items j e same is) in
+    let less = named j entry (omega (arith, ap length same, length-map items (weighted forms), inside)) in
+    omega (arith, less, form)
+
+pub Putting-fits_at : (forms : List Shape) (es : List Weighted) (items : List Occurrence) (opens0 cands : List ℕ) (list : List NumberedLiteral) (work0 trail0 : List ℕ) (next visits0 : ℕ) (opens work trail : List ℕ) (visits j : ℕ) (e : Occurrence) → es ≡ map (weighted forms) items → e ≡ get_or items j e → j < length items → All (λ x. x.form < length forms) es → IsPutting forms es opens0 cands list work0 trail0 next visits0 opens work trail visits j → coefficient_at forms e.form e.index ≤ get_or opens e.form 0
+Putting-fits_at forms es items opens0 cands list work0 trail0 next visits0 opens work trail visits j e same is inside named p =
+    let entry = weighted forms e in
+    let at : entry ≡ get_or es j entry = item-weighted forms es items j e same is in
+    let inside_es : j < length es = omega (arith, ap length same, length-map items (weighted forms), inside) in
+    subst (λ (x : Weighted). x.coefficient ≤ get_or opens x.form 0) (sym at) (Putting-fits forms es opens0 cands list work0 trail0 next visits0 opens work trail visits j entry (record { terms = []; degree = 0 }) inside_es (named j entry inside_es) p)
+
+pub Putting-next_at : (forms : List Shape) (es : List Weighted) (items : List Occurrence) (opens0 cands : List ℕ) (list : List NumberedLiteral) (work0 trail0 : List ℕ) (next visits0 : ℕ) (opens work trail : List ℕ) (visits j : ℕ) (opens' work' trail' : List ℕ) (visits' : ℕ) (e : Occurrence) → es ≡ map (weighted forms) items → e ≡ get_or items j e → j < length items → All (λ x. x.form < length forms) es → next ≤ length work0 → opens' ≡ set opens e.form (get_or opens e.form 0 - coefficient_at forms e.form e.index) → Grown ((f : Shape) (c : ℕ) → IsCalm (get_or forms e.form f) (get_or opens e.form 0 - coefficient_at forms e.form e.index) c) e.form work work' → Grown ((f : Shape) → get_or opens e.form 0 ≡ size (get_or forms e.form f).terms → ⊥) e.form trail trail' → visits' ≡ min (visits + 1) (2 ^ 64 - 1) → visits ≤ visits' → IsPutting forms es opens0 cands list work0 trail0 next visits0 opens work trail visits j → IsPutting forms es opens0 cands list work0 trail0 next visits0 opens' work' trail' visits' (j + 1)
 Putting-next_at forms es items opens0 cands list work0 trail0 next visits0 opens work trail visits j opens' work' trail' visits' e same is inside named within lower queued noted seen small p =
-    let at : e ≡ get_or es j e = rw same is in
-    let inside_es : j < length es = omega (arith, ap length same, inside) in
-    Putting-next forms es opens0 cands list work0 trail0 next visits0 opens work trail visits j opens' work' trail' visits' e inside_es (named j e inside_es) within
-    (subst (λ (x : Occurrence). opens' ≡ set opens x.form (get_or opens x.form 0 - x.coefficient)) at lower)
-    (subst (λ (x : Occurrence). Grown ((f : Shape) (c : ℕ) → IsCalm (get_or forms x.form f) (get_or opens x.form 0 - x.coefficient) c) x.form work work') at queued)
-    (subst (λ (x : Occurrence). Grown ((f : Shape) → get_or opens x.form 0 ≡ size (get_or forms x.form f).terms → ⊥) x.form trail trail') at noted) seen small p
+    let entry = weighted forms e in
+    let at : entry ≡ get_or es j entry = item-weighted forms es items j e same is in
+    let inside_es : j < length es = omega (arith, ap length same, length-map items (weighted forms), inside) in
+    Putting-next forms es opens0 cands list work0 trail0 next visits0 opens work trail visits j opens' work' trail' visits' entry inside_es (named j entry inside_es) within
+    (subst (λ (x : Weighted). opens' ≡ set opens x.form (get_or opens x.form 0 - x.coefficient)) at lower)
+    (subst (λ (x : Weighted). Grown ((f : Shape) (c : ℕ) → IsCalm (get_or forms x.form f) (get_or opens x.form 0 - x.coefficient) c) x.form work work') at queued)
+    (subst (λ (x : Weighted). Grown ((f : Shape) → get_or opens x.form 0 ≡ size (get_or forms x.form f).terms → ⊥) x.form trail trail') at noted) seen small p
 
 pub place-inside : (l : NumberedLiteral) (n : ℕ) → l.variable < n → place l < 2 * n
 place-inside l n h = by_sign l.negated l.variable h
@@ -81,6 +100,6 @@ place-inside l n h = by_sign l.negated l.variable h
     by_sign true v h = omega arith
     by_sign false v h = omega arith
 
-pub place-read : (occ : List (Vec Occurrence Global)) (n : ℕ) (l : NumberedLiteral) (q : ℕ) → l.variable < n → q ≡ place (negation l) → length (entries_of occ) ≡ 2 * n → q < length occ
-place-read occ n l q h e sizes =
-    omega (arith, place-inside (negation l) n h, e, sizes, length-map occ (λ (v : Vec Occurrence Global). v.items))
+pub place-read : (forms : List Shape) (occ : List (Vec Occurrence Global)) (n : ℕ) (l : NumberedLiteral) (q : ℕ) → l.variable < n → q ≡ place (negation l) → length (entries_of forms occ) ≡ 2 * n → q < length occ
+place-read forms occ n l q h e sizes =
+    omega (arith, place-inside (negation l) n h, e, sizes, length-map occ (λ (v : Vec Occurrence Global). map (weighted forms) v.items))

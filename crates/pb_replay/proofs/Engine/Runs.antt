@@ -6,8 +6,7 @@ use Rattle.std.proofs.lemmas.List.Elements.{All-push}
 use Rattle.std.proofs.lemmas.List.Sums.{sum_by-cons}
 use Rattle.pb_replay.specs.declared.numbered.NumberedLiteral.{NumberedLiteral}
 use Rattle.pb_replay.specs.declared.propagate.term.Term.{Term}
-use Rattle.pb_replay.specs.declared.propagate.term.Occurrence.{Occurrence}
-use Rattle.pb_replay.specs.Engine.Lists.{Shape, negation, same, has, open_part, open_sum, size, IsSettled}
+use Rattle.pb_replay.specs.Engine.Lists.{Shape, negation, same, has, open_part, open_sum, size, IsSettled, Weighted}
 use Rattle.pb_replay.specs.Engine.Counts.{entry_weight, weight_in, term_weight, weight_on, AreFalling, IsCalm, IsDone, ArePassed, IsAbsent, IsCounted, IsTidy, Grown, pushed, spared}
 use Rattle.pb_replay.proofs.Engine.Derivations.{settled-of_terms}
 use Rattle.pb_replay.proofs.Engine.Literals.{negation-negation, has-push, has-push_old, has-push_new, same-true, same-refl, open_part-falsified, open_part-open}
@@ -65,11 +64,11 @@ open_part-push list l absent t =
 pub open_sum-push : (list : List NumberedLiteral) (l : NumberedLiteral) → has list l ≡ false → (terms : List Term) → open_sum list terms ≡ open_sum (list ++ (l ∷ [])) terms + weight_on (negation l) terms
 open_sum-push list l absent terms = sum_by-two (open_part list) (open_part (list ++ (l ∷ []))) (term_weight (negation l)) (open_part-push list l absent) terms
 
-pub entry_weight-same : (s : ℕ) (e : Occurrence) → e.form ≡ s → entry_weight s e ≡ e.coefficient
+pub entry_weight-same : (s : ℕ) (e : Weighted) → e.form ≡ s → entry_weight s e ≡ e.coefficient
 unfolding entry_weight
 entry_weight-same s e h = let one : (e.form == s) ≡ true = eq-eqb e.form s h in rw one
 
-pub entry_weight-other : (s : ℕ) (e : Occurrence) → (s ≡ e.form → ⊥) → entry_weight s e ≡ 0
+pub entry_weight-other : (s : ℕ) (e : Weighted) → (s ≡ e.form → ⊥) → entry_weight s e ≡ 0
 unfolding entry_weight
 entry_weight-other s e h = let one : (e.form == s) ≡ false = ne_eqb e.form s (λ x. h (sym x)) in rw one
 
@@ -102,7 +101,7 @@ pub done-new : (list : List NumberedLiteral) (l : NumberedLiteral) → IsDone (l
 done-new list l = or_left (has (list ++ (l ∷ [])) l) (has (list ++ (l ∷ [])) (negation l)) (has-push_new list l)
 
 -- a literal is put on the list: its entries are still to be taken from the open sums
-pub Counted-put : (forms : List Shape) (opens : List ℕ) (list next : List NumberedLiteral) (l : NumberedLiteral) (entries : List Occurrence) → next ≡ list ++ (l ∷ []) → has list l ≡ false → ((s : ℕ) (d : Shape) → s < length forms → weight_in s entries ≡ weight_on (negation l) (get_or forms s d).terms) → IsCounted forms opens list [] → IsCounted forms opens next entries
+pub Counted-put : (forms : List Shape) (opens : List ℕ) (list next : List NumberedLiteral) (l : NumberedLiteral) (entries : List Weighted) → next ≡ list ++ (l ∷ []) → has list l ≡ false → ((s : ℕ) (d : Shape) → s < length forms → weight_in s entries ≡ weight_on (negation l) (get_or forms s d).terms) → IsCounted forms opens list [] → IsCounted forms opens next entries
 Counted-put forms opens list next l entries e absent linked r = rw e (record {
   each = λ s d inside.
       let before = r.each s d inside in
@@ -124,13 +123,13 @@ Tidy-put aside forms opens cands list longer work trail next busy l e r = rw e (
 })
 
 -- an entry is taken from its form's open sum
-pub Counted-fits : (forms : List Shape) (opens : List ℕ) (list : List NumberedLiteral) (e : Occurrence) (rest : List Occurrence) (d : Shape) → e.form < length forms → IsCounted forms opens list (e ∷ rest) → e.coefficient ≤ get_or opens e.form 0
+pub Counted-fits : (forms : List Shape) (opens : List ℕ) (list : List NumberedLiteral) (e : Weighted) (rest : List Weighted) (d : Shape) → e.form < length forms → IsCounted forms opens list (e ∷ rest) → e.coefficient ≤ get_or opens e.form 0
 Counted-fits forms opens list e rest d inside r =
     let total = r.each e.form d inside in
     let head = sum_by-cons (entry_weight e.form) e rest in
     omega (arith, total, head, entry_weight-same e.form e refl)
 
-pub Counted-lower : (forms : List Shape) (opens lower : List ℕ) (list : List NumberedLiteral) (e : Occurrence) (rest : List Occurrence) → lower ≡ set opens e.form (get_or opens e.form 0 - e.coefficient) → e.form < length opens → IsCounted forms opens list (e ∷ rest) → IsCounted forms lower list rest
+pub Counted-lower : (forms : List Shape) (opens lower : List ℕ) (list : List NumberedLiteral) (e : Weighted) (rest : List Weighted) → lower ≡ set opens e.form (get_or opens e.form 0 - e.coefficient) → e.form < length opens → IsCounted forms opens list (e ∷ rest) → IsCounted forms lower list rest
 Counted-lower forms opens lower list e rest is room r = rw is (record { each = λ s d inside. each_at s d inside (cases_eq s e.form) })
   where
     each_at : (s : ℕ) (d : Shape) → s < length forms → (s ≡ e.form) ⊎ (s ≡ e.form → ⊥) → get_or (set opens e.form (get_or opens e.form 0 - e.coefficient)) s 0 ≡ open_sum list (get_or forms s d).terms + weight_in s rest

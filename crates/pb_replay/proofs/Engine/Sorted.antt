@@ -77,3 +77,12 @@ bound-calm terms degree bound e falling some is opened c low = record {
 
 pub bound-none : (terms : List Term) (degree : ℕ) → length terms ≡ 0 → (opened c : ℕ) → degree ≤ opened → IsCalm (record { terms = terms; degree = degree }) opened c
 bound-none terms degree none opened c low = record { met = low; waiting = λ d here. absurd (omega (arith, none, here)) }
+
+-- where the first coefficient is the last, all are that one
+pub even-falling : (terms : List Term) (e d : Term) (i : ℕ) → AreFalling terms → (get_or terms 0 e).coefficient ≡ (get_or terms (length terms - 1) e).coefficient → i < length terms → (get_or terms i d).coefficient ≡ (get_or terms 0 d).coefficient
+even-falling terms e d i falling same inside =
+    let above = falling 0 i d (omega arith) inside in
+    let below = falling i (length terms - 1) d (omega (arith, inside)) (omega (arith, inside)) in
+    let first : (get_or terms 0 e).coefficient ≡ (get_or terms 0 d).coefficient = ap (λ (t : Term). t.coefficient) (get_or_default terms 0 e d (omega (arith, inside))) in
+    let last : (get_or terms (length terms - 1) e).coefficient ≡ (get_or terms (length terms - 1) d).coefficient = ap (λ (t : Term). t.coefficient) (get_or_default terms (length terms - 1) e d (omega (arith, inside))) in
+    omega (arith, above, below, first, last, same)

@@ -4,8 +4,7 @@ use Rattle.std.proofs.lemmas.Bool.{cases_lt, both_ways, or_left, or_right}
 use Rattle.std.proofs.lemmas.List.{get_or_past}
 use Rattle.std.proofs.lemmas.List.Sums.{sum_by-set, sum_by_push, sum_by-cons, sum-map}
 use Rattle.pb_replay.specs.declared.numbered.NumberedLiteral.{NumberedLiteral}
-use Rattle.pb_replay.specs.declared.propagate.term.Occurrence.{Occurrence}
-use Rattle.pb_replay.specs.Engine.Lists.{Shape, negation, same, has, Derives, begin, put}
+use Rattle.pb_replay.specs.Engine.Lists.{Shape, negation, same, has, Derives, begin, put, Weighted}
 use Rattle.pb_replay.specs.Engine.Counts.{place, spent, AreSingle, none, more}
 use Rattle.pb_replay.proofs.Engine.Literals.{literal_ext, negation-negation, same-refl}
 
@@ -72,7 +71,7 @@ single-sum _ (more {list} l d absent) xs =
     let cleared = sum-clear xs p in
     omega (arith, earlier, agree, pushed, cleared)
 
-pub spent-le : (lists : List (List Occurrence)) (list : List NumberedLiteral) → AreSingle list → spent lists list ≤ sum_by length lists
+pub spent-le : (lists : List (List Weighted)) (list : List NumberedLiteral) → AreSingle list → spent lists list ≤ sum_by length lists
 spent-le lists list single =
     let bound = single-sum list single (map length lists) in
     let agree : spent lists list ≡ sum_by (λ l. get_or (map length lists) (place (negation l)) 0) list =
@@ -83,7 +82,7 @@ spent-le lists list single =
     length-at : (p : ℕ) → get_or (map length lists) p 0 ≡ length (get_or lists p [])
     length-at p = mapped lists p
       where
-        mapped : (ys : List (List Occurrence)) (q : ℕ) → get_or (map length ys) q 0 ≡ length (get_or ys q [])
+        mapped : (ys : List (List Weighted)) (q : ℕ) → get_or (map length ys) q 0 ≡ length (get_or ys q [])
         mapped [] q = refl
         mapped (y ∷ ys) zero = refl
         mapped (y ∷ ys) (suc q) = mapped ys q

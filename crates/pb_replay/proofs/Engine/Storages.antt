@@ -8,9 +8,8 @@ use Rattle.std.proofs.lemmas.List.Sorted.{All-permutation, IsPermutation-sym}
 use Rattle.std.proofs.lemmas.Option.{slice_get-get_or, slice_get_within}
 use Rattle.pb_normal.specs.declared.entry.Entry.{Entry as Given}
 use Rattle.pb_replay.specs.declared.propagate.term.Term.{Term}
-use Rattle.pb_replay.specs.declared.propagate.term.Occurrence.{Occurrence}
 use Rattle.pb_replay.specs.Engine.Forms.{entry_of}
-use Rattle.pb_replay.specs.Engine.Lists.{Shape, AreInside}
+use Rattle.pb_replay.specs.Engine.Lists.{Shape, AreInside, Weighted}
 use Rattle.pb_replay.specs.Engine.Counts.{place, entry_weight, weight_in, weight_on, NameForms}
 use Rattle.pb_replay.specs.Engine.Links.{terms_at, degree_at, term_cross, entry_at, term_at, AreCrossed, IsLinked, cut}
 use Rattle.pb_replay.proofs.Engine.Gets.{last-is}
@@ -29,14 +28,14 @@ crossed-same : (f f' g : Grid) → ((s i : ℕ) → f' s i ≡ f s i) → AreCro
 crossed-same f f' g e old s i p q w =
     (λ h. (old s i p q w).0 (sym (e s i) ∙ h), λ h. e s i ∙ (old s i p q w).1 h)
 
-weight-none : (s : ℕ) (es : List Occurrence) → All (λ e. e.form < s) es → weight_in s es ≡ 0
+weight-none : (s : ℕ) (es : List Weighted) → All (λ e. e.form < s) es → weight_in s es ≡ 0
 weight-none s [] all = refl
 weight-none s (e ∷ es) all =
     let here : e.form < s = all 0 e (omega arith) in
     let rest = weight-none s es (λ k d h. all (suc k) d (omega (arith, h))) in
     omega (arith, rest, sum_by-cons (entry_weight s) e es, entry_weight-other s e (λ h. absurd (omega (arith, h, here))))
 
-pub linked-named : (forms : List Shape) (spots : List (List ℕ)) (lists : List (List Occurrence)) → IsLinked forms spots lists → NameForms (length forms) lists
+pub linked-named : (forms : List Shape) (spots : List (List ℕ)) (lists : List (List Weighted)) → IsLinked forms spots lists → NameForms (length forms) lists
 linked-named forms spots lists old p k d h =
     let e = get_or (get_or lists p []) k d in
     let named = named-term forms spots lists p k e (slice_get-get_or (get_or lists p []) k d h) old in
@@ -86,7 +85,7 @@ end-total forms x =
     let last_terms : terms_at base (length forms) ≡ x.terms = ap (λ (f : Shape). f.terms) (at-end forms x (record { terms = []; degree = 0 })) in
     omega (arith, cut_sum, ap length last_terms, sum_by_push (λ (f : Shape). length f.terms) forms x)
 
-pub link-start : (forms : List Shape) (others : List (List ℕ)) (lists : List (List Occurrence)) (x : Shape) → IsLinked forms others lists → IsLinked (cut (forms ++ (x ∷ [])) (length forms) 0) (others ++ ([] ∷ [])) lists
+pub link-start : (forms : List Shape) (others : List (List ℕ)) (lists : List (List Weighted)) (x : Shape) → IsLinked forms others lists → IsLinked (cut (forms ++ (x ∷ [])) (length forms) 0) (others ++ ([] ∷ [])) lists
 link-start forms others lists x old =
     let base = forms ++ (x ∷ []) in
     let long : length base ≡ length forms + 1 = length-append forms (x ∷ []) in
@@ -104,7 +103,7 @@ link-start forms others lists x old =
       sizes = omega (arith, other_long, old.sizes, long, cut-length base (length forms) 0);
     }
 
-pub link-end : (forms : List Shape) (others : List (List ℕ)) (lists : List (List Occurrence)) (x : Shape) (y : List ℕ) → length others ≡ length forms → IsLinked (cut (forms ++ (x ∷ [])) (length forms) 0) (others ++ (y ∷ [])) lists → IsLinked forms others lists
+pub link-end : (forms : List Shape) (others : List (List ℕ)) (lists : List (List Weighted)) (x : Shape) (y : List ℕ) → length others ≡ length forms → IsLinked (cut (forms ++ (x ∷ [])) (length forms) 0) (others ++ (y ∷ [])) lists → IsLinked forms others lists
 link-end forms others lists x y sizes old =
     let base = forms ++ (x ∷ []) in
     let long : length base ≡ length forms + 1 = length-append forms (x ∷ []) in
@@ -126,7 +125,7 @@ vacant-terms base s x inside e k d = elim (cases_eq k s) [
   | inr other ↦ ap (λ (f : Shape). f.terms) (get_or-set_other base s k x d other ∙ sym (cut-other base s 0 k other d))
 ]
 
-pub link-vacant : (base : List Shape) (spots : List (List ℕ)) (lists : List (List Occurrence)) (s : ℕ) (x : Shape) → s < length base → x.terms ≡ [] → IsLinked (cut base s 0) spots lists → IsLinked (set base s x) (set spots s []) lists
+pub link-vacant : (base : List Shape) (spots : List (List ℕ)) (lists : List (List Weighted)) (s : ℕ) (x : Shape) → s < length base → x.terms ≡ [] → IsLinked (cut base s 0) spots lists → IsLinked (set base s x) (set spots s []) lists
 link-vacant base spots lists s x inside e old = record {
   linked = λ k d l less. old.linked k d l (omega (arith, less, length-set base s x, cut-length base s 0)) ∙ sym (ap (weight_on l) (vacant-terms base s x inside e k d));
   totals = omega (arith, old.totals, cut-total base s 0 inside (omega arith), sum_by-set (λ (f : Shape). length f.terms) base s x (record { terms = []; degree = 0 }) inside, ap length e);

@@ -6,10 +6,9 @@ use Rattle.std.proofs.lemmas.List.{length-take-le, get_or_past}
 use Rattle.std.proofs.lemmas.List.Sums.{sum_by-set, sum_by-swap_remove}
 use Rattle.std.proofs.lemmas.Option.{slice_get_within, get_or_from_slice_get, slice_get_past}
 use Rattle.pb_replay.specs.declared.propagate.term.Term.{Term}
-use Rattle.pb_replay.specs.declared.propagate.term.Occurrence.{Occurrence}
-use Rattle.pb_replay.specs.Engine.Lists.{Shape}
+use Rattle.pb_replay.specs.Engine.Lists.{Shape, Weighted}
 use Rattle.pb_replay.specs.Engine.Counts.{place, entry_weight, weight_in}
-use Rattle.pb_replay.specs.Engine.Links.{terms_at, entry_cross, term_cross, entry_at, term_at, AreCrossed, Moved, none, last, IsLinked, cut}
+use Rattle.pb_replay.specs.Engine.Links.{terms_at, entry_cross, term_cross, entry_at, term_at, AreCrossed, IsLinked, cut}
 use Rattle.pb_replay.proofs.Engine.Gets.{get-take_less, get-take_past, get-set_same, get-set_other}
 use Rattle.pb_replay.proofs.Engine.Links.{Gains, linked-less, totals-back, term-here, term-none, term-other, terms-step, entry-is, cut-length}
 use Rattle.pb_replay.proofs.Engine.Crosses.{to, to-parts, to-none, Same, crossed-drop, crossed-move}
@@ -41,14 +40,14 @@ swap-length es q d inside =
     omega (arith, rest, inside)
 
 -- what stands behind a name
-pub record EntryNamed (o : Option Occurrence) (s i w : ℕ) : Type 0 where
-  pub entry : Occurrence
+pub record EntryNamed (o : Option Weighted) (s i w : ℕ) : Type 0 where
+  pub entry : Weighted
   pub is : o ≡ Some entry
   pub form : entry.form ≡ s
   pub index : entry.index ≡ i
   pub coefficient : entry.coefficient ≡ w
 
-pub entry-back : (o : Option Occurrence) (s i w : ℕ) → entry_cross o ≡ to s i w → EntryNamed o s i w
+pub entry-back : (o : Option Weighted) (s i w : ℕ) → entry_cross o ≡ to s i w → EntryNamed o s i w
 entry-back None s i w h = absurd (to-none s i w (sym h))
 entry-back (Some e) s i w h =
     let parts = to-parts e.form e.index e.coefficient s i w h in
@@ -69,17 +68,17 @@ term-back (Some t) (Some k) p q w h =
     record { term = t; is = refl; spot = ap (λ x. Some x) parts.1; row = parts.0; weight = parts.2 }
 
 -- the entry that a term names
-pub named-entry : (base : List Shape) (spots : List (List ℕ)) (lists : List (List Occurrence)) (s0 i q : ℕ) (t : Term) → s0 < length base → i < length (terms_at base s0) → t ≡ get_or (terms_at base s0) i t → slice_get (get_or spots s0 []) i ≡ Some q → IsLinked (cut base s0 (i + 1)) spots lists →
+pub named-entry : (base : List Shape) (spots : List (List ℕ)) (lists : List (List Weighted)) (s0 i q : ℕ) (t : Term) → s0 < length base → i < length (terms_at base s0) → t ≡ get_or (terms_at base s0) i t → slice_get (get_or spots s0 []) i ≡ Some q → IsLinked (cut base s0 (i + 1)) spots lists →
     EntryNamed (slice_get (get_or lists (place t.literal) []) q) s0 i t.coefficient
 named-entry base spots lists s0 i q t inside within is spot old =
     entry-back (slice_get (get_or lists (place t.literal) []) q) s0 i t.coefficient ((old.crossed s0 i (place t.literal) q t.coefficient).0 (term-here base spots s0 i q t inside within is spot))
 
 -- the term that an entry names
-pub named-term : (forms : List Shape) (spots : List (List ℕ)) (lists : List (List Occurrence)) (p q : ℕ) (e : Occurrence) → slice_get (get_or lists p []) q ≡ Some e → IsLinked forms spots lists → TermNamed (slice_get (terms_at forms e.form) e.index) (slice_get (get_or spots e.form []) e.index) p q e.coefficient
+pub named-term : (forms : List Shape) (spots : List (List ℕ)) (lists : List (List Weighted)) (p q : ℕ) (e : Weighted) → slice_get (get_or lists p []) q ≡ Some e → IsLinked forms spots lists → TermNamed (slice_get (terms_at forms e.form) e.index) (slice_get (get_or spots e.form []) e.index) p q e.coefficient
 named-term forms spots lists p q e is old =
     term-back (slice_get (terms_at forms e.form) e.index) (slice_get (get_or spots e.form []) e.index) p q e.coefficient ((old.crossed e.form e.index p q e.coefficient).1 (entry-is lists p q e is))
 
-pub named-spot : (forms : List Shape) (spots : List (List ℕ)) (lists : List (List Occurrence)) (p q : ℕ) (e : Occurrence) → slice_get (get_or lists p []) q ≡ Some e → IsLinked forms spots lists → (e.form < length spots) × (e.index < length (get_or spots e.form []))
+pub named-spot : (forms : List Shape) (spots : List (List ℕ)) (lists : List (List Weighted)) (p q : ℕ) (e : Weighted) → slice_get (get_or lists p []) q ≡ Some e → IsLinked forms spots lists → (e.form < length spots) × (e.index < length (get_or spots e.form []))
 named-spot forms spots lists p q e is old =
     let named = named-term forms spots lists p q e is old in
     let inner = slice_get_within (get_or spots e.form []) e.index q named.spot in
@@ -91,8 +90,13 @@ named-spot forms spots lists p q e is old =
       | inr past ↦ absurd (omega (arith, h, ap length (get_or_past ss s [] past)))
     ]
 
+-- what taking an entry out of a list does to the places that terms name
+pub data Shifted (es : List Weighted) (q : ℕ) (spots : List (List ℕ)) : List (List ℕ) → Type 0 where
+  stays : q + 1 ≡ length es → Shifted es q spots spots
+  goes : (e : Weighted) → q + 1 < length es → slice_get es (length es - 1) ≡ Some e → Shifted es q spots (set spots e.form (set (get_or spots e.form []) e.index q))
+
 -- the facts of one removal, over the list's own name
-record Leaving (base : List Shape) (spots : List (List ℕ)) (lists lists' : List (List Occurrence)) (s0 i q p : ℕ) (es : List Occurrence) (t : Term) (e : Occurrence) : Type 0 where
+record Leaving (base : List Shape) (spots : List (List ℕ)) (lists lists' : List (List Weighted)) (s0 i q p : ℕ) (es : List Weighted) (t : Term) (e : Weighted) : Type 0 where
   inside : s0 < length base
   within : i < length (terms_at base s0)
   is : t ≡ get_or (terms_at base s0) i t
@@ -109,21 +113,21 @@ record Leaving (base : List Shape) (spots : List (List ℕ)) (lists lists' : Lis
   fewer : sum_by length lists ≡ sum_by length lists' + 1
   old : IsLinked (cut base s0 (i + 1)) spots lists
 
-leaving-here : (base : List Shape) (spots : List (List ℕ)) (lists lists' : List (List Occurrence)) (s0 i q p : ℕ) (es : List Occurrence) (t : Term) (e : Occurrence) → Leaving base spots lists lists' s0 i q p es t e → term_at (cut base s0 (i + 1)) spots s0 i ≡ to p q t.coefficient
+leaving-here : (base : List Shape) (spots : List (List ℕ)) (lists lists' : List (List Weighted)) (s0 i q p : ℕ) (es : List Weighted) (t : Term) (e : Weighted) → Leaving base spots lists lists' s0 i q p es t e → term_at (cut base s0 (i + 1)) spots s0 i ≡ to p q t.coefficient
 leaving-here base spots lists lists' s0 i q p es t e l = rw l.at_place (term-here base spots s0 i q t l.inside l.within l.is l.spot)
 
-leaving-entry : (base : List Shape) (spots : List (List ℕ)) (lists lists' : List (List Occurrence)) (s0 i q p : ℕ) (es : List Occurrence) (t : Term) (e : Occurrence) → Leaving base spots lists lists' s0 i q p es t e → (r k : ℕ) → (Same r k p q → ⊥) → (Same r k p (length es - 1) → ⊥) → entry_at lists' r k ≡ entry_at lists r k
+leaving-entry : (base : List Shape) (spots : List (List ℕ)) (lists lists' : List (List Weighted)) (s0 i q p : ℕ) (es : List Weighted) (t : Term) (e : Weighted) → Leaving base spots lists lists' s0 i q p es t e → (r k : ℕ) → (Same r k p q → ⊥) → (Same r k p (length es - 1) → ⊥) → entry_at lists' r k ≡ entry_at lists r k
 leaving-entry base spots lists lists' s0 i q p es t e l r k n m =
     elim (cases_eq r p) [
-      | inr other ↦ ap (λ (xs : List Occurrence). entry_cross (slice_get xs k)) (l.others r other)
-      | inl here ↦ rw here (ap (λ (xs : List Occurrence). entry_cross (slice_get xs k)) l.now ∙ ap entry_cross (swap-other es q k e (λ h. n (here, h)) (λ h. m (here, h))) ∙ ap (λ (xs : List Occurrence). entry_cross (slice_get xs k)) l.those)
+      | inr other ↦ ap (λ (xs : List Weighted). entry_cross (slice_get xs k)) (l.others r other)
+      | inl here ↦ rw here (ap (λ (xs : List Weighted). entry_cross (slice_get xs k)) l.now ∙ ap entry_cross (swap-other es q k e (λ h. n (here, h)) (λ h. m (here, h))) ∙ ap (λ (xs : List Weighted). entry_cross (slice_get xs k)) l.those)
     ]
 
-leaving-none : (base : List Shape) (spots : List (List ℕ)) (lists lists' : List (List Occurrence)) (s0 i q p : ℕ) (es : List Occurrence) (t : Term) (e : Occurrence) → Leaving base spots lists lists' s0 i q p es t e → (k : ℕ) → k ≡ length es - 1 → entry_at lists' p k ≡ None
-leaving-none base spots lists lists' s0 i q p es t e l k h = rw h (ap (λ (xs : List Occurrence). entry_cross (slice_get xs (length es - 1))) l.now ∙ ap entry_cross (swap-last es q e))
+leaving-none : (base : List Shape) (spots : List (List ℕ)) (lists lists' : List (List Weighted)) (s0 i q p : ℕ) (es : List Weighted) (t : Term) (e : Weighted) → Leaving base spots lists lists' s0 i q p es t e → (k : ℕ) → k ≡ length es - 1 → entry_at lists' p k ≡ None
+leaving-none base spots lists lists' s0 i q p es t e l k h = rw h (ap (λ (xs : List Weighted). entry_cross (slice_get xs (length es - 1))) l.now ∙ ap entry_cross (swap-last es q e))
 
-leaving-crossed : (base : List Shape) (spots spots' : List (List ℕ)) (lists lists' : List (List Occurrence)) (s0 i q p : ℕ) (es : List Occurrence) (t : Term) (e : Occurrence) → Moved es q spots spots' → Leaving base spots lists lists' s0 i q p es t e → AreCrossed (term_at (cut base s0 i) spots') (entry_at lists')
-leaving-crossed base spots _ lists lists' s0 i q p es t e (none end) l =
+leaving-crossed : (base : List Shape) (spots spots' : List (List ℕ)) (lists lists' : List (List Weighted)) (s0 i q p : ℕ) (es : List Weighted) (t : Term) (e : Weighted) → Shifted es q spots spots' → Leaving base spots lists lists' s0 i q p es t e → AreCrossed (term_at (cut base s0 i) spots') (entry_at lists')
+leaving-crossed base spots _ lists lists' s0 i q p es t e (stays end) l =
     crossed-drop (term_at (cut base s0 (i + 1)) spots) (term_at (cut base s0 i) spots) (entry_at lists) (entry_at lists') s0 i p q t.coefficient
     (leaving-here base spots lists lists' s0 i q p es t e l)
     (term-none base spots s0 i l.inside)
@@ -134,7 +138,7 @@ leaving-crossed base spots _ lists lists' s0 i q p es t e (none end) l =
   where
     ends : (a b c : ℕ) → a ≡ b - 1 → c + 1 ≡ b → a ≡ c
     ends a b c h k = omega (arith, h, k)
-leaving-crossed base spots _ lists lists' s0 i q p es t e (last m more at) l =
+leaving-crossed base spots _ lists lists' s0 i q p es t e (goes m more at) l =
     crossed-move (term_at (cut base s0 (i + 1)) spots) (term_at (cut base s0 i) spots') (entry_at lists) (entry_at lists') s0 i t.coefficient m.form m.index m.coefficient p q (length es - 1)
     (λ h. absurd (omega (arith, h, more)))
     (leaving-here base spots lists lists' s0 i q p es t e l)
@@ -143,7 +147,7 @@ leaving-crossed base spots _ lists lists' s0 i q p es t e (last m more at) l =
     (term_new)
     (λ s j n k. sym (term-other base spots' spots s0 i s j l.inside n (sym (spot_other s j k))))
     (leaving-none base spots lists lists' s0 i q p es t e l (length es - 1) refl)
-    (ap (λ (xs : List Occurrence). entry_cross (slice_get xs q)) l.now ∙ ap entry_cross (swap-here es q e m more at))
+    (ap (λ (xs : List Weighted). entry_cross (slice_get xs q)) l.now ∙ ap entry_cross (swap-here es q e m more at))
     (λ r k n a. leaving-entry base spots lists lists' s0 i q p es t e l r k n a)
     l.old.crossed
   where
@@ -151,7 +155,7 @@ leaving-crossed base spots _ lists lists' s0 i q p es t e (last m more at) l =
     spots' = set spots m.form (set (get_or spots m.form []) m.index q)
 
     at_lists : slice_get (get_or lists p []) (length es - 1) ≡ Some m
-    at_lists = ap (λ (xs : List Occurrence). slice_get xs (length es - 1)) (sym l.those) ∙ at
+    at_lists = ap (λ (xs : List Weighted). slice_get xs (length es - 1)) (sym l.those) ∙ at
 
     was : entry_at lists p (length es - 1) ≡ to m.form m.index m.coefficient
     was = entry-is lists p (length es - 1) m at_lists
@@ -184,12 +188,12 @@ leaving-crossed base spots _ lists lists' s0 i q p es t e (last m more at) l =
         let still : slice_get (terms_at (cut base s0 i) m.form) m.index ≡ Some named.term = sym (terms-step base s0 i m.form m.index l.inside apart) ∙ named.is in
         ap (λ o. term_cross o (slice_get (get_or spots' m.form []) m.index)) still ∙ ap (term_cross (Some named.term)) spot_here ∙ rw (named.row, named.weight) refl
 
-leaving-sizes : (es : List Occurrence) (q : ℕ) (spots spots' : List (List ℕ)) → Moved es q spots spots' → length spots' ≡ length spots
-leaving-sizes es q spots _ (none end) = refl
-leaving-sizes es q spots _ (last m more at) = length-set spots m.form (set (get_or spots m.form []) m.index q)
+leaving-sizes : (es : List Weighted) (q : ℕ) (spots spots' : List (List ℕ)) → Shifted es q spots spots' → length spots' ≡ length spots
+leaving-sizes es q spots _ (stays end) = refl
+leaving-sizes es q spots _ (goes m more at) = length-set spots m.form (set (get_or spots m.form []) m.index q)
 
-pub unlink-next : (base : List Shape) (spots spots' : List (List ℕ)) (lists lists' : List (List Occurrence)) (s0 i q : ℕ) (t : Term) (e : Occurrence) → s0 < length base → i < length (terms_at base s0) → t ≡ get_or (terms_at base s0) i t → slice_get (get_or spots s0 []) i ≡ Some q → place t.literal < length lists →
-    e ≡ get_or (get_or lists (place t.literal) []) q e → lists' ≡ set lists (place t.literal) (swap_remove (get_or lists (place t.literal) []) q e) → Moved (get_or lists (place t.literal) []) q spots spots' →
+pub unlink-next : (base : List Shape) (spots spots' : List (List ℕ)) (lists lists' : List (List Weighted)) (s0 i q : ℕ) (t : Term) (e : Weighted) → s0 < length base → i < length (terms_at base s0) → t ≡ get_or (terms_at base s0) i t → slice_get (get_or spots s0 []) i ≡ Some q → place t.literal < length lists →
+    e ≡ get_or (get_or lists (place t.literal) []) q e → lists' ≡ set lists (place t.literal) (swap_remove (get_or lists (place t.literal) []) q e) → Shifted (get_or lists (place t.literal) []) q spots spots' →
     IsLinked (cut base s0 (i + 1)) spots lists → IsLinked (cut base s0 i) spots' lists'
 unlink-next base spots spots' lists lists' s0 i q t e inside within is spot room item shorter moved old =
     let p = place t.literal in
@@ -201,9 +205,9 @@ unlink-next base spots spots' lists lists' s0 i q t e inside within is spot room
     let form : e.form ≡ s0 = rw same_entry named.form in
     let index : e.index ≡ i = rw same_entry named.index in
     let coefficient : e.coefficient ≡ t.coefficient = rw same_entry named.coefficient in
-    let now : get_or lists' p [] ≡ swap_remove es q e = ap (λ (ls : List (List Occurrence)). get_or ls p []) shorter ∙ get_or-set_same lists p (swap_remove es q e) [] room in
+    let now : get_or lists' p [] ≡ swap_remove es q e = ap (λ (ls : List (List Weighted)). get_or ls p []) shorter ∙ get_or-set_same lists p (swap_remove es q e) [] room in
     let fewer : sum_by length lists ≡ sum_by length lists' + 1 = omega (arith, sum_by-set length lists p (swap_remove es q e) [] room, ap (sum_by length) shorter, swap-length es q e inside_es) in
-    let others : (k : ℕ) → (k ≡ p → ⊥) → get_or lists' k [] ≡ get_or lists k [] = λ k n. ap (λ (ls : List (List Occurrence)). get_or ls k []) shorter ∙ get_or-set_other lists p k (swap_remove es q e) [] n in
+    let others : (k : ℕ) → (k ≡ p → ⊥) → get_or lists' k [] ≡ get_or lists k [] = λ k n. ap (λ (ls : List (List Weighted)). get_or ls k []) shorter ∙ get_or-set_other lists p k (swap_remove es q e) [] n in
     let l : Leaving base spots lists lists' s0 i q p es t e = record {
       inside = inside;
       within = within;
@@ -233,5 +237,5 @@ unlink-next base spots spots' lists lists' s0 i q t e inside within is spot room
       sizes = leaving-sizes es q spots spots' moved ∙ old.sizes ∙ cut-length base s0 (i + 1) ∙ sym (cut-length base s0 i);
     }
   where
-    weight_back : (s w : ℕ) (xs : List Occurrence) → xs ≡ swap_remove (get_or lists (place t.literal) []) q e → weight_in s (swap_remove (get_or lists (place t.literal) []) q e) + entry_weight s (get_or (get_or lists (place t.literal) []) q e) ≡ w → entry_weight s (get_or (get_or lists (place t.literal) []) q e) ≡ entry_weight s e → w ≡ weight_in s xs + entry_weight s e
+    weight_back : (s w : ℕ) (xs : List Weighted) → xs ≡ swap_remove (get_or lists (place t.literal) []) q e → weight_in s (swap_remove (get_or lists (place t.literal) []) q e) + entry_weight s (get_or (get_or lists (place t.literal) []) q e) ≡ w → entry_weight s (get_or (get_or lists (place t.literal) []) q e) ≡ entry_weight s e → w ≡ weight_in s xs + entry_weight s e
     weight_back s w xs a b c = omega (arith, ap (weight_in s) a, b, c)

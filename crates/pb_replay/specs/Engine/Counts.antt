@@ -1,18 +1,17 @@
 use Rattle.std.specs.Prelude.{◌≡◌, ℕ, ◌+◌, ◌-◌, ◌*◌, ◌^◌, ◌<◌, ◌≤◌, ◌==◌, ◌||◌, ◌++◌, ◌∷◌, [], true, false, if◌then◌else◌, List, length, sum, sum_by, All, slice_index_or, slice_index}
 use Rattle.pb_replay.specs.declared.numbered.NumberedLiteral.{NumberedLiteral}
 use Rattle.pb_replay.specs.declared.propagate.term.Term.{Term}
-use Rattle.pb_replay.specs.declared.propagate.term.Occurrence.{Occurrence}
-use Rattle.pb_replay.specs.Engine.Lists.{Shape, negation, same, has, open_sum, size}
+use Rattle.pb_replay.specs.Engine.Lists.{Shape, Weighted, negation, same, has, open_sum, size}
 
 -- the place of a literal's list among the occurrence lists
 abbrev pub place : NumberedLiteral → ℕ
 place l = 2 * l.variable + (if l.negated then 1 else 0)
 
 -- what an entry takes from a form's open sum
-unfoldable pub entry_weight : ℕ → Occurrence → ℕ
+unfoldable pub entry_weight : ℕ → Weighted → ℕ
 entry_weight form e = if e.form == form then e.coefficient else 0
 
-abbrev pub weight_in : ℕ → List Occurrence → ℕ
+abbrev pub weight_in : ℕ → List Weighted → ℕ
 weight_in form entries = sum_by (entry_weight form) entries
 
 -- the coefficients on a literal
@@ -23,11 +22,11 @@ abbrev pub weight_on : NumberedLiteral → List Term → ℕ
 weight_on l terms = sum_by (term_weight l) terms
 
 -- each literal's list has what the forms have on it
-abbrev pub AreLinked : List Shape → List (List Occurrence) → Type 0
+abbrev pub AreLinked : List Shape → List (List Weighted) → Type 0
 AreLinked forms lists = (s : ℕ) (d : Shape) (l : NumberedLiteral) → s < length forms → weight_in s (slice_index_or lists (place l) []) ≡ weight_on l (slice_index_or forms s d).terms
 
 -- each entry names a form
-abbrev pub NameForms : ℕ → List (List Occurrence) → Type 0
+abbrev pub NameForms : ℕ → List (List Weighted) → Type 0
 NameForms count lists = (p : ℕ) → All (λ e. e.form < count) (slice_index_or lists p [])
 
 -- the coefficients fall
@@ -52,7 +51,7 @@ abbrev pub IsAbsent : List ℕ → ℕ → ℕ → Type 0
 IsAbsent work from s = (i : ℕ) → from ≤ i → i < length work → slice_index work i ≡ s → ⊥
 
 -- the open sums are those of the list, but for the entries that have not been taken from them yet
-pub record IsCounted (forms : List Shape) (opens : List ℕ) (list : List NumberedLiteral) (rest : List Occurrence) : Type 0 where
+pub record IsCounted (forms : List Shape) (opens : List ℕ) (list : List NumberedLiteral) (rest : List Weighted) : Type 0 where
   pub each : (s : ℕ) (d : Shape) → s < length forms → slice_index opens s ≡ open_sum list (slice_index_or forms s d).terms + weight_in s rest
 
 -- a number is put behind a list, which stays as it is only where it need not be
@@ -72,16 +71,16 @@ pub record IsTidy (aside : List ℕ) (forms : List Shape) (opens candidates : Li
   pub traced : (s : ℕ) → IsAbsent trail 0 s → IsAbsent work 0 s
 
 -- the entries of the list's literals
-abbrev pub spent : List (List Occurrence) → List NumberedLiteral → ℕ
+abbrev pub spent : List (List Weighted) → List NumberedLiteral → ℕ
 spent lists list = sum_by (λ l. length (slice_index_or lists (place (negation l)) [])) list
 
 -- each look is paid by an entry that was taken, a term that was passed, or is one of `looks`
-abbrev pub AreCovered : List (List Occurrence) → List NumberedLiteral → List NumberedLiteral → List ℕ → List ℕ → ℕ → ℕ → ℕ → Type 0
+abbrev pub AreCovered : List (List Weighted) → List NumberedLiteral → List NumberedLiteral → List ℕ → List ℕ → ℕ → ℕ → ℕ → Type 0
 AreCovered lists list0 list1 cands0 cands1 visits0 visits1 looks =
     visits1 + sum cands0 + spent lists list0 ≤ visits0 + looks + sum cands1 + spent lists list1
 
 -- what a part of a propagation costs: its looks, and each entry that was taken put at most one form on the work list
-pub record IsPaid (lists : List (List Occurrence)) (list0 list1 : List NumberedLiteral) (cands0 cands1 work0 work1 : List ℕ) (visits0 visits1 looks : ℕ) : Type 0 where
+pub record IsPaid (lists : List (List Weighted)) (list0 list1 : List NumberedLiteral) (cands0 cands1 work0 work1 : List ℕ) (visits0 visits1 looks : ℕ) : Type 0 where
   pub upper : AreCovered lists list0 list1 cands0 cands1 visits0 visits1 looks
   pub work : length work1 + spent lists list0 ≤ length work0 + spent lists list1
   pub rising : visits0 ≤ visits1

@@ -4,10 +4,10 @@ use Rattle.std.specs.Global.{Global}
 use Rattle.pb_replay.specs.declared.propagate.term.Occurrence.{Occurrence}
 use Rattle.pb_replay.specs.declared.propagate.kept.Kept.{Kept}
 use Rattle.pb_replay.specs.declared.propagate.store.Store.{Store}
-use Rattle.pb_replay.specs.Engine.Lists.{Shape}
+use Rattle.pb_replay.specs.Engine.Lists.{Shape, Weighted}
 use Rattle.pb_normal.specs.Form.{Form}
 use Rattle.pb_replay.specs.Engine.Forms.{IsKeptAs}
-use Rattle.pb_replay.specs.Engine.Links.{IsStored}
+use Rattle.pb_replay.specs.Engine.Links.{IsStored, weighted}
 
 abbrev pub kept_shape : Kept → Shape
 kept_shape k = record { terms = k.terms.items; degree = k.degree }
@@ -15,15 +15,19 @@ kept_shape k = record { terms = k.terms.items; degree = k.degree }
 abbrev pub shapes_of : List Kept → List Shape
 shapes_of kept = map kept_shape kept
 
-abbrev pub entries_of : List (Vec Occurrence Global) → List (List Occurrence)
-entries_of lists = map (λ v. v.items) lists
+abbrev pub lists_of : List (Vec Occurrence Global) → List (List Occurrence)
+lists_of lists = map (λ v. v.items) lists
+
+-- the lists of entries, each with the coefficient of its term
+abbrev pub entries_of : List Shape → List (Vec Occurrence Global) → List (List Weighted)
+entries_of forms lists = map (λ v. map (weighted forms) v.items) lists
 
 abbrev pub spots_of : List (Vec ℕ Global) → List (List ℕ)
 spots_of spots = map (λ v. v.items) spots
 
 -- the store's parts belong together
 abbrev pub IsSound : Store → Type 0
-IsSound s = IsStored (shapes_of s.kept.items) (spots_of s.spots.items) (entries_of s.occurrences.items) s.variables
+IsSound s = IsStored (shapes_of s.kept.items) (spots_of s.spots.items) (entries_of (shapes_of s.kept.items) s.occurrences.items) s.variables
 
 -- a form stands behind the others, with its open sum and its candidate as at rest
 pub record HasEntered (f : Form) (keep keep' : List Kept) (opens opens' cands cands' : List ℕ) : Type 0 where

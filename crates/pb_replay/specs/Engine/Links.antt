@@ -1,8 +1,8 @@
 -- Forms, the lists of their literals' entries, and where each entry stands.
-use Rattle.std.specs.Prelude.{◌≡◌, ℕ, ◌+◌, ◌-◌, ◌*◌, ◌<◌, ◌↔◌, List, [], take, slice_set, length, sum_by, All, Option, Some, None, slice_get, slice_index_or}
+use Rattle.std.specs.Prelude.{◌≡◌, ℕ, false, ◌+◌, ◌-◌, ◌*◌, ◌<◌, ◌↔◌, List, [], take, slice_set, length, sum_by, All, Option, Some, None, slice_get, slice_index_or}
 use Rattle.pb_replay.specs.declared.propagate.term.Term.{Term}
 use Rattle.pb_replay.specs.declared.propagate.term.Occurrence.{Occurrence}
-use Rattle.pb_replay.specs.Engine.Lists.{Shape, AreInside}
+use Rattle.pb_replay.specs.Engine.Lists.{Shape, Weighted, AreInside}
 use Rattle.pb_replay.specs.Engine.Counts.{place, AreLinked, NameForms}
 
 -- where the other end of a term or an entry stands, with the coefficient
@@ -15,7 +15,15 @@ pub record Cross : Type 0 where
 abbrev pub terms_at : List Shape → ℕ → List Term
 terms_at forms s = (slice_index_or forms s record { terms = []; degree = 0 }).terms
 
-abbrev pub entry_cross : Option Occurrence → Option Cross
+-- the coefficient of a form's term
+abbrev pub coefficient_at : List Shape → ℕ → ℕ → ℕ
+coefficient_at forms s i = (slice_index_or (terms_at forms s) i record { literal = record { variable = 0; negated = false }; coefficient = 0 }).coefficient
+
+-- an entry with the coefficient of its term
+abbrev pub weighted : List Shape → Occurrence → Weighted
+weighted forms o = record { form = o.form; index = o.index; coefficient = coefficient_at forms o.form o.index }
+
+abbrev pub entry_cross : Option Weighted → Option Cross
 entry_cross None = None
 entry_cross (Some e) = Some record { row = e.form; column = e.index; weight = e.coefficient }
 
@@ -25,7 +33,7 @@ term_cross (Some t) None = None
 term_cross (Some t) (Some q) = Some record { row = place t.literal; column = q; weight = t.coefficient }
 
 -- the entry at a place of a list names a term
-abbrev pub entry_at : List (List Occurrence) → ℕ → ℕ → Option Cross
+abbrev pub entry_at : List (List Weighted) → ℕ → ℕ → Option Cross
 entry_at lists p q = entry_cross (slice_get (slice_index_or lists p []) q)
 
 -- the term at a place of a form names an entry
@@ -38,13 +46,13 @@ AreCrossed terms entries = (s i p q w : ℕ) →
     (terms s i ≡ Some record { row = p; column = q; weight = w }) ↔ (entries p q ≡ Some record { row = s; column = i; weight = w })
 
 -- the first forms' terms stand in the lists
-pub record IsLinked (forms : List Shape) (spots : List (List ℕ)) (lists : List (List Occurrence)) : Type 0 where
+pub record IsLinked (forms : List Shape) (spots : List (List ℕ)) (lists : List (List Weighted)) : Type 0 where
   pub linked : AreLinked forms lists
   pub totals : sum_by length lists ≡ sum_by (λ f. length f.terms) forms
   pub crossed : AreCrossed (term_at forms spots) (entry_at lists)
   pub sizes : length spots ≡ length forms
 
-pub record IsStored (forms : List Shape) (spots : List (List ℕ)) (lists : List (List Occurrence)) (variables : ℕ) : Type 0 where
+pub record IsStored (forms : List Shape) (spots : List (List ℕ)) (lists : List (List Weighted)) (variables : ℕ) : Type 0 where
   pub whole : IsLinked forms spots lists
   pub named : NameForms (length forms) lists
   pub places : length lists ≡ 2 * variables

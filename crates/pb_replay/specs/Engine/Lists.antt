@@ -21,6 +21,12 @@ pub record Shape : Type 0 where
   pub terms : List Term
   pub degree : ℕ
 
+-- an entry of a literal's list: a form in which the literal stands, the place of its term there, and the term's coefficient
+pub record Weighted : Type 0 where
+  pub form : ℕ
+  pub index : ℕ
+  pub coefficient : ℕ
+
 -- what a term adds to the open sum: nothing where its literal is falsified
 unfoldable pub open_part : List NumberedLiteral → Term → ℕ
 open_part list t = if has list (negation t.literal) then 0 else t.coefficient

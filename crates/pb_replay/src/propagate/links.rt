@@ -1,12 +1,13 @@
 //! Forms enter and leave.
 
 ghost use Rattle.std.specs.Prelude.{◌≡◌, ℕ, List, All, Some, ◌+◌, ◌-◌, ◌*◌, ◌<◌, ◌≤◌, ◌^◌, ◌++◌, ◌∷◌, [], false, true, length, map, take, sum_by, IfOk, OnOk, IsPermutation, slice_get, slice_index, slice_index_or, slice_set, swap_remove};
+ghost use Rattle.pb_replay.specs.declared.propagate.term.Term.{Term};
 ghost use Rattle.pb_replay.specs.declared.propagate.term.Occurrence.{Occurrence};
 ghost use Rattle.pb_replay.specs.declared.propagate.kept.Kept.{Kept};
 ghost use Rattle.pb_replay.specs.Engine.Lists.{Shape, AreInside};
 ghost use Rattle.pb_replay.specs.Engine.Counts.{AreFalling, IsCalm, place};
 ghost use Rattle.pb_replay.specs.Engine.Forms.{entry_of, IsKeptAs};
-ghost use Rattle.pb_replay.specs.Engine.Fields.{kept_shape, shapes_of, spots_of, entries_of, IsSound, HasEntered, HasFilled, IsEmpty};
+ghost use Rattle.pb_replay.specs.Engine.Fields.{kept_shape, shapes_of, spots_of, lists_of, entries_of, IsSound, HasEntered, HasFilled, IsEmpty};
 ghost use Rattle.pb_replay.specs.Engine.Links.{IsLinked, Moved, cut, terms_at};
 
 use crate::numbered::NumberedLiteral;
@@ -51,6 +52,7 @@ fn bound_of(terms: &[Term], degree: u128) -> u128
     requires size { sum_by (λ t. t.coefficient) terms.now < 2 ^ 127 }
     requires small { degree < 2 ^ 127 }
     requires falling { AreFalling terms.now }
+    ensures first { (d : Term) → 0 < length terms.now → result ≡ degree + (slice_index_or terms.now 0 d).coefficient }
     ensures calm { (opened c : ℕ) → result ≤ opened → IsCalm record { terms = terms.now; degree = degree } opened c }
     ensures some { 0 < result → 0 < degree + length terms.now }
 {
@@ -59,6 +61,19 @@ fn bound_of(terms: &[Term], degree: u128) -> u128
     }
     let first = terms[0];
     degree + first.coefficient
+}
+
+// Whether all coefficients are equal.
+fn is_even(terms: &[Term]) -> bool
+    requires { AreFalling terms.now }
+    ensures { result ≡ true → (i : ℕ) (d : Term) → i < length terms.now → (slice_index_or terms.now i d).coefficient ≡ (slice_index_or terms.now 0 d).coefficient }
+{
+    if terms.len() == 0 {
+        return true;
+    }
+    let largest = terms[0];
+    let least = terms[terms.len() - 1];
+    largest.coefficient == least.coefficient
 }
 
 // Whether an open sum is below a form's bound.
@@ -78,12 +93,14 @@ fn kept_of(alloc: Global, form: &Normal) -> Result<Kept, AllocError>
     let total = total_of(terms.as_slice());
     let bound = bound_of(terms.as_slice(), degree);
     let eager = is_below(total, bound);
+    let even = is_even(terms.as_slice());
     Ok(Kept {
         terms,
         degree,
         total,
         bound,
         eager,
+        even,
     })
 }
 
@@ -98,18 +115,14 @@ fn link(
     requires empty { spots.old.items ≡ [] }
     ensures sizes { length lists.new.items ≡ length lists.old.items }
     ensures count { OnOk result (length spots.new.items ≡ length terms.now) }
-    ensures linked { OnOk result ((base : List Shape) (all : List (List ℕ)) → form < length base → terms_at base form ≡ terms.now → form < length all → IsLinked (cut base form 0) (slice_set all form []) (entries_of lists.old.items) → IsLinked (cut base form (length terms.now)) (slice_set all form spots.new.items) (entries_of lists.new.items)) }
+    ensures linked { OnOk result ((base : List Shape) (all : List (List ℕ)) → form < length base → terms_at base form ≡ terms.now → form < length all → IsLinked (cut base form 0) (slice_set all form []) (entries_of base lists.old.items) → IsLinked (cut base form (length terms.now)) (slice_set all form spots.new.items) (entries_of base lists.new.items)) }
 {
     'terms: for i in 0..terms.len() {
         let term = terms[i];
         let place = place_of(term.literal);
         let spot = lists[place].len();
         spots.push(spot)?;
-        lists[place].push(Occurrence {
-            form,
-            index: i,
-            coefficient: term.coefficient,
-        })?;
+        lists[place].push(Occurrence { form, index: i })?;
     }
     Ok(())
 }
@@ -122,11 +135,11 @@ fn take_out(
     spot: usize,
 )
     requires place { place < length lists.old.items }
-    requires spot { spot < length (slice_index_or (entries_of lists.old.items) place []) }
-    requires named { (e : Occurrence) → slice_get (slice_index_or (entries_of lists.old.items) place []) (length (slice_index_or (entries_of lists.old.items) place []) - 1) ≡ Some e → (e.form < length spots.old.items) × (e.index < length (slice_index_or (spots_of spots.old.items) e.form [])) }
+    requires spot { spot < length (slice_index_or (lists_of lists.old.items) place []) }
+    requires named { (e : Occurrence) → slice_get (slice_index_or (lists_of lists.old.items) place []) (length (slice_index_or (lists_of lists.old.items) place []) - 1) ≡ Some e → (e.form < length spots.old.items) × (e.index < length (slice_index_or (spots_of spots.old.items) e.form [])) }
     ensures sizes { length spots.new.items ≡ length spots.old.items }
-    ensures lists { (e : Occurrence) × (e ≡ slice_index_or (slice_index_or (entries_of lists.old.items) place []) spot e) × (entries_of lists.new.items ≡ slice_set (entries_of lists.old.items) place (swap_remove (slice_index_or (entries_of lists.old.items) place []) spot e)) }
-    ensures spots { Moved (slice_index_or (entries_of lists.old.items) place []) spot (spots_of spots.old.items) (spots_of spots.new.items) }
+    ensures lists { (e : Occurrence) × (e ≡ slice_index_or (slice_index_or (lists_of lists.old.items) place []) spot e) × (lists_of lists.new.items ≡ slice_set (lists_of lists.old.items) place (swap_remove (slice_index_or (lists_of lists.old.items) place []) spot e)) }
+    ensures spots { Moved (slice_index_or (lists_of lists.old.items) place []) spot (spots_of spots.old.items) (spots_of spots.new.items) }
 {
     lists[place].swap_remove(spot);
     if spot >= lists[place].len() {
@@ -144,7 +157,7 @@ fn unlink(store: &mut Store, form: usize)
     ensures variables { store.new.variables ≡ store.old.variables }
     ensures lists { length store.new.occurrences.items ≡ length store.old.occurrences.items }
     ensures rooms { (s : ℕ) → length (slice_index_or (spots_of store.new.spots.items) s []) ≡ length (slice_index_or (spots_of store.old.spots.items) s []) }
-    ensures linked { IsLinked (cut (shapes_of store.new.kept.items) form 0) (spots_of store.new.spots.items) (entries_of store.new.occurrences.items) }
+    ensures linked { IsLinked (cut (shapes_of store.new.kept.items) form 0) (spots_of store.new.spots.items) (entries_of (shapes_of store.new.kept.items) store.new.occurrences.items) }
 {
     let mut left = store.kept[form].terms.len();
     'terms: while left > 0 {
@@ -166,6 +179,7 @@ fn empty_kept(alloc: Global) -> Kept
         total: 0,
         bound: 0,
         eager: false,
+        even: true,
     }
 }
 

@@ -2,13 +2,16 @@
 
 ghost use Rattle.std.specs.Prelude.{◌≡◌, ℕ, ◌≤◌, ◌+◌, ◌-◌, ◌*◌, ◌^◌, ◌<◌, ◌++◌, ◌∷◌, [], true, false, List, All, filter, length, map, OnOk, IfOk, slice_index, slice_index_or, slice_set, sum, sum_by, Contains};
 ghost use Rattle.pb_replay.specs.declared.numbered.NumberedLiteral.{NumberedLiteral};
+ghost use Rattle.pb_replay.specs.declared.propagate.term.Term.{Term};
 ghost use Rattle.pb_replay.specs.Engine.Lists.{negation, has, size, Derives, Conflicts, Shape, IsSettled};
 ghost use Rattle.pb_replay.specs.Engine.Counts.{place, Grown, IsCalm, IsCounted, IsTidy, IsPaid, IsAbsent, Adopted, AreFound, AreSingle, IsUndone, AreCovered};
 ghost use Rattle.pb_replay.specs.Engine.Rest.{waits};
 ghost use Rattle.pb_replay.specs.Engine.Fields.{shapes_of, entries_of, IsSound};
+ghost use Rattle.pb_replay.specs.Engine.Links.{terms_at, coefficient_at};
 
 use crate::numbered::NumberedLiteral;
 use crate::propagate::assignment::Assignment;
+use crate::propagate::kept::Kept;
 use crate::propagate::store::{Store, visit};
 use crate::propagate::term::Occurrence;
 use std::alloc::AllocError;
@@ -48,13 +51,26 @@ fn queue(work: &mut Vec<usize>, form: usize, left: u128, bound: u128) -> Result<
     Ok(())
 }
 
+// The coefficient of a kept form's term. Where all are equal the bound tells it, and the terms need not be read.
+fn weight_of(kept: &Kept, index: usize) -> u128
+    requires { index < length kept.now.terms.items }
+    ensures { (d : Term) → result ≡ (slice_index_or kept.now.terms.items index d).coefficient }
+{
+    if kept.even {
+        return kept.bound - kept.degree;
+    }
+    kept.terms[index].coefficient
+}
+
 /// Takes an entry from its form's open sum, and puts the form on the work list where it then may put a literal or is falsified.
+/// Reading its coefficient belongs to the look at the entry.
 fn lower(store: &Store, run: &mut Run, entry: Occurrence) -> Result<(), AllocError>
     requires form { entry.form < length store.now.kept.items }
+    requires index { entry.index < length (terms_at (shapes_of store.now.kept.items) entry.form) }
     requires inside { entry.form < length run.old.opens.items }
-    requires fits { entry.coefficient ≤ slice_index run.old.opens.items entry.form }
-    ensures opens { OnOk result (run.new.opens.items ≡ slice_set run.old.opens.items entry.form (slice_index run.old.opens.items entry.form - entry.coefficient)) }
-    ensures work { OnOk result (Grown ((d : Shape) (c : ℕ) → IsCalm (slice_index_or (shapes_of store.now.kept.items) entry.form d) (slice_index run.old.opens.items entry.form - entry.coefficient) c) entry.form run.old.work.items run.new.work.items) }
+    requires fits { coefficient_at (shapes_of store.now.kept.items) entry.form entry.index ≤ slice_index run.old.opens.items entry.form }
+    ensures opens { OnOk result (run.new.opens.items ≡ slice_set run.old.opens.items entry.form (slice_index run.old.opens.items entry.form - coefficient_at (shapes_of store.now.kept.items) entry.form entry.index)) }
+    ensures work { OnOk result (Grown ((d : Shape) (c : ℕ) → IsCalm (slice_index_or (shapes_of store.now.kept.items) entry.form d) (slice_index run.old.opens.items entry.form - coefficient_at (shapes_of store.now.kept.items) entry.form entry.index) c) entry.form run.old.work.items run.new.work.items) }
     ensures trail { OnOk result (Grown ((d : Shape) → slice_index run.old.opens.items entry.form ≡ size (slice_index_or (shapes_of store.now.kept.items) entry.form d).terms → ⊥) entry.form run.old.trail.items run.new.trail.items) }
     ensures candidates { run.new.candidates ≡ run.old.candidates }
     ensures assignment { run.new.assignment ≡ run.old.assignment }
@@ -64,7 +80,7 @@ fn lower(store: &Store, run: &mut Run, entry: Occurrence) -> Result<(), AllocErr
     let kept = &store.kept[entry.form];
     let opened = run.opens[entry.form];
     note(&mut run.trail, entry.form, opened, kept.total)?;
-    let left = opened - entry.coefficient;
+    let left = opened - weight_of(kept, entry.index);
     queue(&mut run.work, entry.form, left, kept.bound)?;
     run.opens[entry.form] = left;
     Ok(())
@@ -96,12 +112,12 @@ pub fn put(store: &Store, run: &mut Run, literal: NumberedLiteral) -> Result<(),
     ensures opens { OnOk result (length run.new.opens.items ≡ length run.old.opens.items) }
     ensures next { OnOk result (run.new.next ≡ run.old.next) }
     ensures candidates { run.new.candidates ≡ run.old.candidates }
-    ensures covered { AreCovered (entries_of store.now.occurrences.items) run.old.assignment.list.items run.new.assignment.list.items run.old.candidates.items run.new.candidates.items run.old.visits run.new.visits 0 }
+    ensures covered { AreCovered (entries_of (shapes_of store.now.kept.items) store.now.occurrences.items) run.old.assignment.list.items run.new.assignment.list.items run.old.candidates.items run.new.candidates.items run.old.visits run.new.visits 0 }
     ensures single { AreSingle run.old.assignment.list.items → AreSingle run.new.assignment.list.items }
     ensures list { OnOk result (run.new.assignment.list.items ≡ run.old.assignment.list.items ++ literal ∷ []) }
     ensures counted { OnOk result (IsCounted (shapes_of store.now.kept.items) run.new.opens.items run.new.assignment.list.items []) }
     ensures tidy { OnOk result ((aside : List ℕ) (busy : ℕ) → IsTidy aside (shapes_of store.now.kept.items) run.old.opens.items run.old.candidates.items run.old.assignment.list.items run.old.work.items run.old.trail.items run.old.next busy → IsTidy aside (shapes_of store.now.kept.items) run.new.opens.items run.new.candidates.items run.new.assignment.list.items run.new.work.items run.new.trail.items run.new.next busy) }
-    ensures paid { OnOk result (IsPaid (entries_of store.now.occurrences.items) run.old.assignment.list.items run.new.assignment.list.items run.old.candidates.items run.new.candidates.items run.old.work.items run.new.work.items run.old.visits run.new.visits 0) }
+    ensures paid { OnOk result (IsPaid (entries_of (shapes_of store.now.kept.items) store.now.occurrences.items) run.old.assignment.list.items run.new.assignment.list.items run.old.candidates.items run.new.candidates.items run.old.work.items run.new.work.items run.old.visits run.new.visits 0) }
     ensures kept_work { OnOk result ((s : ℕ) → IsAbsent run.new.work.items 0 s → IsAbsent run.old.work.items 0 s) }
     ensures longer_work { OnOk result (length run.old.work.items ≤ length run.new.work.items) }
 {
@@ -126,12 +142,12 @@ pub fn try_put(store: &Store, run: &mut Run, literal: NumberedLiteral) -> Result
     ensures opens { OnOk result (length run.new.opens.items ≡ length run.old.opens.items) }
     ensures next { OnOk result (run.new.next ≡ run.old.next) }
     ensures candidates { run.new.candidates ≡ run.old.candidates }
-    ensures covered { AreCovered (entries_of store.now.occurrences.items) run.old.assignment.list.items run.new.assignment.list.items run.old.candidates.items run.new.candidates.items run.old.visits run.new.visits 0 }
+    ensures covered { AreCovered (entries_of (shapes_of store.now.kept.items) store.now.occurrences.items) run.old.assignment.list.items run.new.assignment.list.items run.old.candidates.items run.new.candidates.items run.old.visits run.new.visits 0 }
     ensures single { AreSingle run.old.assignment.list.items → AreSingle run.new.assignment.list.items }
     ensures adopted { OnOk result (Adopted literal run.old.assignment.list.items run.new.assignment.list.items) }
     ensures counted { OnOk result (IsCounted (shapes_of store.now.kept.items) run.new.opens.items run.new.assignment.list.items []) }
     ensures tidy { OnOk result ((aside : List ℕ) (busy : ℕ) → IsTidy aside (shapes_of store.now.kept.items) run.old.opens.items run.old.candidates.items run.old.assignment.list.items run.old.work.items run.old.trail.items run.old.next busy → IsTidy aside (shapes_of store.now.kept.items) run.new.opens.items run.new.candidates.items run.new.assignment.list.items run.new.work.items run.new.trail.items run.new.next busy) }
-    ensures paid { OnOk result (IsPaid (entries_of store.now.occurrences.items) run.old.assignment.list.items run.new.assignment.list.items run.old.candidates.items run.new.candidates.items run.old.work.items run.new.work.items run.old.visits run.new.visits 0) }
+    ensures paid { OnOk result (IsPaid (entries_of (shapes_of store.now.kept.items) store.now.occurrences.items) run.old.assignment.list.items run.new.assignment.list.items run.old.candidates.items run.new.candidates.items run.old.work.items run.new.work.items run.old.visits run.new.visits 0) }
     ensures kept_work { OnOk result ((s : ℕ) → IsAbsent run.new.work.items 0 s → IsAbsent run.old.work.items 0 s) }
     ensures longer_work { OnOk result (length run.old.work.items ≤ length run.new.work.items) }
 {
@@ -164,12 +180,12 @@ fn look(store: &Store, run: &mut Run, form: usize, waiting: &[usize]) -> Result<
     ensures derived { OnOk result (Derives (shapes_of store.now.kept.items) run.old.assignment.list.items run.new.assignment.list.items) }
     ensures counted { OnOk result (IsCounted (shapes_of store.now.kept.items) run.new.opens.items run.new.assignment.list.items []) }
     ensures bounded { sum run.new.candidates.items ≤ sum_by (λ f. length f.terms) (shapes_of store.now.kept.items) }
-    ensures covered { AreCovered (entries_of store.now.occurrences.items) run.old.assignment.list.items run.new.assignment.list.items run.old.candidates.items run.new.candidates.items run.old.visits run.new.visits 1 }
+    ensures covered { AreCovered (entries_of (shapes_of store.now.kept.items) store.now.occurrences.items) run.old.assignment.list.items run.new.assignment.list.items run.old.candidates.items run.new.candidates.items run.old.visits run.new.visits 1 }
     ensures single { AreSingle run.old.assignment.list.items → AreSingle run.new.assignment.list.items }
     ensures undone { OnOk result (IsUndone (shapes_of store.now.kept.items) run.new.opens.items run.new.candidates.items run.new.trail.items 0) }
     ensures conflict { IfOk result (λ found. found ≡ true → Conflicts (shapes_of store.now.kept.items) run.new.assignment.list.items) }
     ensures tidy { IfOk result (λ found. found ≡ false → IsTidy (filter (waits store.now.kept.items) waiting.now) (shapes_of store.now.kept.items) run.new.opens.items run.new.candidates.items run.new.assignment.list.items run.new.work.items run.new.trail.items run.new.next (length store.now.kept.items)) }
-    ensures paid { OnOk result (IsPaid (entries_of store.now.occurrences.items) run.old.assignment.list.items run.new.assignment.list.items run.old.candidates.items run.new.candidates.items run.old.work.items run.new.work.items run.old.visits run.new.visits 1) }
+    ensures paid { OnOk result (IsPaid (entries_of (shapes_of store.now.kept.items) store.now.occurrences.items) run.old.assignment.list.items run.new.assignment.list.items run.old.candidates.items run.new.candidates.items run.old.work.items run.new.work.items run.old.visits run.new.visits 1) }
     ensures found { OnOk result (AreFound (length run.old.assignment.list.items) (length run.new.assignment.list.items) run.old.visits run.new.visits) }
 {
     let kept = &store.kept[form];
@@ -223,7 +239,7 @@ pub fn propagate(store: &Store, run: &mut Run, waiting: &[usize]) -> Result<bool
     ensures undone { OnOk result (IsUndone (shapes_of store.now.kept.items) run.new.opens.items run.new.candidates.items run.new.trail.items 0) }
     ensures conflict { IfOk result (λ found. found ≡ true → Conflicts (shapes_of store.now.kept.items) run.new.assignment.list.items) }
     ensures settled { IfOk result (λ found. found ≡ false → (f : Shape) → Contains (shapes_of store.now.kept.items) f → IsSettled f run.new.assignment.list.items) }
-    ensures upper { run.new.visits + sum run.old.candidates.items ≤ run.old.visits + ((length run.old.work.items + length (filter (waits store.now.kept.items) waiting.now)) - run.old.next) + 2 * sum_by length (entries_of store.now.occurrences.items) + sum run.new.candidates.items }
+    ensures upper { run.new.visits + sum run.old.candidates.items ≤ run.old.visits + ((length run.old.work.items + length (filter (waits store.now.kept.items) waiting.now)) - run.old.next) + 2 * sum_by length (entries_of (shapes_of store.now.kept.items) store.now.occurrences.items) + sum run.new.candidates.items }
     ensures found { OnOk result (AreFound (length run.old.assignment.list.items) (length run.new.assignment.list.items) run.old.visits run.new.visits) }
 {
     let mut taken = 0;

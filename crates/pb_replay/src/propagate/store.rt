@@ -15,7 +15,8 @@ pub struct Store {
     pub variables: usize,
 }
 
-/// The only way to a term or an entry of an occurrence list: each look is counted.
+/// The only way to a candidate or an entry of an occurrence list: each look is counted. The look at an entry is also at the term
+/// that it names, whose coefficient is taken from the open sum.
 pub fn visit<T: Copy>(items: &[T], i: usize, visits: &mut u64) -> T
     requires { i < length items.now }
     ensures item { result ≡ slice_index_or items.now i result }

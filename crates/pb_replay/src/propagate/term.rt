@@ -11,10 +11,9 @@ pub struct Term {
     pub coefficient: u128,
 }
 
-/// A form in which a literal stands, the place of its term there, and its coefficient.
+/// A form in which a literal stands, and the place of its term there.
 #[derive(Clone, Copy)]
 pub struct Occurrence {
     pub form: usize,
     pub index: usize,
-    pub coefficient: u128,
 }

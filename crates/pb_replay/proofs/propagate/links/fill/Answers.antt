@@ -1,4 +1,5 @@
 use Rattle.std.proofs.Common.{get_or, refl, arith}
+use Rattle.pb_replay.specs.Engine.Fields.{shapes_of}
 use Rattle.pb_replay.proofs.Engine.Places.{entries-length}
 use Rattle.pb_replay.proofs.Engine.Puts.{place-inside}
 use Rattle.pb_replay.proofs.Engine.Storages.{kept-inside}
@@ -10,7 +11,7 @@ link-requires-clause-inside c = λ k d h.
     let store = c.args.store.now in
     let all = kept-inside c.in_ok-kept.kept.terms.items c.args.form.now.terms store.variables c.in_ok-kept.ensures.terms c.requires.inside in
     let variable = rw (← c.as_slice.ensures.value) at all in
-    omega (arith, place-inside (get_or c.as_slice.result.now k d).literal store.variables (variable k d h), c.requires.sound.places, entries-length store.occurrences.items)
+    omega (arith, place-inside (get_or c.as_slice.result.now k d).literal store.variables (variable k d h), c.requires.sound.places, entries-length (shapes_of store.kept.items) store.occurrences.items)
 
 pub returns-clause-sound : goal.returns-clause-sound
 returns-clause-sound c =

@@ -25,6 +25,9 @@ bound_of-bound-requires-clause-small c =
 pub bound_of-bound-requires-clause-falling : goal.bound_of-bound-requires-clause-falling
 bound_of-bound-requires-clause-falling c = rw c.as_slice-2.ensures.value c.in_ok-terms.ensures.falling
 
+pub is_even-even-requires : goal.is_even-even-requires
+is_even-even-requires c = rw c.as_slice-3.ensures.value c.in_ok-terms.ensures.falling
+
 pub invariant_of-result : goal.invariant_of-result
 invariant_of-result c =
     let normal = c.degree.ensures.normal in
@@ -40,6 +43,10 @@ invariant_of-result c =
           let low = c.is_below-eager.ensures.below h in
           let some = c.bound_of-bound.ensures.some (omega (arith, low)) in
           omega (arith, some, ap length c.as_slice-2.ensures.value);
+      alike = λ even i d h.
+          let first = rw c.as_slice-2.ensures.value at c.bound_of-bound.ensures.first in
+          let same = rw c.as_slice-3.ensures.value at c.is_even-even.ensures in
+          omega (arith, first d (omega (arith, h)), same even i d h);
     }
 
 pub returns : goal.returns

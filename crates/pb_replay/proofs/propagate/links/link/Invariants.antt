@@ -8,5 +8,5 @@ abbrev pub invariant-terms : goal.invariant-terms
 invariant-terms l = record {
   sizes : length l.lists.items ≡ length l.initial.lists.items;
   count : length l.spots.items ≡ l.i;
-  linked : (base : List Shape) (all : List (List ℕ)) → l.form < length base → terms_at base l.form ≡ l.terms → l.form < length all → IsLinked (cut base l.form 0) (set all l.form []) (entries_of l.initial.lists.items) → IsLinked (cut base l.form l.i) (set all l.form l.spots.items) (entries_of l.lists.items);
+  linked : (base : List Shape) (all : List (List ℕ)) → l.form < length base → terms_at base l.form ≡ l.terms → l.form < length all → IsLinked (cut base l.form 0) (set all l.form []) (entries_of base l.initial.lists.items) → IsLinked (cut base l.form l.i) (set all l.form l.spots.items) (entries_of base l.lists.items);
 }

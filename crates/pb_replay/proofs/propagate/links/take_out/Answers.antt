@@ -1,5 +1,5 @@
 use Rattle.std.proofs.Common.{[], get_or, refl, ap, arith, length}
-use Rattle.pb_replay.specs.Engine.Fields.{entries_of, spots_of}
+use Rattle.pb_replay.specs.Engine.Fields.{lists_of, spots_of}
 use Rattle.pb_replay.proofs.Engine.Places.{taken-lists, taken-last, taken-moved, spots-moved, set-read, spots-read}
 use Rattle.pb_replay.proofs.propagate.links.take_out.Goals as goal
 
@@ -45,4 +45,4 @@ returns-clause-spots c =
     let moved = taken-moved c.args.lists.now.items c.args.place c.args.spot c.index_mut.result.now c.swap_remove.new.self c.swap_remove.result m c.requires.place c.index_mut.ensures.value c.swap_remove.ensures.items c.requires.spot
     (omega (arith, c.if-spot-len.false, c.len.ensures, c.index.result.now.ok.0, ap (λ v. length v.items) same)) (rw same_2 at c.index-moved.ensures) in
     let named = c.requires.named m moved.1 in
-    spots-moved c.args.spots.now.items (get_or (entries_of c.args.lists.now.items) c.args.place []) c.args.spot m c.index_mut-2.result.now _ named.0 c.index_mut-2.ensures.value refl moved.0 moved.1
+    spots-moved c.args.spots.now.items (get_or (lists_of c.args.lists.now.items) c.args.place []) c.args.spot m c.index_mut-2.result.now _ named.0 c.index_mut-2.ensures.value refl moved.0 moved.1

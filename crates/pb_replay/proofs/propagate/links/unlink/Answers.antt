@@ -1,7 +1,7 @@
 use Rattle.std.proofs.Common.{[], ℕ, ◌-◌, ◌∙◌, Vec, Global, get_or, ap, arith}
 use Rattle.std.proofs.lemmas.List.{length-map}
 use Rattle.pb_replay.specs.declared.propagate.kept.Kept.{Kept}
-use Rattle.pb_replay.specs.Engine.Fields.{spots_of, entries_of, kept_shape}
+use Rattle.pb_replay.specs.Engine.Fields.{spots_of, shapes_of, lists_of, kept_shape}
 use Rattle.pb_replay.proofs.Engine.Places.{unlink-read, moved-rooms, entries-length, taken-length}
 use Rattle.pb_replay.proofs.propagate.links.unlink.Goals as goal
 
@@ -12,7 +12,7 @@ take_out-requires-clause-spot c =
     let read = unlink-read store.kept.items now.kept.items now.spots.items now.occurrences.items store.variables c.args.form c.terms.left (c.terms.left - 1) c.index-in-terms.result.now c.index-term.result.now c.index-in-terms-2.result.now c.index-spot.result.now c.place_of-place.result
     (ap (λ (v : Vec Kept Global). v.items) c.terms.invariant.kept) (omega (arith, c.terms-test.true)) c.requires.form c.index-in-terms.ensures c.terms.invariant.within c.index-term.ensures c.index-in-terms-2.ensures
     (c.terms.invariant.rooms c.args.form ∙ c.requires.sound.rooms c.args.form (omega (arith, c.requires.form, length-map store.kept.items kept_shape))) c.index-spot.ensures c.place_of-place.ensures.place c.requires.sound.inside
-    (omega (arith, c.terms.invariant.lists, c.requires.sound.places, entries-length store.occurrences.items)) c.terms.invariant.linked in
+    (omega (arith, c.terms.invariant.lists, c.requires.sound.places, entries-length (shapes_of store.kept.items) store.occurrences.items)) c.terms.invariant.linked in
     read.spot_in
 
 pub take_out-requires-clause-named : goal.take_out-requires-clause-named
@@ -22,7 +22,7 @@ take_out-requires-clause-named c =
     let read = unlink-read store.kept.items now.kept.items now.spots.items now.occurrences.items store.variables c.args.form c.terms.left (c.terms.left - 1) c.index-in-terms.result.now c.index-term.result.now c.index-in-terms-2.result.now c.index-spot.result.now c.place_of-place.result
     (ap (λ (v : Vec Kept Global). v.items) c.terms.invariant.kept) (omega (arith, c.terms-test.true)) c.requires.form c.index-in-terms.ensures c.terms.invariant.within c.index-term.ensures c.index-in-terms-2.ensures
     (c.terms.invariant.rooms c.args.form ∙ c.requires.sound.rooms c.args.form (omega (arith, c.requires.form, length-map store.kept.items kept_shape))) c.index-spot.ensures c.place_of-place.ensures.place c.requires.sound.inside
-    (omega (arith, c.terms.invariant.lists, c.requires.sound.places, entries-length store.occurrences.items)) c.terms.invariant.linked in
+    (omega (arith, c.terms.invariant.lists, c.requires.sound.places, entries-length (shapes_of store.kept.items) store.occurrences.items)) c.terms.invariant.linked in
     λ e h.
     let both = read.named e h in
     (omega (arith, both.0, length-map now.spots.items (λ (v : Vec ℕ Global). v.items)), both.1)
@@ -34,13 +34,13 @@ terms-preserved c =
     let read = unlink-read store.kept.items now.kept.items now.spots.items now.occurrences.items store.variables c.args.form c.terms.left (c.terms.left - 1) c.index-in-terms.result.now c.index-term.result.now c.index-in-terms-2.result.now c.index-spot.result.now c.place_of-place.result
     (ap (λ (v : Vec Kept Global). v.items) c.terms.invariant.kept) (omega (arith, c.terms-test.true)) c.requires.form c.index-in-terms.ensures c.terms.invariant.within c.index-term.ensures c.index-in-terms-2.ensures
     (c.terms.invariant.rooms c.args.form ∙ c.requires.sound.rooms c.args.form (omega (arith, c.requires.form, length-map store.kept.items kept_shape))) c.index-spot.ensures c.place_of-place.ensures.place c.requires.sound.inside
-    (omega (arith, c.terms.invariant.lists, c.requires.sound.places, entries-length store.occurrences.items)) c.terms.invariant.linked in
+    (omega (arith, c.terms.invariant.lists, c.requires.sound.places, entries-length (shapes_of store.kept.items) store.occurrences.items)) c.terms.invariant.linked in
     let done = c.take_out.new in
     record {
       kept = c.terms.invariant.kept;
       variables = c.terms.invariant.variables;
       lists = taken-length now.occurrences.items done.lists.items c.place_of-place.result c.index-spot.result.now c.take_out.ensures.lists ∙ c.terms.invariant.lists;
       within = omega (arith, c.terms.invariant.within);
-      rooms = λ s. moved-rooms (get_or (entries_of now.occurrences.items) c.place_of-place.result []) c.index-spot.result.now (spots_of now.spots.items) (spots_of done.spots.items) c.take_out.ensures.spots s ∙ c.terms.invariant.rooms s;
-      linked = read.next (spots_of done.spots.items) (entries_of done.lists.items) c.take_out.ensures.lists c.take_out.ensures.spots;
+      rooms = λ s. moved-rooms (get_or (lists_of now.occurrences.items) c.place_of-place.result []) c.index-spot.result.now (spots_of now.spots.items) (spots_of done.spots.items) c.take_out.ensures.spots s ∙ c.terms.invariant.rooms s;
+      linked = read.next (spots_of done.spots.items) done.lists.items c.take_out.ensures.lists c.take_out.ensures.spots;
     }

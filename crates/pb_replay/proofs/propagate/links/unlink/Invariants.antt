@@ -10,7 +10,7 @@ invariant-terms l = record {
   lists : length l.store.occurrences.items ≡ length l.initial.store.occurrences.items;
   within : l.left ≤ length (terms_at (shapes_of l.initial.store.kept.items) l.form);
   rooms : (s : ℕ) → length (get_or (spots_of l.store.spots.items) s []) ≡ length (get_or (spots_of l.initial.store.spots.items) s []);
-  linked : IsLinked (cut (shapes_of l.initial.store.kept.items) l.form l.left) (spots_of l.store.spots.items) (entries_of l.store.occurrences.items);
+  linked : IsLinked (cut (shapes_of l.initial.store.kept.items) l.form l.left) (spots_of l.store.spots.items) (entries_of (shapes_of l.initial.store.kept.items) l.store.occurrences.items);
 }
 
 abbrev pub decreases-terms : goal.decreases-terms

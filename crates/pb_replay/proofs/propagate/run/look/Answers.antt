@@ -14,7 +14,7 @@ terms-init c =
     record {
       values = refl;
       next = refl;
-      looking = Looking-start (filter (waits store.kept.items) c.args.waiting.now) (shapes_of store.kept.items) (entries_of store.occurrences.items) c.args.form run.opens.items run.candidates.items run.assignment.list.items run.work.items run.trail.items run.next run.visits c.requires.counted c.requires.tidy c.requires.there
+      looking = Looking-start (filter (waits store.kept.items) c.args.waiting.now) (shapes_of store.kept.items) (entries_of (shapes_of store.kept.items) store.occurrences.items) c.args.form run.opens.items run.candidates.items run.assignment.list.items run.work.items run.trail.items run.next run.visits c.requires.counted c.requires.tidy c.requires.there
           (c.requires.opens ∙ sym (length-map store.kept.items kept_shape)) (c.requires.candidates ∙ sym (length-map store.kept.items kept_shape)) c.requires.next;
     }
 
@@ -40,7 +40,7 @@ returns-then-candidate-len-clause-tidy c = λ found.
     let roomc : c.args.form < length run.candidates.items = omega (arith, c.terms.invariant.looking.candidate_sizes, sizes, c.requires.form) in
     let calm = calm-by c.index-kept.result.now run.opens.items run.candidates.items c.args.form c.index-opened.result.now c.index-candidate.result.now room roomc c.index-opened.ensures c.index-candidate.ensures c.if-opened-kept.false
     (λ d less. absurd (omega (arith, less, c.len.ensures, c.if-candidate-len.true, c.index-kept.result.now.terms.ok.0))) in
-    Looking-settled_by (filter (waits store.kept.items) c.args.waiting.now) (shapes_of store.kept.items) (entries_of store.occurrences.items) c.args.form start.assignment.list.items start.candidates.items start.work.items start.visits run.opens.items run.candidates.items run.assignment.list.items run.work.items run.trail.items run.next run.visits (kept_shape c.index-kept.result.now) (length store.kept.items) sizes
+    Looking-settled_by (filter (waits store.kept.items) c.args.waiting.now) (shapes_of store.kept.items) (entries_of (shapes_of store.kept.items) store.occurrences.items) c.args.form start.assignment.list.items start.candidates.items start.work.items start.visits run.opens.items run.candidates.items run.assignment.list.items run.work.items run.trail.items run.next run.visits (kept_shape c.index-kept.result.now) (length store.kept.items) sizes
     (shape-at store.kept.items c.args.form c.index-kept.result.now c.requires.form c.index-kept.ensures) calm c.terms.invariant.looking
 
 pub returns-then-kept-term-clause-tidy : goal.returns-then-kept-term-clause-tidy
@@ -53,7 +53,7 @@ returns-then-kept-term-clause-tidy c = λ found.
     let roomc : c.args.form < length run.candidates.items = omega (arith, c.terms.invariant.looking.candidate_sizes, sizes, c.requires.form) in
     let calm = calm-by c.index-kept.result.now run.opens.items run.candidates.items c.args.form c.index-opened.result.now c.index-candidate.result.now room roomc c.index-opened.ensures c.index-candidate.ensures c.if-opened-kept.false
     (waiting-by c.index-kept.result.now c.deref.result.now c.index-opened.result.now c.index-candidate.result.now c.visit-term.result c.deref.ensures.value c.visit-term.ensures.item c.if-kept-term.true) in
-    Looking-settled_by (filter (waits store.kept.items) c.args.waiting.now) (shapes_of store.kept.items) (entries_of store.occurrences.items) c.args.form start.assignment.list.items start.candidates.items start.work.items start.visits run.opens.items run.candidates.items run.assignment.list.items run.work.items run.trail.items run.next run.visits (kept_shape c.index-kept.result.now) (length store.kept.items) sizes
+    Looking-settled_by (filter (waits store.kept.items) c.args.waiting.now) (shapes_of store.kept.items) (entries_of (shapes_of store.kept.items) store.occurrences.items) c.args.form start.assignment.list.items start.candidates.items start.work.items start.visits run.opens.items run.candidates.items run.assignment.list.items run.work.items run.trail.items run.next run.visits (kept_shape c.index-kept.result.now) (length store.kept.items) sizes
     (shape-at store.kept.items c.args.form c.index-kept.result.now c.requires.form c.index-kept.ensures) calm c.terms.invariant.looking
 
 pub terms-preserved : goal.terms-preserved
@@ -66,7 +66,7 @@ terms-preserved c =
     record {
       values = told.values ∙ c.terms.invariant.values;
       next = told.next ∙ c.terms.invariant.next;
-      looking = Looking-next_by (filter (waits store.kept.items) c.args.waiting.now) store.kept.items (entries_of store.occurrences.items) c.args.form start.assignment.list.items start.candidates.items start.work.items start.visits run.opens.items run.candidates.items run.assignment.list.items run.work.items run.trail.items run.next run.visits c.visit-term.new.visits
+      looking = Looking-next_by (filter (waits store.kept.items) c.args.waiting.now) store.kept.items (entries_of (shapes_of store.kept.items) store.occurrences.items) c.args.form start.assignment.list.items start.candidates.items start.work.items start.visits run.opens.items run.candidates.items run.assignment.list.items run.work.items run.trail.items run.next run.visits c.visit-term.new.visits
           done.opens.items done.candidates.items (set done.candidates.items c.args.form (c.index-candidate.result.now + 1)) done.assignment.list.items done.work.items done.trail.items done.next done.visits
           c.index-kept.result.now c.deref.result.now c.index-opened.result.now c.index-candidate.result.now c.visit-term.result
           c.requires.form c.index-kept.ensures c.index-opened.ensures c.index-candidate.ensures c.deref.ensures.value (omega (arith, c.if-candidate-len.false, c.len.ensures, c.deref.ensures.len)) c.visit-term.ensures.item

@@ -9,7 +9,7 @@ abbrev pub invariant-terms : goal.invariant-terms
 invariant-terms l = record {
   values : length l.run.assignment.values.items ≡ length l.initial.run.assignment.values.items;
   next : l.run.next ≡ l.initial.run.next;
-  looking : IsLooking (filter (waits l.store.kept.items) l.waiting) (shapes_of l.store.kept.items) (entries_of l.store.occurrences.items) l.form l.initial.run.assignment.list.items l.initial.run.candidates.items l.initial.run.work.items l.initial.run.visits l.run.opens.items l.run.candidates.items l.run.assignment.list.items l.run.work.items l.run.trail.items l.run.next l.run.visits;
+  looking : IsLooking (filter (waits l.store.kept.items) l.waiting) (shapes_of l.store.kept.items) (entries_of (shapes_of l.store.kept.items) l.store.occurrences.items) l.form l.initial.run.assignment.list.items l.initial.run.candidates.items l.initial.run.work.items l.initial.run.visits l.run.opens.items l.run.candidates.items l.run.assignment.list.items l.run.work.items l.run.trail.items l.run.next l.run.visits;
 }
 
 abbrev pub decreases-terms : goal.decreases-terms

@@ -1,19 +1,32 @@
-use Rattle.std.proofs.Common.{ℕ, ◌-◌, set, ap}
+use Rattle.std.proofs.Common.{ℕ, [], ◌-◌, ◌∙◌, set, get_or, length, ap, subst, arith}
 use Rattle.std.proofs.lemmas.List.{get_or_read}
-use Rattle.pb_replay.proofs.Engine.Looks.{grown-by, idle-at, changed-at}
+use Rattle.pb_replay.specs.Engine.Lists.{Shape}
+use Rattle.pb_replay.specs.Engine.Counts.{IsCalm}
+use Rattle.pb_replay.specs.Engine.Fields.{shapes_of}
+use Rattle.pb_replay.proofs.Engine.Looks.{grown-by, idle-at, changed-at, shape-at, weight-read}
 use Rattle.pb_replay.proofs.propagate.run.lower.Goals as goal
+
+pub weight_of-requires : goal.weight_of-requires
+weight_of-requires c =
+    let e = c.args.entry in
+    let shape = shape-at c.args.store.now.kept.items e.form c.index-kept.result.now c.requires.form c.index-kept.ensures (record { terms = []; degree = 0 }) in
+    omega (arith, c.requires.index, ap (λ (f : Shape). length f.terms) shape)
 
 pub returns-clause-opens : goal.returns-clause-opens
 returns-clause-opens c =
     let opens = c.args.run.now.opens.items in
     let e = c.args.entry in
-    ap (λ (o : ℕ). set opens e.form (o - e.coefficient)) (get_or_read opens e.form c.index-opened.result.now c.requires.inside c.index-opened.ensures 0)
+    let weight = weight-read c.args.store.now.kept.items e.form e.index c.index-kept.result.now c.weight_of.result c.requires.form c.index-kept.ensures c.weight_of.ensures in
+    ap (λ (o : ℕ). set opens e.form (o - c.weight_of.result)) (get_or_read opens e.form c.index-opened.result.now c.requires.inside c.index-opened.ensures 0) ∙ ap (λ (w : ℕ). set opens e.form (get_or opens e.form 0 - w)) weight
 
 pub returns-clause-work : goal.returns-clause-work
 returns-clause-work c =
+    let keep = c.args.store.now.kept.items in
     let run = c.args.run.now in
     let e = c.args.entry in
-    grown-by e.form run.work.items _ (λ low. idle-at c.args.store.now.kept.items run.opens.items e.form c.index-kept.result.now c.index-opened.result.now e.coefficient c.requires.form c.index-kept.ensures c.requires.inside c.index-opened.ensures low) c.in_ok-queue.ensures
+    let k = c.index-kept.result.now in
+    let weight = weight-read keep e.form e.index k c.weight_of.result c.requires.form c.index-kept.ensures c.weight_of.ensures in
+    grown-by e.form run.work.items _ (λ low d i. subst (λ (w : ℕ). IsCalm (get_or (shapes_of keep) e.form d) (get_or run.opens.items e.form 0 - w) i) weight (idle-at keep run.opens.items e.form k c.index-opened.result.now c.weight_of.result c.requires.form c.index-kept.ensures c.requires.inside c.index-opened.ensures low d i)) c.in_ok-queue.ensures
 
 pub returns-clause-trail : goal.returns-clause-trail
 returns-clause-trail c =

@@ -15,7 +15,7 @@ work-init c =
     record {
       values = refl;
       taken = omega arith;
-      state = Propagating-start (waits store.kept.items) c.args.waiting.now (shapes_of store.kept.items) (entries_of store.occurrences.items) (length store.kept.items) run.opens.items run.candidates.items run.assignment.list.items run.work.items run.trail.items run.next run.visits c.requires.counted c.requires.tidy c.requires.opens c.requires.candidates c.requires.next;
+      state = Propagating-start (waits store.kept.items) c.args.waiting.now (shapes_of store.kept.items) (entries_of (shapes_of store.kept.items) store.occurrences.items) (length store.kept.items) run.opens.items run.candidates.items run.assignment.list.items run.work.items run.trail.items run.next run.visits c.requires.counted c.requires.tidy c.requires.opens c.requires.candidates c.requires.next;
     }
 
 pub look-requires-clause-tidy : goal.look-requires-clause-tidy
@@ -41,7 +41,7 @@ returns-then-branch-clause-upper c =
     let run = c.work.run in
     let done = c.look.new.run in
     let inside : run.next + 1 ≤ length run.work.items = omega (arith, c.if-run-len.true, c.len.ensures, run.work.ok.0) in
-    Propagating-upper (waits store.kept.items) c.args.waiting.now (shapes_of store.kept.items) (entries_of store.occurrences.items) (length store.kept.items) start.assignment.list.items start.candidates.items start.work.items start.next start.visits c.work.taken run.opens.items run.candidates.items run.assignment.list.items run.work.items run.trail.items run.next run.visits done.assignment.list.items done.candidates.items done.visits 1 c.requires.single c.requires.next c.work.invariant.state c.look.ensures.single inside c.look.ensures.covered
+    Propagating-upper (waits store.kept.items) c.args.waiting.now (shapes_of store.kept.items) (entries_of (shapes_of store.kept.items) store.occurrences.items) (length store.kept.items) start.assignment.list.items start.candidates.items start.work.items start.next start.visits c.work.taken run.opens.items run.candidates.items run.assignment.list.items run.work.items run.trail.items run.next run.visits done.assignment.list.items done.candidates.items done.visits 1 c.requires.single c.requires.next c.work.invariant.state c.look.ensures.single inside c.look.ensures.covered
 
 pub returns-in_err-look-clause-upper : goal.returns-in_err-look-clause-upper
 returns-in_err-look-clause-upper c =
@@ -50,14 +50,14 @@ returns-in_err-look-clause-upper c =
     let run = c.work.run in
     let done = c.look.new.run in
     let inside : run.next + 1 ≤ length run.work.items = omega (arith, c.if-run-len.true, c.len.ensures, run.work.ok.0) in
-    Propagating-upper (waits store.kept.items) c.args.waiting.now (shapes_of store.kept.items) (entries_of store.occurrences.items) (length store.kept.items) start.assignment.list.items start.candidates.items start.work.items start.next start.visits c.work.taken run.opens.items run.candidates.items run.assignment.list.items run.work.items run.trail.items run.next run.visits done.assignment.list.items done.candidates.items done.visits 1 c.requires.single c.requires.next c.work.invariant.state c.look.ensures.single inside c.look.ensures.covered
+    Propagating-upper (waits store.kept.items) c.args.waiting.now (shapes_of store.kept.items) (entries_of (shapes_of store.kept.items) store.occurrences.items) (length store.kept.items) start.assignment.list.items start.candidates.items start.work.items start.next start.visits c.work.taken run.opens.items run.candidates.items run.assignment.list.items run.work.items run.trail.items run.next run.visits done.assignment.list.items done.candidates.items done.visits 1 c.requires.single c.requires.next c.work.invariant.state c.look.ensures.single inside c.look.ensures.covered
 
 pub work-smaller-else-branch : goal.work-smaller-else-branch
 work-smaller-else-branch c =
     let store = c.args.store.now in
     let start = c.args.run.now in
     let run = c.work.run in
-    let bound = Propagating-bound (waits store.kept.items) c.args.waiting.now (shapes_of store.kept.items) (entries_of store.occurrences.items) (length store.kept.items) start.assignment.list.items start.candidates.items start.work.items start.next start.visits c.work.taken run.opens.items run.candidates.items run.assignment.list.items run.work.items run.trail.items run.next run.visits c.requires.single c.work.invariant.state in
+    let bound = Propagating-bound (waits store.kept.items) c.args.waiting.now (shapes_of store.kept.items) (entries_of (shapes_of store.kept.items) store.occurrences.items) (length store.kept.items) start.assignment.list.items start.candidates.items start.work.items start.next start.visits c.work.taken run.opens.items run.candidates.items run.assignment.list.items run.work.items run.trail.items run.next run.visits c.requires.single c.work.invariant.state in
     omega (arith, bound, c.in_ok-look.ensures.next, c.if-run-len.true, c.len.ensures, run.work.ok.0, c.work.invariant.taken)
 
 pub work-preserved-else-branch : goal.work-preserved-else-branch
@@ -71,7 +71,7 @@ work-preserved-else-branch c =
     record {
       values = told.values ∙ c.work.invariant.values;
       taken = c.work.invariant.taken;
-      state = Propagating-next (waits store.kept.items) c.args.waiting.now (shapes_of store.kept.items) (entries_of store.occurrences.items) (length store.kept.items) start.assignment.list.items start.candidates.items start.work.items start.next start.visits c.work.taken run.opens.items run.candidates.items run.assignment.list.items run.work.items run.trail.items run.next run.visits done.opens.items done.candidates.items done.assignment.list.items done.work.items done.trail.items done.next done.visits
+      state = Propagating-next (waits store.kept.items) c.args.waiting.now (shapes_of store.kept.items) (entries_of (shapes_of store.kept.items) store.occurrences.items) (length store.kept.items) start.assignment.list.items start.candidates.items start.work.items start.next start.visits c.work.taken run.opens.items run.candidates.items run.assignment.list.items run.work.items run.trail.items run.next run.visits done.opens.items done.candidates.items done.assignment.list.items done.work.items done.trail.items done.next done.visits
           told.next told.derived told.counted tidy told.paid told.found told.opens told.candidates told.within c.work.invariant.state;
     }
 
@@ -81,7 +81,7 @@ returns-in_err-choose-clause-upper c =
     let start = c.args.run.now in
     let run = c.work.run in
     let state = c.work.invariant.state in
-    Propagating-upper (waits store.kept.items) c.args.waiting.now (shapes_of store.kept.items) (entries_of store.occurrences.items) (length store.kept.items) start.assignment.list.items start.candidates.items start.work.items start.next start.visits c.work.taken run.opens.items run.candidates.items run.assignment.list.items run.work.items run.trail.items run.next run.visits run.assignment.list.items run.candidates.items run.visits 0 c.requires.single c.requires.next state (λ s. s) (omega (arith, state.within)) (omega arith)
+    Propagating-upper (waits store.kept.items) c.args.waiting.now (shapes_of store.kept.items) (entries_of (shapes_of store.kept.items) store.occurrences.items) (length store.kept.items) start.assignment.list.items start.candidates.items start.work.items start.next start.visits c.work.taken run.opens.items run.candidates.items run.assignment.list.items run.work.items run.trail.items run.next run.visits run.assignment.list.items run.candidates.items run.visits 0 c.requires.single c.requires.next state (λ s. s) (omega (arith, state.within)) (omega arith)
 
 pub returns-in_err-choose-2-clause-upper : goal.returns-in_err-choose-2-clause-upper
 returns-in_err-choose-2-clause-upper c =
@@ -89,7 +89,7 @@ returns-in_err-choose-2-clause-upper c =
     let start = c.args.run.now in
     let run = c.work.run in
     let state = c.work.invariant.state in
-    Propagating-upper (waits store.kept.items) c.args.waiting.now (shapes_of store.kept.items) (entries_of store.occurrences.items) (length store.kept.items) start.assignment.list.items start.candidates.items start.work.items start.next start.visits c.work.taken run.opens.items run.candidates.items run.assignment.list.items run.work.items run.trail.items run.next run.visits run.assignment.list.items run.candidates.items run.visits 0 c.requires.single c.requires.next state (λ s. s) (omega (arith, state.within)) (omega arith)
+    Propagating-upper (waits store.kept.items) c.args.waiting.now (shapes_of store.kept.items) (entries_of (shapes_of store.kept.items) store.occurrences.items) (length store.kept.items) start.assignment.list.items start.candidates.items start.work.items start.next start.visits c.work.taken run.opens.items run.candidates.items run.assignment.list.items run.work.items run.trail.items run.next run.visits run.assignment.list.items run.candidates.items run.visits 0 c.requires.single c.requires.next state (λ s. s) (omega (arith, state.within)) (omega arith)
 
 pub returns-in_err-choose-clause-bounded : goal.returns-in_err-choose-clause-bounded
 returns-in_err-choose-clause-bounded c =
@@ -105,7 +105,7 @@ returns-else-taken-waiting-clause-upper c =
     let start = c.args.run.now in
     let run = c.work.run in
     let state = c.work.invariant.state in
-    Propagating-upper (waits store.kept.items) c.args.waiting.now (shapes_of store.kept.items) (entries_of store.occurrences.items) (length store.kept.items) start.assignment.list.items start.candidates.items start.work.items start.next start.visits c.work.taken run.opens.items run.candidates.items run.assignment.list.items run.work.items run.trail.items run.next run.visits run.assignment.list.items run.candidates.items run.visits 0 c.requires.single c.requires.next state (λ s. s) (omega (arith, state.within)) (omega arith)
+    Propagating-upper (waits store.kept.items) c.args.waiting.now (shapes_of store.kept.items) (entries_of (shapes_of store.kept.items) store.occurrences.items) (length store.kept.items) start.assignment.list.items start.candidates.items start.work.items start.next start.visits c.work.taken run.opens.items run.candidates.items run.assignment.list.items run.work.items run.trail.items run.next run.visits run.assignment.list.items run.candidates.items run.visits 0 c.requires.single c.requires.next state (λ s. s) (omega (arith, state.within)) (omega arith)
 
 pub returns-else-taken-waiting-clause-bounded : goal.returns-else-taken-waiting-clause-bounded
 returns-else-taken-waiting-clause-bounded c =
@@ -118,14 +118,14 @@ returns-else-taken-waiting-clause-settled c = λ found f has.
     let run = c.work.run in
     let all : length run.work.items ≤ run.next = omega (arith, c.if-run-len.false, c.len.ensures, run.work.ok.0) in
     let none_waits : length c.args.waiting.now ≤ c.work.taken = omega (arith, c.if-taken-waiting.false) in
-    Propagating-settled (waits store.kept.items) c.args.waiting.now store.kept.items (entries_of store.occurrences.items) start.assignment.list.items start.candidates.items start.work.items start.next start.visits c.work.taken run.opens.items run.candidates.items run.assignment.list.items run.work.items run.trail.items run.next run.visits all none_waits c.work.invariant.state f has
+    Propagating-settled (waits store.kept.items) c.args.waiting.now store.kept.items (entries_of (shapes_of store.kept.items) store.occurrences.items) start.assignment.list.items start.candidates.items start.work.items start.next start.visits c.work.taken run.opens.items run.candidates.items run.assignment.list.items run.work.items run.trail.items run.next run.visits all none_waits c.work.invariant.state f has
 
 pub work-smaller : goal.work-smaller
 work-smaller c =
     let store = c.args.store.now in
     let start = c.args.run.now in
     let run = c.work.run in
-    let bound = Propagating-bound (waits store.kept.items) c.args.waiting.now (shapes_of store.kept.items) (entries_of store.occurrences.items) (length store.kept.items) start.assignment.list.items start.candidates.items start.work.items start.next start.visits c.work.taken run.opens.items run.candidates.items run.assignment.list.items run.work.items run.trail.items run.next run.visits c.requires.single c.work.invariant.state in
+    let bound = Propagating-bound (waits store.kept.items) c.args.waiting.now (shapes_of store.kept.items) (entries_of (shapes_of store.kept.items) store.occurrences.items) (length store.kept.items) start.assignment.list.items start.candidates.items start.work.items start.next start.visits c.work.taken run.opens.items run.candidates.items run.assignment.list.items run.work.items run.trail.items run.next run.visits c.requires.single c.work.invariant.state in
     omega (arith, bound, c.work.invariant.state.within, c.if-taken-waiting.true)
 
 pub work-preserved : goal.work-preserved
@@ -137,6 +137,6 @@ work-preserved c =
     record {
       values = c.work.invariant.values;
       taken = omega (arith, less);
-      state = Propagating-choose (waits store.kept.items) c.args.waiting.now (shapes_of store.kept.items) (entries_of store.occurrences.items) (length store.kept.items) start.assignment.list.items start.candidates.items start.work.items start.next start.visits c.work.taken run.opens.items run.candidates.items run.assignment.list.items run.work.items run.trail.items run.next run.visits (get_or c.args.waiting.now c.work.taken 0) c.choose-then-taken-waiting.new.work.items c.choose.new.work.items less (get_or_default c.args.waiting.now c.work.taken 0 _ less)
+      state = Propagating-choose (waits store.kept.items) c.args.waiting.now (shapes_of store.kept.items) (entries_of (shapes_of store.kept.items) store.occurrences.items) (length store.kept.items) start.assignment.list.items start.candidates.items start.work.items start.next start.visits c.work.taken run.opens.items run.candidates.items run.assignment.list.items run.work.items run.trail.items run.next run.visits (get_or c.args.waiting.now c.work.taken 0) c.choose-then-taken-waiting.new.work.items c.choose.new.work.items less (get_or_default c.args.waiting.now c.work.taken 0 _ less)
           (omega (arith, c.requires.waiting c.work.taken 0 less, length-map store.kept.items kept_shape)) c.in_ok-choose-2.ensures c.in_ok-choose.ensures c.work.invariant.state;
     }

@@ -1,13 +1,15 @@
-use Rattle.std.specs.Prelude.{All}
-use Rattle.std.proofs.Common.{Vec, Global, ◌<◌, [], get_or, length, refl, ap, sym, ◌∙◌, arith}
+use Rattle.std.specs.Prelude.{All, map}
+use Rattle.std.proofs.Common.{◌<◌, [], get_or, length, refl, ap, sym, ◌∙◌, arith}
 use Rattle.std.proofs.lemmas.List.{length-map}
-use Rattle.pb_replay.specs.declared.propagate.term.Occurrence.{Occurrence}
 use Rattle.pb_replay.specs.declared.propagate.assignment.Assignment.{Assignment}
-use Rattle.pb_replay.specs.Engine.Lists.{negation}
+use Rattle.pb_replay.specs.Engine.Lists.{Weighted, negation}
 use Rattle.pb_replay.specs.Engine.Counts.{place, more}
-use Rattle.pb_replay.specs.Engine.Fields.{shapes_of, entries_of, kept_shape}
+use Rattle.pb_replay.specs.Engine.Fields.{shapes_of, spots_of, entries_of, kept_shape}
+use Rattle.pb_replay.specs.Engine.Links.{weighted}
+use Rattle.pb_replay.proofs.Engine.Places.{entries-length}
+use Rattle.pb_replay.proofs.Engine.Weights.{index-within}
 use Rattle.pb_replay.proofs.Engine.Runs.{Counted-put, Tidy-put}
-use Rattle.pb_replay.proofs.Engine.Puts.{Putting-start, Putting-fits_at, Putting-next_at, entries-at, place-read, place-inside}
+use Rattle.pb_replay.proofs.Engine.Puts.{form-within, Putting-start, Putting-fits_at, Putting-next_at, entries-at, place-read, place-inside}
 use Rattle.pb_replay.proofs.propagate.run.put.Goals as goal
 
 pub entries-init : goal.entries-init
@@ -18,20 +20,43 @@ entries-init c =
       assignment = refl;
       candidates = refl;
       next = refl;
-      putting = Putting-start (shapes_of store.kept.items) (get_or (entries_of store.occurrences.items) (place (negation c.args.literal)) []) run.opens.items run.candidates.items c.put.new.self.list.items run.work.items run.trail.items run.next run.visits
+      putting = Putting-start (shapes_of store.kept.items) (get_or (entries_of (shapes_of store.kept.items) store.occurrences.items) (place (negation c.args.literal)) []) run.opens.items run.candidates.items c.put.new.self.list.items run.work.items run.trail.items run.next run.visits
           (Counted-put (shapes_of store.kept.items) run.opens.items run.assignment.list.items c.put.new.self.list.items c.args.literal _ c.in_ok-put.ensures.ok c.requires.absent (λ s d inside. c.requires.store.whole.linked s d (negation c.args.literal) inside) c.requires.counted)
           (c.requires.opens ∙ sym (length-map store.kept.items kept_shape));
     }
+
+pub lower-requires-clause-form : goal.lower-requires-clause-form
+lower-requires-clause-form c =
+    let store = c.args.store.now in
+    let same = entries-at (shapes_of store.kept.items) store.occurrences.items (place (negation c.args.literal)) c.place_of.result c.index-entries.result.now (place-read (shapes_of store.kept.items) store.occurrences.items store.variables c.args.literal c.place_of.result c.requires.inside (c.place_of.ensures.place ∙ ap place c.negation.ensures) c.requires.store.places) c.index-entries.ensures (c.place_of.ensures.place ∙ ap place c.negation.ensures) ∙ ap (map (weighted (shapes_of store.kept.items))) (sym c.deref.ensures.value) in
+    let inside : c.entries.j < length c.deref.result.now = omega (arith, c.entries-test.true, c.len-j-end.ensures, c.deref.ensures.len) in
+    let less = form-within (shapes_of store.kept.items) (get_or (entries_of (shapes_of store.kept.items) store.occurrences.items) (place (negation c.args.literal)) []) c.deref.result.now c.entries.j c.visit-entry.result (length (shapes_of store.kept.items)) same c.visit-entry.ensures.item inside (c.requires.store.named (place (negation c.args.literal))) in
+    omega (arith, less, length-map store.kept.items kept_shape)
+
+pub lower-requires-clause-inside : goal.lower-requires-clause-inside
+lower-requires-clause-inside c =
+    let store = c.args.store.now in
+    let same = entries-at (shapes_of store.kept.items) store.occurrences.items (place (negation c.args.literal)) c.place_of.result c.index-entries.result.now (place-read (shapes_of store.kept.items) store.occurrences.items store.variables c.args.literal c.place_of.result c.requires.inside (c.place_of.ensures.place ∙ ap place c.negation.ensures) c.requires.store.places) c.index-entries.ensures (c.place_of.ensures.place ∙ ap place c.negation.ensures) ∙ ap (map (weighted (shapes_of store.kept.items))) (sym c.deref.ensures.value) in
+    let inside : c.entries.j < length c.deref.result.now = omega (arith, c.entries-test.true, c.len-j-end.ensures, c.deref.ensures.len) in
+    let less = form-within (shapes_of store.kept.items) (get_or (entries_of (shapes_of store.kept.items) store.occurrences.items) (place (negation c.args.literal)) []) c.deref.result.now c.entries.j c.visit-entry.result (length (shapes_of store.kept.items)) same c.visit-entry.ensures.item inside (c.requires.store.named (place (negation c.args.literal))) in
+    omega (arith, less, c.entries.invariant.putting.sizes)
+
+pub lower-requires-clause-index : goal.lower-requires-clause-index
+lower-requires-clause-index c =
+    let store = c.args.store.now in
+    let same = entries-at (shapes_of store.kept.items) store.occurrences.items (place (negation c.args.literal)) c.place_of.result c.index-entries.result.now (place-read (shapes_of store.kept.items) store.occurrences.items store.variables c.args.literal c.place_of.result c.requires.inside (c.place_of.ensures.place ∙ ap place c.negation.ensures) c.requires.store.places) c.index-entries.ensures (c.place_of.ensures.place ∙ ap place c.negation.ensures) ∙ ap (map (weighted (shapes_of store.kept.items))) (sym c.deref.ensures.value) in
+    let inside : c.entries.j < length c.deref.result.now = omega (arith, c.entries-test.true, c.len-j-end.ensures, c.deref.ensures.len) in
+    index-within (shapes_of store.kept.items) (spots_of store.spots.items) store.occurrences.items (place (negation c.args.literal)) c.entries.j c.deref.result.now c.visit-entry.result same c.visit-entry.ensures.item inside c.requires.store.whole
 
 pub lower-requires-clause-fits : goal.lower-requires-clause-fits
 lower-requires-clause-fits c =
     let store = c.args.store.now in
     let run = c.args.run.now in
-    let same = entries-at store.occurrences.items (place (negation c.args.literal)) c.place_of.result c.index-entries.result.now (place-read store.occurrences.items store.variables c.args.literal c.place_of.result c.requires.inside (c.place_of.ensures.place ∙ ap place c.negation.ensures) c.requires.store.places) c.index-entries.ensures (c.place_of.ensures.place ∙ ap place c.negation.ensures) ∙ sym c.deref.ensures.value in
-    let named : All (λ (x : Occurrence). x.form < length (shapes_of store.kept.items)) (get_or (entries_of store.occurrences.items) (place (negation c.args.literal)) []) =
+    let same = entries-at (shapes_of store.kept.items) store.occurrences.items (place (negation c.args.literal)) c.place_of.result c.index-entries.result.now (place-read (shapes_of store.kept.items) store.occurrences.items store.variables c.args.literal c.place_of.result c.requires.inside (c.place_of.ensures.place ∙ ap place c.negation.ensures) c.requires.store.places) c.index-entries.ensures (c.place_of.ensures.place ∙ ap place c.negation.ensures) ∙ ap (map (weighted (shapes_of store.kept.items))) (sym c.deref.ensures.value) in
+    let named : All (λ (x : Weighted). x.form < length (shapes_of store.kept.items)) (get_or (entries_of (shapes_of store.kept.items) store.occurrences.items) (place (negation c.args.literal)) []) =
     λ k d h. omega (arith, c.requires.store.named (place (negation c.args.literal)) k d h, length-map store.kept.items kept_shape) in
     let inside : c.entries.j < length c.deref.result.now = omega (arith, c.entries-test.true, c.len-j-end.ensures, c.deref.ensures.len) in
-    Putting-fits_at (shapes_of store.kept.items) (get_or (entries_of store.occurrences.items) (place (negation c.args.literal)) []) c.deref.result.now run.opens.items run.candidates.items c.put.new.self.list.items run.work.items run.trail.items run.next run.visits c.entries.run.opens.items c.entries.run.work.items c.entries.run.trail.items c.entries.run.visits c.entries.j c.visit-entry.result same c.visit-entry.ensures.item inside named c.entries.invariant.putting
+    Putting-fits_at (shapes_of store.kept.items) (get_or (entries_of (shapes_of store.kept.items) store.occurrences.items) (place (negation c.args.literal)) []) c.deref.result.now run.opens.items run.candidates.items c.put.new.self.list.items run.work.items run.trail.items run.next run.visits c.entries.run.opens.items c.entries.run.work.items c.entries.run.trail.items c.entries.run.visits c.entries.j c.visit-entry.result same c.visit-entry.ensures.item inside named c.entries.invariant.putting
 
 pub entries-preserved : goal.entries-preserved
 entries-preserved c =
@@ -42,11 +67,11 @@ entries-preserved c =
       candidates = c.lower.ensures.candidates ∙ c.entries.invariant.candidates;
       next = c.lower.ensures.next ∙ c.entries.invariant.next;
       putting =
-          let same = entries-at store.occurrences.items (place (negation c.args.literal)) c.place_of.result c.index-entries.result.now (place-read store.occurrences.items store.variables c.args.literal c.place_of.result c.requires.inside (c.place_of.ensures.place ∙ ap place c.negation.ensures) c.requires.store.places) c.index-entries.ensures (c.place_of.ensures.place ∙ ap place c.negation.ensures) ∙ sym c.deref.ensures.value in
-          let named : All (λ (x : Occurrence). x.form < length (shapes_of store.kept.items)) (get_or (entries_of store.occurrences.items) (place (negation c.args.literal)) []) =
+          let same = entries-at (shapes_of store.kept.items) store.occurrences.items (place (negation c.args.literal)) c.place_of.result c.index-entries.result.now (place-read (shapes_of store.kept.items) store.occurrences.items store.variables c.args.literal c.place_of.result c.requires.inside (c.place_of.ensures.place ∙ ap place c.negation.ensures) c.requires.store.places) c.index-entries.ensures (c.place_of.ensures.place ∙ ap place c.negation.ensures) ∙ ap (map (weighted (shapes_of store.kept.items))) (sym c.deref.ensures.value) in
+          let named : All (λ (x : Weighted). x.form < length (shapes_of store.kept.items)) (get_or (entries_of (shapes_of store.kept.items) store.occurrences.items) (place (negation c.args.literal)) []) =
           λ k d h. omega (arith, c.requires.store.named (place (negation c.args.literal)) k d h, length-map store.kept.items kept_shape) in
           let inside : c.entries.j < length c.deref.result.now = omega (arith, c.entries-test.true, c.len-j-end.ensures, c.deref.ensures.len) in
-          Putting-next_at (shapes_of store.kept.items) (get_or (entries_of store.occurrences.items) (place (negation c.args.literal)) []) c.deref.result.now run.opens.items run.candidates.items c.put.new.self.list.items run.work.items run.trail.items run.next run.visits c.entries.run.opens.items c.entries.run.work.items c.entries.run.trail.items c.entries.run.visits c.entries.j c.lower.new.run.opens.items c.lower.new.run.work.items c.lower.new.run.trail.items c.lower.new.run.visits c.visit-entry.result same c.visit-entry.ensures.item inside named c.requires.next c.in_ok-lower.ensures.opens c.in_ok-lower.ensures.work c.in_ok-lower.ensures.trail (c.in_ok-lower.ensures.visits ∙ c.visit-entry.ensures.count) (omega (arith, c.in_ok-lower.ensures.visits, c.visit-entry.ensures.rising)) c.entries.invariant.putting;
+          Putting-next_at (shapes_of store.kept.items) (get_or (entries_of (shapes_of store.kept.items) store.occurrences.items) (place (negation c.args.literal)) []) c.deref.result.now run.opens.items run.candidates.items c.put.new.self.list.items run.work.items run.trail.items run.next run.visits c.entries.run.opens.items c.entries.run.work.items c.entries.run.trail.items c.entries.run.visits c.entries.j c.lower.new.run.opens.items c.lower.new.run.work.items c.lower.new.run.trail.items c.lower.new.run.visits c.visit-entry.result same c.visit-entry.ensures.item inside named c.requires.next c.in_ok-lower.ensures.opens c.in_ok-lower.ensures.work c.in_ok-lower.ensures.trail (c.in_ok-lower.ensures.visits ∙ c.visit-entry.ensures.count) (omega (arith, c.in_ok-lower.ensures.visits, c.visit-entry.ensures.rising)) c.entries.invariant.putting;
     }
 
 pub returns-clause-tidy : goal.returns-clause-tidy
@@ -60,12 +85,12 @@ place_of-requires c =
     let store = c.args.store.now in
     let inside = place-inside (negation c.args.literal) store.variables c.requires.inside in
     let small = store.occurrences.ok.0 in
-    rw c.negation.ensures (omega (arith, inside, c.requires.store.places, length-map store.occurrences.items (λ (v : Vec Occurrence Global). v.items), small))
+    rw c.negation.ensures (omega (arith, inside, c.requires.store.places, entries-length (shapes_of store.kept.items) store.occurrences.items, small))
 
 pub index-entries-requires : goal.index-entries-requires
 index-entries-requires c =
     let store = c.args.store.now in
-    let read = place-read store.occurrences.items store.variables c.args.literal c.place_of.result c.requires.inside (c.place_of.ensures.place ∙ ap place c.negation.ensures) c.requires.store.places in
+    let read = place-read (shapes_of store.kept.items) store.occurrences.items store.variables c.args.literal c.place_of.result c.requires.inside (c.place_of.ensures.place ∙ ap place c.negation.ensures) c.requires.store.places in
     omega (arith, read, store.occurrences.ok.0)
 
 pub returns-in_err-lower-clause-single : goal.returns-in_err-lower-clause-single

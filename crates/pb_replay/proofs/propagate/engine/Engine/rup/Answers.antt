@@ -233,7 +233,7 @@ returns-then-found-clause-most c =
     let work = ap length c.in_ok-choose-2.ensures ∙ length-append new.run.work.items (filter (waits new.store.kept.items) (number ∷ [])) in
     let waiting = ap (λ (xs : List ℕ). length (filter (waits new.store.kept.items) xs)) c.as_slice.ensures.value in
     let same : numbered forms e.places.items ≡ c.args.self.now.forms = ap (λ (v : Standing). v.forms) c.self.view_is in
-    let looks = most-looks c.propagate.new.run.visits (sum new.run.candidates.items) new.run.visits (length c.choose-2.new.work.items + length (filter (waits new.store.kept.items) c.as_slice.result.now)) new.run.next (sum_by length (entries_of new.store.occurrences.items)) (sum c.propagate.new.run.candidates.items) (sum_by (λ (f : Shape). length f.terms) shapes) (sum_by one_in forms + 1)
+    let looks = most-looks c.propagate.new.run.visits (sum new.run.candidates.items) new.run.visits (length c.choose-2.new.work.items + length (filter (waits new.store.kept.items) c.as_slice.result.now)) new.run.next (sum_by length (entries_of (shapes_of new.store.kept.items) new.store.occurrences.items)) (sum c.propagate.new.run.candidates.items) (sum_by (λ (f : Shape). length f.terms) shapes) (sum_by one_in forms + 1)
     c.propagate.ensures.upper c.enter.ensures.rest.3 c.propagate.ensures.bounded c.in_ok-enter.ensures.sound.whole.totals (omega (arith, few, r.few, first, stand, work_is, work, waiting)) in
     rw (← same) (omega (arith, both.1.alike terms_in refl, both.1.alike one_in refl, looks, terms, more, goal_terms, c.leave.ensures.rest.3, c.rest.ensures.visits))
 
@@ -261,7 +261,7 @@ returns-clause-most c =
     let work = ap length c.in_ok-choose-2.ensures ∙ length-append new.run.work.items (filter (waits new.store.kept.items) (number ∷ [])) in
     let waiting = ap (λ (xs : List ℕ). length (filter (waits new.store.kept.items) xs)) c.as_slice.ensures.value in
     let same : numbered forms e.places.items ≡ c.args.self.now.forms = ap (λ (v : Standing). v.forms) c.self.view_is in
-    let looks = most-looks c.propagate.new.run.visits (sum new.run.candidates.items) new.run.visits (length c.choose-2.new.work.items + length (filter (waits new.store.kept.items) c.as_slice.result.now)) new.run.next (sum_by length (entries_of new.store.occurrences.items)) (sum c.propagate.new.run.candidates.items) (sum_by (λ (f : Shape). length f.terms) shapes) (sum_by one_in forms + 1)
+    let looks = most-looks c.propagate.new.run.visits (sum new.run.candidates.items) new.run.visits (length c.choose-2.new.work.items + length (filter (waits new.store.kept.items) c.as_slice.result.now)) new.run.next (sum_by length (entries_of (shapes_of new.store.kept.items) new.store.occurrences.items)) (sum c.propagate.new.run.candidates.items) (sum_by (λ (f : Shape). length f.terms) shapes) (sum_by one_in forms + 1)
     c.propagate.ensures.upper c.enter.ensures.rest.3 c.propagate.ensures.bounded c.in_ok-enter.ensures.sound.whole.totals (omega (arith, few, r.few, first, stand, work_is, work, waiting)) in
     rw (← same) (omega (arith, both.1.alike terms_in refl, both.1.alike one_in refl, looks, terms, more, goal_terms, c.leave.ensures.rest.3, c.rest.ensures.visits))
 
@@ -289,7 +289,7 @@ returns-in_err-found-clause-most c =
     let work = ap length c.in_ok-choose-2.ensures ∙ length-append new.run.work.items (filter (waits new.store.kept.items) (number ∷ [])) in
     let waiting = ap (λ (xs : List ℕ). length (filter (waits new.store.kept.items) xs)) c.as_slice.ensures.value in
     let same : numbered forms e.places.items ≡ c.args.self.now.forms = ap (λ (v : Standing). v.forms) c.self.view_is in
-    let looks = most-looks c.propagate.new.run.visits (sum new.run.candidates.items) new.run.visits (length c.choose-2.new.work.items + length (filter (waits new.store.kept.items) c.as_slice.result.now)) new.run.next (sum_by length (entries_of new.store.occurrences.items)) (sum c.propagate.new.run.candidates.items) (sum_by (λ (f : Shape). length f.terms) shapes) (sum_by one_in forms + 1)
+    let looks = most-looks c.propagate.new.run.visits (sum new.run.candidates.items) new.run.visits (length c.choose-2.new.work.items + length (filter (waits new.store.kept.items) c.as_slice.result.now)) new.run.next (sum_by length (entries_of (shapes_of new.store.kept.items) new.store.occurrences.items)) (sum c.propagate.new.run.candidates.items) (sum_by (λ (f : Shape). length f.terms) shapes) (sum_by one_in forms + 1)
     c.propagate.ensures.upper c.enter.ensures.rest.3 c.propagate.ensures.bounded c.in_ok-enter.ensures.sound.whole.totals (omega (arith, few, r.few, first, stand, work_is, work, waiting)) in
     rw (← same) (omega (arith, both.1.alike terms_in refl, both.1.alike one_in refl, looks, terms, more, goal_terms))
 
