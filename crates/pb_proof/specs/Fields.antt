@@ -1,19 +1,19 @@
 -- What the machines of proofs keep.
 use Rattle.std.specs.Prelude.{◌≡◌}
 use Rattle.pb_text.specs.Limits.{largest, top_of}
-use Rattle.pb_proof.specs.Count.{CountState}
-use Rattle.pb_proof.specs.Ids.{IdsState}
-use Rattle.pb_proof.specs.Literals.{LiteralsState}
-use Rattle.pb_proof.specs.Goal.{GoalState}
-use Rattle.pb_proof.specs.ClaimState.{ClaimState}
-use Rattle.pb_proof.specs.PolState.{PolState}
-use Rattle.pb_proof.specs.State.{ProofState}
-use Rattle.pb_proof.specs.declared.count.CountMachine.TheInside.{Inside as CountFields}
-use Rattle.pb_proof.specs.declared.ids.IdsMachine.TheInside.{Inside as IdsFields}
-use Rattle.pb_proof.specs.declared.literals.LiteralsMachine.TheInside.{Inside as LiteralsFields}
-use Rattle.pb_proof.specs.declared.goal.GoalMachine.TheInside.{Inside as GoalFields}
-use Rattle.pb_proof.specs.declared.claim.ClaimMachine.TheInside.{Inside as ClaimFields}
-use Rattle.pb_proof.specs.declared.pol.PolMachine.TheInside.{Inside as PolFields}
+use Rattle.pb_proof.specs.Line.Count.{CountState}
+use Rattle.pb_proof.specs.Line.Ids.{IdsState}
+use Rattle.pb_proof.specs.Line.Literals.{LiteralsState}
+use Rattle.pb_proof.specs.Line.Rup.{GoalState}
+use Rattle.pb_proof.specs.Line.ClaimState.{ClaimState}
+use Rattle.pb_proof.specs.Line.PolState.{PolState}
+use Rattle.pb_proof.specs.Machine.State.{ProofState}
+use Rattle.pb_proof.specs.declared.line.count.CountMachine.TheInside.{Inside as CountFields}
+use Rattle.pb_proof.specs.declared.line.ids.IdsMachine.TheInside.{Inside as IdsFields}
+use Rattle.pb_proof.specs.declared.line.literals.LiteralsMachine.TheInside.{Inside as LiteralsFields}
+use Rattle.pb_proof.specs.declared.line.rup.GoalMachine.TheInside.{Inside as GoalFields}
+use Rattle.pb_proof.specs.declared.line.claim.ClaimMachine.TheInside.{Inside as ClaimFields}
+use Rattle.pb_proof.specs.declared.line.pol.PolMachine.TheInside.{Inside as PolFields}
 use Rattle.pb_proof.specs.declared.machine.ProofMachine.TheInside.{Inside as ProofFields}
 
 -- the states that their fields are

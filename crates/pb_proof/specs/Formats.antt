@@ -4,7 +4,7 @@ use Rattle.pb_text.specs.Automaton.{Accepts}
 use Rattle.pb_text.specs.Reading.{HasFixedMarks}
 use Rattle.pb_text.specs.Spelling.{Item, bytes_of}
 use Rattle.pb_proof.specs.Proofs.{IsProof}
-use Rattle.pb_proof.specs.State.{proofs, begin}
+use Rattle.pb_proof.specs.Machine.State.{proofs, begin}
 use Rattle.pb_proof.specs.declared.statement.Statement.{Statement}
 
 -- What a new machine accepts are the proofs.

@@ -3,8 +3,8 @@ use Rattle.std.specs.Prelude.{◌≡◌, ℕ, List, [], ◌∷◌}
 use Rattle.pb_text.specs.Spelling.{Item}
 use Rattle.pb_proof.specs.Lines.{SpellsStatement}
 use Rattle.pb_proof.specs.Proofs.{IsGap}
-use Rattle.pb_proof.specs.declared.phase.Stage.{Stage}
-use Rattle.pb_proof.specs.declared.phase.Stage.TheVariants.{Opening, Formula, Steps, Claim, Closing, Complete}
+use Rattle.pb_proof.specs.declared.machine.phase.Stage.{Stage}
+use Rattle.pb_proof.specs.declared.machine.phase.Stage.TheVariants.{Opening, Formula, Steps, Claim, Closing, Complete}
 use Rattle.pb_proof.specs.declared.statement.Statement.{Statement}
 use Rattle.pb_proof.specs.declared.statement.Statement as statement
 

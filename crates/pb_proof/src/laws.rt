@@ -2,6 +2,8 @@
 
 ghost use Rattle.pb_proof.specs.Formats.{ReadsProofs, OneProof, FixedMarks, NoFront, LargerLimits};
 
+pub(crate) mod values;
+
 /// A new machine accepts exactly the proofs.
 pub fn proofs_are_exact()
     ensures { ReadsProofs }

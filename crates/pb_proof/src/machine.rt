@@ -3,10 +3,13 @@
 ghost use Rattle.std.specs.Prelude.{◌≡◌, false, Option};
 ghost use Rattle.pb_text.specs.Limits.{largest, top_of};
 
-use crate::inner::Inner;
-use crate::inners::inner_first;
-use crate::phase::{Move, Phase, Rest, Stage};
-use crate::plan::{is_done, is_within, plan, stage_behind};
+pub(crate) mod phase;
+mod transition;
+
+use crate::line::Inner;
+use crate::line::push::inner_first;
+use crate::machine::phase::{Move, Phase, Rest, Stage};
+use crate::machine::transition::{is_done, is_within, plan, stage_behind};
 use crate::statement::Statement;
 use pb_text::{Limits, Machine, Push};
 use std::alloc::Global;
@@ -23,7 +26,7 @@ pub struct ProofMachine {
 
 impl Model for ProofMachine {
     ghost use Rattle.pb_text.specs.Limits.{largest, top_of};
-    ghost use Rattle.pb_proof.specs.State.{ProofState, IsInOrder};
+    ghost use Rattle.pb_proof.specs.Machine.State.{ProofState, IsInOrder};
 
     ghost Value = { ProofState };
 
@@ -60,7 +63,7 @@ impl ProofMachine {
     ghost use Rattle.pb_text.specs.Spelling.{Item};
     ghost use Rattle.pb_proof.specs.Asking.{Asks};
     ghost use Rattle.pb_proof.specs.Proofs.{IsProof};
-    ghost use Rattle.pb_proof.specs.State.{proofs, begin};
+    ghost use Rattle.pb_proof.specs.Machine.State.{proofs, begin};
 
     /// A machine before a proof, which accepts exactly the proofs under the limits. It takes no memory.
     pub fn new(alloc: Global, limits: Limits) -> Self
@@ -88,8 +91,8 @@ impl ProofMachine {
 
 impl ProofMachine {
     ghost use Rattle.pb_text.specs.Automaton.{Pushes};
-    ghost use Rattle.pb_proof.specs.State.{proofs};
-    ghost use Rattle.pb_proof.specs.Machine.{plan};
+    ghost use Rattle.pb_proof.specs.Machine.State.{proofs};
+    ghost use Rattle.pb_proof.specs.Machine.Transition.{plan};
 
     /// Takes a byte.
     fn take(&mut self, byte: u8) -> Push<Statement>
@@ -150,7 +153,7 @@ impl ProofMachine {
 impl ProofMachine {
     ghost use Rattle.std.specs.Prelude.{◌≤◌, ◌<◌, take, length};
     ghost use Rattle.pb_text.specs.Automaton.{IsState, Runs};
-    ghost use Rattle.pb_proof.specs.State.{proofs};
+    ghost use Rattle.pb_proof.specs.Machine.State.{proofs};
 
     /// Gives bytes at the front of a text to the machine behind the first word, where it has begun.
     fn give_front(&mut self, text: &[u8]) -> usize
@@ -182,7 +185,7 @@ impl ProofMachine {
 }
 
 impl Machine for ProofMachine {
-    ghost use Rattle.pb_proof.specs.State.{proofs};
+    ghost use Rattle.pb_proof.specs.Machine.State.{proofs};
 
     type Event = Statement;
 

@@ -8,13 +8,15 @@ ghost use Rattle.pb_text.specs.Limits.{largest, top_of};
 ghost use Rattle.pb_text.specs.Pulling.{faults_after};
 ghost use Rattle.pb_text.specs.Spelling.{Item};
 ghost use Rattle.pb_proof.specs.Asking.{Asks};
-ghost use Rattle.pb_proof.specs.Building.{MayKeep};
+ghost use Rattle.pb_proof.specs.Gather.{MayKeep};
 ghost use Rattle.pb_proof.specs.Proofs.{IsProof, IsProofOf};
 ghost use Rattle.pb_proof.specs.Whole.{ReadsValue, GivesValue, WantsMemory};
 
-use crate::building::Building;
+mod gather;
+
 use crate::machine::ProofMachine;
 use crate::proof::Proof;
+use crate::read::gather::Building;
 use crate::statement::Statement;
 use pb_text::{BYTE_LIMIT, Limits, Machine, Source, Spanned, Stop, read_whole};
 use std::alloc::Global;

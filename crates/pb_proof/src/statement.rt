@@ -1,7 +1,7 @@
 //! The statements of a proof.
 
 use crate::conclusion::Conclusion;
-use crate::phase::Stage;
+use crate::machine::phase::Stage;
 use crate::word::PolWord;
 use pb_sums::{Linear, Literal};
 use pb_text::Sequence;

@@ -19,7 +19,7 @@ use Rattle.pb_text.specs.declared.place.Why.TheVariants.{Byte, TooLarge, Ended, 
 use Rattle.pb_text.proofs.Formats as formats
 use Rattle.pb_proof.specs.Formats.{ReadsProofs}
 use Rattle.pb_proof.specs.Proofs.{IsProof}
-use Rattle.pb_proof.specs.State.{ProofState, begin, proofs}
+use Rattle.pb_proof.specs.Machine.State.{ProofState, begin, proofs}
 use Rattle.pb_proof.specs.ValueLaws.{ReadStatements}
 use Rattle.pb_proof.specs.Values.{IsStatementValue}
 use Rattle.pb_proof.specs.declared.Proof.{Proof}

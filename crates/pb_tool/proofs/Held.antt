@@ -12,7 +12,7 @@ use Rattle.pb_text.specs.declared.Spanned.{Spanned}
 use Rattle.pb_text.specs.declared.Stop.{Stop}
 use Rattle.pb_proof.specs.Formats.{NoFront, ReadsProofs}
 use Rattle.pb_proof.specs.Proofs.{IsProof}
-use Rattle.pb_proof.specs.State.{ProofState, begin}
+use Rattle.pb_proof.specs.Machine.State.{ProofState, begin}
 use Rattle.pb_proof.specs.declared.Statement.{Statement}
 use Rattle.pb_replay.specs.Problem.{Problem}
 use Rattle.pb_replay.specs.Replay.{State}

@@ -9,7 +9,7 @@ use Rattle.pb_text.specs.declared.Why.{Why}
 use Rattle.pb_text.specs.declared.place.Why.TheVariants.{Memory}
 use Rattle.pb_text.proofs.Formats as formats
 use Rattle.pb_text.proofs.Unkept.{unkept_viable, unkept_place}
-use Rattle.pb_proof.specs.Building.{asks, MayKeep}
+use Rattle.pb_proof.specs.Gather.{asks, MayKeep}
 use Rattle.pb_proof.specs.Canonical.{statement_bytes, lines}
 use Rattle.pb_proof.specs.Proofs.{IsStep, statements_of, IsProof, IsProofOf}
 use Rattle.pb_proof.specs.Whole.{IsRead, StopsIn, ReadsValue, GivesValue, WantsMemory, WantsIn, Reading, Keeping, Asking, Ending}

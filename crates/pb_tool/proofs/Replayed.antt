@@ -10,7 +10,7 @@ use Rattle.pb_text.specs.declared.Spanned.{Spanned}
 use Rattle.pb_text.specs.declared.Stop.{Stop}
 use Rattle.pb_text.proofs.Formats as formats
 use Rattle.pb_proof.specs.Formats.{ReadsProofs}
-use Rattle.pb_proof.specs.State.{begin, proofs}
+use Rattle.pb_proof.specs.Machine.State.{begin, proofs}
 use Rattle.pb_proof.specs.ValueLaws.{ReadStatements}
 use Rattle.pb_proof.specs.Values.{IsStatementValue}
 use Rattle.pb_proof.specs.declared.Statement.{Statement}

@@ -7,7 +7,7 @@ use Rattle.pb_text.specs.declared.Limits.{Limits}
 use Rattle.pb_text.specs.declared.Spanned.{Spanned}
 use Rattle.pb_text.specs.declared.Feeder.{Feeder}
 use Rattle.pb_proof.specs.Proofs.{IsProof}
-use Rattle.pb_proof.specs.State.{ProofState, begin, proofs}
+use Rattle.pb_proof.specs.Machine.State.{ProofState, begin, proofs}
 use Rattle.pb_proof.specs.declared.Statement.{Statement}
 use Rattle.pb_replay.specs.Problem.{Problem}
 use Rattle.pb_replay.specs.Replay.{State}

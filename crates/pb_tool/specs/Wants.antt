@@ -14,7 +14,7 @@ use Rattle.pb_opb.specs.Building as opb_keeping
 use Rattle.pb_opb.specs.Whole as opb
 use Rattle.pb_opb.specs.declared.Instance.{Instance}
 use Rattle.pb_proof.specs.Asking as veri_bytes
-use Rattle.pb_proof.specs.Building as veri_keeping
+use Rattle.pb_proof.specs.Gather as veri_keeping
 use Rattle.pb_proof.specs.Whole as veri
 use Rattle.pb_proof.specs.declared.Proof.{Proof}
 use Rattle.pb_tool.specs.Files.{MayBeProof, MayBeInstance, IsVeri}

@@ -73,7 +73,7 @@ impl Model for Checker {
 
 impl Checker {
     ghost use Rattle.pb_text.specs.Feeding.{state_of};
-    ghost use Rattle.pb_proof.specs.State.{proofs};
+    ghost use Rattle.pb_proof.specs.Machine.State.{proofs};
     ghost use Rattle.std.specs.Prelude.{◌+◌, ◌<◌, ◌≤◌, ◌++◌, [], ℕ, List, None, Some, Err, IfErr, IfOk, IfSome, length, slice_get, unwrap_or, true, ◌^◌};
     ghost use Rattle.std.specs.Option.{option_copied};
     ghost use Rattle.pb_text.specs.Blank.{IsInReach};

@@ -82,7 +82,7 @@ fn write_line<W: Sink>(statement: &Statement, out: &mut W) -> Result<(), Failed>
 }
 
 impl Gather for ProofText {
-    ghost use Rattle.pb_proof.specs.Building.{asks};
+    ghost use Rattle.pb_proof.specs.Gather.{asks};
     ghost use Rattle.pb_tool.specs.ProofText.{with};
 
     type Event = Statement;

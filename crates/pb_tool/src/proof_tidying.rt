@@ -8,7 +8,7 @@ ghost use Rattle.pb_text.specs.Limits.{largest, top_of};
 ghost use Rattle.pb_text.specs.Pulling.{faults_after};
 ghost use Rattle.pb_text.specs.Spelling.{Item};
 ghost use Rattle.pb_proof.specs.Asking.{Asks};
-ghost use Rattle.pb_proof.specs.Building.{MayKeep};
+ghost use Rattle.pb_proof.specs.Gather.{MayKeep};
 ghost use Rattle.pb_proof.specs.Proofs.{IsProof};
 ghost use Rattle.pb_proof.specs.Whole.{GivesValue, ReadsValue, WantsMemory};
 ghost use Rattle.pb_proof.specs.declared.Proof.{Proof};

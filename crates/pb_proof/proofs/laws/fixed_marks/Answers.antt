@@ -1,6 +1,6 @@
 use Rattle.pb_text.proofs.FixedMarks as marks
-use Rattle.pb_proof.specs.State.{proofs, begin}
-use Rattle.pb_proof.proofs.ProofExact.{reads_proofs}
+use Rattle.pb_proof.specs.Machine.State.{proofs, begin}
+use Rattle.pb_proof.proofs.lemmas.Machine.Exact.{reads_proofs}
 use Rattle.pb_proof.proofs.laws.fixed_marks.Goals as goal
 
 pub returns : goal.returns

@@ -3,7 +3,7 @@ use Rattle.pb_text.specs.Automaton.{Accepts, MayAsk}
 use Rattle.pb_text.specs.Limits.{largest, top_of}
 use Rattle.pb_proof.specs.Asking.{Asks}
 use Rattle.pb_proof.specs.Proofs.{IsProof}
-use Rattle.pb_proof.proofs.Gathered.{is_read, stops_in, wants_in}
+use Rattle.pb_proof.proofs.lemmas.Proofs.Gathered.{is_read, stops_in, wants_in}
 use Rattle.pb_proof.proofs.read.read_by.Goals as goal
 
 pub returns-in-Ok-clause-reads : goal.returns-in-Ok-clause-reads

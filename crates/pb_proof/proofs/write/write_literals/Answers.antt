@@ -3,7 +3,7 @@ use Rattle.pb_text.specs.Writing.{Wrote}
 use Rattle.pb_text.proofs.Writing.{writes_nothing}
 use Rattle.pb_text.proofs.Parts.{part_then, part_broke, part_wrote}
 use Rattle.pb_proof.specs.Canonical.{literal_line}
-use Rattle.pb_proof.proofs.Written.{listed_none, listed_more, listed_at}
+use Rattle.pb_proof.proofs.lemmas.Written.{listed_none, listed_more, listed_at}
 use Rattle.pb_proof.proofs.write.write_literals.Goals as goal
 
 pub loop-literal-init : goal.loop-literal-init

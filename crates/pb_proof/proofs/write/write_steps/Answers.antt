@@ -2,7 +2,7 @@ use Rattle.std.proofs.Common.{ℕ, List, refl, arith, sym, subst}
 use Rattle.pb_text.specs.Writing.{Wrote}
 use Rattle.pb_text.proofs.Writing.{writes_nothing}
 use Rattle.pb_text.proofs.Parts.{part_then, part_broke, part_wrote}
-use Rattle.pb_proof.proofs.Written.{ended_none, ended_more, ended_at}
+use Rattle.pb_proof.proofs.lemmas.Written.{ended_none, ended_more, ended_at}
 use Rattle.pb_proof.proofs.write.write_steps.Goals as goal
 
 pub loop-step-init : goal.loop-step-init

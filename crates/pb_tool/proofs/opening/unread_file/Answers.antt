@@ -3,7 +3,7 @@ use Rattle.pb_text.specs.Automaton.{Accepts}
 use Rattle.pb_text.specs.Limits.{largest, top_of}
 use Rattle.pb_text.specs.NothingRead.{first_place, first_fault}
 use Rattle.pb_text.proofs.Formats as formats
-use Rattle.pb_proof.specs.State.{proofs}
+use Rattle.pb_proof.specs.Machine.State.{proofs}
 use Rattle.pb_tool.specs.Files.{IsVeri}
 use Rattle.pb_tool.proofs.Chosen.{not_done, no_proof}
 use Rattle.pb_tool.proofs.opening.unread_file.Goals as goal

@@ -1,7 +1,7 @@
 use Rattle.std.proofs.Common.{Some, ◌++◌}
 use Rattle.pb_text.specs.Automaton.{Accepts, MayAsk}
 use Rattle.pb_text.proofs.Formats as formats
-use Rattle.pb_proof.specs.State.{proofs}
+use Rattle.pb_proof.specs.Machine.State.{proofs}
 use Rattle.pb_proof.specs.Canonical.{statement_bytes}
 use Rattle.pb_tool.specs.Files.{IsVeri}
 use Rattle.pb_tool.specs.Wants.{AsksVeri}

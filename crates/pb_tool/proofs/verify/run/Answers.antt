@@ -3,7 +3,7 @@ use Rattle.pb_text.specs.Automaton.{Accepts as AcceptsBytes, MayAsk}
 use Rattle.pb_text.specs.Limits.{largest, top_of}
 use Rattle.pb_text.specs.Pulling.{faults_with}
 use Rattle.pb_text.specs.declared.Place.{Place}
-use Rattle.pb_proof.specs.State.{begin, proofs}
+use Rattle.pb_proof.specs.Machine.State.{begin, proofs}
 use Rattle.pb_tool.specs.Verified.{IsAccepted}
 use Rattle.pb_tool.specs.Files.{IsVeri}
 use Rattle.pb_tool.specs.Wants.{AsksVeri}

@@ -3,7 +3,7 @@ use Rattle.pb_text.specs.Feeding.{place_of}
 use Rattle.pb_text.specs.Limits.{largest, top_of}
 use Rattle.pb_text.specs.Rows.{HasPulled}
 use Rattle.pb_text.specs.declared.Spanned.{Spanned}
-use Rattle.pb_proof.specs.State.{begin}
+use Rattle.pb_proof.specs.Machine.State.{begin}
 use Rattle.pb_proof.specs.declared.Statement.{Statement}
 use Rattle.pb_replay.specs.Replay.{State}
 use Rattle.pb_replay.specs.Statements.{Accepts}

@@ -1,11 +1,11 @@
 use Rattle.std.proofs.Common.{◌≡◌, sym, subst, Some, IsTrue, refl}
 use Rattle.pb_text.specs.Automaton.{Admits}
-use Rattle.pb_proof.specs.Machine.{plan}
-use Rattle.pb_proof.specs.State.{ProofState, IsInOrder, proofs}
+use Rattle.pb_proof.specs.Machine.Transition.{plan}
+use Rattle.pb_proof.specs.Machine.State.{ProofState, IsInOrder, proofs}
 use Rattle.pb_proof.specs.contracts.machine.ProofMachine.{the_view}
-use Rattle.pb_proof.specs.declared.inner.Inner.{Inner}
-use Rattle.pb_proof.specs.declared.phase.Move.TheVariants.{Give}
-use Rattle.pb_proof.proofs.ProofStates.{give_order, give_admits, known}
+use Rattle.pb_proof.specs.declared.line.Inner.{Inner}
+use Rattle.pb_proof.specs.declared.machine.phase.Move.TheVariants.{Give}
+use Rattle.pb_proof.proofs.lemmas.Machine.States.{give_order, give_admits, known}
 use Rattle.pb_proof.proofs.machine.ProofMachine.give.Goals as goal
 
 pub invariant_of-self-in-Go : goal.invariant_of-self-in-Go

@@ -1,6 +1,6 @@
 use Rattle.std.proofs.Common.{take, refl}
 use Rattle.pb_proof.specs.contracts.machine.ProofMachine.{the_view}
-use Rattle.pb_proof.proofs.Taken.{runs_given}
+use Rattle.pb_proof.proofs.lemmas.Machine.Taken.{runs_given}
 use Rattle.pb_proof.proofs.machine.ProofMachine.give_front.Goals as goal
 use Rattle.pb_proof.proofs.machine.ProofMachine.give_front.Goals.{in-Some, in-None}
 

@@ -2,9 +2,9 @@ use Rattle.pb_text.specs.Limits.{largest, top_of}
 use Rattle.pb_text.specs.Automaton.{Accepts}
 use Rattle.pb_text.proofs.Formats as formats
 use Rattle.pb_proof.specs.Proofs.{IsProof}
-use Rattle.pb_proof.specs.State.{proofs, begin}
-use Rattle.pb_proof.proofs.ProofAsks.{asks_only}
-use Rattle.pb_proof.proofs.ProofExact.{reads_proofs}
+use Rattle.pb_proof.specs.Machine.State.{proofs, begin}
+use Rattle.pb_proof.proofs.lemmas.Machine.Asks.{asks_only}
+use Rattle.pb_proof.proofs.lemmas.Machine.Exact.{reads_proofs}
 use Rattle.pb_proof.proofs.machine.ProofMachine.new.Goals as goal
 
 pub returns-clause-accepts : goal.returns-clause-accepts

@@ -1,8 +1,8 @@
 use Rattle.std.proofs.Common.{◌∙◌, ap, sym, subst, Some}
-use Rattle.pb_proof.specs.State.{ProofState, IsInOrder}
+use Rattle.pb_proof.specs.Machine.State.{ProofState, IsInOrder}
 use Rattle.pb_proof.specs.contracts.machine.ProofMachine.{the_view}
-use Rattle.pb_proof.specs.declared.phase.Phase.TheVariants.{Inside}
-use Rattle.pb_proof.proofs.ProofStates.{to_order, begin_order}
+use Rattle.pb_proof.specs.declared.machine.phase.Phase.TheVariants.{Inside}
+use Rattle.pb_proof.proofs.lemmas.Machine.States.{to_order, begin_order}
 use Rattle.pb_proof.proofs.machine.ProofMachine.take.Goals as goal
 
 pub invariant_of-self : goal.invariant_of-self

@@ -1,7 +1,7 @@
 use Rattle.std.proofs.Common.{subst}
 use Rattle.pb_text.specs.Automaton.{IsState}
-use Rattle.pb_proof.specs.State.{ProofState, proofs}
-use Rattle.pb_proof.proofs.ProofStates.{is_state}
+use Rattle.pb_proof.specs.Machine.State.{ProofState, proofs}
+use Rattle.pb_proof.proofs.lemmas.Machine.States.{is_state}
 use Rattle.pb_proof.proofs.machine.ProofMachineMachine.is_done.Goals as goal
 
 pub returns-clause-state : goal.returns-clause-state

@@ -1,0 +1,5 @@
+use Rattle.pb_proof.proofs.lemmas.Proofs.Values.{one_value}
+use Rattle.pb_proof.proofs.laws.values.one_value.Goals as goal
+
+pub returns : goal.returns
+returns c = one_value

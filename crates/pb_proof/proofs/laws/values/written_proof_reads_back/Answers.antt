@@ -1,0 +1,6 @@
+use Rattle.pb_proof.proofs.lemmas.Machine.Exact.{one_proof}
+use Rattle.pb_proof.proofs.lemmas.ReadsBack.{reads_back_of}
+use Rattle.pb_proof.proofs.laws.values.written_proof_reads_back.Goals as goal
+
+pub returns : goal.returns
+returns c = reads_back_of one_proof

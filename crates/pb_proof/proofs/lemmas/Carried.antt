@@ -1,0 +1,100 @@
+-- An automaton within another one.
+use Rattle.std.proofs.Common.{◌≡◌, ℕ, true, List, [], ◌∷◌, refl, sym, ap, subst, ◌∙◌, map, ◌++◌}
+use Rattle.pb_text.specs.Automaton.{Automaton, Next, Go, End, Refuse, Skips, Reads, Runs, Accepts, Admits, IsState}
+use Rattle.pb_text.specs.Spelling.{Letter, Item, letters_of, bytes, plain}
+use Rattle.pb_proof.specs.Line.Machine.{carried}
+use Rattle.pb_proof.proofs.lemmas.Walking.{Walks}
+
+module _ {S E R F : Type 0} (m : Automaton S E) (n : Automaton R F) (into : S → R) (event : E → F) where
+  -- What the one does in a state the other does in the state that stands for it.
+  pub record Carries : Type 0 where
+    pub step : (s : S) (b : ℕ) → n.step (into s) b ≡ carried into event (m.step s b)
+    pub done : (s : S) → n.done (into s) ≡ m.done s
+    pub begun : (s : S) → n.begun (into s) ≡ m.begun s
+    pub in_number : (s : S) → n.in_number (into s) ≡ m.in_number s
+    pub asks : (s : S) (b : ℕ) → n.asks (into s) b ≡ m.asks s b
+    pub kept : (s : S) → n.kept (into s) ≡ m.kept s
+    pub spent : (s : S) → n.spent (into s) ≡ m.spent s
+
+  module _ (h : Carries) where
+    stepped : (s : S) (b : ℕ) (x : Next S E) → m.step s b ≡ x → n.step (into s) b ≡ carried into event x
+    stepped s b x e = h.step s b ∙ ap (carried into event) e
+
+    pub reads_in : (t : List Letter) (s : S) (e : E) (after : S) → Reads m s t e after → Reads n (into s) t (event e) (into after)
+    reads_in [] s e after r = absurd r
+    reads_in (l ∷ []) s e after (g, f) = (stepped s l.byte (End e after) g, f)
+    reads_in (l ∷ k ∷ t) s e after (mid, g, i, f, r) =
+        (into mid, stepped s l.byte (Go mid) g, h.begun mid ∙ i, f ∙ sym (h.in_number mid), reads_in (k ∷ t) mid e after r)
+
+    -- what a step of the other comes from
+    went : (x : Next S E) (r : R) → carried into event x ≡ Go r → (s : S) × (x ≡ Go s) × (r ≡ into s)
+    went (Go s) r e = (s, refl, (let f : r ≡ into s = cc in f))
+    went (End v s) r e = absurd (let f : ⊥ = cc in f)
+    went Refuse r e = absurd (let f : ⊥ = cc in f)
+
+    ended : (x : Next S E) (f : F) (r : R) → carried into event x ≡ End f r → (e : E) × (s : S) × (x ≡ End e s) × (f ≡ event e) × (r ≡ into s)
+    ended (Go s) f r e = absurd (let g : ⊥ = cc in g)
+    ended (End v s) f r e = (v, s, refl, (let g : f ≡ event v = cc in g), (let g : r ≡ into s = cc in g))
+    ended Refuse f r e = absurd (let g : ⊥ = cc in g)
+
+    pub went_out : (s : S) (b : ℕ) (r : R) → n.step (into s) b ≡ Go r → (next : S) × (m.step s b ≡ Go next) × (r ≡ into next)
+    went_out s b r e = went (m.step s b) r (sym (h.step s b) ∙ e)
+
+    pub ended_out : (s : S) (b : ℕ) (f : F) (r : R) → n.step (into s) b ≡ End f r → (e : E) × (next : S) × (m.step s b ≡ End e next) × (f ≡ event e) × (r ≡ into next)
+    ended_out s b f r e = ended (m.step s b) f r (sym (h.step s b) ∙ e)
+
+    pub reads_out : (t : List Letter) (s : S) (f : F) (r : R) → Reads n (into s) t f r → (e : E) × (after : S) × (f ≡ event e) × Reads m s t e after
+    reads_out [] s f r h' = absurd h'
+    reads_out (l ∷ []) s f r (g, z) =
+        let (e, next, i, j, k) = ended_out s l.byte f r g in (e, next, j, (i, z))
+    reads_out (l ∷ k ∷ t) s f r (mid, g, i, z, q) =
+        let (next, j, same) = went_out s l.byte mid g in
+        let (e, after, w, rest) = reads_out (k ∷ t) next f r (subst (λ x. Reads n x (k ∷ t) f r) same q) in
+        (e, after, w, (next, j, sym (h.begun next) ∙ (ap n.begun (sym same) ∙ i), z ∙ (ap n.in_number same ∙ h.in_number next), rest))
+
+    skips_in : (gap : List ℕ) (s at : S) → Skips m s gap at → Skips n (into s) gap (into at)
+    skips_in [] s at e = ap into e
+    skips_in (b ∷ gap) s at (mid, g, o, k) = (into mid, stepped s b (Go mid) g, h.begun mid ∙ o, skips_in gap mid at k)
+
+    abbrev carried_item : Item E → Item F
+    carried_item i = record { gap = i.gap; text = i.text; event = event i.event }
+
+    accepts_in : (items : List (Item E)) (s : S) → Accepts m s items → Accepts n (into s) (map carried_item items)
+    accepts_in [] s d = h.done s ∙ d
+    accepts_in (i ∷ rest) s (at, after, g, r, a) =
+        (into at, into after, skips_in i.gap s at g, reads_in i.text at i.event after r, accepts_in rest after a)
+
+    letters_same : (items : List (Item E)) → letters_of (map carried_item items) ≡ letters_of items
+    letters_same [] = refl
+    letters_same (i ∷ rest) = ap (λ x. plain i.gap ++ (i.text ++ x)) (letters_same rest)
+
+    pub state_in : (s : S) → IsState m s → IsState n (into s)
+    state_in s k = record {
+      live = (map carried_item k.live.0, accepts_in k.live.0 s k.live.1);
+      ends = λ d b. stepped s b Refuse (k.ends (sym (h.done s) ∙ d) b);
+      owes = λ b r e. let (next, g, same) = went_out s b r e in ap n.done same ∙ (h.done next ∙ k.owes b next g);
+      stays = λ i b r e. let (next, g, same) = went_out s b r e in ap n.begun same ∙ (h.begun next ∙ k.stays (sym (h.begun s) ∙ i) b next g);
+      closes = λ b f r e. let (v, next, g, j, same) = ended_out s b f r e in ap n.begun same ∙ (h.begun next ∙ k.closes b v next g);
+      plain = λ o. h.in_number s ∙ k.plain (sym (h.begun s) ∙ o);
+      grows = λ b r e. let (next, g, same) = went_out s b r e in rw (same, h.spent next, h.spent s) (k.grows b next g);
+      bounds = rw (h.kept s, h.spent s) k.bounds;
+      empties = λ o. h.spent s ∙ k.empties (sym (h.begun s) ∙ o);
+    }
+
+    pub runs_in : (text : List ℕ) (s new : S) → Runs m s text new → Runs n (into s) text (into new)
+    runs_in [] s new same = ap into same
+    runs_in (b ∷ text) s new (mid, g, state, rest) = (into mid, stepped s b (Go mid) g, state_in mid state, runs_in text mid new rest)
+
+    pub admits_in : (s : S) (b : ℕ) → Admits m s b → Admits n (into s) b
+    admits_in s b (items, a, more, e) = (map carried_item items, accepts_in items s a, more, ap bytes (letters_same items) ∙ e)
+
+    -- each byte that is taken begins the text, or is behind its beginning
+    pub begins_in : ((s next : S) (b : ℕ) → m.step s b ≡ Go next → m.begun next ≡ true) → (s : S) (r : R) (b : ℕ) → n.step (into s) b ≡ Go r → n.begun r ≡ true
+    begins_in f s r b e = let (next, g, same) = went_out s b r e in ap n.begun same ∙ (h.begun next ∙ f s next b g)
+
+    pub walks_out : (t : List Letter) (s : S) (r : R) → Walks n (into s) t r → (next : S) × (r ≡ into next) × Walks m s t next
+    walks_out [] s r w = (s, w, refl)
+    walks_out (l ∷ t) s r (mid, g, i, z, w) =
+        let (next, j, same) = went_out s l.byte mid g in
+        let (last, is, k) = walks_out t next r (subst (λ x. Walks n x t r) same w) in
+        (last, is, (next, j, sym (h.begun next) ∙ (ap n.begun (sym same) ∙ i), z ∙ (ap n.in_number same ∙ h.in_number next), k))

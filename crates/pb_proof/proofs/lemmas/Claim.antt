@@ -1,0 +1,11 @@
+-- Lemmas on the machine of claims.
+pub mod Asks
+pub mod Bytes
+pub mod Each
+pub mod Front
+pub mod Parts
+pub mod Pushes
+pub mod Steps
+pub mod Texts
+pub mod Theorems
+pub mod Walk

@@ -1,0 +1,148 @@
+-- Where the machine of claims asks.
+use Rattle.std.proofs.Common.{◌≡◌, ℕ, ◌+◌, ◌-◌, ◌*◌, Bool, true, false, ◌&&◌, List, [], ◌∷◌, ◌++◌, refl, sym, ap, subst, ◌∙◌, append_assoc, Some, None}
+use Rattle.std.proofs.lemmas.Bool.{false≢true}
+use Rattle.std.specs.Prelude.{ℤ, nat_eq, nat_le, slice_index}
+use Rattle.pb_text.specs.Automaton.{Next, Go, End, Refuse, Reads}
+use Rattle.pb_text.specs.Classes.{is_blank, is_digit}
+use Rattle.pb_text.specs.Spelling.{Letter, bytes}
+use Rattle.pb_text.proofs.Lists.{bytes-append}
+use Rattle.pb_sums.specs.declared.Literal.{Literal}
+use Rattle.pb_proof.specs.Asking.{AsksShown, AsksClaim}
+use Rattle.pb_proof.specs.Line.Claim.{word_of, behind_word, behind_bound, spell, first_word, digits, begin_bound, colon, behind, between, after_bound, id_digits, after_id, plan}
+use Rattle.pb_proof.specs.Line.ClaimState.{ClaimState, claim_automaton, claim_first, showing_value, act, over, giving, asks}
+use Rattle.pb_proof.specs.Line.Literals.{LiteralsState, literals_automaton}
+use Rattle.pb_proof.specs.Lines.{inf_word}
+use Rattle.pb_proof.specs.declared.conclusion.Bound.{Bound}
+use Rattle.pb_proof.specs.declared.conclusion.Bound.TheVariants.{Infinite}
+use Rattle.pb_proof.specs.declared.conclusion.Conclusion.{Conclusion}
+use Rattle.pb_proof.specs.declared.line.claim.phase.Owner.{Owner}
+use Rattle.pb_proof.specs.declared.line.claim.phase.Owner.TheVariants as owner
+use Rattle.pb_proof.specs.declared.line.claim.phase.Side.{Side}
+use Rattle.pb_proof.specs.declared.line.claim.phase.Side.TheVariants as side
+use Rattle.pb_proof.specs.declared.line.claim.phase.Showing.{Showing}
+use Rattle.pb_proof.specs.declared.line.claim.phase.Showing.TheVariants as showing
+use Rattle.pb_proof.specs.declared.line.claim.phase.Claim.{Claim}
+use Rattle.pb_proof.specs.declared.line.claim.phase.Claim.TheVariants as claim
+use Rattle.pb_proof.specs.declared.line.claim.phase.Phase.{Phase}
+use Rattle.pb_proof.specs.declared.line.claim.phase.Phase.TheVariants as phase
+use Rattle.pb_proof.specs.declared.line.claim.phase.Move.{Move}
+use Rattle.pb_proof.proofs.lemmas.Choices.{chosen}
+use Rattle.pb_proof.proofs.lemmas.Claim.Front as claims
+use Rattle.pb_proof.proofs.lemmas.Line.Asks.{literals_asked}
+use Rattle.pb_proof.proofs.lemmas.Walking.{Walks, fronts}
+
+module _ (s : ClaimState) (b : ℕ) where
+  abbrev Quiet : Move → Type 0
+  Quiet m = asks s b m ≡ false
+
+  spells : (w : List ℕ) (k : ℕ) (more whole : Phase) → Quiet (spell w k b more whole)
+  spells w k more whole = chosen Quiet (nat_eq b (slice_index w k)) _ _ (λ _. refl) (λ _. refl)
+
+  words : Quiet (first_word b)
+  words =
+      chosen Quiet (nat_eq b 78) _ _ (λ _. refl)
+      (λ _. chosen Quiet (nat_eq b 85) _ _ (λ _. refl)
+      (λ _. chosen Quiet (nat_eq b 83) _ _ (λ _. refl)
+      (λ _. chosen Quiet (nat_eq b 66) _ _ (λ _. refl) (λ _. refl))))
+
+  digit : (limit : ℕ) (x : Side) (negative : Bool) (n : ℕ) → Quiet (digits limit x negative n b)
+  digit limit x negative n = chosen Quiet (is_digit b && nat_le (10 * n + (b - 48)) limit) _ _ (λ _. refl) (λ _. refl)
+
+  bounds : (limit : ℕ) (x : Side) → Quiet (begin_bound limit x b)
+  bounds limit x =
+      chosen Quiet (nat_eq b 43) _ _ (λ _. refl)
+      (λ _. chosen Quiet (nat_eq b 45) _ _ (λ _. refl)
+      (λ _. chosen Quiet (nat_eq b 73) _ _ (λ _. refl) (λ _. digit limit x false 0)))
+
+  colons : (c : Claim) → Quiet (colon c)
+  colons claim.NoClaim = refl
+  colons (claim.Unsat None) = refl
+  colons (claim.Unsat (Some id)) = refl
+  colons (claim.Shows shows) = refl
+
+  behinds : (c : Claim) → Quiet (behind c b)
+  behinds c =
+      chosen Quiet (is_blank b) _ _ (λ _. refl)
+      (λ _. chosen Quiet (nat_eq b 10) _ _ (λ _. refl)
+      (λ _. chosen Quiet (nat_eq b 59) _ _ (λ _. refl)
+      (λ _. chosen Quiet (nat_eq b 58) _ _ (λ _. colons c) (λ _. refl))))
+
+  betweens : (x : Bound) → Quiet (between x b)
+  betweens x = chosen Quiet (is_blank b) _ _ (λ _. refl) (λ _. chosen Quiet (nat_eq b 58) _ _ (λ _. refl) (λ _. refl))
+
+  after_bounds : (x : Side) (y : Bound) → Quiet (after_bound x y b)
+  after_bounds side.Lower y = betweens y
+  after_bounds (side.Upper lower id) y = behinds (claim.Shows (showing.Bounds lower id y))
+
+  id_digit : (top : ℕ) (x : Owner) (negative : Bool) (n : ℕ) → Quiet (id_digits top x negative n b)
+  id_digit top x negative n = chosen Quiet (is_digit b && nat_le (10 * n + (b - 48)) top) _ _ (λ _. refl) (λ _. refl)
+
+  after_ids : (x : Owner) (id : ℤ) → Quiet (after_id x id b)
+  after_ids owner.Unsat id = behinds (claim.Unsat (Some id))
+  after_ids (owner.Lower x) id = chosen Quiet (is_blank b) _ _ (λ _. refl) (λ _. refl)
+
+  -- only within literals that are shown
+  shows_only : (ph : Phase) → asks s b (plan s.limit s.top ph b) ≡ true → (x : Showing) × (ph ≡ phase.Shown x)
+  shows_only (phase.Shown x) h = (x, refl)
+  shows_only phase.Start h = absurd (false≢true (sym (chosen Quiet (is_blank b) _ _ (λ _. refl) (λ _. refl)) ∙ h))
+  shows_only phase.Before h = absurd (false≢true (sym (chosen Quiet (is_blank b) _ _ (λ _. refl) (λ _. words)) ∙ h))
+  shows_only (phase.Word w k) h = absurd (false≢true (sym (spells (word_of w) k (phase.Word w (k + 1)) (behind_word w)) ∙ h))
+  shows_only (phase.Behind c) h = absurd (false≢true (sym (behinds c) ∙ h))
+  shows_only (phase.Semicolon c) h =
+      absurd (false≢true (sym (chosen Quiet (is_blank b) _ _ (λ _. refl) (λ _. chosen Quiet (nat_eq b 10) _ _ (λ _. refl) (λ _. refl))) ∙ h))
+  shows_only phase.Bounded h = absurd (false≢true (sym (chosen Quiet (is_blank b) _ _ (λ _. refl) (λ _. refl)) ∙ h))
+  shows_only (phase.BeforeBound x) h = absurd (false≢true (sym (chosen Quiet (is_blank b) _ _ (λ _. refl) (λ _. bounds s.limit x)) ∙ h))
+  shows_only (phase.Signed x negative) h = absurd (false≢true (sym (digit s.limit x negative 0) ∙ h))
+  shows_only (phase.Digits x negative n) h = absurd (false≢true (sym (chosen Quiet (is_digit b) _ _ (λ _. digit s.limit x negative n) (λ _. after_bounds x _)) ∙ h))
+  shows_only (phase.Infinity x k) h = absurd (false≢true (sym (spells inf_word k (phase.Infinity x (k + 1)) (behind_bound x Infinite)) ∙ h))
+  shows_only (phase.Between x) h = absurd (false≢true (sym (betweens x) ∙ h))
+  shows_only (phase.Spaced x) h =
+      absurd (false≢true (sym (chosen Quiet (is_blank b) _ _ (λ _. refl) (λ _. chosen Quiet (nat_eq b 58) _ _ (λ _. refl) (λ _. bounds s.limit (side.Upper x None)))) ∙ h))
+  shows_only (phase.BeforeId x) h =
+      absurd (false≢true (sym (chosen Quiet (is_blank b) _ _ (λ _. refl) (λ _. chosen Quiet (nat_eq b 45) _ _ (λ _. refl) (λ _. id_digit s.top x false 0))) ∙ h))
+  shows_only (phase.IdSigned x) h = absurd (false≢true (sym (id_digit s.top x true 0) ∙ h))
+  shows_only (phase.IdDigits x negative n) h =
+      absurd (false≢true (sym (chosen Quiet (is_digit b) _ _ (λ _. id_digit s.top x negative n) (λ _. chosen Quiet (nat_eq n 0) _ _ (λ _. refl) (λ _. after_ids x _))) ∙ h))
+  shows_only phase.Done h = absurd (false≢true h)
+
+-- What is read there shows literals.
+shown_step : (s : ClaimState) (b : ℕ) (x : Showing) → s.phase ≡ phase.Shown x → claim_automaton.step s b ≡ over s x (literals_automaton.step s.inner b)
+shown_step s b x e = ap (λ q. act s b (plan s.limit s.top q b)) e
+
+shown_went : (s next : ClaimState) (x : Showing) (y : Next LiteralsState (List Literal)) → ◌≡◌ {A = Next ClaimState Conclusion} (over s x y) (Go next) → next.phase ≡ s.phase
+shown_went s next x (Go inner) e = let f : next ≡ giving s inner = cc in ap (λ z. z.phase) f
+shown_went s next x (End ls inner) e = absurd (let f : ⊥ = cc in f)
+shown_went s next x Refuse e = absurd (let f : ⊥ = cc in f)
+
+shown_ended : (s next : ClaimState) (x : Showing) (c : Conclusion) (y : Next LiteralsState (List Literal)) → ◌≡◌ {A = Next ClaimState Conclusion} (over s x y) (End c next)
+    → (ls : List Literal) × (c ≡ showing_value x (Some ls))
+shown_ended s next x c (Go inner) e = absurd (let f : ⊥ = cc in f)
+shown_ended s next x c (End ls inner) e = (ls, (let f : c ≡ showing_value x (Some ls) = cc in f))
+shown_ended s next x c Refuse e = absurd (let f : ⊥ = cc in f)
+
+shown_reads : (t : List Letter) (s : ClaimState) (x : Showing) (c : Conclusion) (next : ClaimState) → s.phase ≡ phase.Shown x → Reads claim_automaton s t c next
+    → (ls : List Literal) × (c ≡ showing_value x (Some ls))
+shown_reads [] s x c next at r = absurd r
+shown_reads (l ∷ []) s x c next at (h, n) = shown_ended s next x c (literals_automaton.step s.inner l.byte) (sym (shown_step s l.byte x at) ∙ h)
+shown_reads (l ∷ k ∷ t) s x c next at (mid, h, o, n, r) =
+    shown_reads (k ∷ t) mid x c next (shown_went s mid x (literals_automaton.step s.inner l.byte) (sym (shown_step s l.byte x at) ∙ h) ∙ at) r
+
+shows_claim : (x : Showing) (ls : List Literal) (text : List ℕ) (b : ℕ) → AsksShown text b → AsksClaim (showing_value x (Some ls)) text b
+shows_claim showing.Sat ls text b h = h
+shows_claim (showing.Bounds lower id upper) ls text b h = h
+
+module _ (limit top : ℕ) where
+  shown_at : (s : ClaimState) (x : Showing) (t : List Letter) (b : ℕ) → s.phase ≡ phase.Shown x → claims.front s.limit s.top s.inner s.phase t → claim_automaton.asks s b ≡ true → AsksShown (bytes t) b
+  shown_at s x t b at f h =
+      let (a, c, e, (u, v, i, j, colon), w) = subst (λ q. claims.front s.limit s.top s.inner q t) at f in
+      let asks_it : literals_automaton.asks s.inner b ≡ true = subst (λ q. asks s b (plan s.limit s.top q b) ≡ true) at h in
+      let front : bytes a ≡ bytes u ++ 58 ∷ [] = ap bytes i ∙ (bytes-append u v ∙ ap (λ (y : List ℕ). bytes u ++ y) (ap bytes colon)) in
+      (bytes u, bytes c, ap bytes e ∙ (bytes-append a c ∙ (ap (λ (y : List ℕ). y ++ bytes c) front ∙ append_assoc (bytes u) (58 ∷ []) (bytes c))), literals_asked true c s.inner b w asks_it)
+
+  pub claim_asked : (t rest : List Letter) (l : Letter) (s next : ClaimState) (c : Conclusion) → Walks claim_automaton (claim_first limit top) t s → Reads claim_automaton s (l ∷ rest) c next
+      → claim_automaton.asks s l.byte ≡ true → AsksClaim c (bytes t) l.byte
+  claim_asked t rest l s next c w r h =
+      let (x, at) = shows_only s l.byte s.phase h in
+      let (ls, same) = shown_reads (l ∷ rest) s x c next at r in
+      let f = fronts claim_automaton claims.Known claims.Told claims.keeps t (claim_first limit top) [] s w (tt, refl) in
+      subst (λ y. AsksClaim y (bytes t) l.byte) (sym same) (shows_claim x ls (bytes t) l.byte (shown_at s x t l.byte at f.1 h))

@@ -1,0 +1,277 @@
+-- What a machine of claims keeps from byte to byte.
+use Rattle.std.proofs.Common.{◌≡◌, ℕ, ◌+◌, ◌-◌, ◌*◌, ◌^◌, ◌<◌, ◌≤◌, Bool, true, false, cond, ◌&&◌, nat_eq, nat_le, length, refl, sym, ap, subst, arith}
+use Rattle.std.proofs.lemmas.Bool.{leb-true, false≢true}
+use Rattle.std.proofs.lemmas.Bool.Decides.{nat_tests}
+use Rattle.std.specs.Prelude.{ℤ, Some, None, slice_index, List}
+use Rattle.pb_text.specs.Automaton.{Next, Go, End, Refuse}
+use Rattle.pb_text.specs.Classes.{is_blank, is_digit}
+use Rattle.pb_text.specs.Numbers.{signed}
+use Rattle.pb_sums.specs.declared.Literal.{Literal}
+use Rattle.pb_proof.specs.Lines.{inf_word}
+use Rattle.pb_proof.specs.Line.Claim.{word_of, behind_word, behind_bound, spell, first_word, digits, begin_bound, colon, behind, between, after_bound, id_digits, after_id, plan, is_within, is_done, PhaseFits}
+use Rattle.pb_proof.specs.Line.ClaimState.{ClaimState, claim_automaton, claim_at, claim_last, giving, act, over, is_in_number, spent, Holds, IsClaimInOrder}
+use Rattle.pb_proof.specs.Line.Literals.{LiteralsState, literals_automaton}
+use Rattle.pb_proof.specs.declared.conclusion.Bound.{Bound}
+use Rattle.pb_proof.specs.declared.conclusion.Bound.TheVariants.{Finite, Infinite}
+use Rattle.pb_proof.specs.declared.conclusion.Conclusion.{Conclusion}
+use Rattle.pb_proof.specs.declared.line.claim.phase.Word.{Word}
+use Rattle.pb_proof.specs.declared.line.claim.phase.Word.TheVariants as word
+use Rattle.pb_proof.specs.declared.line.claim.phase.Owner.{Owner}
+use Rattle.pb_proof.specs.declared.line.claim.phase.Owner.TheVariants as owner
+use Rattle.pb_proof.specs.declared.line.claim.phase.Side.{Side}
+use Rattle.pb_proof.specs.declared.line.claim.phase.Side.TheVariants as side
+use Rattle.pb_proof.specs.declared.line.claim.phase.Showing.{Showing}
+use Rattle.pb_proof.specs.declared.line.claim.phase.Showing.TheVariants as showing
+use Rattle.pb_proof.specs.declared.line.claim.phase.Claim.{Claim}
+use Rattle.pb_proof.specs.declared.line.claim.phase.Claim.TheVariants as claim
+use Rattle.pb_proof.specs.declared.line.claim.phase.Phase.{Phase}
+use Rattle.pb_proof.specs.declared.line.claim.phase.Phase.TheVariants as phase
+use Rattle.pb_proof.specs.declared.line.claim.phase.Move.{Move}
+use Rattle.pb_proof.specs.declared.line.claim.phase.Move.TheVariants.{To, Finish, Give, Stop}
+use Rattle.pb_proof.proofs.lemmas.Claim.Bytes.{chosen, both}
+use Rattle.pb_proof.proofs.lemmas.Literals.Theorems.{literals_of_one}
+
+abbrev N : Type 0
+N = Next ClaimState Conclusion
+
+-- the claim goes on
+abbrev IsNext : ClaimState → Phase → Phase → Type 0
+IsNext s p q = (is_within q ≡ true) × (PhaseFits s.limit s.top p → PhaseFits s.limit s.top q)
+
+abbrev OnMove : ClaimState → Phase → Move → Type 0
+OnMove s p (To q) = IsNext s p q
+OnMove s p (Give shows) = p ≡ phase.Shown shows
+OnMove s p _ = Unit {0}
+
+module _ (s : ClaimState) (p : Phase) where
+  abbrev On : Move → Type 0
+  On = OnMove s p
+
+  on_cond : (c : Bool) (x y : Move) → On x → On y → On (cond c x y)
+  on_cond true x y h k = h
+  on_cond false x y h k = k
+
+  on_digits : (x : Side) (negative : Bool) (n b : ℕ) → On (digits s.limit x negative n b)
+  on_digits x negative n b = chosen On (is_digit b && nat_le (10 * n + (b - 48)) s.limit) _ Stop
+      (λ e. (refl, λ f. leb-true (10 * n + (b - 48)) s.limit (both (is_digit b) (nat_le (10 * n + (b - 48)) s.limit) e).1))
+      (λ e. tt)
+
+  on_id_digits : (x : Owner) (negative : Bool) (n b : ℕ) → On (id_digits s.top x negative n b)
+  on_id_digits x negative n b = chosen On (is_digit b && nat_le (10 * n + (b - 48)) s.top) _ Stop
+      (λ e. (refl, λ f. leb-true (10 * n + (b - 48)) s.top (both (is_digit b) (nat_le (10 * n + (b - 48)) s.top) e).1))
+      (λ e. tt)
+
+  -- a byte of a word
+  on_spell : (w : List ℕ) (k b : ℕ) (more whole : Phase) → IsNext s p whole → (nat_eq (k + 1) (length w) ≡ false → IsNext s p more) → On (spell w k b more whole)
+  on_spell w k b more whole h i =
+      on_cond (nat_eq b (slice_index w k)) _ Stop
+      (chosen (λ q. On (To q)) (nat_eq (k + 1) (length w)) whole more (λ e. h) i) tt
+
+  on_begin : (x : Side) (b : ℕ) → On (begin_bound s.limit x b)
+  on_begin x b =
+      on_cond (nat_eq b 43) (To (phase.Signed x false)) _ (refl, λ f. tt)
+      (on_cond (nat_eq b 45) (To (phase.Signed x true)) _ (refl, λ f. tt)
+      (on_cond (nat_eq b 73) (To (phase.Infinity x 1)) _ (refl, λ f. omega arith) (on_digits x false 0 b)))
+
+  on_colon : (c : Claim) → On (colon c)
+  on_colon claim.NoClaim = tt
+  on_colon (claim.Unsat None) = (refl, λ f. tt)
+  on_colon (claim.Unsat (Some id)) = tt
+  on_colon (claim.Shows shows) = (refl, λ f. tt)
+
+  on_behind : (c : Claim) (b : ℕ) → On (behind c b)
+  on_behind c b =
+      on_cond (is_blank b) (To (phase.Behind c)) _ (refl, λ f. tt)
+      (on_cond (nat_eq b 10) (Finish c) _ tt
+      (on_cond (nat_eq b 59) (To (phase.Semicolon c)) _ (refl, λ f. tt)
+      (on_cond (nat_eq b 58) (colon c) Stop (on_colon c) tt)))
+
+  on_between : (x : Bound) (b : ℕ) → On (between x b)
+  on_between x b =
+      on_cond (is_blank b) (To (phase.Spaced x)) _ (refl, λ f. tt)
+      (on_cond (nat_eq b 58) (To (phase.BeforeId (owner.Lower x))) Stop (refl, λ f. tt) tt)
+
+  on_after_bound : (x : Side) (y : Bound) (b : ℕ) → On (after_bound x y b)
+  on_after_bound side.Lower y b = on_between y b
+  on_after_bound (side.Upper lower id) y b = on_behind (claim.Shows (showing.Bounds lower id y)) b
+
+  on_after_id : (x : Owner) (id : ℤ) (b : ℕ) → On (after_id x id b)
+  on_after_id owner.Unsat id b = on_behind (claim.Unsat (Some id)) b
+  on_after_id (owner.Lower x) id b = on_cond (is_blank b) (To (phase.BeforeBound (side.Upper x (Some id)))) Stop (refl, λ f. tt) tt
+
+  on_first : (b : ℕ) → On (first_word b)
+  on_first b =
+      on_cond (nat_eq b 78) (To (phase.Word word.NoClaim 1)) _ (refl, λ f. omega arith)
+      (on_cond (nat_eq b 85) (To (phase.Word word.Unsat 1)) _ (refl, λ f. omega arith)
+      (on_cond (nat_eq b 83) (To (phase.Word word.Sat 1)) _ (refl, λ f. omega arith)
+      (on_cond (nat_eq b 66) (To (phase.Word word.Bounds 1)) Stop (refl, λ f. omega arith) tt)))
+
+further : (k size : ℕ) → k < size → nat_eq (k + 1) size ≡ false → k + 1 < size
+further k size i g = grind (arith, nat_tests)
+
+-- the plan of each phase
+module _ (s : ClaimState) where
+  next_word : (w : Word) (k : ℕ) → IsNext s (phase.Word w k) (behind_word w)
+  next_word word.NoClaim k = (refl, λ f. tt)
+  next_word word.Unsat k = (refl, λ f. tt)
+  next_word word.Sat k = (refl, λ f. tt)
+  next_word word.Bounds k = (refl, λ f. tt)
+
+  next_bound : (x : Side) (k : ℕ) → IsNext s (phase.Infinity x k) (behind_bound x Infinite)
+  next_bound side.Lower k = (refl, λ f. tt)
+  next_bound (side.Upper lower id) k = (refl, λ f. tt)
+
+  pub on_plan : (p : Phase) (b : ℕ) → OnMove s p (plan s.limit s.top p b)
+  on_plan phase.Start b = on_cond s phase.Start (is_blank b) (To phase.Before) Stop (refl, λ f. tt) tt
+  on_plan phase.Before b = on_cond s phase.Before (is_blank b) (To phase.Before) _ (refl, λ f. tt) (on_first s phase.Before b)
+  on_plan (phase.Word w k) b =
+      on_spell s (phase.Word w k) (word_of w) k b (phase.Word w (k + 1)) (behind_word w) (next_word w k)
+      (λ e. (refl, λ f. further k (length (word_of w)) f e))
+  on_plan (phase.Behind c) b = on_behind s (phase.Behind c) c b
+  on_plan (phase.Semicolon c) b =
+      on_cond s (phase.Semicolon c) (is_blank b) (To (phase.Semicolon c)) _ (refl, λ f. tt)
+      (on_cond s (phase.Semicolon c) (nat_eq b 10) (Finish c) Stop tt tt)
+  on_plan phase.Bounded b = on_cond s phase.Bounded (is_blank b) (To (phase.BeforeBound side.Lower)) Stop (refl, λ f. tt) tt
+  on_plan (phase.BeforeBound x) b =
+      on_cond s (phase.BeforeBound x) (is_blank b) (To (phase.BeforeBound x)) _ (refl, λ f. tt) (on_begin s (phase.BeforeBound x) x b)
+  on_plan (phase.Signed x negative) b = on_digits s (phase.Signed x negative) x negative 0 b
+  on_plan (phase.Digits x negative n) b =
+      on_cond s (phase.Digits x negative n) (is_digit b) _ _ (on_digits s (phase.Digits x negative n) x negative n b)
+      (on_after_bound s (phase.Digits x negative n) x (Finite (signed negative n)) b)
+  on_plan (phase.Infinity x k) b =
+      on_spell s (phase.Infinity x k) inf_word k b (phase.Infinity x (k + 1)) (behind_bound x Infinite) (next_bound x k)
+      (λ e. (refl, λ f. further k (length inf_word) f e))
+  on_plan (phase.Between x) b = on_between s (phase.Between x) x b
+  on_plan (phase.Spaced x) b =
+      on_cond s (phase.Spaced x) (is_blank b) (To (phase.Spaced x)) _ (refl, λ f. tt)
+      (on_cond s (phase.Spaced x) (nat_eq b 58) (To (phase.BeforeId (owner.Lower x))) _ (refl, λ f. tt) (on_begin s (phase.Spaced x) (side.Upper x None) b))
+  on_plan (phase.BeforeId x) b =
+      on_cond s (phase.BeforeId x) (is_blank b) (To (phase.BeforeId x)) _ (refl, λ f. tt)
+      (on_cond s (phase.BeforeId x) (nat_eq b 45) (To (phase.IdSigned x)) _ (refl, λ f. tt) (on_id_digits s (phase.BeforeId x) x false 0 b))
+  on_plan (phase.IdSigned x) b = on_id_digits s (phase.IdSigned x) x true 0 b
+  on_plan (phase.IdDigits x negative n) b =
+      on_cond s (phase.IdDigits x negative n) (is_digit b) _ _ (on_id_digits s (phase.IdDigits x negative n) x negative n b)
+      (on_cond s (phase.IdDigits x negative n) (nat_eq n 0) Stop _ tt (on_after_id s (phase.IdDigits x negative n) x (signed negative n) b))
+  on_plan (phase.Shown shows) b = refl
+  on_plan phase.Done b = tt
+
+-- what a byte leads to
+pub record Goes (s next : ClaimState) : Type 0 where
+  pub fits : PhaseFits s.limit s.top s.phase → PhaseFits next.limit next.top next.phase
+  pub within : claim_automaton.begun next ≡ true
+  pub limits : claim_last next.limit next.top ≡ claim_last s.limit s.top
+  pub keeps : IsClaimInOrder s → IsClaimInOrder next
+  pub grows : claim_automaton.spent next ≤ claim_automaton.spent s + 1
+
+abbrev Stepped : ClaimState → N → Type 0
+Stepped s (Go next) = Goes s next
+Stepped s (End e next) = next ≡ claim_last s.limit s.top
+Stepped s Refuse = Unit {0}
+
+-- a byte that the machine of literals takes
+module _ (s : ClaimState) (shows : Showing) (p : s.phase ≡ phase.Shown shows) (b : ℕ) where
+  given_order : (inner : LiteralsState) → literals_automaton.step s.inner b ≡ Go inner → IsClaimInOrder s → IsClaimInOrder (giving s inner)
+  given_order inner e h = record {
+    limit = h.limit;
+    top = h.top;
+    some = h.some;
+    fits = h.fits;
+    holds = subst (λ q. Holds (giving s inner) q) (sym p) (literals_of_one.owes inner (literals_of_one.begins s.inner inner b e));
+    inner = literals_of_one.keeps s.inner inner b h.inner e;
+  }
+
+  given_grows : (inner : LiteralsState) → literals_automaton.step s.inner b ≡ Go inner → spent (giving s inner) s.phase ≤ spent s s.phase + 1
+  given_grows inner e = subst (λ q. spent (giving s inner) q ≤ spent s q + 1) (sym p) (literals_of_one.grows s.inner inner b e)
+
+  given : (n : Next LiteralsState (List Literal)) → literals_automaton.step s.inner b ≡ n → Stepped s (over s shows n)
+  given (Go inner) e = record { fits = λ f. f; within = ap is_within p; limits = refl; keeps = given_order inner e; grows = given_grows inner e }
+  given (End literals inner) e = refl
+  given Refuse e = tt
+
+-- nothing is held where no literal is read
+idle_holds : (limit top : ℕ) (p : Phase) → Holds (claim_at limit top p) p
+idle_holds limit top phase.Start = refl
+idle_holds limit top phase.Before = refl
+idle_holds limit top (phase.Word w k) = refl
+idle_holds limit top (phase.Behind c) = refl
+idle_holds limit top (phase.Semicolon c) = refl
+idle_holds limit top phase.Bounded = refl
+idle_holds limit top (phase.BeforeBound x) = refl
+idle_holds limit top (phase.Signed x negative) = refl
+idle_holds limit top (phase.Digits x negative n) = refl
+idle_holds limit top (phase.Infinity x k) = refl
+idle_holds limit top (phase.Between x) = refl
+idle_holds limit top (phase.Spaced x) = refl
+idle_holds limit top (phase.BeforeId x) = refl
+idle_holds limit top (phase.IdSigned x) = refl
+idle_holds limit top (phase.IdDigits x negative n) = refl
+idle_holds limit top (phase.Shown x) = refl
+idle_holds limit top phase.Done = refl
+
+idle_spent : (limit top : ℕ) (p : Phase) → spent (claim_at limit top p) p ≤ 1
+idle_spent limit top (phase.Shown x) = omega arith
+idle_spent limit top phase.Start = omega arith
+idle_spent limit top phase.Before = omega arith
+idle_spent limit top (phase.Word w k) = omega arith
+idle_spent limit top (phase.Behind c) = omega arith
+idle_spent limit top (phase.Semicolon c) = omega arith
+idle_spent limit top phase.Bounded = omega arith
+idle_spent limit top (phase.BeforeBound x) = omega arith
+idle_spent limit top (phase.Signed x negative) = omega arith
+idle_spent limit top (phase.Digits x negative n) = omega arith
+idle_spent limit top (phase.Infinity x k) = omega arith
+idle_spent limit top (phase.Between x) = omega arith
+idle_spent limit top (phase.Spaced x) = omega arith
+idle_spent limit top (phase.BeforeId x) = omega arith
+idle_spent limit top (phase.IdSigned x) = omega arith
+idle_spent limit top (phase.IdDigits x negative n) = omega arith
+idle_spent limit top phase.Done = omega arith
+
+-- a state in which no literal is read
+pub idle_order : (limit top : ℕ) (p : Phase) → limit < 2 ^ 127 → top < 2 ^ 63 → 0 < top → PhaseFits limit top p → IsClaimInOrder (claim_at limit top p)
+idle_order limit top p l t z f = record { limit = l; top = t; some = z; fits = f; holds = idle_holds limit top p; inner = λ i. (refl, refl) }
+
+acted : (s : ClaimState) (b : ℕ) (m : Move) → OnMove s s.phase m → Stepped s (act s b m)
+acted s b (To p) h = record {
+  fits = h.1;
+  within = h.0;
+  limits = refl;
+  keeps = λ i. idle_order s.limit s.top p i.limit i.top i.some (h.1 i.fits);
+  grows = omega (arith, idle_spent s.limit s.top p);
+}
+acted s b (Finish c) h = refl
+acted s b (Give shows) h = given s shows h b (literals_automaton.step s.inner b) refl
+acted s b Stop h = tt
+
+pub stepped : (s : ClaimState) (b : ℕ) → Stepped s (claim_automaton.step s b)
+stepped s b = acted s b (plan s.limit s.top s.phase b) (on_plan s s.phase b)
+
+pub goes : (s next : ClaimState) (b : ℕ) → claim_automaton.step s b ≡ Go next → Goes s next
+goes s next b e = subst (Stepped s) e (stepped s b)
+
+pub ends : (s next : ClaimState) (b : ℕ) (c : Conclusion) → claim_automaton.step s b ≡ End c next → next ≡ claim_last s.limit s.top
+ends s next b c e = subst (Stepped s) e (stepped s b)
+
+-- where nothing is read, and where all is
+pub not_done : (p : Phase) → is_within p ≡ true → is_done p ≡ false
+not_done phase.Start h = absurd (false≢true h)
+not_done phase.Done h = absurd (false≢true h)
+not_done _ h = refl
+
+pub done_stops : (limit top : ℕ) (p : Phase) (b : ℕ) → is_done p ≡ true → plan limit top p b ≡ Stop
+done_stops limit top phase.Done b h = refl
+done_stops limit top _ b h = absurd (false≢true h)
+
+pub no_number : (s : ClaimState) (p : Phase) → is_within p ≡ false → is_in_number s p ≡ false
+no_number s phase.Start h = refl
+no_number s phase.Done h = refl
+no_number s _ h = absurd (false≢true (sym h))
+
+pub nothing_spent : (s : ClaimState) (p : Phase) → is_within p ≡ false → spent s p ≡ 0
+nothing_spent s phase.Start h = refl
+nothing_spent s phase.Done h = refl
+nothing_spent s _ h = absurd (false≢true (sym h))
+
+-- bytes are given where literals are shown
+pub give_phase : (s : ClaimState) (b : ℕ) (x : Showing) → plan s.limit s.top s.phase b ≡ Give x → s.phase ≡ phase.Shown x
+give_phase s b x e = subst (OnMove s s.phase) e (on_plan s s.phase b)

@@ -1,0 +1,83 @@
+-- A machine of counts reads each text of its grammar.
+use Rattle.std.proofs.Common.{◌≡◌, ℕ, ◌+◌, ◌*◌, ◌<◌, ◌≤◌, List, refl, sym, ap, subst, arith, ◌∙◌}
+use Rattle.std.proofs.lemmas.Bool.{le-leb}
+use Rattle.std.specs.Prelude.{IsTrue, Option, Some, None}
+use Rattle.pb_text.specs.Automaton.{Go, Reads}
+use Rattle.pb_text.specs.Classes.{is_blank}
+use Rattle.pb_text.specs.Languages.{Blanks1}
+use Rattle.pb_text.specs.Numbers.{Count}
+use Rattle.pb_text.specs.Spelling.{Letter}
+use Rattle.pb_proof.specs.Lines.{SpellsCount}
+use Rattle.pb_proof.specs.Line.Count.{at, count_automaton, counting, count_last, act, plan, digits}
+use Rattle.pb_proof.specs.declared.line.byte_kind.NumberMark.TheVariants.{Blank, Digit}
+use Rattle.pb_proof.specs.declared.line.count.phase.CountPhase.{CountPhase}
+use Rattle.pb_proof.specs.declared.line.count.phase.CountPhase.TheVariants.{Start, Gap, Digits, Tail, Closing}
+use Rattle.pb_proof.proofs.lemmas.DigitWalks.{TakesDigits, digits_lead}
+use Rattle.pb_proof.proofs.lemmas.Line.ByteKinds.{number_blank, number_digit}
+use Rattle.pb_proof.proofs.lemmas.Line.Ends.{TakesBlanks, Feeds, MayEnd, blanks1_lead, line_reads}
+use Rattle.pb_proof.proofs.lemmas.Walking.{Leads, leads_then, reads_behind}
+
+module _ (limit top : ℕ) where
+  by_blank : (ph : CountPhase) (b : ℕ) → IsTrue (is_blank b) → count_automaton.step (at top ph) b ≡ act top (plan top ph Blank)
+  by_blank ph b h = ap (λ k. act top (plan top ph k)) (number_blank b h)
+
+  by_digit : (ph : CountPhase) (d : ℕ) → d < 10 → count_automaton.step (at top ph) (48 + d) ≡ act top (plan top ph (Digit d))
+  by_digit ph d h = ap (λ k. act top (plan top ph k)) (number_digit d h)
+
+  digit_fits : (n d v : ℕ) → 10 * n + d ≡ v → v ≤ top → act top (digits top n d) ≡ Go (at top (Digits v))
+  digit_fits n d v e l = rw (e, le-leb v top l) refl
+
+  takes_digits : TakesDigits count_automaton (λ n. at top (Digits n)) top
+  takes_digits = record {
+    more = λ n d h l. by_digit (Digits n) d h ∙ digit_fits n d (10 * n + d) refl l;
+    begun = λ n. refl;
+    number = λ n. refl;
+  }
+
+  in_gap : TakesBlanks count_automaton (counting top) (at top Gap)
+  in_gap = record { enters = by_blank Start; stays = by_blank Gap; begun = refl; plain = refl }
+
+  in_closing : (count : Option ℕ) → Feeds count_automaton (at top (Closing count)) (at top (Closing count)) count (count_last top)
+  in_closing count = record {
+    blanks = record { enters = by_blank (Closing count); stays = by_blank (Closing count); begun = refl; plain = refl };
+    ends = refl;
+    ends_gap = refl;
+  }
+
+  none_ends : MayEnd count_automaton (counting top) (at top Gap) (at top (Closing None)) None (count_last top)
+  none_ends = record {
+    feeds = record { blanks = in_gap; ends = refl; ends_gap = refl };
+    closes = refl;
+    closes_gap = refl;
+    begun = refl;
+    plain = refl;
+    last = in_closing None;
+  }
+
+  some_ends : (n : ℕ) → MayEnd count_automaton (at top (Digits n)) (at top (Tail n)) (at top (Closing (Some n))) (Some n) (count_last top)
+  some_ends n = record {
+    feeds = record {
+      blanks = record { enters = by_blank (Digits n); stays = by_blank (Tail n); begun = refl; plain = refl };
+      ends = refl;
+      ends_gap = refl;
+    };
+    closes = refl;
+    closes_gap = refl;
+    begun = refl;
+    plain = refl;
+    last = in_closing (Some n);
+  }
+
+  count_leads : (n : ℕ) → Leads count_automaton (at top Gap) (Count top n) (at top (Digits n))
+  count_leads n t h =
+      digits_lead count_automaton (λ n. at top (Digits n)) top takes_digits (at top Gap)
+      (λ d i l. by_digit Gap d i ∙ digit_fits 0 d d (omega arith) l) n h.0 t h.1
+
+  pub reads_each : (count : Option ℕ) (t : List Letter) → SpellsCount limit top count t → Reads count_automaton (counting top) t count (count_last top)
+  reads_each None t h = line_reads count_automaton (counting top) (at top Gap) (at top (Closing None)) (count_last top) None none_ends t h
+  reads_each (Some n) t (a, b, e, h, k) =
+      subst (λ x. Reads count_automaton (counting top) x (Some n) (count_last top)) (sym e)
+      (reads_behind count_automaton a b (counting top) (at top (Digits n)) (count_last top) (Some n)
+      (leads_then count_automaton Blanks1 (Count top n) (counting top) (at top Gap) (at top (Digits n))
+      (blanks1_lead count_automaton (counting top) (at top Gap) in_gap) (count_leads n) a h)
+      (line_reads count_automaton (at top (Digits n)) (at top (Tail n)) (at top (Closing (Some n))) (count_last top) (Some n) (some_ends n) b k))

@@ -1,0 +1,134 @@
+-- The laws of the machine of counts.
+use Rattle.std.proofs.Common.{◌≡◌, ℕ, ◌+◌, ◌*◌, ◌^◌, ◌<◌, Bool, true, false, cond, List, [], ◌∷◌, refl, sym, ap, subst, arith, ◌↔◌}
+use Rattle.std.proofs.lemmas.Bool.{leb-true}
+use Rattle.std.specs.Prelude.{nat_le, Option, Some, None}
+use Rattle.pb_text.specs.Automaton.{Next, Go, End, Refuse, Reads, IsState}
+use Rattle.pb_text.specs.Languages.{unmarked}
+use Rattle.pb_text.specs.Spelling.{Letter}
+use Rattle.pb_proof.specs.Lines.{SpellsCount}
+use Rattle.pb_proof.specs.Line.Count.{CountState, at, count_automaton, counting, count_last, act, plan, digits, behind, is_midway, is_done, PhaseFits, MoveFits, IsCountInOrder}
+use Rattle.pb_proof.specs.Line.ByteKind.{number_mark}
+use Rattle.pb_proof.specs.declared.line.byte_kind.NumberMark.{NumberMark}
+use Rattle.pb_proof.specs.declared.line.byte_kind.NumberMark.TheVariants.{Blank, Digit, Semicolon, Feed}
+use Rattle.pb_proof.specs.declared.line.count.phase.CountPhase.{CountPhase}
+use Rattle.pb_proof.specs.declared.line.count.phase.CountPhase.TheVariants.{Start, Gap, Digits, Tail, Closing, Done}
+use Rattle.pb_proof.specs.declared.line.count.phase.CountMove.{CountMove}
+use Rattle.pb_proof.specs.declared.line.count.phase.CountMove as move
+use Rattle.pb_proof.proofs.lemmas.Count.Complete.{reads_each}
+use Rattle.pb_proof.proofs.lemmas.Count.Sound.{Front, Whole, keeps_front}
+use Rattle.pb_proof.proofs.lemmas.Line.One.{IsOfOne, ReadsSome, reads_last, is_state}
+use Rattle.pb_proof.proofs.lemmas.Walking.{told}
+
+abbrev N : Type 0
+N = Next CountState (Option ℕ)
+
+-- What the plan leads to is midway, and a count in hand is at most top.
+digits_fit : (top n d : ℕ) → MoveFits top (digits top n d)
+digits_fit top n d = by_test (nat_le (10 * n + d) top) (λ e. (leb-true (10 * n + d) top e, refl))
+  where
+    by_test : (b : Bool) → (b ≡ true → MoveFits top (move.TheVariants.To (Digits (10 * n + d)))) → MoveFits top (cond b (move.TheVariants.To (Digits (10 * n + d))) move.TheVariants.Stop)
+    by_test true h = h refl
+    by_test false h = tt
+
+behind_fits : (top : ℕ) (count : Option ℕ) (gap : CountPhase) (k : NumberMark) → PhaseFits top gap → is_midway gap ≡ true → MoveFits top (behind count gap k)
+behind_fits top count gap Blank f h = (f, h)
+behind_fits top count gap Semicolon f h = (tt, refl)
+behind_fits top count gap _ f h = tt
+
+plan_fits : (top : ℕ) (ph : CountPhase) (k : NumberMark) → MoveFits top (plan top ph k)
+plan_fits top Start k = behind_fits top None Gap k tt refl
+plan_fits top Gap (Digit d) = digits_fit top 0 d
+plan_fits top Gap k = behind_fits top None Gap k tt refl
+plan_fits top (Digits n) (Digit d) = digits_fit top n d
+plan_fits top (Digits n) k = behind_fits top (Some n) (Tail n) k tt refl
+plan_fits top (Tail n) k = behind_fits top (Some n) (Tail n) k tt refl
+plan_fits top (Closing count) Blank = (tt, refl)
+plan_fits top (Closing count) Feed = tt
+plan_fits _ _ _ = tt
+
+same : (s t : CountState) → ◌≡◌ {A = N} (Go s) (Go t) → s ≡ t
+same s t e = cc
+
+-- A step that goes on keeps what it has begun.
+record Steps (top : ℕ) (next : CountState) : Type 0 where
+  same_top : next.top ≡ top
+  fits : PhaseFits top next.phase
+  midway : is_midway next.phase ≡ true
+
+acted : (top : ℕ) (m : CountMove) (next : CountState) → MoveFits top m → act top m ≡ Go next → Steps top next
+acted top (move.TheVariants.To p) next h e =
+    subst (λ x. Steps top x) (same (at top p) next e) (record { same_top = refl; fits = h.0; midway = h.1 })
+acted top (move.TheVariants.End count) next h e = cc
+acted top move.TheVariants.Stop next h e = cc
+
+goes : (s next : CountState) (b : ℕ) → count_automaton.step s b ≡ Go next → Steps s.top next
+goes s next b e = acted s.top (plan s.top s.phase (number_mark b)) next (plan_fits s.top s.phase (number_mark b)) e
+
+in_order : (s next : CountState) (b : ℕ) → IsCountInOrder s → count_automaton.step s b ≡ Go next → IsCountInOrder next
+in_order s next b h e =
+    let g : Steps s.top next = goes s next b e in
+    (subst (λ x. x < 2 ^ 63) (sym g.same_top) h.0, subst (λ x. PhaseFits x next.phase) (sym g.same_top) g.fits)
+
+ended : (top : ℕ) (m : CountMove) (next : CountState) (count : Option ℕ) → act top m ≡ End count next → next ≡ count_last top
+ended top (move.TheVariants.To p) next count e = cc
+ended top (move.TheVariants.End c) next count e = cc
+ended top move.TheVariants.Stop next count e = cc
+
+abbrev last : CountState → CountState
+last s = count_last s.top
+
+owes : (ph : CountPhase) → is_midway ph ≡ true → is_done ph ≡ false
+owes Done h = sym h
+owes _ h = refl
+
+stops : (top : ℕ) (ph : CountPhase) (k : NumberMark) → is_done ph ≡ true → act top (plan top ph k) ≡ Refuse
+stops top Done k h = refl
+stops top _ k h = cc
+
+plain : (ph : CountPhase) → is_midway ph ≡ false → count_automaton.in_number (at 0 ph) ≡ false
+plain (Digits n) h = h
+plain _ h = refl
+
+-- the line feed ends each state
+some_text : (top : ℕ) (ph : CountPhase) → is_done ph ≡ false → ReadsSome count_automaton IsCountInOrder last (at top ph)
+some_text top Start h = (unmarked 10 ∷ [], None, count_last top, (refl, refl))
+some_text top Gap h = (unmarked 10 ∷ [], None, count_last top, (refl, refl))
+some_text top (Digits n) h = (unmarked 10 ∷ [], Some n, count_last top, (refl, refl))
+some_text top (Tail n) h = (unmarked 10 ∷ [], Some n, count_last top, (refl, refl))
+some_text top (Closing count) h = (unmarked 10 ∷ [], count, count_last top, (refl, refl))
+some_text top Done h = cc
+
+pub count_of_one : IsOfOne count_automaton IsCountInOrder last
+count_of_one = record {
+  keeps = in_order;
+  begins = λ s next b e. (goes s next b e).midway;
+  owes = λ s h. owes s.phase h;
+  leads = λ s next b e. ap count_last (goes s next b e).same_top;
+  ends = λ s next b e i. ended s.top (plan s.top s.phase (number_mark b)) next e i;
+  done = λ s. refl;
+  stops = λ s h b. stops s.top s.phase (number_mark b) h;
+  goes_on = λ s g h. some_text s.top s.phase h;
+  plain = λ s h. plain s.phase h;
+  grows = λ s next b e. omega arith;
+  bounds = λ s. omega arith;
+}
+
+-- Behind the line the machine has ended.
+pub count_ends : (s after : CountState) (text : List Letter) (e : Option ℕ) → Reads count_automaton s text e after → after ≡ count_last s.top
+count_ends s after text e r = reads_last count_automaton IsCountInOrder last count_of_one text s e after r
+
+-- A new machine reads exactly what stands behind `f`.
+pub count_reads : (limit top : ℕ) (text : List Letter) (e : Option ℕ) (after : CountState) →
+    Reads count_automaton (counting top) text e after ↔ (SpellsCount limit top e text × (after ≡ count_last top))
+count_reads limit top text e after = (
+  (λ r. let i : after ≡ count_last top = count_ends (counting top) after text e r in
+      (subst (λ x. Whole limit e x text) i (told count_automaton Front (Whole limit) (keeps_front limit) text (counting top) [] e after r refl), i)),
+  (λ h. subst (λ x. Reads count_automaton (counting top) text e x) (sym h.1) (reads_each limit top e text h.0)),
+)
+
+-- Each state that has not ended reads some text.
+pub count_goes_on : (s : CountState) → count_automaton.done s ≡ false → (text : List Letter) × (e : Option ℕ) × (after : CountState) × Reads count_automaton s text e after
+count_goes_on s h = some_text s.top s.phase h
+
+pub count_is_state : (s : CountState) → IsCountInOrder s → IsState count_automaton s
+count_is_state s h = is_state count_automaton IsCountInOrder last count_of_one s h (λ i. refl)

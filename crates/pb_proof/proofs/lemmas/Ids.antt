@@ -1,0 +1,5 @@
+-- Lemmas on the machine of ids.
+pub mod Complete
+pub mod Pushes
+pub mod Sound
+pub mod Theorems

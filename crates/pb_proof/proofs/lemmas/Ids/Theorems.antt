@@ -1,0 +1,200 @@
+-- The laws of the machine of ids.
+use Rattle.std.proofs.Common.{◌≡◌, ℕ, zero, suc, ◌+◌, ◌*◌, ◌-◌, ◌^◌, ◌<◌, ◌≤◌, Bool, true, false, cond, List, [], ◌∷◌, ◌++◌, length, refl, sym, ap, subst, arith, ◌↔◌}
+use Rattle.std.proofs.Math.Nat.{min-le_left}
+use Rattle.std.proofs.lemmas.Bool.{leb-true, le-leb}
+use Rattle.std.proofs.lemmas.List.{length-append}
+use Rattle.std.specs.Prelude.{ℤ, nat_le, nat_eq}
+use Rattle.pb_text.specs.Automaton.{Next, Go, End, Refuse, Reads, IsState}
+use Rattle.pb_text.specs.Languages.{unmarked, digit}
+use Rattle.pb_text.specs.Numbers.{signed}
+use Rattle.pb_text.specs.Spelling.{Letter}
+use Rattle.pb_proof.specs.Lines.{SpellsIds}
+use Rattle.pb_proof.specs.Line.Ids.{IdsState, ids_automaton, ids_at, ids_first, ids_last, act, plan, digits, before, behind, is_midway, is_done, is_in_number, MoveFits, PhaseFits, IsIdsInOrder}
+use Rattle.pb_proof.specs.Line.ByteKind.{number_mark}
+use Rattle.pb_proof.specs.declared.line.byte_kind.NumberMark.{NumberMark}
+use Rattle.pb_proof.specs.declared.line.byte_kind.NumberMark.TheVariants as mark
+use Rattle.pb_proof.specs.declared.line.ids.phase.IdsPhase.{IdsPhase}
+use Rattle.pb_proof.specs.declared.line.ids.phase.IdsPhase.TheVariants.{Start, Gap, Between, Minus, Digits, Closing, Done}
+use Rattle.pb_proof.specs.declared.line.ids.phase.IdsMove.{IdsMove}
+use Rattle.pb_proof.specs.declared.line.ids.phase.IdsMove.TheVariants as move
+use Rattle.pb_proof.proofs.lemmas.Ids.Complete.{digits_behind, reads_each}
+use Rattle.pb_proof.proofs.lemmas.Ids.Sound.{Front, Whole, keeps_front}
+use Rattle.pb_proof.proofs.lemmas.Line.One.{IsOfOne, ReadsSome, reads_last, is_state}
+use Rattle.pb_proof.proofs.lemmas.Walking.{told}
+
+abbrev N : Type 0
+N = Next IdsState (List ℤ)
+
+-- What the plan leads to is midway, and an id in hand is at most top.
+digits_fit : (top : ℕ) (negative : Bool) (n d : ℕ) → MoveFits top (digits top negative n d)
+digits_fit top negative n d = by_test (nat_le (10 * n + d) top) (λ e. (leb-true (10 * n + d) top e, refl))
+  where
+    by_test : (b : Bool) → (b ≡ true → MoveFits top (move.To (Digits negative (10 * n + d)))) → MoveFits top (cond b (move.To (Digits negative (10 * n + d))) move.Stop)
+    by_test true h = h refl
+    by_test false h = tt
+
+before_fits : (top : ℕ) (k : NumberMark) → MoveFits top (before top k)
+before_fits top mark.Minus = (tt, refl)
+before_fits top (mark.Digit d) = digits_fit top false 0 d
+before_fits top _ = tt
+
+behind_fits : (top : ℕ) (id : ℤ) (k : NumberMark) → MoveFits top (behind id k)
+behind_fits top id mark.Blank = (tt, refl)
+behind_fits top id mark.Semicolon = (tt, refl)
+behind_fits top id _ = tt
+
+nonzero_fits : (top : ℕ) (b : Bool) (m : IdsMove) → MoveFits top m → MoveFits top (cond b move.Stop m)
+nonzero_fits top true m h = tt
+nonzero_fits top false m h = h
+
+plan_fits : (top : ℕ) (ph : IdsPhase) (k : NumberMark) → MoveFits top (plan top ph k)
+plan_fits top Start mark.Blank = (tt, refl)
+plan_fits top Gap mark.Blank = (tt, refl)
+plan_fits top Gap k = before_fits top k
+plan_fits top Between mark.Blank = (tt, refl)
+plan_fits top Between mark.Semicolon = (tt, refl)
+plan_fits top Between mark.Feed = tt
+plan_fits top Between k = before_fits top k
+plan_fits top Minus (mark.Digit d) = digits_fit top true 0 d
+plan_fits top (Digits negative n) (mark.Digit d) = digits_fit top negative n d
+plan_fits top (Digits negative n) k = nonzero_fits top (nat_eq n 0) (behind (signed negative n) k) (behind_fits top (signed negative n) k)
+plan_fits top Closing mark.Blank = (tt, refl)
+plan_fits top Closing mark.Feed = tt
+plan_fits _ _ _ = tt
+
+same : (s t : IdsState) → ◌≡◌ {A = N} (Go s) (Go t) → s ≡ t
+same s t e = cc
+
+-- A step that goes on keeps what it has begun.
+record Steps (top : ℕ) (ids : List ℤ) (next : IdsState) : Type 0 where
+  same_top : next.top ≡ top
+  fits : PhaseFits top next.phase
+  midway : is_midway next.phase ≡ true
+  grows : length next.ids ≤ length ids + 1
+
+acted : (top : ℕ) (ids : List ℤ) (m : IdsMove) (next : IdsState) → MoveFits top m → act top ids m ≡ Go next → Steps top ids next
+acted top ids (move.To p) next h e =
+    subst (λ x. Steps top ids x) (same (ids_at top ids p) next e) (record { same_top = refl; fits = h.0; midway = h.1; grows = omega arith })
+acted top ids (move.Keep p id) next h e =
+    subst (λ x. Steps top ids x) (same (ids_at top (ids ++ id ∷ []) p) next e)
+    (record { same_top = refl; fits = h.0; midway = h.1; grows = omega (arith, length-append ids (id ∷ [])) })
+acted top ids move.End next h e = cc
+acted top ids (move.EndWith id) next h e = cc
+acted top ids move.Stop next h e = cc
+
+goes : (s next : IdsState) (b : ℕ) → ids_automaton.step s b ≡ Go next → Steps s.top s.ids next
+goes s next b e = acted s.top s.ids (plan s.top s.phase (number_mark b)) next (plan_fits s.top s.phase (number_mark b)) e
+
+ended : (top : ℕ) (ids : List ℤ) (m : IdsMove) (next : IdsState) (e : List ℤ) → act top ids m ≡ End e next → next ≡ ids_last top
+ended top ids (move.To p) next e i = cc
+ended top ids (move.Keep p id) next e i = cc
+ended top ids move.End next e i = cc
+ended top ids (move.EndWith id) next e i = cc
+ended top ids move.Stop next e i = cc
+
+abbrev last : IdsState → IdsState
+last s = ids_last s.top
+
+owes : (ph : IdsPhase) → is_midway ph ≡ true → is_done ph ≡ false
+owes Done h = sym h
+owes _ h = refl
+
+stops : (top : ℕ) (ids : List ℤ) (ph : IdsPhase) (k : NumberMark) → is_done ph ≡ true → act top ids (plan top ph k) ≡ Refuse
+stops top ids Done k h = refl
+stops top ids _ k h = cc
+
+plain : (ph : IdsPhase) → is_midway ph ≡ false → is_in_number ph ≡ false
+plain (Digits negative n) h = h
+plain _ h = refl
+
+never : (x : Bool) → x ≡ true → x ≡ false → ⊥
+never x e f = cc
+
+in_order : (s next : IdsState) (b : ℕ) → IsIdsInOrder s → ids_automaton.step s b ≡ Go next → IsIdsInOrder next
+in_order s next b h e =
+    let g : Steps s.top s.ids next = goes s next b e in (
+      subst (λ x. x < 2 ^ 63) (sym g.same_top) h.0,
+      subst (λ x. 0 < x) (sym g.same_top) h.1,
+      subst (λ x. PhaseFits x next.phase) (sym g.same_top) g.fits,
+      (λ i. absurd (never (is_midway next.phase) g.midway i)),
+    )
+
+module _ (top : ℕ) (some : 0 < top) (ids : List ℤ) where
+  abbrev Some : IdsPhase → Type 0
+  Some p = ReadsSome ids_automaton IsIdsInOrder last (ids_at top ids p)
+
+  -- a first digit that is 1
+  one_fits : (negative : Bool) → act top ids (digits top negative 0 1) ≡ Go (ids_at top ids (Digits negative 1))
+  one_fits negative = rw (le-leb 1 top (omega arith)) refl
+
+  some_digits : (negative : Bool) (n : ℕ) → Some (Digits negative n)
+  some_digits negative zero = (
+    digit 1 ∷ unmarked 10 ∷ [],
+    ids ++ signed negative 1 ∷ [],
+    ids_last top,
+    (ids_at top ids (Digits negative 1), one_fits negative, refl, refl, (refl, refl)),
+  )
+  some_digits negative (suc n) = (
+    unmarked 10 ∷ [],
+    ids ++ signed negative (suc n) ∷ [],
+    ids_last top,
+    ((digits_behind 0 top ids negative (suc n) (omega arith)).feed, refl),
+  )
+
+  some_one : (p : IdsPhase) (negative : Bool) → ids_automaton.step (ids_at top ids p) 49 ≡ Go (ids_at top ids (Digits negative 1)) → Some p
+  some_one p negative e = (
+    digit 1 ∷ unmarked 10 ∷ [],
+    ids ++ signed negative 1 ∷ [],
+    ids_last top,
+    (ids_at top ids (Digits negative 1), e, refl, refl, (refl, refl)),
+  )
+
+  some_text : (p : IdsPhase) → is_done p ≡ false → Some p
+  some_text Start h = (
+    unmarked 32 ∷ digit 1 ∷ unmarked 10 ∷ [],
+    ids ++ signed false 1 ∷ [],
+    ids_last top,
+    (ids_at top ids Gap, refl, refl, refl, (ids_at top ids (Digits false 1), one_fits false, refl, refl, (refl, refl))),
+  )
+  some_text Gap h = some_one Gap false (one_fits false)
+  some_text Between h = (unmarked 10 ∷ [], ids, ids_last top, (refl, refl))
+  some_text Minus h = some_one Minus true (one_fits true)
+  some_text (Digits negative n) h = some_digits negative n
+  some_text Closing h = (unmarked 10 ∷ [], ids, ids_last top, (refl, refl))
+  some_text Done h = cc
+
+pub ids_of_one : IsOfOne ids_automaton IsIdsInOrder last
+ids_of_one = record {
+  keeps = in_order;
+  begins = λ s next b e. (goes s next b e).midway;
+  owes = λ s h. owes s.phase h;
+  leads = λ s next b e. ap ids_last (goes s next b e).same_top;
+  ends = λ s next b e i. ended s.top s.ids (plan s.top s.phase (number_mark b)) next e i;
+  done = λ s. refl;
+  stops = λ s h b. stops s.top s.ids s.phase (number_mark b) h;
+  goes_on = λ s g h. some_text s.top g.1 s.ids s.phase h;
+  plain = λ s h. plain s.phase h;
+  grows = λ s next b e. (goes s next b e).grows;
+  bounds = λ s. min-le_left (length s.ids) (2 ^ 64 - 1);
+}
+
+-- Behind the line the machine has ended.
+pub ids_ends : (s after : IdsState) (text : List Letter) (e : List ℤ) → Reads ids_automaton s text e after → after ≡ ids_last s.top
+ids_ends s after text e r = reads_last ids_automaton IsIdsInOrder last ids_of_one text s e after r
+
+-- A new machine reads exactly the ids.
+pub ids_reads : (limit top : ℕ) (text : List Letter) (e : List ℤ) (after : IdsState) →
+    Reads ids_automaton (ids_first top) text e after ↔ (SpellsIds limit top e text × (after ≡ ids_last top))
+ids_reads limit top text e after = (
+  (λ r. let i : after ≡ ids_last top = ids_ends (ids_first top) after text e r in
+      (subst (λ x. Whole limit e x text) i (told ids_automaton Front (Whole limit) (keeps_front limit) text (ids_first top) [] e after r (refl, refl)), i)),
+  (λ h. subst (λ x. Reads ids_automaton (ids_first top) text e x) (sym h.1) (reads_each limit top e text h.0)),
+)
+
+-- Each state in order that has not ended reads some text.
+pub ids_goes_on : (s : IdsState) → IsIdsInOrder s → ids_automaton.done s ≡ false
+    → (text : List Letter) × (e : List ℤ) × (after : IdsState) × Reads ids_automaton s text e after
+ids_goes_on s g h = some_text s.top g.1 s.ids s.phase h
+
+pub ids_is_state : (s : IdsState) → IsIdsInOrder s → IsState ids_automaton s
+ids_is_state s g = is_state ids_automaton IsIdsInOrder last ids_of_one s g (λ i. ap length (g.3 i))

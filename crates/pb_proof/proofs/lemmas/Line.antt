@@ -1,0 +1,8 @@
+-- Lemmas on the lines of statements, and on what reads them.
+pub mod Asks
+pub mod ByteKinds
+pub mod Ends
+pub mod Laws
+pub mod One
+pub mod Spelled
+pub mod Texts

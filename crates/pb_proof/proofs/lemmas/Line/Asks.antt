@@ -1,0 +1,235 @@
+-- Where the machines of ids, literals and linear texts ask.
+use Rattle.std.proofs.Common.{◌≡◌, ℕ, ◌+◌, ◌-◌, ◌*◌, ◌<◌, Bool, true, false, cond, ◌||◌, List, [], ◌∷◌, ◌++◌, map, refl, sym, ap, subst, ◌∙◌, inl, arith}
+use Rattle.std.proofs.lemmas.Bool.{false≢true}
+use Rattle.std.proofs.lemmas.Bool.Decides.{nat_tests}
+use Rattle.std.specs.Prelude.{IsTrue, ℤ, nat_eq, nat_le}
+use Rattle.pb_text.specs.Classes.{is_blank, is_digit, is_letter, is_name_byte}
+use Rattle.pb_text.specs.Languages.{digit, Language, ◌⋅◌, Bytes, Each}
+use Rattle.pb_text.specs.Numbers.{Digits as DigitsOf}
+use Rattle.pb_text.specs.Spelling.{Letter, bytes}
+use Rattle.pb_text.proofs.Languages.{bytes-plain}
+use Rattle.pb_text.proofs.Lists.{bytes-append}
+use Rattle.pb_sums.specs.Asking.{EndsIn, IsNameFront, AsksLiteral}
+use Rattle.pb_sums.specs.State.{SumState, sums}
+use Rattle.pb_sums.specs.Sums.{literal_bytes}
+use Rattle.pb_sums.specs.declared.Literal.{Literal}
+use Rattle.pb_sums.specs.declared.Part as part
+use Rattle.pb_sums.specs.declared.Spaces.TheVariants.{Blank as BlankSpaces}
+use Rattle.pb_sums.proofs.Asked.{ends_nothing, ends_behind, asks_behind, at_name, sums_asked, first_asks_nothing}
+use Rattle.pb_proof.specs.Asking.{EndsNumber}
+use Rattle.pb_proof.specs.Line.Rup.{GoalState, goal_automaton, goal_first, goals, goal_asks, goal_plan}
+use Rattle.pb_proof.specs.Line.Ids.{IdsState, ids_automaton, ids_first, plan, digits, before, behind, keeps}
+use Rattle.pb_proof.specs.Line.Literals.{LiteralsState, literals_automaton, literals_first, adds, is_more}
+use Rattle.pb_proof.specs.Line.Literals as literals
+use Rattle.pb_proof.specs.Line.ByteKind.{number_mark, name_mark}
+use Rattle.pb_proof.specs.declared.line.rup.phase.GoalPhase.{GoalPhase}
+use Rattle.pb_proof.specs.declared.line.rup.phase.GoalPhase.TheVariants as goal
+use Rattle.pb_proof.specs.declared.line.ids.phase.IdsPhase.{IdsPhase}
+use Rattle.pb_proof.specs.declared.line.ids.phase.IdsPhase.TheVariants.{Start, Gap, Between, Minus, Digits, Closing, Done}
+use Rattle.pb_proof.specs.declared.line.literals.phase.LiteralsPhase.{LiteralsPhase}
+use Rattle.pb_proof.specs.declared.line.literals.phase.LiteralsPhase.TheVariants as at
+use Rattle.pb_proof.specs.declared.line.byte_kind.NumberMark.{NumberMark}
+use Rattle.pb_proof.specs.declared.line.byte_kind.NumberMark.TheVariants as number
+use Rattle.pb_proof.specs.declared.line.byte_kind.NameMark.{NameMark}
+use Rattle.pb_proof.specs.declared.line.byte_kind.NameMark.TheVariants as name
+use Rattle.pb_proof.proofs.lemmas.Choices.{chosen}
+use Rattle.pb_proof.proofs.lemmas.Rup.Reads as reads
+use Rattle.pb_proof.proofs.lemmas.Ids.Sound as ids
+use Rattle.pb_proof.proofs.lemmas.Literals.Names.{IsFirst}
+use Rattle.pb_proof.proofs.lemmas.Literals.Sound as sound
+use Rattle.pb_proof.proofs.lemmas.Line.ByteKinds.{NameMeans, name_means}
+use Rattle.pb_proof.proofs.lemmas.Walking.{Walks, fronts, walks_into}
+
+-- ---- what a text ends in
+pub joined_end : (a c t : List Letter) (end : List ℕ) → t ≡ a ++ c → EndsIn (bytes c) end → EndsIn (bytes t) end
+joined_end a c t end e h =
+    subst (λ (x : List ℕ). EndsIn x end) (sym (ap bytes e ∙ bytes-append a c)) (ends_behind (bytes a) (bytes c) end h)
+
+digit_is : (d : ℕ) → d < 10 → is_digit (48 + d) ≡ true
+digit_is d h = grind (arith, nat_tests)
+
+digits_last : (d : ℕ) (ds : List ℕ) → Each (λ e. e < 10) (d ∷ ds) → (c : ℕ) × EndsIn (bytes (map digit (d ∷ ds))) (c ∷ []) × IsTrue (is_digit c)
+digits_last d [] h = (48 + d, ([], refl), digit_is d h.0)
+digits_last d (e ∷ ds) h =
+    let (c, f, k) = digits_last e ds h.1 in (c, ends_behind ((48 + d) ∷ []) (bytes (map digit (e ∷ ds))) (c ∷ []) f, k)
+
+-- digits end in one
+pub digits_end : (n : ℕ) (t : List Letter) → DigitsOf n t → (c : ℕ) × EndsIn (bytes t) (c ∷ []) × IsTrue (is_digit c)
+digits_end n t (d, ds, h, e, v) =
+    let (c, f, k) = digits_last d ds h in (c, subst (λ (x : List Letter). EndsIn (bytes x) (c ∷ [])) (sym e) f, k)
+
+-- behind digits, at a byte that is none
+pub number_end : (P : Language) (n : ℕ) (t : List Letter) (b : ℕ) → (P ⋅ DigitsOf n) t → is_digit b ≡ false → EndsNumber (bytes t) b
+number_end P n t b (a, c, e, h, k) dark =
+    let (d, f, g) = digits_end n c k in (d, joined_end a c t (d ∷ []) e f, g, dark)
+
+name_ends : (negated : Bool) (bs : List ℕ) → EndsIn (literal_bytes negated bs) bs
+name_ends true bs = (126 ∷ [], refl)
+name_ends false bs = ([], refl)
+
+pub literal_end : (P : Language) (negated : Bool) (bs : List ℕ) (t : List Letter) → (P ⋅ Bytes (literal_bytes negated bs)) t → EndsIn (bytes t) bs
+literal_end P negated bs t (a, c, e, h, k) =
+    joined_end a c t bs e (subst (λ (x : List ℕ). EndsIn x bs) (sym (ap bytes k ∙ bytes-plain (literal_bytes negated bs))) (name_ends negated bs))
+
+-- ---- ids
+not_digit : (b : ℕ) → is_blank b ≡ true → is_digit b ≡ false
+not_digit b e = grind (arith, nat_tests)
+
+ids_quiet : (top : ℕ) (negative : Bool) (n d : ℕ) → keeps (digits top negative n d) ≡ false
+ids_quiet top negative n d = chosen (λ m. keeps m ≡ false) (nat_le (10 * n + d) top) _ _ (λ _. refl) (λ _. refl)
+
+before_quiet : (top : ℕ) (k : NumberMark) → keeps (before top k) ≡ false
+before_quiet top number.Minus = refl
+before_quiet top (number.Digit d) = ids_quiet top false 0 d
+before_quiet top _ = refl
+
+module _ (limit : ℕ) where
+  asks_dark : (top : ℕ) (negative : Bool) (n b : ℕ) → keeps (plan top (Digits negative n) (number_mark b)) ≡ true → is_digit b ≡ false
+  asks_dark top negative n b =
+      let P : NumberMark → Type 0 = λ k. keeps (plan top (Digits negative n) k) ≡ true → is_digit b ≡ false in
+      chosen P (is_blank b) _ _ (λ e h. not_digit b e)
+      (λ _. chosen P (is_digit b) _ _ (λ _ h. absurd (false≢true (sym (ids_quiet top negative n (b - 48)) ∙ h))) (λ e. dark e (nat_eq b 45) (nat_eq b 59) (nat_eq b 10)))
+    where
+      dark : is_digit b ≡ false → (x y z : Bool)
+          → keeps (plan top (Digits negative n) (cond x number.Minus (cond y number.Semicolon (cond z number.Feed number.Other)))) ≡ true → is_digit b ≡ false
+      dark e x y z h = e
+
+  ids_at : (ph : IdsPhase) (top : ℕ) (held : List ℤ) (t : List Letter) (b : ℕ) → ids.front top ph held t → keeps (plan top ph (number_mark b)) ≡ true → EndsNumber (bytes t) b
+  ids_at Start top held t b h k = absurd (false≢true (sym (start (number_mark b)) ∙ k))
+    where
+      start : (m : NumberMark) → keeps (plan top Start m) ≡ false
+      start number.Blank = refl
+      start _ = refl
+  ids_at Gap top held t b h k = absurd (false≢true (sym (gap (number_mark b)) ∙ k))
+    where
+      gap : (m : NumberMark) → keeps (plan top Gap m) ≡ false
+      gap number.Blank = refl
+      gap m = before_quiet top m
+  ids_at Between top held t b h k = absurd (false≢true (sym (between (number_mark b)) ∙ k))
+    where
+      between : (m : NumberMark) → keeps (plan top Between m) ≡ false
+      between number.Blank = refl
+      between number.Semicolon = refl
+      between number.Feed = refl
+      between m = before_quiet top m
+  ids_at Minus top held t b h k = absurd (false≢true (sym (minus (number_mark b)) ∙ k))
+    where
+      minus : (m : NumberMark) → keeps (plan top Minus m) ≡ false
+      minus (number.Digit d) = ids_quiet top true 0 d
+      minus _ = refl
+  ids_at (Digits negative n) top held t b h k = number_end _ n t b h.1 (asks_dark top negative n b k)
+  ids_at Closing top held t b h k = absurd (false≢true (sym (closing (number_mark b)) ∙ k))
+    where
+      closing : (m : NumberMark) → keeps (plan top Closing m) ≡ false
+      closing number.Blank = refl
+      closing number.Feed = refl
+      closing _ = refl
+  ids_at Done top held t b h k = absurd h
+
+  pub ids_asked : (top : ℕ) (t : List Letter) (s : IdsState) (b : ℕ) → Walks ids_automaton (ids_first top) t s → ids_automaton.asks s b ≡ true → EndsNumber (bytes t) b
+  ids_asked top t s b w h =
+      ids_at s.phase s.top s.ids t b (fronts ids_automaton ids.Front (ids.Whole limit) (ids.keeps_front limit) t (ids_first top) [] s w (refl, refl)) h
+
+-- ---- literals
+letter_begins : (text : List ℕ) (b : ℕ) → IsTrue (is_letter b) → AsksLiteral text b
+letter_begins text b h = inl ([], ends_nothing text, (h, tt))
+
+letter_name : (b : ℕ) → IsTrue (is_letter b) → IsTrue (is_name_byte b)
+letter_name b e = rw e refl
+
+first_front : (bs : List ℕ) (b : ℕ) → IsFirst bs → IsTrue (is_name_byte b) → IsNameFront (bs ++ b ∷ [])
+first_front [] b h k = absurd h
+first_front (x ∷ []) b h k = (h, (k, tt))
+first_front (x ∷ y ∷ bs) b h k = absurd h
+
+module _ (b : ℕ) (text : List ℕ) where
+  behind_quiet : (k : NameMark) → adds (literals.behind k) ≡ false
+  behind_quiet name.Blank = refl
+  behind_quiet name.Semicolon = refl
+  behind_quiet name.Feed = refl
+  behind_quiet _ = refl
+
+  begins_at : (k : NameMark) → NameMeans k b → adds (literals.before k) ≡ true → AsksLiteral text b
+  begins_at name.Tilde m h = absurd (false≢true h)
+  begins_at (name.Letter c) m h = letter_begins text b (subst (λ (x : ℕ). IsTrue (is_letter x)) (sym m.0) m.1)
+  begins_at name.Blank m h = absurd (false≢true h)
+  begins_at name.Semicolon m h = absurd (false≢true h)
+  begins_at name.Feed m h = absurd (false≢true h)
+  begins_at (name.Inner c) m h = absurd (false≢true h)
+  begins_at name.Other m h = absurd (false≢true h)
+
+  start_at : (joined : Bool) (k : NameMark) → NameMeans k b → (adds (literals.plan joined at.Start k) || false) ≡ true → AsksLiteral text b
+  start_at true k m h = begins_at k m (or_false (adds (literals.before k)) h)
+    where
+      or_false : (x : Bool) → (x || false) ≡ true → x ≡ true
+      or_false true e = refl
+      or_false false e = e
+  start_at false k m h = absurd (false≢true (sym (ap (λ x. x || false) (behind_quiet k)) ∙ h))
+
+  gap_at : (joined : Bool) (k : NameMark) → NameMeans k b → (adds (literals.plan joined at.Gap k) || false) ≡ true → AsksLiteral text b
+  gap_at joined k m h = begins_at k m (or_false (adds (literals.before k)) h)
+    where
+      or_false : (x : Bool) → (x || false) ≡ true → x ≡ true
+      or_false true e = refl
+      or_false false e = e
+
+  negation_at : (joined : Bool) (k : NameMark) → NameMeans k b → (adds (literals.plan joined at.Negation k) || false) ≡ true → AsksLiteral text b
+  negation_at joined (name.Letter c) m h = letter_begins text b (subst (λ (x : ℕ). IsTrue (is_letter x)) (sym m.0) m.1)
+  negation_at joined name.Tilde m h = absurd (false≢true h)
+  negation_at joined name.Blank m h = absurd (false≢true h)
+  negation_at joined name.Semicolon m h = absurd (false≢true h)
+  negation_at joined name.Feed m h = absurd (false≢true h)
+  negation_at joined (name.Inner c) m h = absurd (false≢true h)
+  negation_at joined name.Other m h = absurd (false≢true h)
+
+  first_at : (joined negated : Bool) (bs : List ℕ) → EndsIn text bs → IsFirst bs → (k : NameMark) → NameMeans k b → (adds (literals.plan joined (at.First negated) k) || false) ≡ true → AsksLiteral text b
+  first_at joined negated bs e f (name.Letter c) m h = inl (bs, e, first_front bs b f (letter_name b (subst (λ (x : ℕ). IsTrue (is_letter x)) (sym m.0) m.1)))
+  first_at joined negated bs e f (name.Inner c) m h = inl (bs, e, first_front bs b f (subst (λ (x : ℕ). IsTrue (is_name_byte x)) (sym m.0) m.1))
+  first_at joined negated bs e f name.Tilde m h = absurd (false≢true h)
+  first_at joined negated bs e f name.Blank m h = absurd (false≢true h)
+  first_at joined negated bs e f name.Semicolon m h = absurd (false≢true h)
+  first_at joined negated bs e f name.Feed m h = absurd (false≢true h)
+  first_at joined negated bs e f name.Other m h = absurd (false≢true h)
+
+  closing_at : (joined : Bool) (k : NameMark) → (adds (literals.plan joined at.Closing k) || false) ≡ true → AsksLiteral text b
+  closing_at joined name.Blank h = absurd (false≢true h)
+  closing_at joined name.Feed h = absurd (false≢true h)
+  closing_at joined name.Tilde h = absurd (false≢true h)
+  closing_at joined name.Semicolon h = absurd (false≢true h)
+  closing_at joined (name.Letter c) h = absurd (false≢true h)
+  closing_at joined (name.Inner c) h = absurd (false≢true h)
+  closing_at joined name.Other h = absurd (false≢true h)
+
+literals_at : (ph : LiteralsPhase) (joined : Bool) (ls : List Literal) (bs : List ℕ) (t : List Letter) (b : ℕ) → sound.front joined ph ls bs t
+    → (adds (literals.plan joined ph (name_mark b)) || is_more ph) ≡ true → AsksLiteral (bytes t) b
+literals_at at.Start joined ls bs t b h k = start_at b (bytes t) joined (name_mark b) (name_means b) k
+literals_at at.Gap joined ls bs t b h k = gap_at b (bytes t) joined (name_mark b) (name_means b) k
+literals_at at.Negation joined ls bs t b h k = negation_at b (bytes t) joined (name_mark b) (name_means b) k
+literals_at (at.First negated) joined ls bs t b (a, c, e, p, (f, is)) k =
+    first_at b (bytes t) joined negated bs (literal_end (sound.Before joined ls) negated bs t (a, c, e, p, is)) f (name_mark b) (name_means b) k
+literals_at (at.More negated) joined ls bs t b (a, c, e, p, (f, is)) k = at_name (bytes t) bs b (literal_end (sound.Before joined ls) negated bs t (a, c, e, p, is)) f
+literals_at at.Closing joined ls bs t b h k = closing_at b (bytes t) joined (name_mark b) k
+literals_at at.Done joined ls bs t b h k = absurd h
+
+pub literals_asked : (joined : Bool) (t : List Letter) (s : LiteralsState) (b : ℕ) → Walks literals_automaton (literals_first joined) t s → literals_automaton.asks s b ≡ true → AsksLiteral (bytes t) b
+literals_asked joined t s b w h =
+    literals_at s.phase s.joined s.literals s.name t b (fronts literals_automaton sound.Front sound.Whole sound.keeps_front t (literals_first joined) [] s w (refl, refl)) h
+
+-- ---- linear texts
+module _ (limit top : ℕ) where
+  goal_at : (s : GoalState) (ph : GoalPhase) (t : List Letter) (b : ℕ) → reads.front limit top s ph t → goal_asks s b (goal_plan ph b) ≡ true → AsksLiteral (bytes t) b
+  goal_at s goal.Start t b h = chosen (λ m. goal_asks s b m ≡ true → AsksLiteral (bytes t) b) (is_blank b) _ _ (λ _ k. absurd (false≢true k)) (λ _ k. absurd (false≢true k))
+  goal_at s goal.Gap t b (h, inner, linear) =
+      chosen (λ m. goal_asks s b m ≡ true → AsksLiteral (bytes t) b) (is_blank b) _ _ (λ _ k. absurd (false≢true k))
+      (λ _ k. absurd (false≢true (sym (ap (λ (x : SumState). sums.asks x b) inner ∙ first_asks_nothing BlankSpaces part.TheVariants.AtLeast limit b) ∙ k)))
+  goal_at s goal.Inside t b (linear, (a, c, e, h, w)) = λ k.
+      subst (λ (x : List ℕ). AsksLiteral x b) (sym (ap bytes e ∙ bytes-append a c))
+      (asks_behind (bytes a) (bytes c) b (sums_asked BlankSpaces part.TheVariants.AtLeast limit c s.inner b (walks_into sums c (goals limit) s.inner w) k))
+  goal_at s goal.Tail t b h =
+      chosen (λ m. goal_asks s b m ≡ true → AsksLiteral (bytes t) b) (is_blank b) _ _ (λ _ k. absurd (false≢true k))
+      (λ _. chosen (λ m. goal_asks s b m ≡ true → AsksLiteral (bytes t) b) (nat_eq b 10) _ _ (λ _ k. absurd (false≢true k)) (λ _ k. absurd (false≢true k)))
+  goal_at s goal.Done t b h = absurd h
+
+  pub goal_asked : (t : List Letter) (s : GoalState) (b : ℕ) → Walks goal_automaton (goal_first limit) t s → goal_automaton.asks s b ≡ true → AsksLiteral (bytes t) b
+  goal_asked t s b w h =
+      goal_at s s.phase t b (fronts goal_automaton (reads.Front limit top) (reads.Whole limit top) (reads.keeps limit top) t (goal_first limit) [] s w (refl, refl, refl)) h

@@ -1,0 +1,150 @@
+-- How a machine reads the end of a line, and what it has read where a line may end.
+use Rattle.std.proofs.Common.{◌≡◌, ℕ, true, false, List, [], ◌∷◌, ◌++◌, refl, ap, subst, inl, inr, sym, ◌∙◌, append_assoc}
+use Rattle.std.proofs.lemmas.List.{append-nil}
+use Rattle.std.specs.Prelude.{IsTrue}
+use Rattle.pb_text.proofs.Languages.{grown, next, none_yet, regroup, regroup3, behind_it, many-grown}
+use Rattle.pb_text.specs.Automaton.{Automaton, Go, End, Reads}
+use Rattle.pb_text.specs.Classes.{is_blank}
+use Rattle.pb_text.specs.Languages.{unmarked, Language, ◌⋅◌, Empty, Byte, Bytes, Each, Blanks0, Blanks1}
+use Rattle.pb_text.specs.Spelling.{Letter}
+use Rattle.pb_proof.specs.Lines.{Feed, LineEnd, Listed}
+use Rattle.pb_proof.proofs.lemmas.Walking.{Walks, Leads, walks_then, reads_behind, longer}
+
+-- a letter that is no digit of a number
+pub as_unmarked : (l : Letter) (b : ℕ) → l.byte ≡ b → l.numeral ≡ false → l ≡ unmarked b
+as_unmarked l b e f = rw (sym e, sym f) refl
+
+module _ {S E : Type 0} (m : Automaton S E) where
+  -- A blank leads from the one state to the other, and from there no further.
+  pub record TakesBlanks (s gap : S) : Type 0 where
+    pub enters : (b : ℕ) → IsTrue (is_blank b) → m.step s b ≡ Go gap
+    pub stays : (b : ℕ) → IsTrue (is_blank b) → m.step gap b ≡ Go gap
+    pub begun : m.begun gap ≡ true
+    pub plain : m.in_number gap ≡ false
+
+  pub blanks_stay : (s gap : S) → TakesBlanks s gap → (bs : List ℕ) → Each (λ b. IsTrue (is_blank b)) bs → (t : List Letter) → Bytes bs t → Walks m gap t gap
+  blanks_stay s gap h [] i t e = subst (λ x. Walks m gap x gap) (sym e) refl
+  blanks_stay s gap h (b ∷ bs) i t e =
+      subst (λ x. Walks m gap x gap) (sym e) (gap, h.stays b i.0, h.begun, sym h.plain, blanks_stay s gap h bs i.1 _ refl)
+
+  -- blank+ leads to the state behind it
+  pub blanks1_lead : (s gap : S) → TakesBlanks s gap → Leads m s Blanks1 gap
+  blanks1_lead s gap h t (b, bs, i, j, e) =
+      subst (λ x. Walks m s x gap) (sym e) (gap, h.enters b i, h.begun, sym h.plain, blanks_stay s gap h bs j _ refl)
+
+  -- and blank* does where the state is that one
+  pub blanks0_lead : (gap : S) → TakesBlanks gap gap → Leads m gap Blanks0 gap
+  blanks0_lead gap h t (bs, i, e) = blanks_stay gap gap h bs i t e
+
+  -- A line feed, with blanks before it or not, ends the line with an event.
+  pub record Feeds (s gap : S) (e : E) (after : S) : Type 0 where
+    pub blanks : TakesBlanks s gap
+    pub ends : m.step s 10 ≡ End e after
+    pub ends_gap : m.step gap 10 ≡ End e after
+
+  -- blank*, and what stands behind it in either state
+  pub behind_blanks : (s gap after : S) (e : E) (t u : List Letter) → TakesBlanks s gap → Blanks0 t → Reads m s u e after → Reads m gap u e after → Reads m s (t ++ u) e after
+  behind_blanks s gap after e t u h ([], i, f) r q = subst (λ x. Reads m s (x ++ u) e after) (sym f) r
+  behind_blanks s gap after e t u h (b ∷ bs, i, f) r q =
+      reads_behind m t u s gap after e (blanks1_lead s gap h t (b, bs, i.0, i.1, f)) q
+
+  pub feed_reads : (s gap after : S) (e : E) → Feeds s gap e after → (t : List Letter) → Feed t → Reads m s t e after
+  feed_reads s gap after e h t (a, b, f, i, g) =
+      subst (λ x. Reads m s x e after) (sym (f ∙ ap (λ x. a ++ x) g))
+      (behind_blanks s gap after e a (unmarked 10 ∷ []) h.blanks i (h.ends, refl) (h.ends_gap, refl))
+
+  -- A line may end: at a line feed, or at a `;` that leads to the last state, with blanks before it or not.
+  pub record MayEnd (s gap closing : S) (e : E) (after : S) : Type 0 where
+    pub feeds : Feeds s gap e after
+    pub closes : m.step s 59 ≡ Go closing
+    pub closes_gap : m.step gap 59 ≡ Go closing
+    pub begun : m.begun closing ≡ true
+    pub plain : m.in_number closing ≡ false
+    pub last : Feeds closing closing e after
+
+  semicolon_reads : (s closing after : S) (e : E) (a b : List Letter) → m.step s 59 ≡ Go closing → m.begun closing ≡ true → m.in_number closing ≡ false
+      → Byte 59 a → Reads m closing b e after → Reads m s (a ++ b) e after
+  semicolon_reads s closing after e a b g h i f r =
+      subst (λ x. Reads m s (x ++ b) e after) (sym f) (longer m (unmarked 59) b s closing after e g h (sym i) r)
+
+  pub line_reads : (s gap closing after : S) (e : E) → MayEnd s gap closing e after → (t : List Letter) → LineEnd t → Reads m s t e after
+  line_reads s gap closing after e h t (inl f) = feed_reads s gap after e h.feeds t f
+  line_reads s gap closing after e h t (inr k) =
+      let f : (Blanks0 ⋅ (Byte 59 ⋅ Feed)) t = regroup Blanks0 (Byte 59) Feed t k in
+      let (a, b, g, i, (c, d, j, p, q)) = f in
+      let r : Reads m closing d e after = feed_reads closing closing after e h.last d q in
+      subst (λ x. Reads m s x e after) (sym (g ∙ ap (λ x. a ++ x) j))
+      (behind_blanks s gap after e a (c ++ d) h.feeds.blanks i
+      (semicolon_reads s closing after e c d h.closes h.begun h.plain p r)
+      (semicolon_reads gap closing after e c d h.closes_gap h.begun h.plain p r))
+
+-- What has been read where a line may end, behind a text of P: blanks, and then a `;` and blanks.
+abbrev pub Gapped : Language → Language
+Gapped P = P ⋅ Blanks0
+
+abbrev pub Closing : Language → Language
+Closing P = P ⋅ (Blanks0 ⋅ Byte 59 ⋅ Blanks0)
+
+module _ (P : Language) (l : Letter) (p : List Letter) where
+  blank0 : IsTrue (is_blank l.byte) → l.numeral ≡ false → (q : List Letter) → Blanks0 q → Blanks0 (q ++ l ∷ [])
+  blank0 h n q k = many-grown (λ b. IsTrue (is_blank b)) l.byte l (as_unmarked l l.byte refl n) h q k
+
+  pub blank_behind : IsTrue (is_blank l.byte) → l.numeral ≡ false → P p → Gapped P (p ++ l ∷ [])
+  blank_behind h n k = next P Blanks0 p l k (blank0 h n [] ([], tt, refl))
+
+  pub blank_more : IsTrue (is_blank l.byte) → l.numeral ≡ false → Gapped P p → Gapped P (p ++ l ∷ [])
+  blank_more h n k = grown P Blanks0 Blanks0 p l (blank0 h n) k
+
+  semicolon : l.byte ≡ 59 → l.numeral ≡ false → (q : List Letter) → Blanks0 q → (Blanks0 ⋅ Byte 59 ⋅ Blanks0) (q ++ l ∷ [])
+  semicolon h n q k =
+      none_yet (Blanks0 ⋅ Byte 59) Blanks0 (q ++ l ∷ []) ([], tt, refl)
+      (next Blanks0 (Byte 59) q l k (ap (λ x. x ∷ []) (as_unmarked l 59 h n)))
+
+  pub semicolon_behind_blanks : l.byte ≡ 59 → l.numeral ≡ false → Gapped P p → Closing P (p ++ l ∷ [])
+  semicolon_behind_blanks h n k = grown P Blanks0 (Blanks0 ⋅ Byte 59 ⋅ Blanks0) p l (semicolon h n) k
+
+  pub semicolon_behind : l.byte ≡ 59 → l.numeral ≡ false → P p → Closing P (p ++ l ∷ [])
+  semicolon_behind h n k = semicolon_behind_blanks h n (none_yet P Blanks0 p ([], tt, refl) k)
+
+  pub blank_closing : IsTrue (is_blank l.byte) → l.numeral ≡ false → Closing P p → Closing P (p ++ l ∷ [])
+  blank_closing h n k =
+      grown P (Blanks0 ⋅ Byte 59 ⋅ Blanks0) (Blanks0 ⋅ Byte 59 ⋅ Blanks0) p l
+      (λ q i. grown (Blanks0 ⋅ Byte 59) Blanks0 Blanks0 q l (blank0 h n) i) k
+
+  feed : l.byte ≡ 10 → l.numeral ≡ false → (q : List Letter) → Blanks0 q → Feed (q ++ l ∷ [])
+  feed h n q k = next Blanks0 (Byte 10) q l k (ap (λ x. x ∷ []) (as_unmarked l 10 h n))
+
+  pub feed_behind_blanks : l.byte ≡ 10 → l.numeral ≡ false → Gapped P p → (P ⋅ Feed) (p ++ l ∷ [])
+  feed_behind_blanks h n k = grown P Blanks0 Feed p l (feed h n) k
+
+  pub line_behind_blanks : l.byte ≡ 10 → l.numeral ≡ false → Gapped P p → (P ⋅ LineEnd) (p ++ l ∷ [])
+  line_behind_blanks h n k = behind_it P Feed LineEnd (p ++ l ∷ []) (λ q i. inl i) (feed_behind_blanks h n k)
+
+  pub line_behind : l.byte ≡ 10 → l.numeral ≡ false → P p → (P ⋅ LineEnd) (p ++ l ∷ [])
+  line_behind h n k = line_behind_blanks h n (none_yet P Blanks0 p ([], tt, refl) k)
+
+  pub line_closing : l.byte ≡ 10 → l.numeral ≡ false → Closing P p → (P ⋅ LineEnd) (p ++ l ∷ [])
+  line_closing h n k =
+      grown P (Blanks0 ⋅ Byte 59 ⋅ Blanks0) LineEnd p l
+      (λ q i. inr (grown (Blanks0 ⋅ Byte 59) Blanks0 Feed q l (feed h n) i)) k
+
+-- One more of a list, with blanks before it.
+module _ {A : Type 0} (P : A → Language) where
+  pub listed_append : (xs : List A) (x : A) (p : List Letter) → (Listed P xs ⋅ Blanks1 ⋅ P x) p → Listed P (xs ++ x ∷ []) p
+  listed_append [] x p (ab, c, e, (a, b, f, h, i), k) =
+      none_yet (Blanks1 ⋅ P x) Empty p refl (b, c, e ∙ ap (λ y. y ++ c) (f ∙ ap (λ y. y ++ b) h), i, k)
+  listed_append (y ∷ xs) x p h =
+      let B : Language = Blanks1 ⋅ P y in
+      let L : Language = Listed P xs in
+      behind_it B (L ⋅ Blanks1 ⋅ P x) (Listed P (xs ++ x ∷ [])) p (listed_append xs x) (regroup3 B L Blanks1 (P x) p h)
+
+  -- A state behind some of a list is led to one behind all of it, where each further one leads on.
+  pub listed_walks : {S E : Type 0} (m : Automaton S E) (At : List A → S → Type 0)
+      → ((xs : List A) (x : A) (s : S) (t : List Letter) → At xs s → (Blanks1 ⋅ P x) t → (next : S) × Walks m s t next × At (xs ++ x ∷ []) next)
+      → (xs ys : List A) (s : S) (t : List Letter) → At xs s → Listed P ys t → (next : S) × Walks m s t next × At (xs ++ ys) next
+  listed_walks m At f xs [] s t i e =
+      (s, subst (λ x. Walks m s x s) (sym e) refl, subst (λ x. At x s) (sym (append-nil xs)) i)
+  listed_walks m At f xs (y ∷ ys) s t i (a, b, e, h, k) =
+      let (mid, w, j) = f xs y s a i h in
+      let (next, v, g) = listed_walks m At f (xs ++ y ∷ []) ys mid b j k in
+      (next, subst (λ x. Walks m s x next) (sym e) (walks_then m a b s mid next w v), subst (λ x. At x next) (append_assoc xs (y ∷ []) ys) g)

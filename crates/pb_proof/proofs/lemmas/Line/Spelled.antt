@@ -1,0 +1,163 @@
+-- The canonical text of a statement that meets the rules spells it.
+use Rattle.std.proofs.Common.{ℕ, suc, ◌<◌, ◌≤◌, ◌^◌, List, [], ◌∷◌, ◌++◌, refl, arith, inl, true, false, Option, Some, None, All}
+use Rattle.std.specs.Prelude.{ℤ, pos, negsuc, nat_abs, decimal}
+use Rattle.std.proofs.lemmas.Int.{ints}
+use Rattle.std.proofs.lemmas.List.Elements.{All-head, All-tail}
+use Rattle.pb_text.specs.Languages.{Language, ◌⋅◌, Byte, Bytes, Blanks0, Blanks1}
+use Rattle.pb_text.specs.Numbers.{Number, Count}
+use Rattle.pb_text.specs.Spelling.{Letter, plain, digits_of}
+use Rattle.pb_text.proofs.Numbers.{decimal-digits}
+use Rattle.pb_sums.specs.Canonical.{space, degree_text, literal_text, linear_text}
+use Rattle.pb_sums.specs.Sums.{IsName, SpellsLiteral, SpellsLinear}
+use Rattle.pb_sums.specs.declared.values.Literal.{Literal}
+use Rattle.pb_sums.specs.declared.grammar.Spaces.TheVariants.{Blank}
+use Rattle.pb_sums.proofs.CanonicalLaws.{linear-spelled}
+use Rattle.pb_proof.specs.Lines.{pseudo_word, proof_word, version_word, two_word, f_word, pol_word, rup_word, soli_word, solx_word, del_word, id_word, output_word, conclusion_word, end_word, none_word, unsat_word, sat_word, bounds_word, Feed, LineEnd, Listed, SpellsId, Factor, SpellsBound, SpellsShown, Shown, IdShown, SpellsWord, SpellsConclusion, SpellsCount, SpellsWords, SpellsGoal, SpellsLiterals, SpellsIds, SpellsClaim, SpellsStatement}
+use Rattle.pb_proof.specs.Values.{IfGiven, IsId, IsFactor, AreLiterals, IsBound, IsWord, IsConclusion, IsStatementValue}
+use Rattle.pb_proof.specs.declared.word.PolWord.{PolWord}
+use Rattle.pb_proof.specs.declared.word.PolWord.TheVariants.{Id, Axiom, Add, Multiply, Divide, Saturate, Weaken}
+use Rattle.pb_proof.specs.declared.conclusion.Bound.{Bound}
+use Rattle.pb_proof.specs.declared.conclusion.Bound.TheVariants.{Finite, Infinite}
+use Rattle.pb_proof.specs.declared.conclusion.Conclusion.{Conclusion}
+use Rattle.pb_proof.specs.declared.conclusion.Conclusion.TheVariants.{NoClaim, Unsat, Sat, Bounds}
+use Rattle.pb_proof.specs.declared.statement.Statement.{Statement}
+use Rattle.pb_proof.specs.declared.statement.Statement.TheVariants.{Header, F, Pol, Rup, Soli, Solx, Delete, Output, Conclude, End}
+use Rattle.pb_proof.proofs.lemmas.Line.Texts.{one, feed, word_text, listed_text, bound_text, id_shown_text, list_text, shown_text, claim_text, count_text, line_text}
+
+-- one text and then another
+both : (P Q : Language) (a b : List Letter) → P a → Q b → (P ⋅ Q) (a ++ b)
+both P Q a b h k = (a, b, refl, h, k)
+
+space1 : Blanks1 space
+space1 = (32, [], refl, tt, refl)
+
+space0 : Blanks0 space
+space0 = (32 ∷ [], (refl, tt), refl)
+
+feed_spelled : Feed feed
+feed_spelled = ([], feed, refl, ([], tt, refl), refl)
+
+ended : LineEnd feed
+ended = inl feed_spelled
+
+literal_spelled : (l : Literal) → IsName l.name → SpellsLiteral l (literal_text l)
+literal_spelled l h = (h, refl)
+
+listed_spelled : {A : Type 0} (P : A → Language) (text : A → List Letter) (R : A → Type 0) → ((x : A) → R x → P x (text x)) → (xs : List A) → All R xs → Listed P xs (listed_text text xs)
+listed_spelled P text R f [] h = refl
+listed_spelled P text R f (x ∷ xs) h =
+    both (Blanks1 ⋅ P x) (Listed P xs) (space ++ text x) (listed_text text xs) (both Blanks1 (P x) space (text x) space1 (f x (All-head R x xs h)))
+    (listed_spelled P text R f xs (All-tail R x xs h))
+
+literals_spelled : (ls : List Literal) → AreLiterals ls → Listed SpellsLiteral ls (listed_text literal_text ls)
+literals_spelled ls h = listed_spelled SpellsLiteral literal_text (λ l. IsName l.name) literal_spelled ls h
+
+shown_spelled : (shown : Option (List Literal)) → IfGiven AreLiterals shown → Shown shown (shown_text shown)
+shown_spelled None h = refl
+shown_spelled (Some []) h = both Blanks0 (SpellsShown []) space (one 58) space0 refl
+shown_spelled (Some (l ∷ ls)) h =
+    let L : List Letter = literal_text l in
+    both Blanks0 (SpellsShown (l ∷ ls)) space (list_text (l ∷ ls)) space0
+    (both (Byte 58 ⋅ Blanks0 ⋅ SpellsLiteral l) (Listed SpellsLiteral ls) (one 58 ++ space ++ L) (listed_text literal_text ls)
+    (both (Byte 58 ⋅ Blanks0) (SpellsLiteral l) (one 58 ++ space) L (both (Byte 58) Blanks0 (one 58) space refl space0) (literal_spelled l (All-head (λ l. IsName l.name) l ls h)))
+    (literals_spelled ls (All-tail (λ l. IsName l.name) l ls h)))
+
+id_spelled : (top : ℕ) → top < 2 ^ 63 → (id : ℤ) → IsId top id → SpellsId top id (degree_text id)
+id_spelled top t (pos n) h = (false, n, h.0, h.1, refl, ([], digits_of (decimal n), refl, refl, decimal-digits n (omega (arith, h.1))))
+id_spelled top t (negsuc n) h = (true, suc n, h.0, h.1, refl, (one 45, digits_of (decimal (suc n)), refl, refl, decimal-digits (suc n) (omega (arith, h.1))))
+
+count_spelled : (top : ℕ) → top < 2 ^ 63 → (n : ℕ) → n ≤ top → Count top n (digits_of (decimal n))
+count_spelled top t n h = (h, decimal-digits n (omega arith))
+
+module _ (limit : ℕ) (small : limit < 2 ^ 127) where
+  factor_spelled : (k : ℤ) → IsFactor limit k → Factor limit k (degree_text k)
+  factor_spelled (pos n) h = (n, omega (arith, ints, h.0), omega (arith, ints, h.1), refl, decimal-digits n (omega (arith, ints, h.1)))
+  factor_spelled (negsuc n) h = absurd (omega (arith, ints, h.0))
+
+  number_spelled : (z : ℤ) → nat_abs z ≤ limit → Number limit z (degree_text z)
+  number_spelled (pos n) h = (false, n, h, refl, ([], digits_of (decimal n), refl, inl refl, decimal-digits n (omega arith)))
+  number_spelled (negsuc n) h = (true, suc n, h, refl, (one 45, digits_of (decimal (suc n)), refl, refl, decimal-digits (suc n) (omega arith)))
+
+  bound_spelled : (b : Bound) → IsBound limit b → SpellsBound limit b (bound_text b)
+  bound_spelled (Finite z) h = number_spelled z h
+  bound_spelled Infinite h = refl
+
+  module _ (top : ℕ) (low : top < 2 ^ 63) where
+    id_shown_spelled : (id : Option ℤ) → IfGiven (IsId top) id → IdShown limit top id (id_shown_text id)
+    id_shown_spelled None h = refl
+    id_shown_spelled (Some id) h =
+        both (Blanks0 ⋅ Byte 58 ⋅ Blanks0) (SpellsId top id) (space ++ one 58 ++ space) (degree_text id)
+        (both (Blanks0 ⋅ Byte 58) Blanks0 (space ++ one 58) space (both Blanks0 (Byte 58) space (one 58) space0 refl) space0) (id_spelled top low id h)
+
+    word_spelled : (w : PolWord) → IsWord limit top w → SpellsWord limit top w (word_text w)
+    word_spelled (Id id) h = id_spelled top low id h
+    word_spelled (Axiom l) h = literal_spelled l h
+    word_spelled Add h = refl
+    word_spelled (Multiply k) h = both (Factor limit k ⋅ Blanks1) (Byte 42) (degree_text k ++ space) (one 42) (both (Factor limit k) Blanks1 (degree_text k) space (factor_spelled k h) space1) refl
+    word_spelled (Divide k) h = both (Factor limit k ⋅ Blanks1) (Byte 100) (degree_text k ++ space) (one 100) (both (Factor limit k) Blanks1 (degree_text k) space (factor_spelled k h) space1) refl
+    word_spelled Saturate h = refl
+    word_spelled (Weaken name) h = (h, both (Bytes name ⋅ Blanks1) (Byte 119) (plain name ++ space) (one 119) (both (Bytes name) Blanks1 (plain name) space refl space1) refl)
+
+    claim_spelled : (c : Conclusion) → IsConclusion limit top c → SpellsConclusion limit top c (claim_text c)
+    claim_spelled NoClaim h = refl
+    claim_spelled (Unsat id) h = both (Bytes unsat_word) (IdShown limit top id) (plain unsat_word) (id_shown_text id) refl (id_shown_spelled id h)
+    claim_spelled (Sat shown) h = both (Bytes sat_word) (Shown shown) (plain sat_word) (shown_text shown) refl (shown_spelled shown h)
+    claim_spelled (Bounds lower id upper shown) h =
+        let W : Language = Bytes bounds_word in
+        let L : Language = SpellsBound limit lower in
+        let I : Language = IdShown limit top id in
+        let U : Language = SpellsBound limit upper in
+        let w : List Letter = plain bounds_word in
+        let l : List Letter = bound_text lower in
+        let i : List Letter = id_shown_text id in
+        let u : List Letter = bound_text upper in
+        both (W ⋅ Blanks1 ⋅ L ⋅ I ⋅ Blanks1 ⋅ U) (Shown shown) (w ++ space ++ l ++ i ++ space ++ u) (shown_text shown)
+        (both (W ⋅ Blanks1 ⋅ L ⋅ I ⋅ Blanks1) U (w ++ space ++ l ++ i ++ space) u
+        (both (W ⋅ Blanks1 ⋅ L ⋅ I) Blanks1 (w ++ space ++ l ++ i) space
+        (both (W ⋅ Blanks1 ⋅ L) I (w ++ space ++ l) i
+        (both (W ⋅ Blanks1) L (w ++ space) l (both W Blanks1 w space refl space1) (bound_spelled lower h.0)) (id_shown_spelled id h.1)) space1) (bound_spelled upper h.2)) (shown_spelled shown h.3)
+
+    f_spelled : (count : Option ℕ) → IfGiven (λ n. n ≤ top) count → SpellsCount limit top count (count_text count)
+    f_spelled None h = ended
+    f_spelled (Some n) h =
+        both (Blanks1 ⋅ Count top n) LineEnd (space ++ digits_of (decimal n)) feed (both Blanks1 (Count top n) space (digits_of (decimal n)) space1 (count_spelled top low n h)) ended
+
+    pub line_spelled : (s : Statement) → IsStatementValue limit top s → SpellsStatement limit top s (line_text s)
+    line_spelled Header h =
+        let A : Language = Bytes pseudo_word ⋅ Blanks1 in
+        let a : List Letter = plain pseudo_word ++ space in
+        both (A ⋅ Bytes proof_word ⋅ Blanks1 ⋅ Bytes version_word ⋅ Blanks1 ⋅ Bytes two_word) Feed (a ++ plain proof_word ++ space ++ plain version_word ++ space ++ plain two_word) feed
+        (both (A ⋅ Bytes proof_word ⋅ Blanks1 ⋅ Bytes version_word ⋅ Blanks1) (Bytes two_word) (a ++ plain proof_word ++ space ++ plain version_word ++ space) (plain two_word)
+        (both (A ⋅ Bytes proof_word ⋅ Blanks1 ⋅ Bytes version_word) Blanks1 (a ++ plain proof_word ++ space ++ plain version_word) space
+        (both (A ⋅ Bytes proof_word ⋅ Blanks1) (Bytes version_word) (a ++ plain proof_word ++ space) (plain version_word)
+        (both (A ⋅ Bytes proof_word) Blanks1 (a ++ plain proof_word) space
+        (both A (Bytes proof_word) a (plain proof_word) (both (Bytes pseudo_word) Blanks1 (plain pseudo_word) space refl space1) refl) space1) refl) space1) refl) feed_spelled
+    line_spelled (F count) h = both (Bytes f_word) (SpellsCount limit top count) (plain f_word) (count_text count) refl (f_spelled count h)
+    line_spelled (Pol ws) h =
+        both (Bytes pol_word) (SpellsWords limit top ws) (plain pol_word) (listed_text word_text ws ++ feed) refl
+        (h.0, both (Listed (SpellsWord limit top) ws) LineEnd (listed_text word_text ws) feed (listed_spelled (SpellsWord limit top) word_text (IsWord limit top) word_spelled ws h.1) ended)
+    line_spelled (Rup c) h =
+        both (Bytes rup_word) (SpellsGoal limit top c) (plain rup_word) (space ++ linear_text c ++ feed) refl
+        (h.0, both (Blanks1 ⋅ SpellsLinear Blank limit c) Feed (space ++ linear_text c) feed (both Blanks1 (SpellsLinear Blank limit c) space (linear_text c) space1 (linear-spelled limit (omega arith) Blank c h.1)) feed_spelled)
+    line_spelled (Soli ls) h =
+        both (Bytes soli_word) (SpellsLiterals limit top ls) (plain soli_word) (listed_text literal_text ls ++ feed) refl
+        (both (Listed SpellsLiteral ls) LineEnd (listed_text literal_text ls) feed (literals_spelled ls h) ended)
+    line_spelled (Solx ls) h =
+        both (Bytes solx_word) (SpellsLiterals limit top ls) (plain solx_word) (listed_text literal_text ls ++ feed) refl
+        (both (Listed SpellsLiteral ls) LineEnd (listed_text literal_text ls) feed (literals_spelled ls h) ended)
+    line_spelled (Delete ids) h =
+        both (Bytes del_word ⋅ Blanks1 ⋅ Bytes id_word) (SpellsIds limit top ids) (plain del_word ++ space ++ plain id_word) (listed_text degree_text ids ++ feed)
+        (both (Bytes del_word ⋅ Blanks1) (Bytes id_word) (plain del_word ++ space) (plain id_word) (both (Bytes del_word) Blanks1 (plain del_word) space refl space1) refl)
+        (h.0, both (Listed (SpellsId top) ids) LineEnd (listed_text degree_text ids) feed (listed_spelled (SpellsId top) degree_text (IsId top) (id_spelled top low) ids h.1) ended)
+    line_spelled Output h =
+        both (Bytes output_word ⋅ Blanks1 ⋅ Bytes none_word) LineEnd (plain output_word ++ space ++ plain none_word) feed
+        (both (Bytes output_word ⋅ Blanks1) (Bytes none_word) (plain output_word ++ space) (plain none_word) (both (Bytes output_word) Blanks1 (plain output_word) space refl space1) refl) ended
+    line_spelled (Conclude c) h =
+        both (Bytes conclusion_word) (SpellsClaim limit top c) (plain conclusion_word) (space ++ claim_text c ++ feed) refl
+        (both (Blanks1 ⋅ SpellsConclusion limit top c) LineEnd (space ++ claim_text c) feed (both Blanks1 (SpellsConclusion limit top c) space (claim_text c) space1 (claim_spelled c h)) ended)
+    line_spelled End h =
+        let A : Language = Bytes end_word ⋅ Blanks1 in
+        let a : List Letter = plain end_word ++ space in
+        both (A ⋅ Bytes pseudo_word ⋅ Blanks1) (Bytes proof_word) (a ++ plain pseudo_word ++ space) (plain proof_word)
+        (both (A ⋅ Bytes pseudo_word) Blanks1 (a ++ plain pseudo_word) space
+        (both A (Bytes pseudo_word) a (plain pseudo_word) (both (Bytes end_word) Blanks1 (plain end_word) space refl space1) refl) space1) refl

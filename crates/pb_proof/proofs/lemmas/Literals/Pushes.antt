@@ -1,0 +1,73 @@
+-- A push of a machine of literals does what was planned.
+use Rattle.std.proofs.Common.{◌≡◌, ℕ, ◌+◌, ◌-◌, ◌^◌, ◌<◌, min, take, get_or, Bool, true, false, ◌||◌, List, [], length, sym, ap, arith, ◌∙◌}
+use Rattle.std.proofs.lemmas.List.{take_more}
+use Rattle.std.specs.Prelude.{IsTrue}
+use Rattle.pb_text.specs.Automaton.{Next, Go, End, Refuse, Admits, IsState}
+use Rattle.pb_sums.specs.declared.Literal.{Literal}
+use Rattle.pb_proof.specs.Line.Literals.{LiteralsState, literals_automaton, literals_at, flushed, act, plan, adds, is_more, is_midway, units, IsLiteralsInOrder}
+use Rattle.pb_proof.specs.Line.ByteKind.{name_mark}
+use Rattle.pb_proof.specs.declared.line.byte_kind.NameMark.{NameMark}
+use Rattle.pb_proof.specs.declared.line.literals.phase.LiteralsPhase.{LiteralsPhase}
+use Rattle.pb_proof.specs.declared.line.literals.phase.LiteralsMove.{LiteralsMove}
+use Rattle.pb_proof.specs.declared.line.literals.phase.LiteralsMove.TheVariants as move
+use Rattle.pb_proof.proofs.lemmas.Literals.Theorems.{literals_of_one, literals_is_state, units_append}
+use Rattle.pb_proof.proofs.lemmas.Line.One.{admits}
+
+abbrev IsTaken : LiteralsMove → Type 0
+IsTaken move.Stop = ⊥
+IsTaken _ = Unit {0}
+
+refuse_go : (s : LiteralsState) → ◌≡◌ {A = Next LiteralsState (List Literal)} (Go s) Refuse → ⊥
+refuse_go s h = cc
+
+refuse_end : (s : LiteralsState) (e : List Literal) → ◌≡◌ {A = Next LiteralsState (List Literal)} (End e s) Refuse → ⊥
+refuse_end s e h = cc
+
+taken_acts : (joined : Bool) (ms ls : List Literal) (name : List ℕ) (m : LiteralsMove) → IsTaken m → act joined ms ls name m ≡ Refuse → ⊥
+taken_acts joined ms ls name (move.To q) h e = refuse_go _ e
+taken_acts joined ms ls name (move.Begin q b) h e = refuse_go _ e
+taken_acts joined ms ls name (move.Add q b) h e = refuse_go _ e
+taken_acts joined ms ls name move.End h e = refuse_end _ _ e
+taken_acts joined ms ls name move.Stop h e = h
+
+module _ (joined : Bool) (ls : List Literal) (name : List ℕ) (p : LiteralsPhase) (b : ℕ) (k : NameMark) where
+  planned : (m : LiteralsMove) → k ≡ name_mark b → m ≡ plan joined p k → plan joined p (name_mark b) ≡ m
+  planned m f g = ap (λ x. plan joined p x) (sym f) ∙ sym g
+
+  moved : (m : LiteralsMove) → k ≡ name_mark b → m ≡ plan joined p k
+      → literals_automaton.step (literals_at joined ls name p) b ≡ act joined (flushed p ls name) ls name m
+  moved m f g = ap (λ x. act joined (flushed p ls name) ls name x) (planned m f g)
+
+  -- memory is asked for at a byte of a name or one that ends a literal, and only where the byte is taken
+  pub wants : (m : LiteralsMove) → IsLiteralsInOrder (literals_at joined ls name p) → k ≡ name_mark b → m ≡ plan joined p k → IsTaken m
+      → (adds m || is_more p) ≡ true → IsTrue (literals_automaton.asks (literals_at joined ls name p) b) × Admits literals_automaton (literals_at joined ls name p) b
+  wants m o f g t a = (
+    ap (λ x. adds x || is_more p) (planned m f g) ∙ a,
+    admits literals_automaton IsLiteralsInOrder _ literals_of_one (literals_at joined ls name p) b (act joined (flushed p ls name) ls name m) o (moved m f g)
+        (taken_acts joined (flushed p ls name) ls name m t),
+  )
+
+  pub goes_to : (ms : List Literal) (new : List ℕ) (q : LiteralsPhase) → new ≡ [] → k ≡ name_mark b → move.To q ≡ plan joined p k → ms ≡ flushed p ls name
+      → literals_automaton.step (literals_at joined ls name p) b ≡ Go (literals_at joined ms new q)
+  goes_to ms new q z f g i =
+      moved (move.To q) f g ∙ (ap (λ x. act joined x ls name (move.To q)) (sym i) ∙ ap (λ x. Go (literals_at joined ms x q)) (sym z))
+
+pub same_state : (joined : Bool) (ls ms : List Literal) (m n : List ℕ) (p q : LiteralsPhase) → ls ≡ ms → m ≡ n → p ≡ q → literals_at joined ls m p ≡ literals_at joined ms n q
+same_state joined ls ms m n p q e f g = cc
+
+-- a state on the way through the literals
+pub midway_state : (joined : Bool) (ls : List Literal) (name : List ℕ) (q : LiteralsPhase) → is_midway q ≡ true → IsState literals_automaton (literals_at joined ls name q)
+midway_state joined ls name q h = literals_is_state (literals_at joined ls name q) (λ i. absurd (never (is_midway q) h i))
+  where
+    never : (x : Bool) → x ≡ true → x ≡ false → ⊥
+    never x e f = cc
+
+-- a count that stays at its largest
+pub count_more : (ls : List Literal) (i : ℕ) (d : Literal) (c m r : ℕ) → i < length ls → c ≡ min (units (take i ls)) (2 ^ 64 - 1) → m ≡ min (length (get_or ls i d).name + 1) (2 ^ 64 - 1)
+    → r ≡ min (c + m) (2 ^ 64 - 1) → r ≡ min (units (take (i + 1) ls)) (2 ^ 64 - 1)
+count_more ls i d c m r h e f g =
+    counted (units (take i ls)) (length (get_or ls i d).name) c m r e f g
+    ∙ ap (λ n. min n (2 ^ 64 - 1)) (sym (ap units (take_more ls i d h) ∙ units_append (take i ls) (get_or ls i d)))
+  where
+    counted : (u n c m r : ℕ) → c ≡ min u (2 ^ 64 - 1) → m ≡ min (n + 1) (2 ^ 64 - 1) → r ≡ min (c + m) (2 ^ 64 - 1) → r ≡ min (u + (1 + n)) (2 ^ 64 - 1)
+    counted u n c m r e f g = omega arith

@@ -1,0 +1,138 @@
+-- What a machine of literals has read in each of its states.
+use Rattle.std.proofs.Common.{◌≡◌, ℕ, Bool, true, false, cond, List, [], ◌∷◌, ◌++◌, refl, sym, ap, subst, ◌∙◌}
+use Rattle.std.specs.Prelude.{IsTrue}
+use Rattle.pb_text.proofs.Languages.{grown, next, regroup3, some-one, some-grown, some-many, none_yet, behind_it, nil_first}
+use Rattle.pb_text.specs.Automaton.{Next}
+use Rattle.pb_text.specs.Classes.{is_blank}
+use Rattle.pb_text.specs.Languages.{unmarked, Language, ◌⋅◌, Empty, Byte, Blanks0, Blanks1}
+use Rattle.pb_text.specs.Spelling.{Letter}
+use Rattle.pb_sums.specs.Sums.{SpellsLiteral}
+use Rattle.pb_sums.specs.declared.Literal.{Literal}
+use Rattle.pb_proof.specs.Lines.{LineEnd, Listed}
+use Rattle.pb_proof.specs.Line.Literals.{LiteralsState, SpellsJoined, literals_automaton, literal, flushed, act, plan, behind, before}
+use Rattle.pb_proof.specs.Line.ByteKind.{name_mark}
+use Rattle.pb_proof.specs.declared.line.byte_kind.NameMark.{NameMark}
+use Rattle.pb_proof.specs.declared.line.byte_kind.NameMark.TheVariants as mark
+use Rattle.pb_proof.specs.declared.line.literals.phase.LiteralsPhase.{LiteralsPhase}
+use Rattle.pb_proof.specs.declared.line.literals.phase.LiteralsPhase.TheVariants.{Start, Gap, Negation, First, More, Closing, Done}
+use Rattle.pb_proof.proofs.lemmas.Line.ByteKinds.{NameMeans, name_means, letter_is_name_byte}
+use Rattle.pb_proof.proofs.lemmas.Literals.Names.{FirstOf, LiteralOf, first_grown, more_grown}
+use Rattle.pb_proof.proofs.lemmas.Line.Ends as ends
+use Rattle.pb_proof.proofs.lemmas.Walking.{On, Keeps}
+
+-- what stands before the end of the line
+abbrev pub Row : Bool → List Literal → Language
+Row false ls = Listed SpellsLiteral ls
+Row true [] = Empty
+Row true (l ∷ ls) = Blanks0 ⋅ SpellsLiteral l ⋅ Listed SpellsLiteral ls
+
+-- what stands before a further literal
+abbrev pub Before : Bool → List Literal → Language
+Before false ls = Listed SpellsLiteral ls ⋅ Blanks1
+Before true [] = Blanks0
+Before true (l ∷ ls) = Row true (l ∷ ls) ⋅ Blanks1
+
+row_empty : (joined : Bool) (p : List Letter) → Empty p → Row joined [] p
+row_empty true p h = h
+row_empty false p h = h
+
+row_append : (joined : Bool) (ls : List Literal) (l : Literal) (p : List Letter) → (Before joined ls ⋅ SpellsLiteral l) p → Row joined (ls ++ l ∷ []) p
+row_append false ls l p h = ends.listed_append SpellsLiteral ls l p h
+row_append true [] l p h = none_yet (Blanks0 ⋅ SpellsLiteral l) Empty p refl h
+row_append true (x ∷ ls) l p h =
+    let A : Language = Blanks0 ⋅ SpellsLiteral x in
+    let L : Language = Listed SpellsLiteral ls in
+    behind_it A (L ⋅ Blanks1 ⋅ SpellsLiteral l) (Listed SpellsLiteral (ls ++ l ∷ [])) p (ends.listed_append SpellsLiteral ls l)
+    (regroup3 A L Blanks1 (SpellsLiteral l) p h)
+
+before_of : (joined : Bool) (ls : List Literal) (p : List Letter) → (Row joined ls ⋅ Blanks1) p → Before joined ls p
+before_of false ls p h = h
+before_of true [] p h = nil_first Blanks0 p (behind_it Empty Blanks1 Blanks0 p (some-many (λ b. IsTrue (is_blank b))) h)
+before_of true (l ∷ ls) p h = h
+
+whole : (joined : Bool) (ls : List Literal) (q : List Letter) → (Row joined ls ⋅ LineEnd) q → SpellsJoined joined ls q
+whole false ls q h = h
+whole true [] q h = nil_first LineEnd q h
+whole true (l ∷ ls) q h = h
+
+abbrev pub front : Bool → LiteralsPhase → List Literal → List ℕ → Language
+front joined Start ls name = λ t. (ls ≡ []) × Empty t
+front joined Gap ls name = Row joined ls ⋅ Blanks1
+front joined Negation ls name = Before joined ls ⋅ Byte 126
+front joined (First negated) ls name = Before joined ls ⋅ FirstOf negated name
+front joined (More negated) ls name = Before joined ls ⋅ LiteralOf negated name
+front joined Closing ls name = ends.Closing (Row joined ls)
+front joined Done ls name = λ t. ⊥
+
+abbrev pub Front : LiteralsState → Language
+Front s = front s.joined s.phase s.literals s.name
+
+abbrev pub Whole : List Literal → LiteralsState → Language
+Whole e s = SpellsJoined s.joined e
+
+abbrev OnNext : Next LiteralsState (List Literal) → Letter → Language
+OnNext = On literals_automaton Front Whole
+
+module _ (joined : Bool) where
+  behind_sound : (ms ls : List Literal) (name : List ℕ) (k : NameMark) (l : Letter) (p : List Letter) → NameMeans k l.byte → ends.Gapped (Row joined ms) p
+      → (IsTrue (is_blank l.byte) → l.numeral ≡ false → (Row joined ms ⋅ Blanks1) (p ++ l ∷ [])) → OnNext (act joined ms ls name (behind k)) l (p ++ l ∷ [])
+  behind_sound ms ls name mark.Blank l p m h f = λ _ n. f m n
+  behind_sound ms ls name mark.Semicolon l p m h f = λ _ n. ends.semicolon_behind_blanks (Row joined ms) l p m n h
+  behind_sound ms ls name mark.Feed l p m h f = λ n. whole joined ms (p ++ l ∷ []) (ends.line_behind_blanks (Row joined ms) l p m n h)
+  behind_sound ms ls name _ l p m h f = tt
+
+  before_sound : (ls : List Literal) (name : List ℕ) (k : NameMark) (l : Letter) (p : List Letter) → NameMeans k l.byte → Before joined ls p → ends.Gapped (Row joined ls) p
+      → (IsTrue (is_blank l.byte) → l.numeral ≡ false → (Row joined ls ⋅ Blanks1) (p ++ l ∷ [])) → OnNext (act joined ls ls name (before k)) l (p ++ l ∷ [])
+  before_sound ls name mark.Tilde l p m b h f = λ _ n. next (Before joined ls) (Byte 126) p l b (ap (λ x. x ∷ []) (ends.as_unmarked l 126 m n))
+  before_sound ls name (mark.Letter c) l p m b h f =
+      λ _ n. next (Before joined ls) (FirstOf false (c ∷ [])) p l b (m.1, ap (λ x. x ∷ []) (ends.as_unmarked l c m.0 n))
+  before_sound ls name k l p m b h f = behind_sound ls ls name k l p m h f
+
+  gapped : (ls : List Literal) (p : List Letter) → Row joined ls p → ends.Gapped (Row joined ls) p
+  gapped ls p h = none_yet (Row joined ls) Blanks0 p ([], tt, refl) h
+
+  gap_more : (ls : List Literal) (p : List Letter) → (Row joined ls ⋅ Blanks1) p → ends.Gapped (Row joined ls) p
+  gap_more ls p h = behind_it (Row joined ls) Blanks1 Blanks0 p (some-many (λ b. IsTrue (is_blank b))) h
+
+  blank_next : (ls : List Literal) (l : Letter) (p : List Letter) → Row joined ls p → IsTrue (is_blank l.byte) → l.numeral ≡ false → (Row joined ls ⋅ Blanks1) (p ++ l ∷ [])
+  blank_next ls l p h b n = next (Row joined ls) Blanks1 p l h (some-one (λ b. IsTrue (is_blank b)) l.byte l (ends.as_unmarked l l.byte refl n) b)
+
+  blank_grown : (ls : List Literal) (l : Letter) (p : List Letter) → (Row joined ls ⋅ Blanks1) p → IsTrue (is_blank l.byte) → l.numeral ≡ false → (Row joined ls ⋅ Blanks1) (p ++ l ∷ [])
+  blank_grown ls l p h b n = grown (Row joined ls) Blanks1 Blanks1 p l (some-grown (λ b. IsTrue (is_blank b)) l.byte l (ends.as_unmarked l l.byte refl n) b) h
+
+  start_row : (ls : List Literal) (p : List Letter) → ls ≡ [] → Empty p → Row joined ls p
+  start_row ls p e h = subst (λ y. Row joined y p) (sym e) (row_empty joined p h)
+
+start_sound : (joined : Bool) (ls : List Literal) (name : List ℕ) (k : NameMark) (l : Letter) (p : List Letter) → NameMeans k l.byte → ls ≡ [] → Empty p
+    → OnNext (act joined ls ls name (cond joined (before k) (behind k))) l (p ++ l ∷ [])
+start_sound true ls name k l p m e h =
+    before_sound true ls name k l p m (subst (λ y. Before true y p) (sym e) ([], tt, h)) (gapped true ls p (start_row true ls p e h))
+    (blank_next true ls l p (start_row true ls p e h))
+start_sound false ls name k l p m e h =
+    behind_sound false ls ls name k l p m (gapped false ls p (start_row false ls p e h)) (blank_next false ls l p (start_row false ls p e h))
+
+module _ (joined : Bool) where
+  sound : (ph : LiteralsPhase) (ls : List Literal) (name : List ℕ) (k : NameMark) (l : Letter) (p : List Letter) → NameMeans k l.byte → front joined ph ls name p
+      → OnNext (act joined (flushed ph ls name) ls name (plan joined ph k)) l (p ++ l ∷ [])
+  sound Start ls name k l p m h = start_sound joined ls name k l p m h.0 h.1
+  sound Gap ls name k l p m h =
+      before_sound joined ls name k l p m (before_of joined ls p h) (gap_more joined ls p h) (blank_grown joined ls l p h)
+  sound Negation ls name (mark.Letter c) l p m h =
+      λ _ n. grown (Before joined ls) (Byte 126) (FirstOf true (c ∷ [])) p l
+      (λ q r. (m.1, ap (λ x. x ++ l ∷ []) r ∙ ap (λ y. unmarked 126 ∷ y ∷ []) (ends.as_unmarked l c m.0 n))) h
+  sound (First negated) ls name (mark.Letter c) l p m h =
+      λ _ n. first_grown (Before joined ls) negated name c l p (ends.as_unmarked l c m.0 n) (letter_is_name_byte c m.1) h
+  sound (First negated) ls name (mark.Inner c) l p m h = λ _ n. first_grown (Before joined ls) negated name c l p (ends.as_unmarked l c m.0 n) m.1 h
+  sound (More negated) ls name (mark.Letter c) l p m h =
+      λ _ n. more_grown (Before joined ls) negated name c l p (ends.as_unmarked l c m.0 n) (letter_is_name_byte c m.1) h
+  sound (More negated) ls name (mark.Inner c) l p m h = λ _ n. more_grown (Before joined ls) negated name c l p (ends.as_unmarked l c m.0 n) m.1 h
+  sound (More negated) ls name k l p m h =
+      let ms : List Literal = ls ++ literal negated name ∷ [] in
+      let r : Row joined ms p = row_append joined ls (literal negated name) p h in
+      behind_sound joined ms ls name k l p m (gapped joined ms p r) (blank_next joined ms l p r)
+  sound Closing ls name mark.Blank l p m h = λ _ n. ends.blank_closing (Row joined ls) l p m n h
+  sound Closing ls name mark.Feed l p m h = λ n. whole joined ls (p ++ l ∷ []) (ends.line_closing (Row joined ls) l p m n h)
+  sound _ ls name k l p m h = tt
+
+pub keeps_front : Keeps literals_automaton Front Whole
+keeps_front s l p h = sound s.joined s.phase s.literals s.name (name_mark l.byte) l p (name_means l.byte) h

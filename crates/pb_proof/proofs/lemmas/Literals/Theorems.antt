@@ -1,0 +1,228 @@
+-- The laws of the machine of literals.
+use Rattle.std.proofs.Common.{◌≡◌, ℕ, ◌+◌, ◌-◌, ◌^◌, ◌≤◌, min, Bool, true, false, cond, List, [], ◌∷◌, ◌++◌, length, refl, sym, ap, subst, arith, ◌↔◌}
+use Rattle.std.proofs.Math.Nat.{min-le_left}
+use Rattle.std.proofs.lemmas.List.{length-append}
+use Rattle.pb_text.specs.Automaton.{Next, Go, End, Refuse, Reads, IsState}
+use Rattle.pb_text.specs.Languages.{unmarked}
+use Rattle.pb_text.specs.Spelling.{Letter}
+use Rattle.pb_sums.specs.declared.Literal.{Literal}
+use Rattle.pb_proof.specs.Line.Literals.{LiteralsState, SpellsJoined, literals_automaton, literals_at, literals_first, literals_last, literal, flushed, act, plan, behind, before, is_midway, is_begun, is_done, units, in_hand, ready, all_units, IsLiteralsInOrder}
+use Rattle.pb_proof.specs.Line.ByteKind.{name_mark}
+use Rattle.pb_proof.specs.declared.line.byte_kind.NameMark.{NameMark}
+use Rattle.pb_proof.specs.declared.line.byte_kind.NameMark.TheVariants as mark
+use Rattle.pb_proof.specs.declared.line.literals.phase.LiteralsPhase.{LiteralsPhase}
+use Rattle.pb_proof.specs.declared.line.literals.phase.LiteralsPhase.TheVariants.{Start, Gap, Negation, First, More, Closing, Done}
+use Rattle.pb_proof.specs.declared.line.literals.phase.LiteralsMove.{LiteralsMove}
+use Rattle.pb_proof.specs.declared.line.literals.phase.LiteralsMove as move
+use Rattle.pb_proof.proofs.lemmas.Literals.Complete.{reads_each}
+use Rattle.pb_proof.proofs.lemmas.Literals.Sound.{Front, Whole, keeps_front}
+use Rattle.pb_proof.proofs.lemmas.Line.One.{IsOfOne, ReadsSome, reads_last, is_state}
+use Rattle.pb_proof.proofs.lemmas.Walking.{told}
+
+abbrev N : Type 0
+N = Next LiteralsState (List Literal)
+
+-- What a move from a phase leads to is midway, and a literal is in hand where a name has begun.
+abbrev IsSane : Bool → LiteralsPhase → LiteralsMove → Type 0
+IsSane joined ph (move.TheVariants.To q) = (is_midway q ≡ true) × (in_hand q ≡ 0)
+IsSane joined ph (move.TheVariants.Begin q b) = (is_midway q ≡ true) × (in_hand q + ready joined q ≡ 1) × (ready joined ph ≡ 1)
+IsSane joined ph (move.TheVariants.Add q b) = (is_midway q ≡ true) × (in_hand q + ready joined q ≡ 1) × (in_hand ph ≡ 1)
+IsSane joined ph _ = Unit {0}
+
+behind_sane : (joined : Bool) (ph : LiteralsPhase) (k : NameMark) → IsSane joined ph (behind k)
+behind_sane joined ph mark.Blank = (refl, refl)
+behind_sane joined ph mark.Semicolon = (refl, refl)
+behind_sane joined ph _ = tt
+
+before_sane : (joined : Bool) (ph : LiteralsPhase) (k : NameMark) → ready joined ph ≡ 1 → IsSane joined ph (before k)
+before_sane joined ph mark.Tilde h = (refl, refl)
+before_sane joined ph (mark.Letter b) h = (refl, refl, h)
+before_sane joined ph k h = behind_sane joined ph k
+
+start_sane : (joined : Bool) (k : NameMark) → IsSane joined Start (cond joined (before k) (behind k))
+start_sane true k = before_sane true Start k refl
+start_sane false k = behind_sane false Start k
+
+plan_sane : (joined : Bool) (ph : LiteralsPhase) (k : NameMark) → IsSane joined ph (plan joined ph k)
+plan_sane joined Start k = start_sane joined k
+plan_sane joined Gap k = before_sane joined Gap k refl
+plan_sane joined Negation (mark.Letter b) = (refl, refl, refl)
+plan_sane joined (First negated) (mark.Letter b) = (refl, refl, refl)
+plan_sane joined (First negated) (mark.Inner b) = (refl, refl, refl)
+plan_sane joined (More negated) (mark.Letter b) = (refl, refl, refl)
+plan_sane joined (More negated) (mark.Inner b) = (refl, refl, refl)
+plan_sane joined (More negated) k = behind_sane joined (More negated) k
+plan_sane joined Closing mark.Blank = (refl, refl)
+plan_sane _ _ _ = tt
+
+midway_begun : (joined : Bool) (ph : LiteralsPhase) → is_midway ph ≡ true → is_begun joined ph ≡ true
+midway_begun joined Start h = cc
+midway_begun joined _ h = h
+
+same : (s t : LiteralsState) → ◌≡◌ {A = N} (Go s) (Go t) → s ≡ t
+same s t e = cc
+
+-- what is kept grows by one unit a byte at most
+pub units_append : (ls : List Literal) (l : Literal) → units (ls ++ l ∷ []) ≡ units ls + (1 + length l.name)
+units_append [] l = omega arith
+units_append (x ∷ ls) l = omega (arith, units_append ls l)
+
+flushed_units : (ph : LiteralsPhase) (ls : List Literal) (name : List ℕ) → units (flushed ph ls name) ≤ units ls + in_hand ph + length name
+flushed_units (More negated) ls name = omega (arith, units_append ls (literal negated name))
+flushed_units (First negated) ls name = omega arith
+flushed_units _ ls name = omega arith
+
+ready_one : (joined : Bool) (ph : LiteralsPhase) → ready joined ph ≤ 1
+ready_one true Start = omega arith
+ready_one false Start = omega arith
+ready_one joined Gap = omega arith
+ready_one joined Negation = omega arith
+ready_one joined _ = omega arith
+
+abbrev spent : LiteralsState → ℕ
+spent s = all_units s + ready s.joined s.phase
+
+-- A step that goes on keeps what it has begun.
+record Steps (s next : LiteralsState) : Type 0 where
+  midway : is_midway next.phase ≡ true
+  joined : next.joined ≡ s.joined
+  grows : spent next ≤ spent s + 1
+
+module _ (joined : Bool) (ls : List Literal) (name : List ℕ) (ph : LiteralsPhase) where
+  abbrev here : LiteralsState
+  here = literals_at joined ls name ph
+
+  to_steps : (q : LiteralsPhase) → is_midway q ≡ true → in_hand q ≡ 0 → Steps here (literals_at joined (flushed ph ls name) [] q)
+  to_steps q m h = record {
+    midway = m;
+    joined = refl;
+    grows = grown (units (flushed ph ls name)) (units ls) (in_hand ph) (length name) (ready joined ph) (in_hand q) (ready joined q) (flushed_units ph ls name) h (ready_one joined q);
+  }
+    where
+      grown : (u x h l r ih ir : ℕ) → u ≤ x + h + l → ih ≡ 0 → ir ≤ 1 → u + ih + 0 + ir ≤ x + h + l + r + 1
+      grown u x h l r ih ir a b c = omega arith
+
+  begin_steps : (q : LiteralsPhase) (b : ℕ) → is_midway q ≡ true → in_hand q + ready joined q ≡ 1 → ready joined ph ≡ 1 → Steps here (literals_at joined ls (b ∷ []) q)
+  begin_steps q b m h r = record {
+    midway = m;
+    joined = refl;
+    grows = grown (units ls) (in_hand ph) (length name) (ready joined ph) (in_hand q) (ready joined q) h r;
+  }
+    where
+      grown : (x h l r ih ir : ℕ) → ih + ir ≡ 1 → r ≡ 1 → x + ih + 1 + ir ≤ x + h + l + r + 1
+      grown x h l r ih ir a b = omega arith
+
+  add_steps : (q : LiteralsPhase) (b : ℕ) → is_midway q ≡ true → in_hand q + ready joined q ≡ 1 → in_hand ph ≡ 1 → Steps here (literals_at joined ls (name ++ b ∷ []) q)
+  add_steps q b m h r = record {
+    midway = m;
+    joined = refl;
+    grows = grown (units ls) (in_hand ph) (length name) (ready joined ph) (in_hand q) (ready joined q) (length (name ++ b ∷ [])) h r (length-append name (b ∷ []));
+  }
+    where
+      grown : (x h l r ih ir m : ℕ) → ih + ir ≡ 1 → h ≡ 1 → m ≡ l + 1 → x + ih + m + ir ≤ x + h + l + r + 1
+      grown x h l r ih ir m a b c = omega arith
+
+  acted : (m : LiteralsMove) (next : LiteralsState) → IsSane joined ph m → act joined (flushed ph ls name) ls name m ≡ Go next → Steps here next
+  acted (move.TheVariants.To q) next h e = subst (λ x. Steps here x) (same _ next e) (to_steps q h.0 h.1)
+  acted (move.TheVariants.Begin q b) next h e = subst (λ x. Steps here x) (same _ next e) (begin_steps q b h.0 h.1 h.2)
+  acted (move.TheVariants.Add q b) next h e = subst (λ x. Steps here x) (same _ next e) (add_steps q b h.0 h.1 h.2)
+  acted move.TheVariants.End next h e = cc
+  acted move.TheVariants.Stop next h e = cc
+
+  ended : (m : LiteralsMove) (next : LiteralsState) (e : List Literal) → act joined (flushed ph ls name) ls name m ≡ End e next → next ≡ literals_last joined
+  ended (move.TheVariants.To q) next e i = cc
+  ended (move.TheVariants.Begin q b) next e i = cc
+  ended (move.TheVariants.Add q b) next e i = cc
+  ended move.TheVariants.End next e i = cc
+  ended move.TheVariants.Stop next e i = cc
+
+goes : (s next : LiteralsState) (b : ℕ) → literals_automaton.step s b ≡ Go next → Steps s next
+goes s next b e = acted s.joined s.literals s.name s.phase (plan s.joined s.phase (name_mark b)) next (plan_sane s.joined s.phase (name_mark b)) e
+
+abbrev last : LiteralsState → LiteralsState
+last s = literals_last s.joined
+
+owes : (joined : Bool) (ph : LiteralsPhase) → is_begun joined ph ≡ true → is_done ph ≡ false
+owes joined Done h = sym h
+owes joined _ h = refl
+
+stops : (joined : Bool) (ph : LiteralsPhase) (ls : List Literal) (name : List ℕ) (k : NameMark) → is_done ph ≡ true
+    → act joined (flushed ph ls name) ls name (plan joined ph k) ≡ Refuse
+stops joined Done ls name k h = refl
+stops joined _ ls name k h = cc
+
+never : (x : Bool) → x ≡ true → x ≡ false → ⊥
+never x e f = cc
+
+-- a further byte or two of a name, and the line feed
+some_text : (joined : Bool) (ph : LiteralsPhase) (ls : List Literal) (name : List ℕ) → is_done ph ≡ false → ReadsSome literals_automaton IsLiteralsInOrder last (literals_at joined ls name ph)
+some_text true Start ls name h = (unmarked 10 ∷ [], ls, literals_last true, (refl, refl))
+some_text false Start ls name h = (unmarked 10 ∷ [], ls, literals_last false, (refl, refl))
+some_text joined Gap ls name h = (unmarked 10 ∷ [], ls, literals_last joined, (refl, refl))
+some_text joined Negation ls name h = (
+  unmarked 97 ∷ unmarked 97 ∷ unmarked 10 ∷ [],
+  ls ++ literal true (97 ∷ 97 ∷ []) ∷ [],
+  literals_last joined,
+  (literals_at joined ls (97 ∷ []) (First true), refl, refl, refl, (literals_at joined ls (97 ∷ 97 ∷ []) (More true), refl, refl, refl, (refl, refl))),
+)
+some_text joined (First negated) ls name h = (
+  unmarked 97 ∷ unmarked 10 ∷ [],
+  ls ++ literal negated (name ++ 97 ∷ []) ∷ [],
+  literals_last joined,
+  (literals_at joined ls (name ++ 97 ∷ []) (More negated), refl, refl, refl, (refl, refl)),
+)
+some_text joined (More negated) ls name h = (unmarked 10 ∷ [], ls ++ literal negated name ∷ [], literals_last joined, (refl, refl))
+some_text joined Closing ls name h = (unmarked 10 ∷ [], ls, literals_last joined, (refl, refl))
+some_text joined Done ls name h = cc
+
+pub literals_of_one : IsOfOne literals_automaton IsLiteralsInOrder last
+literals_of_one = record {
+  keeps = λ s next b g e i. absurd (never (is_midway next.phase) (goes s next b e).midway i);
+  begins = λ s next b e. midway_begun next.joined next.phase (goes s next b e).midway;
+  owes = λ s h. owes s.joined s.phase h;
+  leads = λ s next b e. ap literals_last (goes s next b e).joined;
+  ends = λ s next b e i. ended s.joined s.literals s.name s.phase (plan s.joined s.phase (name_mark b)) next e i;
+  done = λ s. refl;
+  stops = λ s h b. stops s.joined s.phase s.literals s.name (name_mark b) h;
+  goes_on = λ s g h. some_text s.joined s.phase s.literals s.name h;
+  plain = λ s h. refl;
+  grows = λ s next b e. (goes s next b e).grows;
+  bounds = λ s. within (all_units s) (ready s.joined s.phase);
+}
+  where
+    within : (n r : ℕ) → min n (2 ^ 64 - 1) ≤ n + r
+    within n r = omega (arith, min-le_left n (2 ^ 64 - 1))
+
+-- Behind the line the machine has ended.
+pub literals_ends : (s after : LiteralsState) (text : List Letter) (e : List Literal) → Reads literals_automaton s text e after → after ≡ literals_last s.joined
+literals_ends s after text e r = reads_last literals_automaton IsLiteralsInOrder last literals_of_one text s e after r
+
+-- A new machine reads exactly the literals.
+pub literals_reads : (joined : Bool) (text : List Letter) (e : List Literal) (after : LiteralsState) →
+    Reads literals_automaton (literals_first joined) text e after ↔ (SpellsJoined joined e text × (after ≡ literals_last joined))
+literals_reads joined text e after = (
+  (λ r. let i : after ≡ literals_last joined = literals_ends (literals_first joined) after text e r in
+      (subst (λ x. Whole e x text) i (told literals_automaton Front Whole keeps_front text (literals_first joined) [] e after r (refl, refl)), i)),
+  (λ h. subst (λ x. Reads literals_automaton (literals_first joined) text e x) (sym h.1) (reads_each joined e text h.0)),
+)
+
+-- Each state that has not ended reads some text.
+pub literals_goes_on : (s : LiteralsState) → literals_automaton.done s ≡ false
+    → (text : List Letter) × (e : List Literal) × (after : LiteralsState) × Reads literals_automaton s text e after
+literals_goes_on s h = some_text s.joined s.phase s.literals s.name h
+
+pub literals_is_state : (s : LiteralsState) → IsLiteralsInOrder s → IsState literals_automaton s
+literals_is_state s h = is_state literals_automaton IsLiteralsInOrder last literals_of_one s h (λ i. empty s.joined s.phase s.literals s.name i h)
+  where
+    begun_midway : (joined : Bool) (ph : LiteralsPhase) → is_begun joined ph ≡ false → (is_midway ph ≡ false) × (in_hand ph ≡ 0) × (ready joined ph ≡ 0)
+    begun_midway true Start i = cc
+    begun_midway false Start i = (refl, refl, refl)
+    begun_midway joined Done i = (refl, refl, refl)
+    begun_midway joined _ i = cc
+
+    empty : (joined : Bool) (ph : LiteralsPhase) (ls : List Literal) (name : List ℕ) → is_begun joined ph ≡ false → IsLiteralsInOrder (literals_at joined ls name ph)
+        → spent (literals_at joined ls name ph) ≡ 0
+    empty joined ph ls name i h =
+        let (m, f, r) = begun_midway joined ph i in
+        let (a, b) = h m in
+        rw (a, b, f, r) refl

@@ -1,0 +1,10 @@
+-- Lemmas on the machine of proofs.
+pub mod Alive
+pub mod Asks
+pub mod Complete
+pub mod Exact
+pub mod Gaps
+pub mod Orders
+pub mod Sound
+pub mod States
+pub mod Taken

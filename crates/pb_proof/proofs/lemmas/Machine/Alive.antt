@@ -1,0 +1,213 @@
+-- Each state that a machine of proofs can be in has texts before it.
+use Rattle.std.proofs.Common.{◌≡◌, ℕ, ◌+◌, ◌<◌, Bool, true, false, List, [], ◌∷◌, ◌++◌, length, take, drop, refl, sym, subst, ◌∙◌, arith, append_assoc, length-append, Some, None, inl, ◌^◌, suc}
+use Rattle.std.proofs.Math.Seq.{split_at}
+use Rattle.std.proofs.lemmas.List.{length-take-le}
+use Rattle.std.proofs.lemmas.Bool.{eqb-true}
+use Rattle.std.specs.Prelude.{nat_eq, slice_index}
+use Rattle.pb_text.specs.Automaton.{Accepts, IsState}
+use Rattle.pb_text.specs.Languages.{unmarked, Blanks1, Byte}
+use Rattle.pb_text.specs.Spelling.{Letter, Item, plain}
+use Rattle.pb_proof.specs.Line.Machine.{inners, inner_first}
+use Rattle.pb_proof.specs.Lines.{Feed, LineEnd, none_word, conclusion_word, f_word}
+use Rattle.pb_proof.specs.Machine.Transition.{words_of, behind, meets}
+use Rattle.pb_proof.specs.Order.{IsOrdered}
+use Rattle.pb_proof.specs.Machine.State.{ProofState, proofs, at, idle, giving, stage_behind, act, PhaseFits, HasGaps, Holds, IsInOrder}
+use Rattle.pb_proof.specs.declared.conclusion.Conclusion.TheVariants.{NoClaim}
+use Rattle.pb_proof.specs.declared.line.Inner.{Inner}
+use Rattle.pb_proof.specs.declared.machine.phase.Front.{Front}
+use Rattle.pb_proof.specs.declared.machine.phase.Front.TheVariants as front
+use Rattle.pb_proof.specs.declared.machine.phase.Stage.{Stage}
+use Rattle.pb_proof.specs.declared.machine.phase.Stage.TheVariants.{Opening, Formula, Steps, Claim, Closing, Complete}
+use Rattle.pb_proof.specs.declared.machine.phase.Rest.{Rest}
+use Rattle.pb_proof.specs.declared.machine.phase.Rest.TheVariants as rest
+use Rattle.pb_proof.specs.declared.machine.phase.Phase.{Phase}
+use Rattle.pb_proof.specs.declared.machine.phase.Phase.TheVariants as phase
+use Rattle.pb_proof.specs.declared.statement.Statement.{Statement}
+use Rattle.pb_proof.specs.declared.statement.Statement as statement
+use Rattle.pb_proof.proofs.lemmas.Line.Laws.{inner_begins, inner_fresh, inner_first_state}
+use Rattle.pb_proof.proofs.lemmas.Living.{IsAlive, before, final, accepted, ReadsOn, reads_on}
+use Rattle.pb_proof.proofs.lemmas.Machine.Complete.{spelt, header_end, output_end, step_on, step_last, given_reads, meets_self}
+use Rattle.pb_proof.proofs.lemmas.Machine.Exact.{no_gap}
+use Rattle.pb_proof.proofs.lemmas.Machine.Orders.{ordered_each}
+use Rattle.pb_proof.proofs.lemmas.Spaced.{Spaced, One, chooses, FrontWords, front_only}
+
+-- words as they are written
+one_plain : (c : ℕ) → One c (unmarked c ∷ [])
+one_plain c = by_test (nat_eq c 32) refl
+  where
+    by_test : (x : Bool) → nat_eq c 32 ≡ x → chooses x Blanks1 (Byte c) (unmarked c ∷ [])
+    by_test true e = let is : c ≡ 32 = eqb-true c 32 e in subst (λ b. Blanks1 (unmarked b ∷ [])) (sym is) (32, [], refl, tt, refl)
+    by_test false e = refl
+
+plain_spaced : (w : List ℕ) → Spaced w (plain w)
+plain_spaced [] = refl
+plain_spaced (c ∷ w) = (unmarked c ∷ [], plain w, refl, one_plain c, plain_spaced w)
+
+written : (f : Front) → FrontWords f (plain (words_of f))
+written f = front_only f (plain (words_of f)) (plain_spaced (words_of f))
+
+fed : Feed (unmarked 10 ∷ [])
+fed = ([], unmarked 10 ∷ [], refl, ([], tt, refl), refl)
+
+ended : LineEnd (unmarked 10 ∷ [])
+ended = inl fed
+
+abbrev item : List Letter → Statement → Item Statement
+item text e = record { gap = []; text = text; event = e }
+
+-- what may come at a stage, for one
+abbrev closing_lines : List (Item Statement)
+closing_lines = item (plain (words_of front.End)) statement.TheVariants.End ∷ []
+
+abbrev claim_lines : List (Item Statement)
+claim_lines = item (plain conclusion_word ++ (plain (32 ∷ none_word) ++ unmarked 10 ∷ [])) (statement.TheVariants.Conclude NoClaim) ∷ closing_lines
+
+abbrev step_lines : List (Item Statement)
+step_lines = item (plain (words_of front.Output) ++ unmarked 10 ∷ []) statement.TheVariants.Output ∷ claim_lines
+
+abbrev formula_lines : List (Item Statement)
+formula_lines = item (plain f_word ++ unmarked 10 ∷ []) (statement.TheVariants.F None) ∷ step_lines
+
+abbrev pub example : Stage → List (Item Statement)
+example Complete = []
+example Closing = closing_lines
+example Claim = claim_lines
+example Steps = step_lines
+example Formula = formula_lines
+example Opening = item (plain (words_of front.Header) ++ unmarked 10 ∷ []) statement.TheVariants.Header ∷ formula_lines
+
+module _ (limit top : ℕ) where
+  closing_ordered : IsOrdered limit top Closing closing_lines
+  closing_ordered = (no_gap, refl, written front.End, refl)
+
+  claim_ordered : IsOrdered limit top Claim claim_lines
+  claim_ordered = (
+    no_gap,
+    refl,
+    (
+      plain conclusion_word,
+      plain (32 ∷ none_word) ++ unmarked 10 ∷ [],
+      refl,
+      refl,
+      (plain (32 ∷ none_word), unmarked 10 ∷ [], refl, (unmarked 32 ∷ [], plain none_word, refl, (32, [], refl, tt, refl), refl), ended),
+    ),
+    closing_ordered,
+  )
+
+  steps_ordered : IsOrdered limit top Steps step_lines
+  steps_ordered = (no_gap, refl, (plain (words_of front.Output), unmarked 10 ∷ [], refl, written front.Output, ended), claim_ordered)
+
+  formula_ordered : IsOrdered limit top Formula formula_lines
+  formula_ordered = (no_gap, refl, (plain f_word, unmarked 10 ∷ [], refl, refl, ended), steps_ordered)
+
+  example_ordered : (s : Stage) → IsOrdered limit top s (example s)
+  example_ordered Complete = refl
+  example_ordered Closing = closing_ordered
+  example_ordered Claim = claim_ordered
+  example_ordered Steps = steps_ordered
+  example_ordered Formula = formula_ordered
+  example_ordered Opening = (refl, refl, (plain (words_of front.Header), unmarked 10 ∷ [], refl, written front.Header, fed), formula_ordered)
+
+  pub stage_accepts : (s : Stage) → Accepts proofs (idle limit top s) (example s)
+  stage_accepts s = ordered_each limit top (example s) s (example_ordered s)
+
+  pub header_end_alive : IsAlive proofs (header_end limit top)
+  header_end_alive = final proofs (header_end limit top) (idle limit top Formula) 10 statement.TheVariants.Header refl (example Formula) (stage_accepts Formula)
+
+  pub output_end_alive : (may : Bool) → IsAlive proofs (output_end limit top may)
+  output_end_alive may = final proofs (output_end limit top may) (idle limit top Claim) 10 statement.TheVariants.Output refl (example Claim) (stage_accepts Claim)
+
+  pub reading_alive : (r : Rest) (i : Inner) → ReadsOn inners i → IsAlive proofs (giving limit top r i)
+  reading_alive r i (text, e, last, h) = record {
+    text = text;
+    event = e;
+    after = idle limit top (stage_behind r);
+    reads = given_reads limit top r text i last e h;
+    rest = example (stage_behind r);
+    accepts = stage_accepts (stage_behind r);
+  }
+
+  pub inside_alive : (r : Rest) (i : Inner) → IsState inners i → inners.done i ≡ false → IsAlive proofs (giving limit top r i)
+  inside_alive r i state d = reading_alive r i (reads_on inners inner_begins i state d)
+
+  module _ (l : limit < 2 ^ 127) (t : top < 2 ^ 63) (some : 0 < top) where
+    pub first_alive : (r : Rest) → IsAlive proofs (giving limit top r (inner_first limit top r))
+    first_alive r = inside_alive r (inner_first limit top r) (inner_first_state limit top l t some r) (inner_fresh limit top r).0
+
+    pub solution_alive : IsAlive proofs (at limit top phase.Solution)
+    solution_alive = before proofs (at limit top phase.Solution) (giving limit top rest.Improving (inner_first limit top rest.Improving)) 105 refl refl (first_alive rest.Improving)
+
+    behind_alive : (f : Front) (k c : ℕ) → proofs.step (spelt limit top f k) c ≡ act (spelt limit top f k) c (behind f) → IsAlive proofs (spelt limit top f k)
+    behind_alive front.Header k c e = before proofs (spelt limit top front.Header k) (header_end limit top) c e refl header_end_alive
+    behind_alive front.Formula k c e = before proofs (spelt limit top front.Formula k) (giving limit top rest.Count (inner_first limit top rest.Count)) c e refl (first_alive rest.Count)
+    behind_alive front.Pol k c e = before proofs (spelt limit top front.Pol k) (giving limit top rest.Words (inner_first limit top rest.Words)) c e refl (first_alive rest.Words)
+    behind_alive front.Rup k c e = before proofs (spelt limit top front.Rup k) (giving limit top rest.Goal (inner_first limit top rest.Goal)) c e refl (first_alive rest.Goal)
+    behind_alive front.Solution k c e = before proofs (spelt limit top front.Solution k) (at limit top phase.Solution) c e refl solution_alive
+    behind_alive front.Delete k c e = before proofs (spelt limit top front.Delete k) (giving limit top rest.Deleted (inner_first limit top rest.Deleted)) c e refl (first_alive rest.Deleted)
+    behind_alive front.Output k c e = before proofs (spelt limit top front.Output k) (output_end limit top true) c e refl (output_end_alive true)
+    behind_alive front.Conclusion k c e = before proofs (spelt limit top front.Conclusion k) (giving limit top rest.Claimed (inner_first limit top rest.Claimed)) c e refl (first_alive rest.Claimed)
+    behind_alive front.End k c e = final proofs (spelt limit top front.End k) (idle limit top Complete) c statement.TheVariants.End e [] refl
+
+    -- a byte of the words meets itself, and a space is a blank
+    meets_any : (c : ℕ) → meets c c ≡ true
+    meets_any c = by_test (nat_eq c 32) refl
+      where
+        by_test : (x : Bool) → nat_eq c 32 ≡ x → meets c c ≡ true
+        by_test true e = let is : c ≡ 32 = eqb-true c 32 e in subst (λ b. meets b b ≡ true) (sym is) refl
+        by_test false e = meets_self c e
+
+    spelling_on : (f : Front) (before_it left : List ℕ) (c : ℕ) → words_of f ≡ before_it ++ c ∷ left → IsAlive proofs (spelt limit top f (length before_it))
+    spelling_on f before_it [] c e = behind_alive f (length before_it) c (step_last limit top f before_it c c e (meets_any c))
+    spelling_on f before_it (d ∷ left) c e =
+        before proofs (spelt limit top f (length before_it)) (spelt limit top f (length before_it + 1)) c (step_on limit top f before_it left c d c e (meets_any c)) refl
+        (subst (λ k. IsAlive proofs (spelt limit top f k)) (length-append before_it (c ∷ []))
+        (spelling_on f (before_it ++ c ∷ []) left d (e ∙ sym (append_assoc before_it (c ∷ []) (d ∷ left)))))
+
+    pub spelling_alive : (f : Front) (k : ℕ) → k < length (words_of f) → IsAlive proofs (spelt limit top f k)
+    spelling_alive f k h =
+        subst (λ j. IsAlive proofs (spelt limit top f j)) (length-take-le k (words_of f) (omega arith))
+        (spelling_on f (take k (words_of f)) (drop (suc k) (words_of f)) (slice_index (words_of f) k) (split_at (words_of f) k 0 h))
+
+-- the state, where no machine stands behind the words
+is_at : (s : ProofState) (p : Phase) → s.phase ≡ p → s.inner ≡ None → s ≡ at s.limit s.top p
+is_at s p e h = rw (e, h) refl
+
+at_accepts : (s : ProofState) (p : Phase) → s.phase ≡ p → s.inner ≡ None → IsAlive proofs (at s.limit s.top p) → (items : List (Item Statement)) × Accepts proofs s items
+at_accepts s p e h alive = accepted proofs s (subst (IsAlive proofs) (sym (is_at s p e h)) alive)
+
+-- behind a comment's line feed
+comment_accepts : (limit top : ℕ) (s : Stage) → HasGaps s → (items : List (Item Statement)) → Accepts proofs (idle limit top s) items → (items' : List (Item Statement)) × Accepts proofs (at limit top (phase.Comment s)) items'
+comment_accepts limit top Opening h items a = absurd h
+comment_accepts limit top Complete h items a = absurd h
+comment_accepts limit top s h [] a = absurd (none s h a)
+  where
+    none : (s : Stage) → HasGaps s → Accepts proofs (idle limit top s) [] → ⊥
+    none Opening h a = h
+    none Complete h a = h
+    none Formula h a = cc
+    none Steps h a = cc
+    none Claim h a = cc
+    none Closing h a = cc
+comment_accepts limit top s h (i ∷ items) (mid, after, g, r, a) =
+    (record { gap = 10 ∷ i.gap; text = i.text; event = i.event } ∷ items, (mid, after, (idle limit top s, refl, refl, g), r, a))
+
+-- what a state accepts, by what it has read last
+by_phase : (s : ProofState) → IsInOrder s → (p : Phase) → s.phase ≡ p → PhaseFits p → Holds s p → (items : List (Item Statement)) × Accepts proofs s items
+by_phase s order (phase.Between here) e fits h =
+    (example here, subst (λ x. Accepts proofs x (example here)) (sym (is_at s (phase.Between here) e h)) (stage_accepts s.limit s.top here))
+by_phase s order (phase.Comment here) e fits h =
+    let (items, a) = comment_accepts s.limit s.top here fits (example here) (stage_accepts s.limit s.top here) in
+    (items, subst (λ x. Accepts proofs x items) (sym (is_at s (phase.Comment here) e h)) a)
+by_phase s order (phase.Spelling f k) e fits h = at_accepts s (phase.Spelling f k) e h (spelling_alive s.limit s.top order.limit order.top order.some f k fits.1)
+by_phase s order phase.Solution e fits h = at_accepts s phase.Solution e h (solution_alive s.limit s.top order.limit order.top order.some)
+by_phase s order phase.HeaderEnd e fits h = at_accepts s phase.HeaderEnd e h (header_end_alive s.limit s.top)
+by_phase s order (phase.OutputEnd may) e fits h = at_accepts s (phase.OutputEnd may) e h (output_end_alive s.limit s.top may)
+by_phase s order (phase.Inside r) e fits (i, g, d, state) =
+    accepted proofs s (subst (IsAlive proofs) (sym (is_giving s r i e g)) (inside_alive s.limit s.top r i state d))
+  where
+    is_giving : (s : ProofState) (r : Rest) (i : Inner) → s.phase ≡ phase.Inside r → s.inner ≡ Some i → s ≡ giving s.limit s.top r i
+    is_giving s r i e h = rw (e, h) refl
+
+-- each state in order accepts something
+pub live : (s : ProofState) → IsInOrder s → (items : List (Item Statement)) × Accepts proofs s items
+live s h = by_phase s h s.phase refl h.fits h.holds

@@ -1,0 +1,211 @@
+-- Where a machine of proofs asks, the next byte stands at a place of its statement that asks.
+use Rattle.std.proofs.Common.{◌≡◌, ℕ, Bool, true, false, List, [], ◌∷◌, ◌++◌, refl, sym, ap, subst, ◌∙◌, Some, None}
+use Rattle.std.proofs.lemmas.Bool.{false≢true}
+use Rattle.std.specs.Prelude.{IsTrue, nat_eq}
+use Rattle.pb_text.specs.Asking.{AsksOnly}
+use Rattle.pb_text.specs.Automaton.{Next, Go, End, Refuse, Reads, MayAsk}
+use Rattle.pb_text.specs.Spelling.{Letter, bytes}
+use Rattle.pb_text.proofs.Asked as asked
+use Rattle.pb_text.proofs.Lists.{bytes-append}
+use Rattle.pb_proof.specs.Asking.{AsksBehind, FirstWord, Asks}
+use Rattle.pb_proof.specs.Line.ClaimState.{claim_first}
+use Rattle.pb_proof.specs.Line.Count.{counting}
+use Rattle.pb_proof.specs.Line.Rup.{goal_first}
+use Rattle.pb_proof.specs.Line.Ids.{ids_first}
+use Rattle.pb_proof.specs.Line.Machine.{inners, inner_first, SpellsRest}
+use Rattle.pb_proof.specs.Line.Literals.{literals_first}
+use Rattle.pb_proof.specs.Machine.Transition.{plan}
+use Rattle.pb_proof.specs.Order.{stage_after}
+use Rattle.pb_proof.specs.Line.PolState.{pol_first}
+use Rattle.pb_proof.specs.Proofs.{IsProof}
+use Rattle.pb_proof.specs.Machine.State as state
+use Rattle.pb_proof.specs.Machine.State.{ProofState, proofs, begin, at, idle, giving, act, over, step_inner, asks, is_within}
+use Rattle.pb_proof.specs.declared.line.Inner.{Inner}
+use Rattle.pb_proof.specs.declared.machine.phase.Move.{Move}
+use Rattle.pb_proof.specs.declared.machine.phase.Move.TheVariants.{To, Begin, Give, EndHeader, EndOutput, EndProof, Stop}
+use Rattle.pb_proof.specs.declared.machine.phase.Phase.{Phase}
+use Rattle.pb_proof.specs.declared.machine.phase.Phase.TheVariants as phase
+use Rattle.pb_proof.specs.declared.machine.phase.Rest.{Rest}
+use Rattle.pb_proof.specs.declared.machine.phase.Rest.TheVariants as rest
+use Rattle.pb_proof.specs.declared.machine.phase.Stage.{Stage}
+use Rattle.pb_proof.specs.declared.machine.phase.Stage.TheVariants.{Opening}
+use Rattle.pb_proof.specs.declared.statement.Statement.{Statement}
+use Rattle.pb_proof.specs.declared.statement.Statement.TheVariants as statement
+use Rattle.pb_proof.proofs.lemmas.Carried.{walks_out, reads_out}
+use Rattle.pb_proof.proofs.lemmas.Choices.{never}
+use Rattle.pb_proof.proofs.lemmas.Claim.Asks.{claim_asked}
+use Rattle.pb_proof.proofs.lemmas.Line.Laws.{count_carries, words_carries, goal_carries, improving_carries, excluded_carries, deleted_carries, claimed_carries, inner_begins, inner_only}
+use Rattle.pb_proof.proofs.lemmas.Line.Asks.{ids_asked, literals_asked, goal_asked}
+use Rattle.pb_proof.proofs.lemmas.Pol.Asks.{pol_asked}
+use Rattle.pb_proof.proofs.lemmas.Machine.Exact.{reads_proofs}
+use Rattle.pb_proof.proofs.lemmas.Machine.Sound as sound
+use Rattle.pb_proof.proofs.lemmas.Walking.{Walks, reads_behind, fronts, walks_from}
+
+module _ (limit top : ℕ) where
+  -- behind the first word
+  inner_asks : (r : Rest) (q more : List Letter) (l : Letter) (i last : Inner) (e : Statement) → Walks inners (inner_first limit top r) q i → Reads inners i (l ∷ more) e last
+      → inners.asks i l.byte ≡ true → AsksBehind e (bytes q) l.byte
+  inner_asks rest.Count q more l i last e w r h =
+      let (s, is, k) = walks_out _ _ _ _ count_carries q (counting top) i w in
+      absurd (false≢true (subst (λ x. inners.asks x l.byte ≡ true) is h))
+  inner_asks rest.Words q more l i last e w r h =
+      let (s, is, k) = walks_out _ _ _ _ words_carries q (pol_first limit top) i w in
+      let (v, after, same, j) = reads_out _ _ _ _ words_carries (l ∷ more) s e last (subst (λ x. Reads inners x (l ∷ more) e last) is r) in
+      subst (λ y. AsksBehind y (bytes q) l.byte) (sym same) (pol_asked limit top q s l.byte k (subst (λ x. inners.asks x l.byte ≡ true) is h))
+  inner_asks rest.Goal q more l i last e w r h =
+      let (s, is, k) = walks_out _ _ _ _ goal_carries q (goal_first limit) i w in
+      let (v, after, same, j) = reads_out _ _ _ _ goal_carries (l ∷ more) s e last (subst (λ x. Reads inners x (l ∷ more) e last) is r) in
+      subst (λ y. AsksBehind y (bytes q) l.byte) (sym same) (goal_asked limit top q s l.byte k (subst (λ x. inners.asks x l.byte ≡ true) is h))
+  inner_asks rest.Improving q more l i last e w r h =
+      let (s, is, k) = walks_out _ _ _ _ improving_carries q (literals_first false) i w in
+      let (v, after, same, j) = reads_out _ _ _ _ improving_carries (l ∷ more) s e last (subst (λ x. Reads inners x (l ∷ more) e last) is r) in
+      subst (λ y. AsksBehind y (bytes q) l.byte) (sym same) (literals_asked false q s l.byte k (subst (λ x. inners.asks x l.byte ≡ true) is h))
+  inner_asks rest.Excluded q more l i last e w r h =
+      let (s, is, k) = walks_out _ _ _ _ excluded_carries q (literals_first false) i w in
+      let (v, after, same, j) = reads_out _ _ _ _ excluded_carries (l ∷ more) s e last (subst (λ x. Reads inners x (l ∷ more) e last) is r) in
+      subst (λ y. AsksBehind y (bytes q) l.byte) (sym same) (literals_asked false q s l.byte k (subst (λ x. inners.asks x l.byte ≡ true) is h))
+  inner_asks rest.Deleted q more l i last e w r h =
+      let (s, is, k) = walks_out _ _ _ _ deleted_carries q (ids_first top) i w in
+      let (v, after, same, j) = reads_out _ _ _ _ deleted_carries (l ∷ more) s e last (subst (λ x. Reads inners x (l ∷ more) e last) is r) in
+      subst (λ y. AsksBehind y (bytes q) l.byte) (sym same) (ids_asked limit top q s l.byte k (subst (λ x. inners.asks x l.byte ≡ true) is h))
+  inner_asks rest.Claimed q more l i last e w r h =
+      let (s, is, k) = walks_out _ _ _ _ claimed_carries q (claim_first limit top) i w in
+      let (v, after, same, j) = reads_out _ _ _ _ claimed_carries (l ∷ more) s e last (subst (λ x. Reads inners x (l ∷ more) e last) is r) in
+      subst (λ y. AsksBehind y (bytes q) l.byte) (sym same) (claim_asked limit top q more l s after v k j (subst (λ x. inners.asks x l.byte ≡ true) is h))
+
+  -- the first word of such a statement
+  first_word : (r : Rest) (e : Statement) (t word : List Letter) (text : List ℕ) (b : ℕ) → SpellsRest limit top r e t → sound.Before r word → AsksBehind e text b → FirstWord e word
+  first_word rest.Count (statement.F c) t word text b h k a = absurd a
+  first_word rest.Count _ t word text b h k a = absurd h
+  first_word rest.Words (statement.Pol c) t word text b h k a = k
+  first_word rest.Words _ t word text b h k a = absurd h
+  first_word rest.Goal (statement.Rup c) t word text b h k a = k
+  first_word rest.Goal _ t word text b h k a = absurd h
+  first_word rest.Improving (statement.Soli c) t word text b h k a = k
+  first_word rest.Improving _ t word text b h k a = absurd h
+  first_word rest.Excluded (statement.Solx c) t word text b h k a = k
+  first_word rest.Excluded _ t word text b h k a = absurd h
+  first_word rest.Deleted (statement.Delete c) t word text b h k a = k
+  first_word rest.Deleted _ t word text b h k a = absurd h
+  first_word rest.Claimed (statement.Conclude c) t word text b h k a = k
+  first_word rest.Claimed _ t word text b h k a = absurd h
+
+  -- Behind the first word, what is read is read by the machine there.
+  inner_step : (s : ProofState) (b : ℕ) (r : Rest) (i : Inner) → s.phase ≡ phase.Inside r → s.inner ≡ Some i → proofs.step s b ≡ over s r (inners.step i b)
+  inner_step s b r i e f = ap (λ q. act s b (plan q b)) e ∙ ap (λ x. over s r (step_inner x b)) f
+
+  went : (s next : ProofState) (r : Rest) (x : Next Inner Statement) → ◌≡◌ {A = Next ProofState Statement} (over s r x) (Go next) → (i : Inner) × (x ≡ Go i) × (next ≡ giving s.limit s.top r i)
+  went s next r (Go i) e = (i, refl, (let f : next ≡ giving s.limit s.top r i = cc in f))
+  went s next r (End v i) e = absurd (let f : ⊥ = cc in f)
+  went s next r Refuse e = absurd (let f : ⊥ = cc in f)
+
+  ended : (s next : ProofState) (r : Rest) (e : Statement) (x : Next Inner Statement) → ◌≡◌ {A = Next ProofState Statement} (over s r x) (End e next) → (i : Inner) × (x ≡ End e i)
+  ended s next r e (Go i) h = absurd (let f : ⊥ = cc in f)
+  ended s next r e (End v i) h = (i, (let f : v ≡ e = cc in ap (λ (y : Statement). let z : Next Inner Statement = End y i in z) f))
+  ended s next r e Refuse h = absurd (let f : ⊥ = cc in f)
+
+  inside_reads : (t : List Letter) (s : ProofState) (r : Rest) (i : Inner) (e : Statement) (next : ProofState) → s.phase ≡ phase.Inside r → s.inner ≡ Some i → Reads proofs s t e next
+      → (last : Inner) × Reads inners i t e last
+  inside_reads [] s r i e next p o h = absurd h
+  inside_reads (l ∷ []) s r i e next p o (h, n) =
+      let (last, k) = ended s next r e (inners.step i l.byte) (sym (inner_step s l.byte r i p o) ∙ h) in (last, (k, n))
+  inside_reads (l ∷ d ∷ t) s r i e next p o (mid, h, w, n, k) =
+      let (j, g, same) = went s mid r (inners.step i l.byte) (sym (inner_step s l.byte r i p o) ∙ h) in
+      let (last, v) = inside_reads (d ∷ t) mid r j e next (ap (λ x. x.phase) same) (ap (λ x. x.inner) same) k in
+      (last, (j, g, inner_begins i j l.byte g, n ∙ ap proofs.in_number same, v))
+
+  -- ---- between two statements
+  abbrev Idle : ProofState → Type 0
+  Idle s = (p : Phase) × (s ≡ at limit top p) × (is_within p ≡ false)
+
+  abbrev InGap : Next ProofState Statement → Bool → Type 0
+  InGap (Go next) x = proofs.begun next ≡ false → Idle next × (x ≡ false)
+  InGap (End e next) x = Unit {0}
+  InGap Refuse x = Unit {0}
+
+  gap_move : (p : Phase) (b : ℕ) (m : Move) → InGap (act (at limit top p) b m) (asks (at limit top p) b m)
+  gap_move p b (To q) = λ o. ((q, refl, o), refl)
+  gap_move p b (Begin r) = λ o. never true refl o
+  gap_move p b (Give r) = tt
+  gap_move p b EndHeader = tt
+  gap_move p b EndOutput = tt
+  gap_move p b EndProof = tt
+  gap_move p b Stop = tt
+
+  gaps : (s next : ProofState) (b : ℕ) → Idle s → proofs.step s b ≡ Go next → proofs.begun next ≡ false → Idle next × (proofs.asks s b ≡ false)
+  gaps s next b (p, e, i) g o =
+      let k : InGap (proofs.step s b) (proofs.asks s b) = subst (λ x. InGap (proofs.step x b) (proofs.asks x b)) (sym e) (gap_move p b (plan p b)) in
+      (subst (λ x. InGap x (proofs.asks s b)) g k) o
+
+  -- no statement begins within a comment
+  not_in_comment : {A : Type 0} (st : Stage) (t : List Letter) (e : Statement) (next : ProofState) → Reads proofs (at limit top (phase.Comment st)) t e next → A
+  not_in_comment st [] e next r = absurd r
+  not_in_comment st (l ∷ []) e next (h, n) = absurd (let f : ⊥ = cc in f)
+  not_in_comment st (l ∷ k ∷ t) e next (mid, h, o, n, r) = never (proofs.begun mid) o (dark mid h)
+    where
+      dark : (m : ProofState) → proofs.step (at limit top (phase.Comment st)) l.byte ≡ Go m → proofs.begun m ≡ false
+      dark m g = by_test (nat_eq l.byte 10) refl
+        where
+          by_test : (x : Bool) → nat_eq l.byte 10 ≡ x → proofs.begun m ≡ false
+          by_test true e = let j : proofs.step (at limit top (phase.Comment st)) l.byte ≡ Go (at limit top (phase.Between st)) = rw e refl in let z : m ≡ at limit top (phase.Between st) = cc in ap proofs.begun z
+          by_test false e = let j : proofs.step (at limit top (phase.Comment st)) l.byte ≡ Go (at limit top (phase.Comment st)) = rw e refl in let z : m ≡ at limit top (phase.Comment st) = cc in ap proofs.begun z
+
+  from_idle : (A : Type 0) (p : Phase) (t : List Letter) (e : Statement) (next : ProofState) → is_within p ≡ false → Reads proofs (at limit top p) t e next
+      → ((st : Stage) → p ≡ phase.Between st → A) → A
+  from_idle A (phase.Between st) t e next i r f = f st refl
+  from_idle A (phase.Comment st) t e next i r f = not_in_comment st t e next r
+  from_idle A (phase.Spelling w k) t e next i r f = never true refl i
+  from_idle A phase.Solution t e next i r f = never true refl i
+  from_idle A phase.HeaderEnd t e next i r f = never true refl i
+  from_idle A (phase.OutputEnd may) t e next i r f = never true refl i
+  from_idle A (phase.Inside w) t e next i r f = never true refl i
+
+  ends : (s next : ProofState) (t : List Letter) (e : Statement) → Idle s → Reads proofs s t e next → Idle next
+  ends s next t e (p, same, i) r =
+      let h : Reads proofs (at limit top p) t e next = subst (λ x. Reads proofs x t e next) same r in
+      from_idle (Idle next) p t e next i h
+      (λ st is. (phase.Between (stage_after e), (sound.statement_only limit top st t e next (subst (λ q. Reads proofs (at limit top q) t e next) is h)).2, refl))
+
+  -- where no machine reads behind a first word, nothing asks
+  quiet : (s : ProofState) (b : ℕ) (m : Move) → s.inner ≡ None → asks s b m ≡ false
+  quiet s b (To p) e = refl
+  quiet s b (Begin r) e = refl
+  quiet s b (Give r) e = ap (state.asked false (λ i. inners.asks i b)) e
+  quiet s b EndHeader e = refl
+  quiet s b EndOutput e = refl
+  quiet s b EndProof e = refl
+  quiet s b Stop e = refl
+
+  module _ (st : Stage) (s next : ProofState) (p more : List Letter) (l : Letter) (e : Statement) (r : Reads proofs s (l ∷ more) e next) where
+    silent : {A : Type 0} (q : Phase) → s.inner ≡ None → asks s l.byte (plan q l.byte) ≡ true → A
+    silent q o h = absurd (false≢true (sym (quiet s l.byte (plan q l.byte) o) ∙ h))
+
+    by_phase : (q : Phase) → s.phase ≡ q → sound.front_of limit top st s q p → asks s l.byte (plan q l.byte) ≡ true → Asks e (bytes p) l.byte
+    by_phase (phase.Between x) f k h = silent (phase.Between x) k.2 h
+    by_phase (phase.Comment x) f k h = absurd k
+    by_phase (phase.Spelling w j) f k h = silent (phase.Spelling w j) k.4 h
+    by_phase phase.Solution f k h = silent phase.Solution k.2 h
+    by_phase phase.HeaderEnd f k h = silent phase.HeaderEnd k.2 h
+    by_phase (phase.OutputEnd true) f k h = silent (phase.OutputEnd true) k.2 h
+    by_phase (phase.OutputEnd false) f k h = silent (phase.OutputEnd false) k.2 h
+    by_phase (phase.Inside x) f (same, (i, o, (word, c, is, before, w))) h =
+        let (last, v) = inside_reads (l ∷ more) s x i e next f o r in
+        let a : inners.asks i l.byte ≡ true = sym (ap (state.asked false (λ j. inners.asks j l.byte)) o) ∙ h in
+        let b : AsksBehind e (bytes c) l.byte = inner_asks x c more l i last e w v a in
+        let spelled : SpellsRest limit top x e (c ++ l ∷ more) = inner_only limit top x (c ++ l ∷ more) e last (reads_behind inners c (l ∷ more) (inner_first limit top x) i last e w v) in
+        (word, bytes c, first_word x e (c ++ l ∷ more) word (bytes c) l.byte spelled before b, ap bytes is ∙ bytes-append word c, b)
+
+  texts : (start s next : ProofState) (front more : List Letter) (l : Letter) (e : Statement) → Idle start → asked.Walks proofs start front s → Reads proofs s (l ∷ more) e next
+      → IsTrue (proofs.asks s l.byte) → Asks e (bytes front) l.byte
+  texts start s next front more l e (p, same, i) w r a =
+      let walk : Walks proofs (at limit top p) front s = walks_from proofs front (at limit top p) s (subst (λ x. asked.Walks proofs x front s) same w) in
+      from_idle (Asks e (bytes front) l.byte) p (front ++ l ∷ more) e next i (reads_behind proofs front (l ∷ more) (at limit top p) s next e walk r)
+      (λ st is.
+      let k : sound.Read limit top st s front = fronts proofs (sound.Read limit top st) (sound.IsStatement limit top st) (sound.keeps limit top st) front (idle limit top st) [] s
+      (subst (λ q. Walks proofs (at limit top q) front s) is walk) ((refl, refl), (refl, refl, refl)) in
+      by_phase st s next front more l e r s.phase refl k.1 a)
+
+  -- behind these bytes of a proof
+  pub asks_only : (used : List ℕ) (b : ℕ) → MayAsk proofs (begin limit top) used b → AsksOnly (IsProof limit top) Asks used b
+  asks_only used b (s, lead, a) items more h e =
+      asked.asks_within proofs Idle Asks (record { gaps = gaps; ends = ends; texts = texts }) (begin limit top) used b (phase.Between Opening, refl, refl) s lead a items more ((reads_proofs limit top items).1 h) e

@@ -1,0 +1,230 @@
+-- The statements of a proof in order, and the machine that accepts exactly these.
+use Rattle.std.proofs.Common.{◌≡◌, ℕ, true, false, List, [], ◌∷◌, ◌++◌, refl, sym, ap, subst, ◌↔◌, arith}
+use Rattle.std.proofs.lemmas.List.Elements.{All-nil, All-cons, All-head, All-tail}
+use Rattle.std.specs.Prelude.{IsTrue, All}
+use Rattle.pb_text.specs.Automaton.{Refuse, Accepts}
+use Rattle.pb_text.specs.Spelling.{Item}
+use Rattle.pb_text.specs.Whole.{events_of}
+use Rattle.pb_proof.specs.Lines.{SpellsStatement}
+use Rattle.pb_proof.specs.Machine.Transition.{plan}
+use Rattle.pb_proof.specs.Order.{stage_of, stage_after, GapAt, IsOrdered}
+use Rattle.pb_text.proofs.Deterministic.{one_spelling}
+use Rattle.pb_proof.specs.Formats.{OneProof}
+use Rattle.pb_proof.specs.Proofs.{IsGap, IsStep, statements_of, AreSpelled, BeginsAtOnce, IsProof}
+use Rattle.pb_proof.specs.Machine.State.{ProofState, proofs, begin, act, is_done}
+use Rattle.pb_proof.specs.declared.conclusion.Conclusion.{Conclusion}
+use Rattle.pb_proof.specs.declared.proof.Proof.{Proof}
+use Rattle.pb_proof.specs.declared.machine.phase.Stage.{Stage}
+use Rattle.pb_proof.specs.declared.machine.phase.Stage.TheVariants.{Opening, Formula, Steps, Claim, Closing, Complete}
+use Rattle.pb_proof.specs.declared.machine.phase.Phase.{Phase}
+use Rattle.pb_proof.specs.declared.machine.phase.Phase.TheVariants as phase
+use Rattle.pb_proof.specs.declared.statement.Statement.{Statement}
+use Rattle.pb_proof.specs.declared.statement.Statement.TheVariants.{Header, F, Pol, Rup, Soli, Solx, Delete, Output, Conclude, End}
+use Rattle.pb_proof.proofs.lemmas.Choices.{never}
+use Rattle.pb_proof.proofs.lemmas.Machine.Orders.{ordered_only, ordered_each}
+
+-- statements in order
+abbrev InOrder : Stage → List Statement → Type 0
+InOrder at [] = at ≡ Complete
+InOrder at (e ∷ es) = (stage_of e ≡ at) × InOrder (stage_after e) es
+
+-- what ends a proof
+abbrev ending : Conclusion → List Statement
+ending c = Output ∷ Conclude c ∷ End ∷ []
+
+abbrev Ends : List Statement → Type 0
+Ends es = (steps : List Statement) × (c : Conclusion) × All IsStep steps × (es ≡ steps ++ ending c)
+
+at_complete : (es : List Statement) → InOrder Complete es → es ≡ []
+at_complete [] h = refl
+at_complete (Header ∷ es) h = cc
+at_complete (F n ∷ es) h = cc
+at_complete (Pol ws ∷ es) h = cc
+at_complete (Rup c ∷ es) h = cc
+at_complete (Soli ls ∷ es) h = cc
+at_complete (Solx ls ∷ es) h = cc
+at_complete (Delete ids ∷ es) h = cc
+at_complete (Output ∷ es) h = cc
+at_complete (Conclude c ∷ es) h = cc
+at_complete (End ∷ es) h = cc
+
+at_closing : (es : List Statement) → InOrder Closing es → es ≡ End ∷ []
+at_closing [] h = cc
+at_closing (End ∷ es) h = ap (λ x. End ∷ x) (at_complete es h.1)
+at_closing (Header ∷ es) h = cc
+at_closing (F n ∷ es) h = cc
+at_closing (Pol ws ∷ es) h = cc
+at_closing (Rup c ∷ es) h = cc
+at_closing (Soli ls ∷ es) h = cc
+at_closing (Solx ls ∷ es) h = cc
+at_closing (Delete ids ∷ es) h = cc
+at_closing (Output ∷ es) h = cc
+at_closing (Conclude c ∷ es) h = cc
+
+at_claim : (es : List Statement) → InOrder Claim es → (c : Conclusion) × (es ≡ Conclude c ∷ End ∷ [])
+at_claim [] h = cc
+at_claim (Conclude c ∷ es) h = (c, ap (λ x. Conclude c ∷ x) (at_closing es h.1))
+at_claim (End ∷ es) h = cc
+at_claim (Header ∷ es) h = cc
+at_claim (F n ∷ es) h = cc
+at_claim (Pol ws ∷ es) h = cc
+at_claim (Rup c ∷ es) h = cc
+at_claim (Soli ls ∷ es) h = cc
+at_claim (Solx ls ∷ es) h = cc
+at_claim (Delete ids ∷ es) h = cc
+at_claim (Output ∷ es) h = cc
+
+step_then : (e : Statement) (es : List Statement) → IsStep e → Ends es → Ends (e ∷ es)
+step_then e es h (steps, c, k, g) = (e ∷ steps, c, All-cons IsStep e steps h k, ap (λ x. e ∷ x) g)
+
+at_steps : (es : List Statement) → InOrder Steps es → Ends es
+at_steps [] h = cc
+at_steps (Output ∷ es) h = let (c, e) = at_claim es h.1 in ([], c, All-nil IsStep, ap (λ x. Output ∷ x) e)
+at_steps (Pol ws ∷ es) h = step_then (Pol ws) es tt (at_steps es h.1)
+at_steps (Rup c ∷ es) h = step_then (Rup c) es tt (at_steps es h.1)
+at_steps (Soli ls ∷ es) h = step_then (Soli ls) es tt (at_steps es h.1)
+at_steps (Solx ls ∷ es) h = step_then (Solx ls) es tt (at_steps es h.1)
+at_steps (Delete ids ∷ es) h = step_then (Delete ids) es tt (at_steps es h.1)
+at_steps (Header ∷ es) h = cc
+at_steps (F n ∷ es) h = cc
+at_steps (Conclude c ∷ es) h = cc
+at_steps (End ∷ es) h = cc
+
+abbrev IsOf : List Statement → Type 0
+IsOf es = (v : Proof) × All IsStep v.steps × (es ≡ statements_of v)
+
+at_formula : (es : List Statement) → InOrder Formula es → IsOf (Header ∷ es)
+at_formula [] h = cc
+at_formula (F n ∷ es) h =
+    let (steps, c, k, e) = at_steps es h.1 in
+    (record { count = n; steps = steps; conclusion = c }, k, ap (λ x. Header ∷ F n ∷ x) e)
+at_formula (Header ∷ es) h = cc
+at_formula (Pol ws ∷ es) h = cc
+at_formula (Rup c ∷ es) h = cc
+at_formula (Soli ls ∷ es) h = cc
+at_formula (Solx ls ∷ es) h = cc
+at_formula (Delete ids ∷ es) h = cc
+at_formula (Output ∷ es) h = cc
+at_formula (Conclude c ∷ es) h = cc
+at_formula (End ∷ es) h = cc
+
+at_opening : (es : List Statement) → InOrder Opening es → IsOf es
+at_opening [] h = cc
+at_opening (Header ∷ es) h = at_formula es h.1
+at_opening (F n ∷ es) h = cc
+at_opening (Pol ws ∷ es) h = cc
+at_opening (Rup c ∷ es) h = cc
+at_opening (Soli ls ∷ es) h = cc
+at_opening (Solx ls ∷ es) h = cc
+at_opening (Delete ids ∷ es) h = cc
+at_opening (Output ∷ es) h = cc
+at_opening (Conclude c ∷ es) h = cc
+at_opening (End ∷ es) h = cc
+
+-- and back
+step_stage : (e : Statement) → IsStep e → (stage_of e ≡ Steps) × (stage_after e ≡ Steps)
+step_stage (Pol ws) h = (refl, refl)
+step_stage (Rup c) h = (refl, refl)
+step_stage (Soli ls) h = (refl, refl)
+step_stage (Solx ls) h = (refl, refl)
+step_stage (Delete ids) h = (refl, refl)
+step_stage Header h = absurd h
+step_stage (F n) h = absurd h
+step_stage Output h = absurd h
+step_stage (Conclude c) h = absurd h
+step_stage End h = absurd h
+
+steps_order : (steps : List Statement) (c : Conclusion) → All IsStep steps → InOrder Steps (steps ++ ending c)
+steps_order [] c h = (refl, (refl, (refl, refl)))
+steps_order (e ∷ steps) c h =
+    let k = step_stage e (All-head IsStep e steps h) in
+    (k.0, subst (λ x. InOrder x (steps ++ ending c)) (sym k.1) (steps_order steps c (All-tail IsStep e steps h)))
+
+statements_order : (v : Proof) → All IsStep v.steps → InOrder Opening (statements_of v)
+statements_order v h = (refl, (refl, steps_order v.steps v.conclusion h))
+
+pub no_gap : IsGap []
+no_gap = ((λ i lt. absurd (omega arith)), refl)
+
+module _ (limit top : ℕ) where
+  abbrev Spelled : Item Statement → Type 0
+  Spelled i = IsGap i.gap × SpellsStatement limit top i.event i.text
+
+  gap_is : (at : Stage) (gap : List ℕ) → GapAt at gap → IsGap gap
+  gap_is Opening gap h = subst IsGap (sym h) no_gap
+  gap_is Formula gap h = h
+  gap_is Steps gap h = h
+  gap_is Claim gap h = h
+  gap_is Closing gap h = h
+  gap_is Complete gap h = h
+
+  spelled_only : (items : List (Item Statement)) (at : Stage) → IsOrdered limit top at items → InOrder at (events_of items) × AreSpelled limit top items
+  spelled_only [] at h = (h, All-nil Spelled)
+  spelled_only (i ∷ rest) at (g, s, t, h) =
+      let k = spelled_only rest (stage_after i.event) h in
+      ((s, k.0), All-cons Spelled i rest (gap_is at i.gap g, t) k.1)
+
+  at_once : (items : List (Item Statement)) → IsOrdered limit top Opening items → BeginsAtOnce limit top items
+  at_once [] h = cc
+  at_once (i ∷ rest) h = h.0
+
+  pub proof_only : (items : List (Item Statement)) → IsOrdered limit top Opening items → IsProof limit top items
+  proof_only items h =
+      let k = spelled_only items Opening h in
+      let (v, s, e) = at_opening (events_of items) k.0 in
+      (v, (s, e, at_once items h, k.1))
+
+  -- behind the first statement gaps may stand
+  gap_later : (e : Statement) (gap : List ℕ) → IsGap gap → GapAt (stage_after e) gap
+  gap_later Header gap h = h
+  gap_later (F n) gap h = h
+  gap_later (Pol ws) gap h = h
+  gap_later (Rup c) gap h = h
+  gap_later (Soli ls) gap h = h
+  gap_later (Solx ls) gap h = h
+  gap_later (Delete ids) gap h = h
+  gap_later Output gap h = h
+  gap_later (Conclude c) gap h = h
+  gap_later End gap h = h
+
+  later_each : (items : List (Item Statement)) (before : Statement) → InOrder (stage_after before) (events_of items) → AreSpelled limit top items → IsOrdered limit top (stage_after before) items
+  later_each [] before h s = h
+  later_each (i ∷ rest) before (e, h) s =
+      let k = All-head Spelled i rest s in
+      (gap_later before i.gap k.0, e, k.1, later_each rest i.event h (All-tail Spelled i rest s))
+
+  pub proof_each : (items : List (Item Statement)) → IsProof limit top items → IsOrdered limit top Opening items
+  proof_each items (v, (steps, e, first, spelled)) = from_first items (subst (InOrder Opening) (sym e) (statements_order v steps)) first spelled
+    where
+      from_first : (items : List (Item Statement)) → InOrder Opening (events_of items) → BeginsAtOnce limit top items → AreSpelled limit top items → IsOrdered limit top Opening items
+      from_first [] h f s = absurd f
+      from_first (i ∷ rest) (e, h) f s = (f, e, (All-head Spelled i rest s).1, later_each rest i.event h (All-tail Spelled i rest s))
+
+  -- What a new machine accepts are the proofs.
+  pub reads_proofs : (items : List (Item Statement)) → Accepts proofs (begin limit top) items ↔ IsProof limit top items
+  reads_proofs items = (
+    (λ h. proof_only items (ordered_only limit top items Opening h)),
+    (λ h. ordered_each limit top items Opening (proof_each items h)),
+  )
+
+-- Nothing may follow what is complete.
+pub done_stops : (s : ProofState) (p : Phase) (b : ℕ) → is_done p ≡ true → act s b (plan p b) ≡ Refuse
+done_stops s (phase.Between Complete) b h = refl
+done_stops s (phase.Between Opening) b h = never false h refl
+done_stops s (phase.Between Formula) b h = never false h refl
+done_stops s (phase.Between Steps) b h = never false h refl
+done_stops s (phase.Between Claim) b h = never false h refl
+done_stops s (phase.Between Closing) b h = never false h refl
+done_stops s (phase.Comment at) b h = never false h refl
+done_stops s (phase.Spelling f k) b h = never false h refl
+done_stops s phase.Solution b h = never false h refl
+done_stops s phase.HeaderEnd b h = never false h refl
+done_stops s (phase.OutputEnd may) b h = never false h refl
+done_stops s (phase.Inside r) b h = never false h refl
+
+pub closes : (s : ProofState) → IsTrue (proofs.done s) → (b : ℕ) → proofs.step s b ≡ Refuse
+closes s h b = done_stops s s.phase b h
+
+-- a text spells one proof
+pub one_proof : OneProof
+one_proof limit top items items' h k = one_spelling proofs closes (begin limit top) items items' ((reads_proofs limit top items).1 h) ((reads_proofs limit top items').1 k)

@@ -1,0 +1,202 @@
+-- What stands between two statements.
+use Rattle.std.proofs.lemmas.Bool.{eqb-true}
+use Rattle.std.proofs.Common.{◌≡◌, ℕ, Bool, true, false, cond, not, ◌&&◌, ◌||◌, List, [], ◌∷◌, ◌++◌, length, refl, sym, ap, ap₂, subst, ◌∙◌, append_assoc, arith, length-append, ◌+◌}
+use Rattle.std.proofs.lemmas.List.{append-nil}
+use Rattle.std.proofs.Math.Seq.{get_or-append_seam, take-append_seam}
+use Rattle.std.specs.Prelude.{IsTrue, nat_eq, slice_index}
+use Rattle.pb_text.specs.Automaton.{Next, Go, End, Refuse, Skips, Reads}
+use Rattle.pb_text.specs.Blank.{IsBlank, in_comment, passes}
+use Rattle.pb_text.specs.Classes.{is_white}
+use Rattle.pb_text.specs.Spelling.{Letter}
+use Rattle.pb_text.proofs.Blanks.{in_comment-snoc, IsBlank-snoc}
+use Rattle.pb_proof.specs.Machine.Transition.{enter, between, pass, spell, meets, words_of, behind, step_front}
+use Rattle.pb_proof.specs.Proofs.{IsGap}
+use Rattle.pb_proof.specs.Machine.State.{ProofState, proofs, at, idle, act, is_within, HasGaps}
+use Rattle.pb_proof.specs.declared.machine.phase.Front.{Front}
+use Rattle.pb_proof.specs.declared.machine.phase.Front.TheVariants as front
+use Rattle.pb_proof.specs.declared.machine.phase.Stage.{Stage}
+use Rattle.pb_proof.specs.declared.machine.phase.Stage.TheVariants.{Opening, Formula, Steps, Claim, Closing, Complete}
+use Rattle.pb_proof.specs.declared.machine.phase.Phase.TheVariants as phase
+use Rattle.pb_proof.specs.declared.machine.phase.Move.{Move}
+use Rattle.pb_proof.specs.declared.machine.phase.Move.TheVariants as move
+use Rattle.pb_proof.specs.declared.statement.Statement.{Statement}
+use Rattle.pb_proof.proofs.lemmas.Choices.{never, chosen, white_each}
+
+passing : (s : Stage) (b : ℕ) → HasGaps s → between s b ≡ pass s b
+passing Opening b h = absurd h
+passing Complete b h = absurd h
+passing Formula b h = refl
+passing Steps b h = refl
+passing Claim b h = refl
+passing Closing b h = refl
+
+abbrev pub Inside : Move → Type 0
+Inside (move.To p) = is_within p ≡ true
+Inside _ = Unit {0}
+
+behind_inside : (f : Front) → Inside (behind f)
+behind_inside front.Header = refl
+behind_inside front.Formula = tt
+behind_inside front.Pol = tt
+behind_inside front.Rup = tt
+behind_inside front.Solution = refl
+behind_inside front.Delete = tt
+behind_inside front.Output = refl
+behind_inside front.Conclusion = tt
+behind_inside front.End = tt
+
+pub spell_inside : (f : Front) (k b : ℕ) (other : Move) → Inside other → Inside (spell f k b other)
+spell_inside f k b other h = chosen Inside (meets (slice_index (words_of f) k) b) _ _
+    (λ _. chosen Inside (nat_eq (k + 1) (length (words_of f))) _ _ (λ _. behind_inside f) (λ _. refl)) (λ _. h)
+
+pub enter_inside : (s : Stage) (b : ℕ) → Inside (enter s b)
+enter_inside Opening b = spell_inside front.Header 0 b move.Stop tt
+enter_inside Formula b = spell_inside front.Formula 0 b move.Stop tt
+enter_inside Steps b = spell_inside (step_front b) 0 b move.Stop tt
+enter_inside Claim b = spell_inside front.Conclusion 0 b move.Stop tt
+enter_inside Closing b = spell_inside front.End 0 b move.Stop tt
+enter_inside Complete b = tt
+
+module _ (limit top : ℕ) (s : Stage) (gaps : HasGaps s) where
+  -- within a comment, or not
+  abbrev pub gap_state : Bool → ProofState
+  gap_state commented = at limit top (cond commented (phase.Comment s) (phase.Between s))
+
+  -- what may come of a byte in a gap
+  abbrev InGap : (ProofState → Type 0) → Next ProofState Statement → Type 0
+  InGap P (Go mid) = proofs.begun mid ≡ false → P mid
+  InGap P (End e after) = Unit {0}
+  InGap P Refuse = Unit {0}
+
+  entered : (P : ProofState → Type 0) (b : ℕ) (m : Move) → Inside m → InGap P (act (idle limit top s) b m)
+  entered P b (move.To p) h = λ o. never (is_within p) h o
+  entered P b (move.Begin r) h = λ o. never true refl o
+  entered P b (move.Give r) h = tt
+  entered P b move.EndHeader h = tt
+  entered P b move.EndOutput h = tt
+  entered P b move.EndProof h = tt
+  entered P b move.Stop h = tt
+
+  abbrev next_mode : ℕ → Bool → Bool
+  next_mode b commented = not (nat_eq b 10) && (nat_eq b 42 || commented)
+
+  abbrev passed : ℕ → Bool → Bool
+  passed b commented = is_white b || nat_eq b 42 || commented
+
+  abbrev Leads : ℕ → Bool → ProofState → Type 0
+  Leads b commented mid = (passed b commented ≡ true) × (mid ≡ gap_state (next_mode b commented))
+
+  white_mode : (b : ℕ) → is_white b ≡ true → next_mode b false ≡ false
+  white_mode b h = white_each (λ x. next_mode x false ≡ false) refl refl refl refl b h
+
+  star_mode : (b : ℕ) → nat_eq b 42 ≡ true → next_mode b false ≡ true
+  star_mode b h = subst (λ x. next_mode x false ≡ true) (sym (eqb-true b 42 h)) refl
+
+  gap_byte : (commented : Bool) (b : ℕ) → InGap (Leads b commented) (proofs.step (gap_state commented) b)
+  gap_byte true b = by_feed (nat_eq b 10) refl
+    where
+      or_true : (x : Bool) → (x || true) ≡ true
+      or_true true = refl
+      or_true false = refl
+
+      by_feed : (x : Bool) → nat_eq b 10 ≡ x → InGap (Leads b true) (act (gap_state true) b (move.To (cond x (phase.Between s) (phase.Comment s))))
+      by_feed true e = λ o. (or_true (is_white b || nat_eq b 42), ap gap_state (sym (ap (λ y. not y && (nat_eq b 42 || true)) e)))
+      by_feed false e = λ o. (or_true (is_white b || nat_eq b 42), ap gap_state (sym (ap (λ y. not y && (nat_eq b 42 || true)) e ∙ or_true (nat_eq b 42))))
+  gap_byte false b =
+      subst (λ m. InGap (Leads b false) (act (gap_state false) b m)) (sym (passing s b gaps))
+      (chosen Q (is_white b) _ _
+      (λ e o. (ap (λ x. x || nat_eq b 42 || false) e, ap gap_state (sym (white_mode b e))))
+      (λ f. chosen Q (nat_eq b 42) _ _
+      (λ e o. (ap₂ (λ x y. x || y || false) f e, ap gap_state (sym (star_mode b e))))
+      (λ _. entered (Leads b false) b (enter s b) (enter_inside s b))))
+    where
+      Q : Move → Type 0
+      Q m = InGap (Leads b false) (act (gap_state false) b m)
+
+  mode_after : (before : List ℕ) (b : ℕ) → next_mode b (in_comment before) ≡ in_comment (before ++ b ∷ [])
+  mode_after before b = sym (in_comment-snoc before b)
+
+  gap_only : (gap before : List ℕ) (mid : ProofState) → Skips proofs (gap_state (in_comment before)) gap mid → IsBlank before
+      → IsBlank (before ++ gap) × (mid ≡ gap_state (in_comment (before ++ gap)))
+  gap_only [] before mid h blank = (
+    subst IsBlank (sym (append-nil before)) blank,
+    h ∙ ap (λ x. gap_state (in_comment x)) (sym (append-nil before)),
+  )
+  gap_only (b ∷ gap) before mid (next, g, o, h) blank =
+      let on : InGap (Leads b (in_comment before)) (Go next) = subst (λ x. InGap (Leads b (in_comment before)) x) g (gap_byte (in_comment before) b) in
+      let f : Leads b (in_comment before) next = on o in
+      let k = gap_only gap (before ++ b ∷ []) mid (subst (λ x. Skips proofs x gap mid) (f.1 ∙ ap gap_state (mode_after before b)) h) (IsBlank-snoc before b blank f.0) in
+      subst (λ x. IsBlank x × (mid ≡ gap_state (in_comment x))) (append_assoc before (b ∷ []) gap) k
+
+  -- and back
+  outside : (commented : Bool) → proofs.begun (gap_state commented) ≡ false
+  outside true = refl
+  outside false = refl
+
+  gap_step : (commented : Bool) (b : ℕ) → passed b commented ≡ true → proofs.step (gap_state commented) b ≡ Go (gap_state (next_mode b commented))
+  gap_step true b h = by_feed (nat_eq b 10) refl
+    where
+      or_true : (x : Bool) → (x || true) ≡ true
+      or_true true = refl
+      or_true false = refl
+
+      by_feed : (x : Bool) → nat_eq b 10 ≡ x → act (gap_state true) b (move.To (cond x (phase.Between s) (phase.Comment s))) ≡ Go (gap_state (next_mode b true))
+      by_feed true e = ap (λ y. Go (gap_state y)) (sym (ap (λ y. not y && (nat_eq b 42 || true)) e))
+      by_feed false e = ap (λ y. Go (gap_state y)) (sym (ap (λ y. not y && (nat_eq b 42 || true)) e ∙ or_true (nat_eq b 42)))
+  gap_step false b h =
+      ap (act (gap_state false) b) (passing s b gaps)
+      ∙ by_white (is_white b) refl
+    where
+      by_star : is_white b ≡ false → (x : Bool) → nat_eq b 42 ≡ x
+          → act (gap_state false) b (cond x (move.To (phase.Comment s)) (enter s b)) ≡ Go (gap_state (next_mode b false))
+      by_star w true e = ap (λ y. Go (gap_state y)) (sym (star_mode b e))
+      by_star w false e = never false (sym (ap₂ (λ y z. y || z || false) w e) ∙ h) refl
+
+      by_white : (x : Bool) → is_white b ≡ x
+          → act (gap_state false) b (cond x (move.To (phase.Between s)) (cond (nat_eq b 42) (move.To (phase.Comment s)) (enter s b))) ≡ Go (gap_state (next_mode b false))
+      by_white true e = ap (λ y. Go (gap_state y)) (sym (white_mode b e))
+      by_white false e = by_star e (nat_eq b 42) refl
+
+  passes_at : (before gap : List ℕ) (b : ℕ) → IsBlank (before ++ b ∷ gap) → passes before b ≡ true
+  passes_at before gap b h =
+      subst IsTrue (ap₂ passes (take-append_seam before (b ∷ gap)) (get_or-append_seam before b gap 0))
+      (h (length before) (omega (arith, length-append before (b ∷ gap))))
+
+  gap_each : (gap before : List ℕ) → IsBlank (before ++ gap) → Skips proofs (gap_state (in_comment before)) gap (gap_state (in_comment (before ++ gap)))
+  gap_each [] before h = ap (λ x. gap_state (in_comment x)) (append-nil before)
+  gap_each (b ∷ gap) before h =
+      let e : before ++ b ∷ gap ≡ (before ++ b ∷ []) ++ gap = sym (append_assoc before (b ∷ []) gap) in
+      let k = gap_each gap (before ++ b ∷ []) (subst IsBlank e h) in
+      let m = mode_after before b in (
+        gap_state (next_mode b (in_comment before)),
+        gap_step (in_comment before) b (passes_at before gap b h),
+        outside (next_mode b (in_comment before)),
+        subst (λ x. Skips proofs x gap (gap_state (in_comment (before ++ b ∷ gap)))) (ap gap_state (sym m))
+            (subst (λ x. Skips proofs (gap_state (in_comment (before ++ b ∷ []))) gap (gap_state (in_comment x))) (sym e) k),
+      )
+
+  -- in a comment no statement begins
+  comment_reads : (t : List Letter) (e : Statement) (after : ProofState) → Reads proofs (gap_state true) t e after → ⊥
+  comment_reads [] e after r = r
+  comment_reads (l ∷ []) e after (g, n) = no_end g
+    where
+      no_end : act (gap_state true) l.byte (move.To (cond (nat_eq l.byte 10) (phase.Between s) (phase.Comment s))) ≡ End e after → ⊥
+      no_end g = cc
+  comment_reads (l ∷ k ∷ t) e after (mid, g, i, n, r) = stays (nat_eq l.byte 10) g
+    where
+      stays : (x : Bool) → act (gap_state true) l.byte (move.To (cond x (phase.Between s) (phase.Comment s))) ≡ Go mid → ⊥
+      stays true g = let f : idle limit top s ≡ mid = cc in never (proofs.begun mid) i (ap proofs.begun (sym f))
+      stays false g = let f : at limit top (phase.Comment s) ≡ mid = cc in never (proofs.begun mid) i (ap proofs.begun (sym f))
+
+  pub gap_before : (gap : List ℕ) (mid after : ProofState) (t : List Letter) (e : Statement) → Skips proofs (idle limit top s) gap mid → Reads proofs mid t e after
+      → IsGap gap × (mid ≡ idle limit top s)
+  gap_before gap mid after t e h r =
+      let k = gap_only gap [] mid h (λ i lt. absurd (omega arith)) in
+      by_mode (in_comment gap) refl k
+    where
+      by_mode : (x : Bool) → in_comment gap ≡ x → IsBlank gap × (mid ≡ gap_state (in_comment gap)) → IsGap gap × (mid ≡ idle limit top s)
+      by_mode true c k = absurd (comment_reads t e after (subst (λ y. Reads proofs y t e after) (k.1 ∙ ap gap_state c) r))
+      by_mode false c k = ((k.0, c), k.1 ∙ ap gap_state c)
+
+  pub gap_skips : (gap : List ℕ) → IsGap gap → Skips proofs (idle limit top s) gap (idle limit top s)
+  gap_skips gap (blank, c) = subst (λ x. Skips proofs (idle limit top s) gap (gap_state x)) c (gap_each gap [] blank)

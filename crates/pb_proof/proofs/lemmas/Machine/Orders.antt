@@ -1,0 +1,99 @@
+-- What a machine of proofs accepts from a stage on are the statements in order.
+use Rattle.std.proofs.Common.{◌≡◌, ℕ, true, false, List, [], ◌∷◌, refl, sym, ap, subst, ◌∙◌}
+use Rattle.pb_text.specs.Automaton.{Next, Go, End, Refuse, Skips, Reads, Accepts}
+use Rattle.pb_text.specs.Spelling.{Item, Letter}
+use Rattle.pb_proof.specs.Machine.Transition.{enter}
+use Rattle.pb_proof.specs.Order.{stage_of, stage_after, GapAt, IsOrdered}
+use Rattle.pb_proof.specs.Machine.State.{ProofState, proofs, idle, act, is_complete}
+use Rattle.pb_proof.specs.declared.machine.phase.Stage.{Stage}
+use Rattle.pb_proof.specs.declared.machine.phase.Stage.TheVariants.{Opening, Formula, Steps, Claim, Closing, Complete}
+use Rattle.pb_proof.specs.declared.machine.phase.Move.{Move}
+use Rattle.pb_proof.specs.declared.machine.phase.Move.TheVariants as move
+use Rattle.pb_proof.specs.declared.statement.Statement.{Statement}
+use Rattle.pb_proof.specs.declared.statement.Statement as statement
+use Rattle.pb_proof.proofs.lemmas.Choices.{never}
+use Rattle.pb_proof.proofs.lemmas.Machine.Complete.{statement_each}
+use Rattle.pb_proof.proofs.lemmas.Machine.Gaps.{Inside, enter_inside, gap_before, gap_skips}
+use Rattle.pb_proof.proofs.lemmas.Machine.Sound.{statement_only}
+
+refuse-go : (s : ProofState) → ◌≡◌ {A = Next ProofState Statement} Refuse (Go s) → ⊥
+refuse-go s h = cc
+
+refuse-end : (e : Statement) (s : ProofState) → ◌≡◌ {A = Next ProofState Statement} Refuse (End e s) → ⊥
+refuse-end e s h = cc
+
+complete : (at : Stage) → is_complete at ≡ true → at ≡ Complete
+complete Complete h = refl
+complete Opening h = never false h refl
+complete Formula h = never false h refl
+complete Steps h = never false h refl
+complete Claim h = never false h refl
+complete Closing h = never false h refl
+
+module _ (limit top : ℕ) where
+  -- before the first statement there is no gap, and behind the last one nothing
+  abbrev OnGo : Next ProofState Statement → Type 0
+  OnGo (Go next) = proofs.begun next ≡ true
+  OnGo (End e next) = Unit {0}
+  OnGo Refuse = Unit {0}
+
+  went_inside : (b : ℕ) (m : Move) → Inside m → OnGo (act (idle limit top Opening) b m)
+  went_inside b (move.To p) h = h
+  went_inside b (move.Begin r) h = refl
+  went_inside b (move.Give r) h = tt
+  went_inside b move.EndHeader h = tt
+  went_inside b move.EndOutput h = tt
+  went_inside b move.EndProof h = tt
+  went_inside b move.Stop h = tt
+
+  opening_gap : (gap : List ℕ) (mid : ProofState) → Skips proofs (idle limit top Opening) gap mid → (gap ≡ []) × (mid ≡ idle limit top Opening)
+  opening_gap [] mid h = (refl, h)
+  opening_gap (b ∷ gap) mid (next, g, o, h) = never (proofs.begun next) (subst OnGo g (went_inside b (enter Opening b) (enter_inside Opening b))) o
+
+  complete_reads : (gap : List ℕ) (mid after : ProofState) (t : List Letter) (e : Statement) → Skips proofs (idle limit top Complete) gap mid → Reads proofs mid t e after → ⊥
+  complete_reads [] mid after [] e h r = r
+  complete_reads [] mid after (l ∷ []) e h (g, n) = refuse-end e after (sym (ap (λ s. proofs.step s l.byte) h) ∙ g)
+  complete_reads [] mid after (l ∷ k ∷ t) e h (next, g, i, n, r) = refuse-go next (sym (ap (λ s. proofs.step s l.byte) h) ∙ g)
+  complete_reads (b ∷ gap) mid after t e (next, g, o, h) r = refuse-go next g
+
+  gap_at : (at : Stage) (gap : List ℕ) (mid after : ProofState) (t : List Letter) (e : Statement) → Skips proofs (idle limit top at) gap mid → Reads proofs mid t e after
+      → GapAt at gap × (mid ≡ idle limit top at)
+  gap_at Opening gap mid after t e h r = opening_gap gap mid h
+  gap_at Complete gap mid after t e h r = absurd (complete_reads gap mid after t e h r)
+  gap_at Formula gap mid after t e h r = gap_before limit top Formula tt gap mid after t e h r
+  gap_at Steps gap mid after t e h r = gap_before limit top Steps tt gap mid after t e h r
+  gap_at Claim gap mid after t e h r = gap_before limit top Claim tt gap mid after t e h r
+  gap_at Closing gap mid after t e h r = gap_before limit top Closing tt gap mid after t e h r
+
+  pub ordered_only : (items : List (Item Statement)) (at : Stage) → Accepts proofs (idle limit top at) items → IsOrdered limit top at items
+  ordered_only [] at h = complete at h
+  ordered_only (i ∷ rest) at (mid, after, g, r, a) =
+      let k = gap_at at i.gap mid after i.text i.event g r in
+      let s = statement_only limit top at i.text i.event after (subst (λ x. Reads proofs x i.text i.event after) k.1 r) in
+      (k.0, s.0, s.1, ordered_only rest (stage_after i.event) (subst (λ x. Accepts proofs x rest) s.2 a))
+
+  -- no statement stands behind the last one
+  stage_some : (e : Statement) → stage_of e ≡ Complete → ⊥
+  stage_some statement.TheVariants.Header h = cc
+  stage_some statement.TheVariants.End h = cc
+  stage_some (statement.TheVariants.F c) h = cc
+  stage_some (statement.TheVariants.Conclude c) h = cc
+  stage_some _ h = cc
+
+  skips_at : (at : Stage) (gap : List ℕ) → (at ≡ Complete → ⊥) → GapAt at gap → Skips proofs (idle limit top at) gap (idle limit top at)
+  skips_at Opening gap n h = subst (λ x. Skips proofs (idle limit top Opening) x (idle limit top Opening)) (sym h) refl
+  skips_at Complete gap n h = absurd (n refl)
+  skips_at Formula gap n h = gap_skips limit top Formula tt gap h
+  skips_at Steps gap n h = gap_skips limit top Steps tt gap h
+  skips_at Claim gap n h = gap_skips limit top Claim tt gap h
+  skips_at Closing gap n h = gap_skips limit top Closing tt gap h
+
+  pub ordered_each : (items : List (Item Statement)) (at : Stage) → IsOrdered limit top at items → Accepts proofs (idle limit top at) items
+  ordered_each [] at h = ap is_complete h
+  ordered_each (i ∷ rest) at (g, s, t, h) = (
+    idle limit top at,
+    idle limit top (stage_after i.event),
+    skips_at at i.gap (λ k. stage_some i.event (s ∙ k)) g,
+    subst (λ x. Reads proofs (idle limit top x) i.text i.event (idle limit top (stage_after i.event))) s (statement_each limit top i.text i.event t),
+    ordered_each rest (stage_after i.event) h,
+  )

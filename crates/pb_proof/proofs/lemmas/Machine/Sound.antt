@@ -1,0 +1,293 @@
+-- What a machine of proofs reads from a stage on is a statement of that stage.
+use Rattle.std.proofs.Common.{◌≡◌, ℕ, ◌+◌, ◌-◌, ◌<◌, Bool, true, false, ◌&&◌, List, [], ◌∷◌, ◌++◌, length, take, refl, sym, ap, subst, ◌∙◌, arith, add-one, Some, None}
+use Rattle.std.proofs.Math.Seq.{take-suc}
+use Rattle.std.proofs.lemmas.Bool.{eqb-true}
+use Rattle.std.proofs.lemmas.Bool.Decides.{nat_tests}
+use Rattle.std.proofs.lemmas.List.{take_all}
+use Rattle.std.specs.Prelude.{nat_eq, slice_index}
+use Rattle.pb_text.specs.Automaton.{Next, Go, End, Refuse, Reads}
+use Rattle.pb_text.specs.Classes.{is_blank, is_white}
+use Rattle.pb_text.specs.Languages.{Language, ◌⋅◌, Bytes, Blanks0}
+use Rattle.pb_text.specs.Spelling.{Letter, plain}
+use Rattle.pb_text.proofs.Languages.{grown, none_yet}
+use Rattle.pb_proof.specs.Line.Machine.{inners, inner_first, SpellsRest}
+use Rattle.pb_proof.specs.Lines.{f_word, pol_word, rup_word, soli_word, solx_word, conclusion_word, SpellsStatement}
+use Rattle.pb_proof.specs.Machine.Transition.{words_of, sol_word, behind, meets, spell, step_front, enter, pass, between, plan}
+use Rattle.pb_proof.specs.Order.{stage_of, stage_after}
+use Rattle.pb_proof.specs.Machine.State.{ProofState, proofs, idle, stage_behind, over, step_inner, act, asked}
+use Rattle.pb_proof.specs.declared.line.Inner.{Inner}
+use Rattle.pb_proof.specs.declared.machine.phase.Front.{Front}
+use Rattle.pb_proof.specs.declared.machine.phase.Front.TheVariants as front
+use Rattle.pb_proof.specs.declared.machine.phase.Stage.{Stage}
+use Rattle.pb_proof.specs.declared.machine.phase.Stage.TheVariants.{Opening, Formula, Steps, Claim, Closing, Complete}
+use Rattle.pb_proof.specs.declared.machine.phase.Rest.{Rest}
+use Rattle.pb_proof.specs.declared.machine.phase.Rest.TheVariants as rest
+use Rattle.pb_proof.specs.declared.machine.phase.Phase.{Phase}
+use Rattle.pb_proof.specs.declared.machine.phase.Phase.TheVariants as phase
+use Rattle.pb_proof.specs.declared.machine.phase.Move.{Move}
+use Rattle.pb_proof.specs.declared.machine.phase.Move.TheVariants as move
+use Rattle.pb_proof.specs.declared.statement.Statement.{Statement}
+use Rattle.pb_proof.specs.declared.statement.Statement as statement
+use Rattle.pb_proof.proofs.lemmas.Choices.{never, chosen, both}
+use Rattle.pb_proof.proofs.lemmas.Line.Laws.{inner_only, inner_begins, inner_fresh}
+use Rattle.pb_proof.proofs.lemmas.Line.Ends.{as_unmarked, Gapped, Closing as Closed, blank_more, semicolon_behind_blanks, blank_closing, line_behind_blanks, line_closing, feed_behind_blanks}
+use Rattle.pb_proof.proofs.lemmas.Spaced.{Spaced, one_met, spaced_more, spaced_blank, FrontWords, front_only}
+use Rattle.pb_proof.proofs.lemmas.Walking.{Walks, walks_more, ends_walk, On, Keeps, told}
+
+-- the stage of the words that a statement begins with, and of what stands behind them
+abbrev pub stage_front : Front → Stage
+stage_front front.Header = Opening
+stage_front front.Formula = Formula
+stage_front front.Conclusion = Claim
+stage_front front.End = Closing
+stage_front _ = Steps
+
+abbrev pub stage_rest : Rest → Stage
+stage_rest rest.Count = Formula
+stage_rest rest.Claimed = Claim
+stage_rest _ = Steps
+
+-- the words before what is given to a machine of its own
+abbrev pub Before : Rest → Language
+Before rest.Count = Bytes f_word
+Before rest.Words = Bytes pol_word
+Before rest.Goal = Bytes rup_word
+Before rest.Improving = Bytes soli_word
+Before rest.Excluded = Bytes solx_word
+Before rest.Deleted = FrontWords front.Delete
+Before rest.Claimed = Bytes conclusion_word
+
+-- words, letter by letter
+word_further : (w : List ℕ) (k : ℕ) (l : Letter) (p : List Letter) → k < length w → meets (slice_index w k) l.byte ≡ true → l.numeral ≡ false
+    → Spaced (take k w) p → Spaced (take (k + 1) w) (p ++ l ∷ [])
+word_further w k l p h e n s =
+    subst (λ x. Spaced x (p ++ l ∷ [])) (sym (take-suc w k 0 h) ∙ ap (λ j. take j w) (sym (add-one k)))
+    (spaced_more (take k w) (slice_index w k) p l s (one_met (slice_index w k) l e n))
+
+word_blank : (w : List ℕ) (k : ℕ) (l : Letter) (p : List Letter) → 0 < k → k < length w → nat_eq (slice_index w (k - 1)) 32 ≡ true → is_blank l.byte ≡ true → l.numeral ≡ false
+    → Spaced (take k w) p → Spaced (take k w) (p ++ l ∷ [])
+word_blank w k l p some h e b n s =
+    let j : (k - 1) + 1 ≡ k = omega arith in
+    let same : take k w ≡ take (k - 1) w ++ 32 ∷ [] =
+    ap (λ i. take i w) (sym j ∙ add-one (k - 1)) ∙ (take-suc w (k - 1) 0 (omega arith) ∙ ap (λ x. take (k - 1) w ++ x ∷ []) (eqb-true (slice_index w (k - 1)) 32 e)) in
+    subst (λ x. Spaced x (p ++ l ∷ [])) (sym same)
+    (spaced_blank (take (k - 1) w) p l b n (subst (λ x. Spaced x p) same s))
+
+further : (k size : ℕ) → k < size → nat_eq (k + 1) size ≡ false → k + 1 < size
+further k size h e = grind (arith, nat_tests)
+
+module _ (limit top : ℕ) (here : Stage) where
+  -- What has been read, by phase.
+  abbrev pub front_of : ProofState → Phase → Language
+  front_of s (phase.Between at) = λ p. (at ≡ here) × (p ≡ []) × (s.inner ≡ None)
+  front_of s (phase.Comment at) = λ p. ⊥
+  front_of s (phase.Spelling f k) = λ p. (stage_front f ≡ here) × (0 < k) × (k < length (words_of f)) × Spaced (take k (words_of f)) p × (s.inner ≡ None)
+  front_of s phase.Solution = λ p. (Steps ≡ here) × Bytes sol_word p × (s.inner ≡ None)
+  front_of s phase.HeaderEnd = λ p. (Opening ≡ here) × Gapped (FrontWords front.Header) p × (s.inner ≡ None)
+  front_of s (phase.OutputEnd true) = λ p. (Steps ≡ here) × Gapped (FrontWords front.Output) p × (s.inner ≡ None)
+  front_of s (phase.OutputEnd false) = λ p. (Steps ≡ here) × Closed (FrontWords front.Output) p × (s.inner ≡ None)
+  front_of s (phase.Inside r) = λ p. (stage_rest r ≡ here) × ((i : Inner) × (s.inner ≡ Some i) × (Before r ⋅ (λ q. Walks inners (inner_first limit top r) q i)) p)
+
+  abbrev pub Known : ProofState → Type 0
+  Known s = (s.limit ≡ limit) × (s.top ≡ top)
+
+  abbrev pub Read : ProofState → Language
+  Read s = λ p. Known s × front_of s s.phase p
+
+  -- a statement of the stage, and what follows it
+  abbrev pub IsStatement : Statement → ProofState → Language
+  IsStatement e after = λ t. (stage_of e ≡ here) × SpellsStatement limit top e t × (after ≡ idle limit top (stage_after e))
+
+  same_idle : (l t : ℕ) (a b : Stage) → l ≡ limit → t ≡ top → a ≡ b → idle l t a ≡ idle limit top b
+  same_idle l t a b e f g = rw (e, f, g) refl
+
+  -- What stands behind the words makes a statement with them.
+  rest_statement : (r : Rest) (e : Statement) (t : List Letter) → (Before r ⋅ SpellsRest limit top r e) t
+      → (stage_of e ≡ stage_rest r) × SpellsStatement limit top e t × (stage_behind r ≡ stage_after e)
+  rest_statement rest.Count (statement.TheVariants.F c) t h = (refl, h, refl)
+  rest_statement rest.Count _ t h = absurd h.4
+  rest_statement rest.Words (statement.TheVariants.Pol c) t h = (refl, h, refl)
+  rest_statement rest.Words _ t h = absurd h.4
+  rest_statement rest.Goal (statement.TheVariants.Rup c) t h = (refl, h, refl)
+  rest_statement rest.Goal _ t h = absurd h.4
+  rest_statement rest.Improving (statement.TheVariants.Soli c) t h = (refl, h, refl)
+  rest_statement rest.Improving _ t h = absurd h.4
+  rest_statement rest.Excluded (statement.TheVariants.Solx c) t h = (refl, h, refl)
+  rest_statement rest.Excluded _ t h = absurd h.4
+  rest_statement rest.Deleted (statement.TheVariants.Delete c) t h = (refl, h, refl)
+  rest_statement rest.Deleted _ t h = absurd h.4
+  rest_statement rest.Claimed (statement.TheVariants.Conclude c) t h = (refl, h, refl)
+  rest_statement rest.Claimed _ t h = absurd h.4
+
+  module _ (s : ProofState) (l : Letter) (p : List Letter) (k : Known s) where
+    -- what is known of an outcome, and after a move
+    abbrev Leaves : Next ProofState Statement → Type 0
+    Leaves x = On proofs Read IsStatement x l (p ++ l ∷ [])
+
+    abbrev After : Move → Type 0
+    After m = Leaves (act s l.byte m)
+
+    plain_letter : s.inner ≡ None → l.numeral ≡ asked false inners.in_number s.inner → l.numeral ≡ false
+    plain_letter e n = n ∙ ap (asked false inners.in_number) e
+
+    -- a machine of what stands behind the words begins
+    begins : (r : Rest) → stage_rest r ≡ here → (l.numeral ≡ false → Before r (p ++ l ∷ [])) → After (move.Begin r)
+    begins r at h = λ w n.
+        let plain : l.numeral ≡ false = n ∙ (inner_fresh s.limit s.top r).2 in (
+          k,
+          (
+            at,
+            (
+              inner_first s.limit s.top r,
+              refl,
+              none_yet (Before r) (λ q. Walks inners (inner_first limit top r) q (inner_first s.limit s.top r)) (p ++ l ∷ [])
+                  (ap (λ x. inner_first x s.top r) k.0 ∙ ap (λ x. inner_first limit x r) k.1) (h plain),
+            ),
+          ),
+        )
+
+    -- all words have been read
+    whole : s.inner ≡ None → (f : Front) → stage_front f ≡ here → (l.numeral ≡ false → FrontWords f (p ++ l ∷ [])) → After (behind f)
+    whole o front.Header at h = λ w n. (k, (at, none_yet (FrontWords front.Header) Blanks0 (p ++ l ∷ []) ([], tt, refl) (h (plain_letter o n)), o))
+    whole o front.Formula at h = begins rest.Count at h
+    whole o front.Pol at h = begins rest.Words at h
+    whole o front.Rup at h = begins rest.Goal at h
+    whole o front.Solution at h = λ w n. (k, (at, h (plain_letter o n), o))
+    whole o front.Delete at h = begins rest.Deleted at h
+    whole o front.Output at h = λ w n. (k, (at, none_yet (FrontWords front.Output) Blanks0 (p ++ l ∷ []) ([], tt, refl) (h (plain_letter o n)), o))
+    whole o front.Conclusion at h = begins rest.Claimed at h
+    whole o front.End at h = λ n. (at, h n, same_idle s.limit s.top Complete Complete k.0 k.1 refl)
+
+    -- the next byte of the words
+    spells : s.inner ≡ None → (f : Front) → stage_front f ≡ here → (j : ℕ) → j < length (words_of f) → Spaced (take j (words_of f)) p → (other : Move) → After other
+        → After (spell f j l.byte other)
+    spells o f at j h q other else = chosen After (meets (slice_index (words_of f) j) l.byte) _ _
+        (λ e. chosen After (nat_eq (j + 1) (length (words_of f))) _ _
+        (λ g. whole o f at (λ n. front_only f (p ++ l ∷ [])
+        (subst (λ x. Spaced x (p ++ l ∷ [])) (take_all (j + 1) (words_of f) (omega (arith, eqb-true (j + 1) (length (words_of f)) g))) (word_further (words_of f) j l p h e n q))))
+        (λ g w n. (k, (at, omega arith, further j (length (words_of f)) h g, word_further (words_of f) j l p h e (plain_letter o n) q, o))))
+        (λ _. else)
+
+    spelling : (f : Front) (j : ℕ) → stage_front f ≡ here → 0 < j → j < length (words_of f) → Spaced (take j (words_of f)) p → s.inner ≡ None
+        → After (plan (phase.Spelling f j) l.byte)
+    spelling f j at some h q o = spells o f at j h q _
+        (chosen After (is_blank l.byte && nat_eq (slice_index (words_of f) (j - 1)) 32) _ _
+        (λ e w n.
+        let g = both (is_blank l.byte) (nat_eq (slice_index (words_of f) (j - 1)) 32) e in
+        (k, (at, some, h, word_blank (words_of f) j l p some h g.1 g.0 (plain_letter o n) q, o)))
+        (λ _. tt))
+
+    first : s.inner ≡ None → p ≡ [] → (f : Front) → stage_front f ≡ here → After (spell f 0 l.byte move.Stop)
+    first o e f at = spells o f at 0 (some_byte f) e move.Stop tt
+      where
+        some_byte : (g : Front) → 0 < length (words_of g)
+        some_byte front.Header = omega arith
+        some_byte front.Formula = omega arith
+        some_byte front.Pol = omega arith
+        some_byte front.Rup = omega arith
+        some_byte front.Solution = omega arith
+        some_byte front.Delete = omega arith
+        some_byte front.Output = omega arith
+        some_byte front.Conclusion = omega arith
+        some_byte front.End = omega arith
+
+    step_stage : (b : ℕ) → stage_front (step_front b) ≡ Steps
+    step_stage b = chosen P (nat_eq b 112) _ _ (λ _. refl) (λ _. chosen P (nat_eq b 114) _ _ (λ _. refl) (λ _. chosen P (nat_eq b 115) _ _ (λ _. refl) (λ _. chosen P (nat_eq b 100) _ _ (λ _. refl) (λ _. refl))))
+      where
+        P : Front → Type 0
+        P f = stage_front f ≡ Steps
+
+    enters : (at : Stage) → at ≡ here → p ≡ [] → s.inner ≡ None → After (enter at l.byte)
+    enters Opening at e o = first o e front.Header at
+    enters Formula at e o = first o e front.Formula at
+    enters Steps at e o = first o e (step_front l.byte) (step_stage l.byte ∙ at)
+    enters Claim at e o = first o e front.Conclusion at
+    enters Closing at e o = first o e front.End at
+    enters Complete at e o = tt
+
+    passes : (at : Stage) → at ≡ here → p ≡ [] → s.inner ≡ None → After (pass at l.byte)
+    passes at same e o = chosen After (is_white l.byte) _ _
+        (λ _ w. never false w refl)
+        (λ _. chosen After (nat_eq l.byte 42) _ _ (λ _ w. never false w refl) (λ _. enters at same e o))
+
+    between_two : (at : Stage) → at ≡ here → p ≡ [] → s.inner ≡ None → After (between at l.byte)
+    between_two Opening at e o = enters Opening at e o
+    between_two Formula at e o = passes Formula at e o
+    between_two Steps at e o = passes Steps at e o
+    between_two Claim at e o = passes Claim at e o
+    between_two Closing at e o = passes Closing at e o
+    between_two Complete at e o = tt
+
+    -- `i` or `x` behind `sol`
+    logged : Steps ≡ here → Bytes sol_word p → After (plan phase.Solution l.byte)
+    logged at e = chosen After (nat_eq l.byte 105) _ _
+        (λ h. begins rest.Improving at (λ n. ap (λ x. x ++ l ∷ []) e ∙ ap (λ x. plain sol_word ++ x ∷ []) (as_unmarked l 105 (eqb-true l.byte 105 h) n)))
+        (λ _. chosen After (nat_eq l.byte 120) _ _
+        (λ h. begins rest.Excluded at (λ n. ap (λ x. x ++ l ∷ []) e ∙ ap (λ x. plain sol_word ++ x ∷ []) (as_unmarked l 120 (eqb-true l.byte 120 h) n)))
+        (λ _. tt))
+
+    header_ends : Opening ≡ here → Gapped (FrontWords front.Header) p → s.inner ≡ None → After (plan phase.HeaderEnd l.byte)
+    header_ends at h o = chosen After (is_blank l.byte) _ _
+        (λ e w n. (k, (at, blank_more (FrontWords front.Header) l p e (plain_letter o n) h, o)))
+        (λ _. chosen After (nat_eq l.byte 10) _ _
+        (λ e n. (at, feed_behind_blanks (FrontWords front.Header) l p (eqb-true l.byte 10 e) n h, same_idle s.limit s.top Formula Formula k.0 k.1 refl))
+        (λ _. tt))
+
+    output_ends : (may : Bool) → front_of s (phase.OutputEnd may) p → After (plan (phase.OutputEnd may) l.byte)
+    output_ends true (at, h, o) = chosen After (is_blank l.byte) _ _
+        (λ e w n. (k, (at, blank_more (FrontWords front.Output) l p e (plain_letter o n) h, o)))
+        (λ _. chosen After (nat_eq l.byte 10) _ _
+        (λ e n. (at, line_behind_blanks (FrontWords front.Output) l p (eqb-true l.byte 10 e) n h, same_idle s.limit s.top Claim Claim k.0 k.1 refl))
+        (λ _. chosen After (nat_eq l.byte 59 && true) _ _
+        (λ e w n. (k, (at, semicolon_behind_blanks (FrontWords front.Output) l p (eqb-true l.byte 59 (both (nat_eq l.byte 59) true e).0) (plain_letter o n) h, o)))
+        (λ _. tt)))
+    output_ends false (at, h, o) = chosen After (is_blank l.byte) _ _
+        (λ e w n. (k, (at, blank_closing (FrontWords front.Output) l p e (plain_letter o n) h, o)))
+        (λ _. chosen After (nat_eq l.byte 10) _ _
+        (λ e n. (at, line_closing (FrontWords front.Output) l p (eqb-true l.byte 10 e) n h, same_idle s.limit s.top Claim Claim k.0 k.1 refl))
+        (λ _. chosen After (nat_eq l.byte 59 && false) _ _
+        (λ e. never false (both (nat_eq l.byte 59) false e).1 refl)
+        (λ _. tt)))
+
+    -- what the machine behind the words does
+    given : (r : Rest) → stage_rest r ≡ here → (i : Inner) → (Before r ⋅ (λ q. Walks inners (inner_first limit top r) q i)) p → (x : Next Inner Statement)
+        → inners.step i l.byte ≡ x → Leaves (over s r x)
+    given r at i h (Go inner) e = λ w n. (
+      k,
+      (
+        at,
+        (
+          inner,
+          refl,
+          grown (Before r) (λ q. Walks inners (inner_first limit top r) q i) (λ q. Walks inners (inner_first limit top r) q inner) p l
+              (λ q g. walks_more inners q l (inner_first limit top r) i inner g e (inner_begins i inner l.byte e) n) h,
+        ),
+      ),
+    )
+    given r at i h (End e last) f = λ n.
+        let t : (Before r ⋅ SpellsRest limit top r e) (p ++ l ∷ []) =
+        grown (Before r) (λ q. Walks inners (inner_first limit top r) q i) (SpellsRest limit top r e) p l
+        (λ q g. inner_only limit top r (q ++ l ∷ []) e last (ends_walk inners q l (inner_first limit top r) i last e g f n)) h in
+        let z = rest_statement r e (p ++ l ∷ []) t in
+        (z.0 ∙ at, z.1, same_idle s.limit s.top (stage_behind r) (stage_after e) k.0 k.1 z.2)
+    given r at i h Refuse e = tt
+
+    inside : (r : Rest) → stage_rest r ≡ here → (i : Inner) → s.inner ≡ Some i → (Before r ⋅ (λ q. Walks inners (inner_first limit top r) q i)) p → After (plan (phase.Inside r) l.byte)
+    inside r at i e h =
+        subst (λ x. Leaves (over s r (step_inner x l.byte))) (sym e) (given r at i h (inners.step i l.byte) refl)
+
+    sound : (q : Phase) → front_of s q p → After (plan q l.byte)
+    sound (phase.Between at) h = between_two at h.0 h.1 h.2
+    sound (phase.Comment at) h = absurd h
+    sound (phase.Spelling f j) h = spelling f j h.0 h.1 h.2 h.3 h.4
+    sound phase.Solution h = logged h.0 h.1
+    sound phase.HeaderEnd h = header_ends h.0 h.1 h.2
+    sound (phase.OutputEnd may) h = output_ends may h
+    sound (phase.Inside r) h = inside r h.0 h.1.0 h.1.1 h.1.2
+
+  pub keeps : Keeps proofs Read IsStatement
+  keeps s l p f = sound s l p f.0 s.phase f.1
+
+  pub statement_only : (t : List Letter) (e : Statement) (after : ProofState) → Reads proofs (idle limit top here) t e after → IsStatement e after t
+  statement_only t e after r =
+      told proofs Read IsStatement keeps t (idle limit top here) [] e after r ((refl, refl), (refl, refl, refl))

@@ -1,0 +1,282 @@
+-- What holds of each state that a machine of proofs can be in.
+use Rattle.std.proofs.Common.{◌≡◌, ℕ, ◌+◌, ◌-◌, ◌<◌, ◌≤◌, true, false, ◌&&◌, length, refl, sym, ap, subst, ◌∙◌, arith, Option, Some, None}
+use Rattle.std.proofs.lemmas.Bool.Decides.{nat_tests}
+use Rattle.std.specs.Prelude.{IsTrue, nat_eq, slice_index}
+use Rattle.pb_text.specs.Automaton.{Next, Go, End, Refuse, Admits, IsState}
+use Rattle.pb_text.specs.Classes.{is_blank, is_white}
+use Rattle.pb_text.proofs.Residual.{refuses}
+use Rattle.pb_proof.specs.Line.Machine.{inners, inner_first}
+use Rattle.pb_proof.specs.Machine.Transition.{words_of, behind, meets, spell, step_front, enter, pass, between, plan}
+use Rattle.pb_proof.specs.Machine.State.{ProofState, proofs, at, idle, giving, stage_behind, over, step_inner, act, asked, asks, is_within, is_done, is_complete, HasGaps, PhaseFits, Holds, IsInOrder}
+use Rattle.pb_proof.specs.declared.line.Inner.{Inner}
+use Rattle.pb_proof.specs.declared.machine.phase.Front.{Front}
+use Rattle.pb_proof.specs.declared.machine.phase.Front.TheVariants as front
+use Rattle.pb_proof.specs.declared.machine.phase.Stage.{Stage}
+use Rattle.pb_proof.specs.declared.machine.phase.Stage.TheVariants.{Opening, Formula, Steps, Claim, Closing, Complete}
+use Rattle.pb_proof.specs.declared.machine.phase.Rest.{Rest}
+use Rattle.pb_proof.specs.declared.machine.phase.Phase.{Phase}
+use Rattle.pb_proof.specs.declared.machine.phase.Phase.TheVariants as phase
+use Rattle.pb_proof.specs.declared.machine.phase.Move.{Move}
+use Rattle.pb_proof.specs.declared.machine.phase.Move.TheVariants as move
+use Rattle.pb_proof.specs.declared.statement.Statement.{Statement}
+use Rattle.pb_proof.proofs.lemmas.Choices.{never, chosen}
+use Rattle.pb_proof.proofs.lemmas.Line.Laws.{inner_begins, inner_fresh, inner_first_state}
+use Rattle.pb_proof.proofs.lemmas.Living.{admits_before, admits_final, admitted_on}
+use Rattle.pb_proof.proofs.lemmas.Machine.Alive.{live, reading_alive, stage_accepts, example}
+use Rattle.pb_proof.proofs.lemmas.Machine.Exact.{closes}
+
+-- no machine stands behind the words
+abbrev pub IsPlain : Phase → Type 0
+IsPlain (phase.Inside r) = ⊥
+IsPlain _ = Unit {0}
+
+-- the phase goes on, and a statement that has begun too
+pub record GoesOn (p q : Phase) : Type 0 where
+  pub owes : is_done q ≡ false
+  pub stays : is_within p ≡ true → is_within q ≡ true
+  pub fits : PhaseFits q
+  pub plain : IsPlain q
+
+-- What is known of a move from a phase.
+abbrev pub OnMove : Phase → Move → Type 0
+OnMove p (move.To q) = IsPlain p × GoesOn p q
+OnMove p (move.Give r) = p ≡ phase.Inside r
+OnMove p _ = IsPlain p
+
+within_on : (p q : Phase) → IsPlain p → is_done q ≡ false → is_within q ≡ true → PhaseFits q → IsPlain q → OnMove p (move.To q)
+within_on p q o d w f n = (o, record { owes = d; stays = λ _. w; fits = f; plain = n })
+
+on_behind : (p : Phase) → IsPlain p → (f : Front) → OnMove p (behind f)
+on_behind p o front.Header = within_on p phase.HeaderEnd o refl refl tt tt
+on_behind p o front.Formula = o
+on_behind p o front.Pol = o
+on_behind p o front.Rup = o
+on_behind p o front.Solution = within_on p phase.Solution o refl refl tt tt
+on_behind p o front.Delete = o
+on_behind p o front.Output = within_on p (phase.OutputEnd true) o refl refl tt tt
+on_behind p o front.Conclusion = o
+on_behind p o front.End = o
+
+further : (k size : ℕ) → k < size → nat_eq (k + 1) size ≡ false → k + 1 < size
+further k size h e = grind (arith, nat_tests)
+
+on_spell : (p : Phase) → IsPlain p → (f : Front) (k b : ℕ) (other : Move) → k < length (words_of f) → OnMove p other → OnMove p (spell f k b other)
+on_spell p o f k b other h i = chosen (OnMove p) (meets (slice_index (words_of f) k) b) _ _
+    (λ _. chosen (OnMove p) (nat_eq (k + 1) (length (words_of f))) _ _
+    (λ _. on_behind p o f)
+    (λ e. within_on p (phase.Spelling f (k + 1)) o refl refl (omega arith, further k (length (words_of f)) h e) tt))
+    (λ _. i)
+
+some_byte : (f : Front) → 0 < length (words_of f)
+some_byte front.Header = omega arith
+some_byte front.Formula = omega arith
+some_byte front.Pol = omega arith
+some_byte front.Rup = omega arith
+some_byte front.Solution = omega arith
+some_byte front.Delete = omega arith
+some_byte front.Output = omega arith
+some_byte front.Conclusion = omega arith
+some_byte front.End = omega arith
+
+on_enter : (p : Phase) → IsPlain p → (s : Stage) (b : ℕ) → OnMove p (enter s b)
+on_enter p o Opening b = on_spell p o front.Header 0 b move.Stop (some_byte front.Header) o
+on_enter p o Formula b = on_spell p o front.Formula 0 b move.Stop (some_byte front.Formula) o
+on_enter p o Steps b = on_spell p o (step_front b) 0 b move.Stop (some_byte (step_front b)) o
+on_enter p o Claim b = on_spell p o front.Conclusion 0 b move.Stop (some_byte front.Conclusion) o
+on_enter p o Closing b = on_spell p o front.End 0 b move.Stop (some_byte front.End) o
+on_enter p o Complete b = o
+
+gaps_incomplete : (s : Stage) → HasGaps s → is_complete s ≡ false
+gaps_incomplete Opening h = absurd h
+gaps_incomplete Complete h = absurd h
+gaps_incomplete Formula h = refl
+gaps_incomplete Steps h = refl
+gaps_incomplete Claim h = refl
+gaps_incomplete Closing h = refl
+
+on_pass : (s : Stage) (b : ℕ) → HasGaps s → OnMove (phase.Between s) (pass s b)
+on_pass s b h = chosen (OnMove (phase.Between s)) (is_white b) _ _
+    (λ _. (tt, record { owes = gaps_incomplete s h; stays = λ w. w; fits = tt; plain = tt }))
+    (λ _. chosen (OnMove (phase.Between s)) (nat_eq b 42) _ _
+    (λ _. (tt, record { owes = refl; stays = λ w. w; fits = h; plain = tt }))
+    (λ _. on_enter (phase.Between s) tt s b))
+
+on_between : (s : Stage) (b : ℕ) → OnMove (phase.Between s) (between s b)
+on_between Opening b = on_enter (phase.Between Opening) tt Opening b
+on_between Complete b = tt
+on_between Formula b = on_pass Formula b tt
+on_between Steps b = on_pass Steps b tt
+on_between Claim b = on_pass Claim b tt
+on_between Closing b = on_pass Closing b tt
+
+-- the plan of each phase
+pub on_plan : (p : Phase) (b : ℕ) → PhaseFits p → OnMove p (plan p b)
+on_plan (phase.Between s) b h = on_between s b
+on_plan (phase.Comment s) b h = chosen (λ q. OnMove (phase.Comment s) (move.To q)) (nat_eq b 10) (phase.Between s) (phase.Comment s)
+    (λ _. (tt, record { owes = gaps_incomplete s h; stays = λ w. w; fits = tt; plain = tt }))
+    (λ _. (tt, record { owes = refl; stays = λ w. w; fits = h; plain = tt }))
+on_plan (phase.Spelling f k) b h = on_spell (phase.Spelling f k) tt f k b _ h.1
+    (chosen (OnMove (phase.Spelling f k)) (is_blank b && nat_eq (slice_index (words_of f) (k - 1)) 32) _ _
+    (λ _. within_on (phase.Spelling f k) (phase.Spelling f k) tt refl refl h tt) (λ _. tt))
+on_plan phase.Solution b h = chosen (OnMove phase.Solution) (nat_eq b 105) _ _ (λ _. tt) (λ _. chosen (OnMove phase.Solution) (nat_eq b 120) _ _ (λ _. tt) (λ _. tt))
+on_plan phase.HeaderEnd b h = chosen (OnMove phase.HeaderEnd) (is_blank b) _ _
+    (λ _. within_on phase.HeaderEnd phase.HeaderEnd tt refl refl tt tt)
+    (λ _. chosen (OnMove phase.HeaderEnd) (nat_eq b 10) _ _ (λ _. tt) (λ _. tt))
+on_plan (phase.OutputEnd may) b h = chosen (OnMove (phase.OutputEnd may)) (is_blank b) _ _
+    (λ _. within_on (phase.OutputEnd may) (phase.OutputEnd may) tt refl refl tt tt)
+    (λ _. chosen (OnMove (phase.OutputEnd may)) (nat_eq b 10) _ _ (λ _. tt)
+    (λ _. chosen (OnMove (phase.OutputEnd may)) (nat_eq b 59 && may) _ _
+    (λ _. within_on (phase.OutputEnd may) (phase.OutputEnd false) tt refl refl tt tt) (λ _. tt)))
+on_plan (phase.Inside r) b h = refl
+
+-- where no machine stands behind the words nothing is kept, and no number is read
+pub plain_holds : (s : ProofState) (p : Phase) → IsPlain p → Holds s p → s.inner ≡ None
+plain_holds s (phase.Between at) o h = h
+plain_holds s (phase.Comment at) o h = h
+plain_holds s (phase.Spelling f k) o h = h
+plain_holds s phase.Solution o h = h
+plain_holds s phase.HeaderEnd o h = h
+plain_holds s (phase.OutputEnd may) o h = h
+plain_holds s (phase.Inside r) o h = absurd o
+
+holds_plain : (s : ProofState) (p : Phase) → IsPlain p → s.inner ≡ None → Holds s p
+holds_plain s (phase.Between at) o h = h
+holds_plain s (phase.Comment at) o h = h
+holds_plain s (phase.Spelling f k) o h = h
+holds_plain s phase.Solution o h = h
+holds_plain s phase.HeaderEnd o h = h
+holds_plain s (phase.OutputEnd may) o h = h
+holds_plain s (phase.Inside r) o h = absurd o
+
+outside_plain : (p : Phase) → is_within p ≡ false → IsPlain p
+outside_plain (phase.Between at) h = tt
+outside_plain (phase.Comment at) h = tt
+outside_plain (phase.Spelling f k) h = tt
+outside_plain phase.Solution h = tt
+outside_plain phase.HeaderEnd h = tt
+outside_plain (phase.OutputEnd may) h = tt
+outside_plain (phase.Inside r) h = never true refl h
+
+-- what a byte leads to
+record Goes (s next : ProofState) : Type 0 where
+  pub owes : proofs.done next ≡ false
+  pub stays : proofs.begun s ≡ true → proofs.begun next ≡ true
+  pub grows : proofs.spent next ≤ proofs.spent s + 1
+
+abbrev On : ProofState → Next ProofState Statement → Type 0
+On s (Go next) = Goes s next
+On s (End e next) = proofs.begun next ≡ false
+On s Refuse = Unit {0}
+
+first_spent : (s : ProofState) → IsInOrder s → (r : Rest) → inners.spent (inner_first s.limit s.top r) ≡ 0
+first_spent s h r = (inner_first_state s.limit s.top h.limit h.top h.some r).empties (inner_fresh s.limit s.top r).1
+
+on_given : (s : ProofState) (r : Rest) (b : ℕ) (i : Inner) → s.inner ≡ Some i → IsState inners i → (n : Next Inner Statement) → inners.step i b ≡ n → On s (over s r n)
+on_given s r b i h state (Go inner) e = record { owes = refl; stays = λ w. refl; grows = rw h (state.grows b inner e) }
+on_given s r b i h state (End x last) e = refl
+on_given s r b i h state Refuse e = tt
+
+-- what stands behind the words, where it is given a byte
+pub inside_of : (s : ProofState) (p : Phase) (r : Rest) → p ≡ phase.Inside r → Holds s p → (i : Inner) × (s.inner ≡ Some i) × (inners.done i ≡ false) × IsState inners i
+inside_of s p r e h = subst (Holds s) e h
+
+on_act : (s : ProofState) → IsInOrder s → (b : ℕ) (m : Move) → OnMove s.phase m → On s (act s b m)
+on_act s h b (move.To q) k = record { owes = k.1.owes; stays = k.1.stays; grows = omega arith }
+on_act s h b (move.Begin r) k = record { owes = refl; stays = λ w. refl; grows = omega (arith, first_spent s h r) }
+on_act s h b (move.Give r) k =
+    let (i, e, d, state) = inside_of s s.phase r k h.holds in
+    subst (λ x. On s (over s r (step_inner x b))) (sym e) (on_given s r b i e state (inners.step i b) refl)
+on_act s h b move.EndHeader k = refl
+on_act s h b move.EndOutput k = refl
+on_act s h b move.EndProof k = refl
+on_act s h b move.Stop k = tt
+
+steps : (s : ProofState) → IsInOrder s → (b : ℕ) → On s (proofs.step s b)
+steps s h b = on_act s h b (plan s.phase b) (on_plan s.phase b h.fits)
+
+goes : (s next : ProofState) (b : ℕ) → IsInOrder s → proofs.step s b ≡ Go next → Goes s next
+goes s next b h e = subst (On s) e (steps s h b)
+
+kept_within : (s : ProofState) (p : Phase) → Holds s p → proofs.kept s ≤ proofs.spent s
+kept_within s (phase.Inside r) (i, e, d, state) = rw e state.bounds
+kept_within s (phase.Between at) h = rw h (omega arith)
+kept_within s (phase.Comment at) h = rw h (omega arith)
+kept_within s (phase.Spelling f k) h = rw h (omega arith)
+kept_within s phase.Solution h = rw h (omega arith)
+kept_within s phase.HeaderEnd h = rw h (omega arith)
+kept_within s (phase.OutputEnd may) h = rw h (omega arith)
+
+pub is_state : (s : ProofState) → IsInOrder s → IsState proofs s
+is_state s h = record {
+  live = live s h;
+  ends = λ d b. closes s d b;
+  owes = λ b next e. (goes s next b h e).owes;
+  stays = λ i b next e. (goes s next b h e).stays i;
+  closes = λ b x next e. subst (On s) e (steps s h b);
+  plain = λ o. ap (asked false inners.in_number) (plain_holds s s.phase (outside_plain s.phase o) h.holds);
+  grows = λ b next e. (goes s next b h e).grows;
+  bounds = kept_within s s.phase h.holds;
+  empties = λ o. ap (asked 0 inners.spent) (plain_holds s s.phase (outside_plain s.phase o) h.holds);
+}
+
+-- What a byte leaves a machine with.
+module _ (s : ProofState) (h : IsInOrder s) (b : ℕ) where
+  pub known : (m : Move) → plan s.phase b ≡ m → OnMove s.phase m
+  known m e = subst (OnMove s.phase) e (on_plan s.phase b h.fits)
+
+  -- with no machine behind the words
+  pub at_order : (p : Phase) → IsPlain p → PhaseFits p → (i : Option Inner) → i ≡ None → IsInOrder (record { limit = s.limit; top = s.top; phase = p; inner = i })
+  at_order p o f i e = record { limit = h.limit; top = h.top; some = h.some; fits = f; holds = holds_plain (record { limit = s.limit; top = s.top; phase = p; inner = i }) p o e }
+
+  pub to_order : (p : Phase) → plan s.phase b ≡ move.To p → IsInOrder (record s { phase = p })
+  to_order p e =
+      let k = known (move.To p) e in
+      at_order p k.1.plain k.1.fits s.inner (plain_holds s s.phase k.0 h.holds)
+
+  pub begin_order : (r : Rest) → IsInOrder (giving s.limit s.top r (inner_first s.limit s.top r))
+  begin_order r = record {
+    limit = h.limit;
+    top = h.top;
+    some = h.some;
+    fits = tt;
+    holds = (inner_first s.limit s.top r, refl, (inner_fresh s.limit s.top r).0, inner_first_state s.limit s.top h.limit h.top h.some r);
+  }
+
+  module _ (r : Rest) (planned : plan s.phase b ≡ move.Give r) where
+    pub given : (i : Inner) × (s.inner ≡ Some i) × (inners.done i ≡ false) × IsState inners i
+    given = inside_of s s.phase r (known (move.Give r) planned) h.holds
+
+    pub give_order : (i inner : Inner) → s.inner ≡ Some i → inners.step i b ≡ Go inner → IsState inners inner → IsInOrder (giving s.limit s.top r inner)
+    give_order i inner e g state =
+        let (j, f, d, old) = given in
+        let same : i ≡ j = (let z : i ≡ j = some_same i j (sym e ∙ f) in z) in
+        record {
+          limit = h.limit;
+          top = h.top;
+          some = h.some;
+          fits = tt;
+          holds = (inner, refl, old.owes b inner (ap (λ x. inners.step x b) (sym same) ∙ g), state);
+        }
+      where
+        some_same : (x y : Inner) → ◌≡◌ {A = Option Inner} (Some x) (Some y) → x ≡ y
+        some_same x y e = cc
+
+    stepped : (i : Inner) → s.inner ≡ Some i → (n : Next Inner Statement) → inners.step i b ≡ n → proofs.step s b ≡ over s r n
+    stepped i e n g = ap (act s b) planned ∙ (ap (λ x. over s r (step_inner x b)) e ∙ ap (over s r) g)
+
+    by_step : (i : Inner) → s.inner ≡ Some i → IsState inners i → (n : Next Inner Statement) → inners.step i b ≡ n → Admits inners i b → Admits proofs s b
+    by_step i e old (Go inner) g a =
+        admits_before proofs s (giving s.limit s.top r inner) b (stepped i e (Go inner) g) refl
+        (reading_alive s.limit s.top r inner (admitted_on inners inner_begins i inner b g a))
+    by_step i e old (End x last) g a = admits_final proofs s (idle s.limit s.top (stage_behind r)) b x (stepped i e (End x last) g) (example (stage_behind r)) (stage_accepts s.limit s.top (stage_behind r))
+    by_step i e old Refuse g a = absurd (refuses inners i i b g a.0 a.1 (a.2, a.3))
+
+    pub give_admits : (i : Inner) → s.inner ≡ Some i → IsTrue (inners.asks i b) → Admits inners i b → IsTrue (proofs.asks s b) × Admits proofs s b
+    give_admits i e asking a =
+        let (j, f, d, old) = given in (
+          subst (λ m. IsTrue (asks s b m)) (sym planned) (subst (λ x. IsTrue (asked false (λ y. inners.asks y b) x)) (sym e) asking),
+          by_step i e (subst (IsState inners) (some_one j i (sym f ∙ e)) old) (inners.step i b) refl a,
+        )
+      where
+        some_one : (x y : Inner) → ◌≡◌ {A = Option Inner} (Some x) (Some y) → x ≡ y
+        some_one x y e = cc

@@ -1,0 +1,169 @@
+-- Where the machine of postfix words asks.
+use Rattle.std.proofs.Common.{◌≡◌, ℕ, ◌+◌, ◌-◌, ◌*◌, Bool, true, false, cond, ◌&&◌, List, [], ◌∷◌, ◌++◌, refl, ap, subst, ◌∙◌, inl, inr, arith, Some, None}
+use Rattle.std.proofs.lemmas.Bool.{false≢true}
+use Rattle.std.proofs.lemmas.Bool.Decides.{nat_tests}
+use Rattle.std.specs.Prelude.{IsTrue, nat_eq, nat_le}
+use Rattle.pb_text.specs.Classes.{is_blank, is_digit, is_letter, is_name_byte}
+use Rattle.pb_text.specs.Languages.{Language, ◌⋅◌, Blanks1}
+use Rattle.pb_text.specs.Spelling.{Letter, bytes}
+use Rattle.pb_sums.specs.Asking.{EndsIn, IsNameFront}
+use Rattle.pb_sums.proofs.Asked.{ends_nothing, at_name, name_further}
+use Rattle.pb_proof.specs.Asking.{AsksWord}
+use Rattle.pb_proof.specs.Line.Pol.{plan, read, next, next_word, next_large, star, late, blank, semicolon, feed, close, number, signed, role_of, bound, kind_of, is_letter_kind, is_name_kind, may_be_name, counted, adds, wants, Closing}
+use Rattle.pb_proof.specs.Line.PolState.{PolState, pol_automaton, pol_first}
+use Rattle.pb_proof.specs.declared.word.PolWord.{PolWord}
+use Rattle.pb_proof.specs.declared.line.pol.phase.Kind.{Kind}
+use Rattle.pb_proof.specs.declared.line.pol.phase.Kind.TheVariants as kind
+use Rattle.pb_proof.specs.declared.line.pol.phase.Held.{Held}
+use Rattle.pb_proof.specs.declared.line.pol.phase.Held.TheVariants as held
+use Rattle.pb_proof.specs.declared.line.pol.phase.Role.TheVariants as role
+use Rattle.pb_proof.specs.declared.line.pol.phase.Phase.{Phase}
+use Rattle.pb_proof.specs.declared.line.pol.phase.Phase.TheVariants as phase
+use Rattle.pb_proof.specs.declared.line.pol.phase.Change.{Change}
+use Rattle.pb_proof.specs.declared.line.pol.phase.Change.TheVariants as change
+use Rattle.pb_proof.specs.declared.line.pol.phase.Move.{Move}
+use Rattle.pb_proof.specs.declared.line.pol.phase.Move.TheVariants as move
+use Rattle.pb_proof.proofs.lemmas.Choices.{chosen, both}
+use Rattle.pb_proof.proofs.lemmas.Line.Asks.{number_end, literal_end}
+use Rattle.pb_proof.proofs.lemmas.Pol.Fronts.{IsFirst, FirstOf, LiteralOf, Settled, Before, front, Front, Whole}
+use Rattle.pb_proof.proofs.lemmas.Pol.Kinds.{Says, kind_says, letter_kind, name_kind}
+use Rattle.pb_proof.proofs.lemmas.Pol.Sound as sound
+use Rattle.pb_proof.proofs.lemmas.Walking.{Walks, fronts}
+
+blank_dark : (b : ℕ) → is_blank b ≡ true → (is_digit b ≡ false) × (is_name_byte b ≡ false)
+blank_dark b e = (grind (arith, nat_tests), grind (arith, nat_tests))
+
+first_front : (bs : List ℕ) (b : ℕ) → IsFirst bs → IsTrue (is_name_byte b) → IsNameFront (bs ++ b ∷ [])
+first_front [] b h k = absurd h
+first_front (x ∷ []) b h k = (h, (k, tt))
+first_front (x ∷ y ∷ bs) b h k = absurd h
+
+-- what the end of a word does, and whether it may end
+abbrev change_of : Closing → Change
+change_of None = change.Keep
+change_of (Some (c, h)) = c
+
+abbrev is_there : Closing → Bool
+is_there None = false
+is_there (Some x) = true
+
+module _ (limit top depth b : ℕ) (t : List Letter) where
+  -- what follows where a move asks
+  abbrev Then : Move → Type 0
+  Then m = wants m ≡ true → AsksWord (bytes t) b
+
+  letter_begins : IsTrue (is_letter b) → AsksWord (bytes t) b
+  letter_begins h = inl (inl ([], ends_nothing (bytes t), (h, tt)))
+
+  signed_quiet : (n d : ℕ) → Then (signed top n d)
+  signed_quiet n d = chosen Then (nat_le (10 * n + d) top) _ _ (λ _ h. absurd (false≢true h)) (λ _ h. absurd (false≢true h))
+
+  number_quiet : (n d : ℕ) → Then (number limit top depth n d)
+  number_quiet n d = chosen Then (nat_le (10 * n + d) (bound limit top depth)) _ _ (λ _ h. absurd (false≢true h)) (λ _ h. absurd (false≢true h))
+
+  -- a word that ends here, at a byte that is no byte of a word
+  closes : (ws : List PolWord) (name : List ℕ) (ph : Phase) → front limit top ph ws depth name t → is_digit b ≡ false → is_name_byte b ≡ false
+      → (c : Change) (h : Held) → close limit top depth ph ≡ Some (c, h) → adds c ≡ true → AsksWord (bytes t) b
+  closes ws name phase.Start f dark plain c h e k = absurd (false≢true (ap adds (ap change_of e) ∙ k))
+  closes ws name phase.After f dark plain c h e k = absurd (false≢true (ap adds (ap change_of e) ∙ k))
+  closes ws name (phase.Gap g) f dark plain c h e k = absurd (false≢true (ap adds (ap change_of e) ∙ k))
+  closes ws name (phase.Signed n) f dark plain c h e k = inr (inl (number_end _ n t b f.1 dark))
+  closes ws name (phase.Number n) f dark plain c h e k = inr (inl (number_end _ n t b f.1 dark))
+  closes ws name (phase.Lone role.Name) f dark plain c h e k = absurd (false≢true (ap is_there e))
+  closes ws name (phase.Lone role.Saturate) (is, f) dark plain c h e k = inr (inr (inr (saturates f, plain)))
+    where
+      saturates : (Before limit top role.Saturate ws depth ⋅ Blanks1 ⋅ FirstOf false name) t → EndsIn (bytes t) (115 ∷ [])
+      saturates (x, y, z, u, (v, w)) =
+          subst (λ (n : List ℕ). EndsIn (bytes t) n) is (literal_end (Before limit top role.Saturate ws depth ⋅ Blanks1) false name t (x, y, z, u, w))
+  closes ws name (phase.Lone role.Divide) f dark plain c h e k = absurd (false≢true (ap adds (ap change_of e) ∙ k))
+  closes ws name (phase.Lone role.DivideLarge) f dark plain c h e k = absurd (false≢true (ap adds (ap change_of e) ∙ k))
+  closes ws name (phase.Lone role.Weaken) f dark plain c h e k = absurd (false≢true (ap adds (ap change_of e) ∙ k))
+  closes ws name (phase.Name negated) (x, y, z, u, (v, w)) dark plain c h e k =
+      inl (at_name (bytes t) name b (literal_end (Settled limit top ws depth ⋅ Blanks1) negated name t (x, y, z, u, w)) v)
+  closes ws name phase.Minus f dark plain c h e k = absurd (false≢true (ap is_there e))
+  closes ws name phase.Tilde f dark plain c h e k = absurd (false≢true (ap is_there e))
+  closes ws name phase.First f dark plain c h e k = absurd (false≢true (ap is_there e))
+  closes ws name phase.Ending f dark plain c h e k = absurd (false≢true (ap is_there e))
+  closes ws name phase.Done f dark plain c h e k = absurd f
+
+  -- what ends a word
+  module _ (x : Closing) (ends : (c : Change) (h : Held) → x ≡ Some (c, h) → adds c ≡ true → AsksWord (bytes t) b) where
+    blanks : (y : Closing) → x ≡ y → Then (blank y)
+    blanks None e = λ h. absurd (false≢true h)
+    blanks (Some (c, g)) e = λ h. ends c g e h
+
+    semicolons : (y : Closing) → x ≡ y → Then (semicolon depth y)
+    semicolons None e = λ h. absurd (false≢true h)
+    semicolons (Some (c, g)) e = chosen Then (nat_eq (counted c depth) 1) _ _ (λ _ h. ends c g e h) (λ _ h. absurd (false≢true h))
+
+    feeds : (y : Closing) → x ≡ y → Then (feed depth y)
+    feeds None e = λ h. absurd (false≢true h)
+    feeds (Some (c, g)) e = chosen Then (nat_eq (counted c depth) 1) _ _ (λ _ h. ends c g e h) (λ _ h. absurd (false≢true h))
+
+  -- the first byte of a word
+  star_quiet : (h : Held) → Then (star h)
+  star_quiet held.Number = λ k. absurd (false≢true k)
+  star_quiet held.Nothing = λ k. absurd (false≢true k)
+  star_quiet held.Large = λ k. absurd (false≢true k)
+  star_quiet held.Name = λ k. absurd (false≢true k)
+
+  letters : (h : Held) (k : Kind) → Says k b → Then (cond (is_letter_kind k) (move.Begin (phase.Lone (role_of depth h k))) move.Stop)
+  letters h k e = chosen Then (is_letter_kind k) _ _ (λ i _. letter_begins (letter_kind k b e i)) (λ _ j. absurd (false≢true j))
+
+  words_next : (h : Held) (k : Kind) → Says k b → Then (next_word limit top depth h k)
+  words_next h (kind.Digit d) e = number_quiet 0 d
+  words_next h kind.Minus e = λ k. absurd (false≢true k)
+  words_next h kind.Tilde e = λ k. absurd (false≢true k)
+  words_next h kind.Plus e = λ k. inr (inr (inl e))
+  words_next h kind.Star e = star_quiet h
+  words_next h k e = letters h k e
+
+  large_next : (k : Kind) → Says k b → Then (next_large k)
+  large_next kind.Star e = λ k. absurd (false≢true k)
+  large_next kind.D e = λ k. letter_begins (letter_kind kind.D b e refl)
+  large_next _ e = λ k. absurd (false≢true k)
+
+  gap_next : (h : Held) (k : Kind) → Says k b → Then (next limit top depth h k)
+  gap_next held.Large k e = large_next k e
+  gap_next held.Nothing k e = words_next held.Nothing k e
+  gap_next held.Number k e = words_next held.Number k e
+  gap_next held.Name k e = words_next held.Name k e
+
+  -- a byte more of a name
+  more_of : (P : Language) (negated : Bool) (name : List ℕ) → (P ⋅ FirstOf negated name) t → IsTrue (is_name_byte b) → AsksWord (bytes t) b
+  more_of P negated name (x, y, z, u, (v, w)) k = inl (inl (name, literal_end P negated name t (x, y, z, u, w), first_front name b v k))
+
+  reads : (ws : List PolWord) (name : List ℕ) (ph : Phase) → front limit top ph ws depth name t → (k : Kind) → Says k b → Then (read limit top depth ph k)
+  reads ws name (phase.Gap h) f k e = gap_next h k e
+  reads ws name phase.Minus f (kind.Digit d) e = signed_quiet 0 d
+  reads ws name (phase.Signed n) f (kind.Digit d) e = signed_quiet n d
+  reads ws name (phase.Number n) f (kind.Digit d) e = number_quiet n d
+  reads ws name phase.Tilde f k e = chosen Then (is_letter_kind k) _ _ (λ i _. letter_begins (letter_kind k b e i)) (λ _ j. absurd (false≢true j))
+  reads ws name phase.First f k e =
+      chosen Then (is_name_kind k) _ _ (λ i _. more_of (Settled limit top ws depth ⋅ Blanks1) true name f (name_kind k b e i)) (λ _ j. absurd (false≢true j))
+  reads ws name (phase.Lone r) f k e =
+      chosen Then (may_be_name r && is_name_kind k) _ _
+      (λ i _. more_of (Before limit top r ws depth ⋅ Blanks1) false name f.1 (name_kind k b e (both (may_be_name r) (is_name_kind k) i).1)) (λ _ j. absurd (false≢true j))
+  reads ws name (phase.Name negated) f k e =
+      chosen Then (is_name_kind k) _ _ (λ i _. further f (name_kind k b e i)) (λ _ j. absurd (false≢true j))
+    where
+      further : (Settled limit top ws depth ⋅ Blanks1 ⋅ LiteralOf negated name) t → IsTrue (is_name_byte b) → AsksWord (bytes t) b
+      further (x, y, z, u, (v, w)) i =
+          inl (inl (name, literal_end (Settled limit top ws depth ⋅ Blanks1) negated name t (x, y, z, u, w), name_further name b v i))
+  reads ws name _ f k e = λ h. absurd (false≢true h)
+
+  lates : (k : Kind) → Then (late k)
+  lates kind.Blank = λ h. absurd (false≢true h)
+  lates kind.Feed = λ h. absurd (false≢true h)
+  lates _ = λ h. absurd (false≢true h)
+
+  plans : (ws : List PolWord) (name : List ℕ) (ph : Phase) → front limit top ph ws depth name t → (k : Kind) → Says k b → Then (plan limit top depth ph k)
+  plans ws name phase.Ending f k e = lates k
+  plans ws name ph f kind.Blank e = let d = blank_dark b e in blanks (close limit top depth ph) (closes ws name ph f d.0 d.1) (close limit top depth ph) refl
+  plans ws name ph f kind.Semicolon e = semicolons (close limit top depth ph) (closes ws name ph f (rw e refl) (rw e refl)) (close limit top depth ph) refl
+  plans ws name ph f kind.Feed e = feeds (close limit top depth ph) (closes ws name ph f (rw e refl) (rw e refl)) (close limit top depth ph) refl
+  plans ws name ph f k e = reads ws name ph f k e
+
+pub pol_asked : (limit top : ℕ) (t : List Letter) (s : PolState) (b : ℕ) → Walks pol_automaton (pol_first limit top) t s → pol_automaton.asks s b ≡ true → AsksWord (bytes t) b
+pol_asked limit top t s b w h =
+    plans s.limit s.top s.work.depth b t s.work.words s.work.name s.work.phase (fronts pol_automaton Front Whole sound.keeps t (pol_first limit top) [] s w (refl, refl, refl)) (kind_of b) (kind_says b) h

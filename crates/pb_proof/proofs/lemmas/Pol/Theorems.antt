@@ -1,0 +1,46 @@
+-- The laws of the machine of postfix words.
+use Rattle.std.proofs.Common.{◌≡◌, ℕ, ◌<◌, false, List, refl, subst, sym, ◌↔◌}
+use Rattle.pb_text.specs.Automaton.{Next, Go, Refuse, Reads, IsState, Admits}
+use Rattle.pb_text.specs.Spelling.{Letter}
+use Rattle.pb_proof.specs.Lines.{SpellsWords}
+use Rattle.pb_proof.specs.Line.Pol.{finished}
+use Rattle.pb_proof.specs.Line.PolState.{PolState, pol_first, pol_last, pol_with, pol_automaton, IsPolInOrder}
+use Rattle.pb_proof.specs.declared.word.PolWord.{PolWord}
+use Rattle.pb_proof.proofs.lemmas.Line.One.{reads_last, is_state, admits}
+use Rattle.pb_proof.proofs.lemmas.Pol.Complete.{reads_each}
+use Rattle.pb_proof.proofs.lemmas.Pol.Sound.{reads_only}
+use Rattle.pb_proof.proofs.lemmas.Pol.States.{HasIds, last_of, of_one, empties, keeps_order}
+
+-- What a new machine reads is a line of words, and then it has ended.
+pub pol_reads : (limit top : ℕ) (text : List Letter) (e : List PolWord) (after : PolState)
+    → Reads pol_automaton (pol_first limit top) text e after ↔ (SpellsWords limit top e text × (after ≡ pol_last limit top))
+pol_reads limit top text e after = (one, λ h. subst (λ x. Reads pol_automaton (pol_first limit top) text e x) (sym h.1) (reads_each limit top e text h.0))
+  where
+    one : Reads pol_automaton (pol_first limit top) text e after → SpellsWords limit top e text × (after ≡ pol_last limit top)
+    one r =
+        let f : after ≡ pol_last limit top = reads_last pol_automaton HasIds last_of of_one text (pol_first limit top) e after r in
+        (subst (λ x. SpellsWords x.limit x.top e text) f (reads_only limit top text e after r), f)
+
+-- Behind an event a machine has ended, whatever state it was in.
+pub pol_ends : (s after : PolState) (text : List Letter) (e : List PolWord) → Reads pol_automaton s text e after → after ≡ pol_with s finished
+pol_ends s after text e r = reads_last pol_automaton HasIds last_of of_one text s e after r
+
+-- Each state that has not ended reads a text.
+pub pol_goes_on : (s : PolState) → IsPolInOrder s → pol_automaton.done s ≡ false
+    → (text : List Letter) × (e : List PolWord) × (after : PolState) × Reads pol_automaton s text e after
+pol_goes_on s h i = of_one.goes_on s h.0 i
+
+-- A state in order is one of a machine.
+pub pol_is_state : (s : PolState) → IsPolInOrder s → IsState pol_automaton s
+pol_is_state s h = is_state pol_automaton HasIds last_of of_one s h.0 (empties s h)
+
+-- A byte that is taken begins something that is read.
+pub pol_admits : (s : PolState) (b : ℕ) (n : Next PolState (List PolWord)) → IsPolInOrder s → pol_automaton.step s b ≡ n → (n ≡ Refuse → ⊥) → Admits pol_automaton s b
+pol_admits s b n h e f = admits pol_automaton HasIds last_of of_one s b n h.0 e f
+
+-- The first state is in order, and the one behind a byte.
+pub pol_first_in_order : (limit top : ℕ) → 0 < top → IsPolInOrder (pol_first limit top)
+pol_first_in_order limit top h = (h, λ i. (refl, refl))
+
+pub pol_keeps_order : (s next : PolState) (b : ℕ) → IsPolInOrder s → pol_automaton.step s b ≡ Go next → IsPolInOrder next
+pol_keeps_order s next b h e = keeps_order s next b h e

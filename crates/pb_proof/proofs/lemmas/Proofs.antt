@@ -1,0 +1,6 @@
+-- Lemmas on proofs, their texts and their values.
+pub mod Gathered
+pub mod Larger
+pub mod ReadStatements
+pub mod Spelled
+pub mod Values

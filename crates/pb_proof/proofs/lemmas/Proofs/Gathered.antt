@@ -1,0 +1,94 @@
+-- Statements of a proof that are put together one by one are that proof.
+use Rattle.std.proofs.Common.{◌≡◌, ◌↔◌, ℕ, List, [], ◌∷◌, ◌++◌, Bool, None, refl, sym, ap, ◌∙◌, subst, append_assoc, append-nil, All}
+use Rattle.pb_text.proofs.Unkept.{unkept_viable, unkept_place}
+use Rattle.pb_text.specs.declared.place.Why.{Why}
+use Rattle.pb_text.specs.declared.place.Why.TheVariants.{Memory}
+use Rattle.std.proofs.lemmas.List.Elements.{All-head, All-tail}
+use Rattle.pb_text.specs.Spelling.{Item}
+use Rattle.pb_text.specs.Whole.{gathered, events_of, IsWhole, StopsAfter, IsAsking, Reading as reading, Keeping as keeping}
+use Rattle.pb_text.specs.declared.Spanned.{Spanned}
+use Rattle.pb_text.specs.declared.Stop.{Stop}
+use Rattle.pb_text.proofs.Formats as formats
+use Rattle.pb_proof.specs.Gather.{with, asks, MayKeep, nothing}
+use Rattle.pb_proof.specs.Proofs.{IsStep, statements_of, IsProof, IsProofOf}
+use Rattle.pb_proof.specs.Whole.{IsRead, StopsIn, Reading, Keeping, WantsIn, Asking, Ending}
+use Rattle.pb_proof.specs.declared.read.gather.Building.{Building}
+use Rattle.pb_proof.specs.declared.proof.Proof.{Proof}
+use Rattle.pb_proof.specs.declared.statement.Statement.{Statement}
+use Rattle.pb_proof.specs.declared.statement.Statement.TheVariants.{Header, F, Pol, Rup, Soli, Solx, Delete, Output, Conclude, End}
+
+abbrev pub one_more : Building → Statement → Building
+one_more b e = record { proof = with b.proof e }
+
+-- the proof with more steps
+abbrev with_steps : Proof → List Statement → Proof
+with_steps v steps = record v { steps = v.steps ++ steps }
+
+step_behind : (v : Proof) (s : Statement) → IsStep s → with v s ≡ with_steps v (s ∷ [])
+step_behind v Header h = absurd h
+step_behind v (F count) h = absurd h
+step_behind v (Pol ws) h = refl
+step_behind v (Rup c) h = refl
+step_behind v (Soli ls) h = refl
+step_behind v (Solx ls) h = refl
+step_behind v (Delete ids) h = refl
+step_behind v Output h = absurd h
+step_behind v (Conclude c) h = absurd h
+step_behind v End h = absurd h
+
+steps_behind : (steps rest : List Statement) (v : Proof) → All IsStep steps → gathered with v (steps ++ rest) ≡ gathered with (with_steps v steps) rest
+steps_behind [] rest v h = ap (λ (xs : List Statement). gathered with (record v { steps = xs }) rest) (sym (append-nil v.steps))
+steps_behind (s ∷ steps) rest v h =
+    ap (λ (x : Proof). gathered with x (steps ++ rest)) (step_behind v s (All-head IsStep s steps h))
+    ∙ (steps_behind steps rest (with_steps v (s ∷ [])) (All-tail IsStep s steps h)
+    ∙ ap (λ (xs : List Statement). gathered with (record v { steps = xs }) rest) (append_assoc v.steps (s ∷ []) steps))
+
+proof_gathered : (v : Proof) → All IsStep v.steps → gathered with nothing (statements_of v) ≡ v
+proof_gathered v h = steps_behind v.steps (Output ∷ Conclude v.conclusion ∷ End ∷ []) (record nothing { count = v.count }) h
+
+proof_of : (events : List Statement) (b : Building) → (gathered one_more b events).proof ≡ gathered with b.proof events
+proof_of [] b = refl
+proof_of (e ∷ events) b = proof_of events (one_more b e)
+
+gathered_is : (events : List Statement) (b c : Building) (v : Proof) → b.proof ≡ nothing → c ≡ gathered one_more b events → All IsStep v.steps → events ≡ statements_of v → c.proof ≡ v
+gathered_is events b c v n e h k =
+    ap (λ (x : Building). x.proof) e ∙ (proof_of events b ∙ (ap (λ (x : Proof). gathered with x events) n ∙ (ap (gathered with nothing) k ∙ proof_gathered v h)))
+
+module _ (limit top longest : ℕ) (accepted : List (Item Statement) → Type 0) (same : (items : List (Item Statement)) → accepted items ↔ IsProof limit top items) (used : List ℕ) where
+  only : (items : List (Item Statement)) → accepted items → IsProof limit top items
+  only items h = (same items).0 h
+
+  each : (items : List (Item Statement)) → IsProof limit top items → accepted items
+  each items h = (same items).1 h
+
+  value_of : (b c : Building) (items : List (Item Statement)) → b.proof ≡ nothing → c ≡ gathered one_more b (events_of items) → IsProof limit top items → IsProofOf (events_of items) c.proof
+  value_of b c items n e (v, (steps, are, first, spelled)) = are ∙ ap statements_of (sym (gathered_is (events_of items) b c v n e steps are))
+
+  pub is_read : (b : Building) → b.proof ≡ nothing → (m : Spanned Building) → IsWhole accepted longest one_more b used m
+      → (let r : Spanned Proof = record { event = m.event.proof; first = m.first; past = m.past } in IsRead (IsProof limit top) longest IsProofOf used r)
+  is_read b n m w = record {
+    marks = w.marks;
+    spelled = formats.is_spelled accepted (IsProof limit top) only each longest used w.marks w.spelled;
+    value = value_of b m.event w.spelled.items n w.value_is (only w.spelled.items w.spelled.spelled);
+    first = w.first_is;
+    past = w.past_is;
+  }
+
+  abbrev keeps : Building → Statement → Bool
+  keeps c e = asks e
+
+  pub stops_in : (b : Building) (may_ask : List ℕ → ℕ → Type 0) (seen : List ℕ) (s : Stop) → StopsAfter accepted longest one_more b may_ask keeps used seen s → StopsIn (IsProof limit top) longest used seen s
+  stops_in b may_ask seen s (reading marks r a) = Reading marks (formats.reads accepted (IsProof limit top) only each longest _ used marks s.place _ _ r)
+  stops_in b may_ask seen s (keeping u) =
+      Keeping (formats.viable accepted (IsProof limit top) only each longest used (unkept_viable accepted longest one_more b may_ask keeps used s u))
+      (unkept_place accepted longest one_more b may_ask keeps used s u)
+
+  -- a stop for want of memory
+  pub wants_in : (b : Building) (may_ask may_ask' : List ℕ → ℕ → Type 0) → ((c : ℕ) → may_ask used c → may_ask' used c) → (seen : List ℕ) (s : Stop)
+      → StopsAfter accepted longest one_more b may_ask keeps used seen s → s.why ≡ Memory → WantsIn (IsProof limit top) longest may_ask' MayKeep used seen s
+  wants_in b may_ask may_ask' to seen s (reading marks r a) e =
+      let k = subst (λ (x : Why). IsAsking accepted longest one_more b may_ask used seen x) e a in
+      Asking marks (formats.reads accepted (IsProof limit top) only each longest _ used marks s.place _ _ r) k.0 k.1 k.2 (to k.0 k.3)
+  wants_in b may_ask may_ask' to seen s (keeping u) e =
+      Ending u.marks u.last u.done (formats.reads accepted (IsProof limit top) only each longest used used (u.marks ++ u.last ∷ []) u.last.past u.done None u.reads)
+      u.asking (ap (λ (t : Stop). t.place) u.stop_is)

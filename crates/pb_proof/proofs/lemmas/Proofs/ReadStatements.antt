@@ -1,0 +1,93 @@
+-- What was read of a proof are the first of its statements, and they meet the rules.
+use Rattle.std.proofs.Common.{◌≡◌, ℕ, ◌+◌, ◌<◌, ◌≤◌, Bool, true, false, List, [], ◌∷◌, ◌++◌, length, map, Option, Some, None, All, refl, sym, ap, ◌∙◌, subst, arith, length-append}
+use Rattle.std.proofs.lemmas.Bool.{false≢true}
+use Rattle.std.proofs.lemmas.Bool.Decides.{nat_tests}
+use Rattle.std.proofs.lemmas.List.{append-nil}
+use Rattle.std.proofs.lemmas.List.Elements.{All-nil, All-cons, All-head, All-tail}
+use Rattle.std.specs.Prelude.{nat_le}
+use Rattle.pb_text.specs.Reading.{ended_within, IsUnderWay, IsSpelled}
+use Rattle.pb_text.specs.Spelling.{Item, bytes, place_after, marks_since, marks_of}
+use Rattle.pb_text.specs.Whole.{events_of}
+use Rattle.pb_text.specs.declared.Place.{Place}
+use Rattle.pb_text.specs.declared.Spanned.{Spanned}
+use Rattle.pb_proof.specs.Proofs.{IsProof}
+use Rattle.pb_proof.specs.Values.{IsStatementValue}
+use Rattle.pb_proof.specs.ValueLaws.{BeginProof, ReadStatements}
+use Rattle.pb_proof.specs.declared.statement.Statement.{Statement}
+use Rattle.pb_proof.proofs.lemmas.Proofs.Values.{events_values, proof_values}
+
+abbrev events : List (Spanned Statement) → List Statement
+events marks = map (λ m. m.event) marks
+
+offset_of : (text : List ℕ) → (place_after text).offset ≡ length text
+unfolding place_after
+offset_of text = refl
+
+past_it : (n k : ℕ) → n < k → nat_le k n ≡ false
+past_it n k h = grind (arith, nat_tests)
+
+not_yet : (k n : ℕ) → nat_le k n ≡ false → n < k
+not_yet k n e = grind (arith, nat_tests)
+
+abbrev behind : List ℕ → Item Statement → List ℕ
+behind before i = before ++ (i.gap ++ bytes i.text)
+
+longer : (before : List ℕ) (i : Item Statement) → length before ≤ length (behind before i)
+longer before i = omega (arith, length-append before (i.gap ++ bytes i.text))
+
+-- statements behind more bytes do not end within so many
+later : (n : ℕ) (items : List (Item Statement)) (start : Option Place) (before : List ℕ) → n < length before → ended_within n (marks_since start before items) ≡ []
+later n [] start before h = refl
+later n (i ∷ rest) start before h =
+    let more : n < length (behind before i) = omega (arith, h, longer before i) in
+    rw (offset_of (behind before i), past_it n (length (behind before i)) more) (later n rest None (behind before i) more)
+
+-- those that end within so many bytes are the first
+first_ones : (n : ℕ) (items : List (Item Statement)) (start : Option Place) (before : List ℕ)
+    → (rest : List Statement) × (events_of items ≡ events (ended_within n (marks_since start before items)) ++ rest)
+first_ones n [] start before = ([], refl)
+first_ones n (i ∷ rest) start before = by_test (first_ones n rest None (behind before i)) (nat_le (place_after (behind before i)).offset n) refl
+  where
+    by_test : ((more : List Statement) × (events_of rest ≡ events (ended_within n (marks_since None (behind before i) rest)) ++ more)) → (b : Bool) → nat_le (place_after (behind before i)).offset n ≡ b
+        → (more : List Statement) × (events_of (i ∷ rest) ≡ events (ended_within n (marks_since start before (i ∷ rest))) ++ more)
+    by_test r true e = (r.0, rw e (ap (λ (x : List Statement). i.event ∷ x) r.1))
+    by_test r false e =
+        let h : n < length (behind before i) = not_yet (length (behind before i)) n (rw (offset_of (behind before i)) at e) in
+        (events_of (i ∷ rest), rw (e, later n rest None (behind before i) h) refl)
+
+all_ones : (items : List (Item Statement)) (start : Option Place) (before : List ℕ) → events (marks_since start before items) ≡ events_of items
+all_ones [] start before = refl
+all_ones (i ∷ rest) start before = ap (λ (x : List Statement). i.event ∷ x) (all_ones rest None (behind before i))
+
+left : (P : Statement → Type 0) (xs ys : List Statement) → All P (xs ++ ys) → All P xs
+left P [] ys h = All-nil P
+left P (x ∷ xs) ys h = All-cons P x xs (All-head P x (xs ++ ys) h) (left P xs ys (All-tail P x (xs ++ ys) h))
+
+module _ (limit top : ℕ) where
+  -- the first events of a spelling
+  begins : (items : List (Item Statement)) → IsProof limit top items → (es rest : List Statement) (all : Bool) → events_of items ≡ es ++ rest → (all ≡ true → rest ≡ []) → BeginProof limit top es all
+  begins items (v, spelled) es rest all e whole = record {
+    value = v;
+    rest = rest;
+    order = sym spelled.1 ∙ e;
+    whole = whole;
+    each = left (IsStatementValue limit top) es rest (subst (All (IsStatementValue limit top)) e (events_values limit top items spelled.3));
+    rules = proof_values limit top items v (v, spelled) spelled.1;
+  }
+
+  under_way : (longest : ℕ) (used : List ℕ) (marks : List (Spanned Statement)) → IsUnderWay (IsProof limit top) longest used marks → BeginProof limit top (events marks) false
+  under_way longest used marks w =
+      let (items, h, front) = w.viable in
+      let seen : ended_within (length used) (marks_of items) ≡ marks = w.seen items h front in
+      let r = first_ones (length used) items None [] in
+      begins items h (events marks) r.0 false (r.1 ∙ ap (λ (x : List (Spanned Statement)). events x ++ r.0) seen) (λ e. absurd (false≢true e))
+
+  whole : (longest : ℕ) (used : List ℕ) (marks : List (Spanned Statement)) → IsSpelled (IsProof limit top) longest used marks → BeginProof limit top (events marks) true
+  whole longest used marks s =
+      begins s.items s.spelled (events marks) [] true
+      (sym (all_ones s.items None []) ∙ (ap events (sym s.marks_are) ∙ sym (append-nil (events marks)))) (λ e. refl)
+
+pub read_statements : ReadStatements
+read_statements limit top longest input used marks place true stop r = whole limit top longest used marks r.answer.0
+read_statements limit top longest input used marks place false None r = under_way limit top longest used marks r.answer.0
+read_statements limit top longest input used marks place false (Some s) r = under_way limit top longest used marks r.answer.0

@@ -1,0 +1,15 @@
+-- What is written reads as the same value, where a text spells one proof.
+use Rattle.std.proofs.Common.{◌≡◌, ℕ, List, sym, ◌∙◌, subst}
+use Rattle.pb_text.specs.Spelling.{Item, bytes_of}
+use Rattle.pb_text.specs.Whole.{events_of}
+use Rattle.pb_proof.specs.Proofs.{IsProof, IsProofOf}
+use Rattle.pb_proof.specs.ValueLaws.{ReadsBack}
+use Rattle.pb_proof.specs.declared.statement.Statement.{Statement}
+use Rattle.pb_proof.proofs.lemmas.Proofs.Spelled.{canonical_proof}
+use Rattle.pb_proof.proofs.lemmas.Proofs.Values.{one_value}
+
+pub reads_back_of : ((limit top : ℕ) (items items' : List (Item Statement)) → IsProof limit top items → IsProof limit top items' → bytes_of items ≡ bytes_of items' → items ≡ items') → ReadsBack
+reads_back_of alone limit top longest v m small low rules r =
+    let (items, spells, bytes, value) = canonical_proof limit top v small low rules in
+    let same = alone limit top r.spelled.items items r.spelled.spelled spells (r.spelled.used_are ∙ sym bytes) in
+    one_value (events_of items) m.event v (subst (λ (x : List (Item Statement)). IsProofOf (events_of x) m.event) same r.value) value

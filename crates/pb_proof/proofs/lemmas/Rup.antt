@@ -1,0 +1,3 @@
+-- Lemmas on the machine of goals.
+pub mod Reads
+pub mod States

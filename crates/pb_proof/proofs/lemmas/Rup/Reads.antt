@@ -1,0 +1,202 @@
+-- What a machine of goals reads is the grammar.
+use Rattle.std.proofs.Common.{◌≡◌, ℕ, true, false, List, [], ◌∷◌, ◌++◌, refl, sym, ap, subst, ◌∙◌, ◌↔◌}
+use Rattle.std.proofs.lemmas.Bool.{eqb-true}
+use Rattle.std.specs.Prelude.{IsTrue, nat_eq, Option, Some, None}
+use Rattle.pb_text.specs.Automaton.{Next, Go, End, Refuse, Reads}
+use Rattle.pb_text.specs.Classes.{is_blank}
+use Rattle.pb_text.specs.Languages.{Language, ◌⋅◌, Byte, Blanks0, Blanks1}
+use Rattle.pb_text.specs.Spelling.{Letter}
+use Rattle.pb_text.proofs.Languages.{grown, next, none_yet, regroup, many-grown, some-grown, some-one}
+use Rattle.pb_sums.specs.State.{SumState, sums}
+use Rattle.pb_sums.specs.Sums.{SpellsLinear, Spells, allows}
+use Rattle.pb_sums.specs.declared.Linear.{Linear}
+use Rattle.pb_sums.specs.declared.Relation.{Relation}
+use Rattle.pb_sums.specs.declared.Relation.TheVariants.{AtLeast, Equal}
+use Rattle.pb_sums.specs.declared.Spaces.TheVariants.{Blank}
+use Rattle.pb_sums.specs.declared.Part as part
+use Rattle.pb_sums.specs.declared.SumEvent.{SumEvent}
+use Rattle.pb_sums.specs.declared.SumEvent as sum
+use Rattle.pb_sums.proofs.Links.{reads_grammar}
+use Rattle.pb_sums.proofs.States.{goes-midway}
+use Rattle.pb_proof.specs.Line.Rup.{GoalState, goal_automaton, goal_first, goal_last, goals, after_goals, goal_plan, goal_act, goal_over, linear_of, goal_finish}
+use Rattle.pb_proof.specs.Lines.{SpellsGoal}
+use Rattle.pb_proof.specs.declared.line.rup.phase.GoalPhase.{GoalPhase}
+use Rattle.pb_proof.specs.declared.line.rup.phase.GoalPhase.TheVariants.{Start, Gap, Inside, Tail, Done}
+use Rattle.pb_proof.specs.declared.line.rup.phase.GoalMove.{GoalMove}
+use Rattle.pb_proof.specs.declared.line.rup.phase.GoalMove.TheVariants.{Give}
+use Rattle.pb_proof.proofs.lemmas.Choices.{never, chosen, blank_each, fails}
+use Rattle.pb_proof.proofs.lemmas.Line.Ends.{as_unmarked, TakesBlanks, blanks1_lead, Feeds, feed_reads}
+use Rattle.pb_proof.proofs.lemmas.Walking.{Walks, walks_then, walks_more, ends_walk, reads_behind, On, Keeps, told}
+
+abbrev IsBlank : ℕ → Type 0
+IsBlank b = IsTrue (is_blank b)
+
+module _ (limit top : ℕ) where
+  abbrev pub SumFront : SumState → Language
+  SumFront inner = λ p. Walks sums (goals limit) p inner
+
+  abbrev pub Whole : Linear → GoalState → Language
+  Whole c after = λ t. SpellsGoal limit top c t × (after ≡ goal_last limit)
+
+  -- What has been read, by phase.
+  abbrev pub front : GoalState → GoalPhase → Language
+  front s Start = λ p. (p ≡ []) × (s.inner ≡ goals limit) × (s.linear ≡ None)
+  front s Gap = λ p. Blanks1 p × (s.inner ≡ goals limit) × (s.linear ≡ None)
+  front s Inside = λ p. (s.linear ≡ None) × (Blanks1 ⋅ SumFront s.inner) p
+  front s Tail = λ p. (s.inner ≡ after_goals limit)
+      × ((c : Linear) × (s.linear ≡ Some c) × (c.relation ≡ AtLeast) × (Blanks1 ⋅ SpellsLinear Blank limit c ⋅ Blanks0) p)
+  front s Done = λ p. ⊥
+
+  abbrev pub Front : GoalState → Language
+  Front s = front s s.phase
+
+  module _ (s : GoalState) (l : Letter) (p : List Letter) where
+    abbrev Leaves : Next GoalState Linear → Type 0
+    Leaves x = On goal_automaton Front Whole x l (p ++ l ∷ [])
+
+    abbrev After : GoalMove → Type 0
+    After m = Leaves (goal_act s l.byte m)
+
+    at_start : p ≡ [] → s.inner ≡ goals limit → s.linear ≡ None → After (goal_plan Start l.byte)
+    at_start e i n = chosen After (is_blank l.byte) _ _
+        (λ h w f. (subst Blanks1 (ap (λ x. x ++ l ∷ []) (sym e)) (some-one IsBlank l.byte l (as_unmarked l l.byte refl f) h), i, n))
+        (λ h. tt)
+
+    allowed : (r : Relation) → IsTrue (allows part.TheVariants.AtLeast r) → r ≡ AtLeast
+    allowed AtLeast h = refl
+    allowed Equal h = never false h refl
+
+    spelled : (e : SumEvent) → (Blanks1 ⋅ Spells Blank limit part.TheVariants.AtLeast e) (p ++ l ∷ [])
+        → ((linear_of e).relation ≡ AtLeast) × (Blanks1 ⋅ SpellsLinear Blank limit (linear_of e) ⋅ Blanks0) (p ++ l ∷ [])
+    spelled (sum.TheVariants.Sum terms) (a, b, e, h, k) = never false k.0 refl
+    spelled (sum.TheVariants.Linear c) (a, b, e, h, k) =
+        (allowed c.relation k.0, none_yet (Blanks1 ⋅ SpellsLinear Blank limit c) Blanks0 (p ++ l ∷ []) ([], tt, refl) (a, b, e, h, k.1))
+
+    given : s.linear ≡ None → (Blanks1 ⋅ SumFront s.inner) p → (x : Next SumState SumEvent) → sums.step s.inner l.byte ≡ x → Leaves (goal_over s x)
+    given n h (Go inner) e = λ w f. (
+      n,
+      grown Blanks1 (SumFront s.inner) (SumFront inner) p l
+          (λ q r. walks_more sums q l (goals limit) s.inner inner r e (goes-midway s.inner inner l.byte e) f) h,
+    )
+    given n h (End e new) i = λ w f.
+        let (a, b, j, g, r) = h in
+        let k : Spells Blank limit part.TheVariants.AtLeast e (b ++ l ∷ []) × (new ≡ after_goals limit) =
+        (reads_grammar Blank part.TheVariants.AtLeast limit (b ++ l ∷ []) e new).0 (ends_walk sums b l (goals limit) s.inner new e r i f) in
+        let t : (Blanks1 ⋅ Spells Blank limit part.TheVariants.AtLeast e) (p ++ l ∷ []) = grown Blanks1 (λ q. q ≡ b) (Spells Blank limit part.TheVariants.AtLeast e) p l (λ q z. subst (λ x. Spells Blank limit part.TheVariants.AtLeast e (x ++ l ∷ [])) (sym z) k.0) (a, b, j, g, refl) in
+        (k.1, (linear_of e, refl, (spelled e t).0, (spelled e t).1))
+    given n h Refuse i = tt
+
+    in_gap : Blanks1 p → s.inner ≡ goals limit → s.linear ≡ None → After (goal_plan Gap l.byte)
+    in_gap h i n = chosen After (is_blank l.byte) _ _
+        (λ k w f. (some-grown IsBlank l.byte l (as_unmarked l l.byte refl f) k p h, i, n))
+        (λ k. given n (none_yet Blanks1 (SumFront s.inner) p i h) (sums.step s.inner l.byte) refl)
+
+    in_tail : s.inner ≡ after_goals limit → (c : Linear) → s.linear ≡ Some c → c.relation ≡ AtLeast → (Blanks1 ⋅ SpellsLinear Blank limit c ⋅ Blanks0) p → After (goal_plan Tail l.byte)
+    in_tail i c k r h = chosen After (is_blank l.byte) _ _
+        (λ g w f. (i, (c, k, r, grown (Blanks1 ⋅ SpellsLinear Blank limit c) Blanks0 Blanks0 p l (many-grown IsBlank l.byte l (as_unmarked l l.byte refl f) g) h)))
+        (λ _. chosen After (nat_eq l.byte 10) _ _
+        (λ g. ends g s.linear k)
+        (λ _. tt))
+      where
+        ends : nat_eq l.byte 10 ≡ true → (o : Option Linear) → o ≡ Some c → Leaves (goal_finish s o)
+        ends g None e = absurd (let f : ⊥ = cc in f)
+        ends g (Some d) e = λ f.
+            let same : d ≡ c = cc in
+            let whole : SpellsGoal limit top c (p ++ l ∷ []) =
+            (r, regroup (Blanks1 ⋅ SpellsLinear Blank limit c) Blanks0 (Byte 10) (p ++ l ∷ []) (next (Blanks1 ⋅ SpellsLinear Blank limit c ⋅ Blanks0) (Byte 10) p l h (ap (λ x. x ∷ []) (as_unmarked l 10 (eqb-true l.byte 10 g) f)))) in
+            (subst (λ x. SpellsGoal limit top x (p ++ l ∷ [])) (sym same) whole, rw i refl)
+
+    sound : (q : GoalPhase) → front s q p → After (goal_plan q l.byte)
+    sound Start h = at_start h.0 h.1 h.2
+    sound Gap h = in_gap h.0 h.1 h.2
+    sound Inside h = given h.0 h.1 (sums.step s.inner l.byte) refl
+    sound Tail h = in_tail h.0 h.1.0 h.1.1 h.1.2 h.1.3
+    sound Done h = absurd h
+
+  pub keeps : Keeps goal_automaton Front Whole
+  keeps s l p f = sound s l p s.phase f
+
+  pub goal_only : (t : List Letter) (c : Linear) (after : GoalState) → Reads goal_automaton (goal_first limit) t c after → SpellsGoal limit top c t × (after ≡ goal_last limit)
+  goal_only t c after r =
+      told goal_automaton Front Whole keeps t (goal_first limit) [] c after r (refl, refl, refl)
+
+  -- The other way: each part of a text leads on.
+  abbrev in_phase : GoalPhase → GoalState
+  in_phase p = record { phase = p; inner = goals limit; linear = None }
+
+  abbrev inside : SumState → GoalState
+  inside inner = record { phase = Inside; inner = inner; linear = None }
+
+  abbrev behind : SumEvent → SumState → GoalState
+  behind e inner = record { phase = Tail; inner = inner; linear = Some (linear_of e) }
+
+  gap_blanks : TakesBlanks goal_automaton (in_phase Start) (in_phase Gap)
+  gap_blanks = record {
+    enters = λ b h. rw h refl;
+    stays = λ b h. rw h refl;
+    begun = refl;
+    plain = refl;
+  }
+
+  tail_blanks : (e : SumEvent) (inner : SumState) → TakesBlanks goal_automaton (behind e inner) (behind e inner)
+  tail_blanks e inner = record {
+    enters = λ b h. rw h refl;
+    stays = λ b h. rw h refl;
+    begun = refl;
+    plain = refl;
+  }
+
+  tail_feeds : (e : SumEvent) → Feeds goal_automaton (behind e (after_goals limit)) (behind e (after_goals limit)) (linear_of e) (goal_last limit)
+  tail_feeds e = record { blanks = tail_blanks e (after_goals limit); ends = refl; ends_gap = refl }
+
+  -- what the machine of sums reads
+  given_walks : (t : List Letter) (inner new : SumState) (e : SumEvent) → Reads sums inner t e new → Walks goal_automaton (inside inner) t (behind e new)
+  given_walks [] inner new e r = absurd r
+  given_walks (l ∷ []) inner new e (g, n) = (behind e new, ap (goal_over (inside inner)) g, refl, n, refl)
+  given_walks (l ∷ k ∷ t) inner new e (mid, g, i, n, r) =
+      (inside mid, ap (goal_over (inside inner)) g, refl, n, given_walks (k ∷ t) mid new e r)
+
+  refuse_end : (e : SumEvent) (new : SumState) → ◌≡◌ {A = Next SumState SumEvent} Refuse (End e new) → ⊥
+  refuse_end e new h = cc
+
+  refuse_go : (new : SumState) → ◌≡◌ {A = Next SumState SumEvent} Refuse (Go new) → ⊥
+  refuse_go new h = cc
+
+  -- no blank begins a constraint
+  no_blank : (b : ℕ) → is_blank b ≡ true → sums.step (goals limit) b ≡ Refuse
+  no_blank = blank_each (λ b. sums.step (goals limit) b ≡ Refuse) refl refl refl
+
+  gap_gives : (l : Letter) → (sums.step (goals limit) l.byte ≡ Refuse → ⊥) → goal_plan Gap l.byte ≡ Give
+  gap_gives l h =
+      let e : is_blank l.byte ≡ false = fails (is_blank l.byte) (λ k. h (no_blank l.byte k)) in rw e refl
+
+  linear_walks : (t : List Letter) (new : SumState) (e : SumEvent) → Reads sums (goals limit) t e new → Walks goal_automaton (in_phase Gap) t (behind e new)
+  linear_walks [] new e r = absurd r
+  linear_walks (l ∷ []) new e (g, n) =
+      let k = gap_gives l (λ h. refuse_end e new (sym h ∙ g)) in
+      (behind e new, ap (goal_act (in_phase Gap) l.byte) k ∙ ap (goal_over (in_phase Gap)) g, refl, n, refl)
+  linear_walks (l ∷ c ∷ t) new e (mid, g, i, n, r) =
+      let k = gap_gives l (λ h. refuse_go mid (sym h ∙ g)) in
+      (inside mid, ap (goal_act (in_phase Gap) l.byte) k ∙ ap (goal_over (in_phase Gap)) g, refl, n, given_walks (c ∷ t) mid new e r)
+
+  allows_it : (r : Relation) → r ≡ AtLeast → IsTrue (allows part.TheVariants.AtLeast r)
+  allows_it AtLeast h = refl
+  allows_it Equal h = cc
+
+  pub goal_each : (t : List Letter) (c : Linear) → SpellsGoal limit top c t → Reads goal_automaton (goal_first limit) t c (goal_last limit)
+  goal_each t c (r, (ab, f, e, (a, b, g, h, k), i)) =
+      let q : Reads sums (goals limit) b (sum.TheVariants.Linear c) (after_goals limit) =
+      (reads_grammar Blank part.TheVariants.AtLeast limit b (sum.TheVariants.Linear c) (after_goals limit)).1 ((allows_it c.relation r, k), refl) in
+      let w : Walks goal_automaton (goal_first limit) (a ++ b) (behind (sum.TheVariants.Linear c) (after_goals limit)) =
+      walks_then goal_automaton a b (goal_first limit) (in_phase Gap) (behind (sum.TheVariants.Linear c) (after_goals limit))
+      (blanks1_lead goal_automaton (in_phase Start) (in_phase Gap) gap_blanks a h) (linear_walks b (after_goals limit) (sum.TheVariants.Linear c) q) in
+      subst (λ x. Reads goal_automaton (goal_first limit) x c (goal_last limit)) (ap (λ x. x ++ f) (sym g) ∙ sym e)
+      (reads_behind goal_automaton (a ++ b) f (goal_first limit) (behind (sum.TheVariants.Linear c) (after_goals limit)) (goal_last limit) c w
+      (feed_reads goal_automaton (behind (sum.TheVariants.Linear c) (after_goals limit)) (behind (sum.TheVariants.Linear c) (after_goals limit)) (goal_last limit) c (tail_feeds (sum.TheVariants.Linear c)) f i))
+
+  -- What a new machine reads are the goals, and then it has ended.
+  pub goal_reads : (t : List Letter) (c : Linear) (after : GoalState) → Reads goal_automaton (goal_first limit) t c after ↔ (SpellsGoal limit top c t × (after ≡ goal_last limit))
+  goal_reads t c after = (
+    goal_only t c after,
+    λ h. subst (λ x. Reads goal_automaton (goal_first limit) t c x) (sym h.1) (goal_each t c h.0),
+  )

@@ -1,0 +1,344 @@
+-- What holds of each state that a machine of goals can be in.
+use Rattle.std.proofs.Common.{◌≡◌, ℕ, ◌+◌, ◌-◌, ◌^◌, ◌≤◌, ◌<◌, min, take, get_or, Bool, true, false, cond, List, [], ◌∷◌, ◌++◌, length, refl, sym, ap, subst, ◌∙◌, arith, ◌&&◌}
+use Rattle.std.proofs.lemmas.List.{take_more}
+use Rattle.std.specs.Prelude.{IsTrue, nat_eq, Option, Some, None}
+use Rattle.pb_text.specs.Automaton.{Next, Go, End, Refuse, Reads, Accepts, Admits, IsState, is_large}
+use Rattle.pb_text.specs.Classes.{is_blank, is_digit}
+use Rattle.pb_text.specs.Spelling.{Letter, Item}
+use Rattle.pb_text.proofs.Residual.{refuses}
+use Rattle.pb_sums.specs.Machine.{Work, Outcome, act, flushed, term, plan, kind, letter_at, is_numeric}
+use Rattle.pb_sums.specs.State.{SumState, sums, over, units, in_hand}
+use Rattle.pb_sums.specs.declared.Linear.{Linear}
+use Rattle.pb_sums.specs.declared.values.Term.{Term}
+use Rattle.pb_sums.specs.declared.phase.Phase as sum_phase
+use Rattle.pb_sums.specs.declared.phase.Move.{Move}
+use Rattle.pb_sums.specs.declared.phase.Move.TheVariants as move
+use Rattle.pb_sums.specs.declared.SumEvent.{SumEvent}
+use Rattle.pb_sums.specs.declared.SumEvent as sum
+use Rattle.pb_sums.proofs.Links.{reads_something, midway-not-done}
+use Rattle.pb_sums.proofs.States.{goes-midway, ended-last}
+use Rattle.pb_proof.specs.Line.Rup.{GoalState, goal_automaton, goal_first, goals, goal_plan, goal_act, goal_over, goal_finish, goal_midway, goal_done, goal_in_number, goal_asks, linear_of, GoalHolds, IsGoalInOrder}
+use Rattle.pb_proof.specs.declared.line.rup.phase.GoalPhase.{GoalPhase}
+use Rattle.pb_proof.specs.declared.line.rup.phase.GoalPhase.TheVariants.{Start, Gap, Inside, Tail, Done}
+use Rattle.pb_proof.specs.declared.line.rup.phase.GoalMove.{GoalMove}
+use Rattle.pb_proof.specs.declared.line.rup.phase.GoalMove.TheVariants.{To, Give, Finish, Stop}
+use Rattle.pb_proof.proofs.lemmas.Choices.{never, chosen}
+use Rattle.pb_proof.proofs.lemmas.Living.{IsAlive, ReadsOn, before, final, accepted, reads_on, admits_before}
+use Rattle.pb_proof.proofs.lemmas.Walking.{Walks, reads_behind}
+
+-- The constraint that the machine of sums gives has no more units than that machine had.
+units-append : (xs : List Term) (x : Term) → units (xs ++ x ∷ []) ≡ units xs + (1 + length x.literal.name)
+units-append [] x = omega arith
+units-append (y ∷ xs) x = omega (arith, units-append xs x)
+
+flushed-units : (ph : sum_phase.Phase) (xs : List Term) (name : List ℕ) → units (flushed ph xs name) ≤ units xs + in_hand ph + length name
+flushed-units (sum_phase.TheVariants.More z negated) xs name = omega (arith, units-append xs (term z negated name))
+flushed-units (sum_phase.TheVariants.First z negated) xs name = omega arith
+flushed-units _ xs name = omega arith
+
+acted-terms : (ys xs : List Term) (name : List ℕ) (m : Move) (e : SumEvent) (w : Work) → act ys xs name m ≡ End e w → (linear_of e).terms ≡ ys
+acted-terms ys xs name (move.To p) e w h = absurd (let f : ⊥ = cc in f)
+acted-terms ys xs name (move.Begin p b) e w h = absurd (let f : ⊥ = cc in f)
+acted-terms ys xs name (move.Add p b) e w h = absurd (let f : ⊥ = cc in f)
+acted-terms ys xs name move.EndSum e w h = let f : sum.TheVariants.Sum ys ≡ e = cc in ap (λ x. (linear_of x).terms) (sym f)
+acted-terms ys xs name (move.EndLinear r z) e w h = let f : sum.TheVariants.Linear (record { terms = ys; relation = r; degree = z }) ≡ e = cc in ap (λ x. (linear_of x).terms) (sym f)
+acted-terms ys xs name move.Stop e w h = absurd (let f : ⊥ = cc in f)
+
+over-ends : (s next : SumState) (e : SumEvent) (n : Outcome) → over s n ≡ End e next → (w : Work) × (n ≡ End e w)
+over-ends s next e (Go v) h = absurd (let f : ⊥ = cc in f)
+over-ends s next e (End g v) h = let f : g ≡ e = cc in (v, ap (λ x. End x v) f)
+over-ends s next e Refuse h = absurd (let f : ⊥ = cc in f)
+
+pub ended_units : (s next : SumState) (b : ℕ) (e : SumEvent) → sums.step s b ≡ End e next → units (linear_of e).terms ≤ sums.spent s
+ended_units s next b e h =
+    let p = s.work.phase in
+    let m : Move = plan s.part s.limit p (kind s.spaces (letter_at (is_numeric p) b)) in
+    let k = over-ends s next e (act (flushed p s.work.terms s.work.name) s.work.terms s.work.name m) h in
+    let t : (linear_of e).terms ≡ flushed p s.work.terms s.work.name = acted-terms (flushed p s.work.terms s.work.name) s.work.terms s.work.name m e k.0 k.1 in
+    rw t (omega (arith, flushed-units p s.work.terms s.work.name))
+
+pub ended_empty : (s next : SumState) (b : ℕ) (e : SumEvent) → sums.step s b ≡ End e next → sums.spent next ≡ 0
+ended_empty s next b e h = ap sums.spent (ended-last s next b e h)
+
+-- what a byte leads to
+record Goes (s next : GoalState) : Type 0 where
+  pub begins : goal_midway next.phase ≡ true
+  pub grows : goal_automaton.spent next ≤ goal_automaton.spent s + 1
+
+abbrev On : GoalState → Next GoalState Linear → Type 0
+On s (Go next) = Goes s next
+On s (End e next) = (goal_done next.phase ≡ true) × (goal_automaton.spent next ≡ 0)
+On s Refuse = Unit {0}
+
+abbrev OnMove : GoalMove → Type 0
+OnMove (To p) = goal_midway p ≡ true
+OnMove _ = Unit {0}
+
+on_plan : (p : GoalPhase) (b : ℕ) → OnMove (goal_plan p b)
+on_plan Start b = chosen OnMove (is_blank b) (To Gap) Stop (λ e. refl) (λ e. tt)
+on_plan Gap b = chosen OnMove (is_blank b) (To Gap) Give (λ e. refl) (λ e. tt)
+on_plan Inside b = tt
+on_plan Tail b = chosen OnMove (is_blank b) (To Tail) _ (λ e. refl) (λ e. chosen OnMove (nat_eq b 10) Finish Stop (λ e. tt) (λ e. tt))
+on_plan Done b = tt
+
+-- where bytes are given to the machine of sums, and where the line ends
+given_none : (s : GoalState) (p : GoalPhase) (b : ℕ) → GoalHolds s p → goal_plan p b ≡ Give → s.linear ≡ None
+given_none s Start b h e = h.0
+given_none s Gap b h e = h.0
+given_none s Inside b h e = h.0
+given_none s Tail b h e = absurd (not_given (is_blank b) (nat_eq b 10) e)
+  where
+    not_given : (x y : Bool) → cond x (To Tail) (cond y Finish Stop) ≡ Give → ⊥
+    not_given true y e = cc
+    not_given false true e = cc
+    not_given false false e = cc
+given_none s Done b h e = h.0
+
+finish_empty : (s : GoalState) (p : GoalPhase) (b : ℕ) → GoalHolds s p → goal_plan p b ≡ Finish → sums.spent s.inner ≡ 0
+finish_empty s Start b h e = absurd (not_finished (is_blank b) e)
+  where
+    not_finished : (x : Bool) → cond x (To Gap) Stop ≡ Finish → ⊥
+    not_finished true e = cc
+    not_finished false e = cc
+finish_empty s Gap b h e = absurd (not_finished (is_blank b) e)
+  where
+    not_finished : (x : Bool) → cond x (To Gap) Give ≡ Finish → ⊥
+    not_finished true e = cc
+    not_finished false e = cc
+finish_empty s Inside b h e = absurd (let f : ⊥ = cc in f)
+finish_empty s Tail b h e = h.1
+finish_empty s Done b h e = h.1
+
+on_given : (s : GoalState) → IsState sums s.inner → s.linear ≡ None → (b : ℕ) (n : Next SumState SumEvent) → sums.step s.inner b ≡ n → On s (goal_over s n)
+on_given s state h b (Go inner) e = record { begins = refl; grows = omega (arith, state.grows b inner e) }
+on_given s state h b (End x inner) e = record { begins = refl; grows = rw (ended_empty s.inner inner b x e) (omega (arith, ended_units s.inner inner b x e)) }
+on_given s state h b Refuse e = tt
+
+on_finish : (s : GoalState) → sums.spent s.inner ≡ 0 → (o : Option Linear) → On s (goal_finish s o)
+on_finish s h None = tt
+on_finish s h (Some c) = (refl, ap (λ (n : ℕ). 0 + n) h)
+
+on_act : (s : GoalState) → IsGoalInOrder s → (b : ℕ) (m : GoalMove) → goal_plan s.phase b ≡ m → OnMove m → On s (goal_act s b m)
+on_act s h b (To p) e k = record { begins = k; grows = omega arith }
+on_act s h b Give e k = on_given s h.state (given_none s s.phase b h.holds e) b (sums.step s.inner b) refl
+on_act s h b Finish e k = on_finish s (finish_empty s s.phase b h.holds e) s.linear
+on_act s h b Stop e k = tt
+
+steps : (s : GoalState) → IsGoalInOrder s → (b : ℕ) → On s (goal_automaton.step s b)
+steps s h b = on_act s h b (goal_plan s.phase b) refl (on_plan s.phase b)
+
+goes : (s next : GoalState) (b : ℕ) → IsGoalInOrder s → goal_automaton.step s b ≡ Go next → Goes s next
+goes s next b h e = subst (On s) e (steps s h b)
+
+ends : (s next : GoalState) (b : ℕ) (c : Linear) → IsGoalInOrder s → goal_automaton.step s b ≡ End c next → (goal_done next.phase ≡ true) × (goal_automaton.spent next ≡ 0)
+ends s next b c h e = subst (On s) e (steps s h b)
+
+-- any byte that is taken begins the line, or is behind its beginning
+abbrev OnGo : Next GoalState Linear → Type 0
+OnGo (Go next) = goal_midway next.phase ≡ true
+OnGo _ = Unit {0}
+
+begun_given : (s : GoalState) (n : Next SumState SumEvent) → OnGo (goal_over s n)
+begun_given s (Go inner) = refl
+begun_given s (End x inner) = refl
+begun_given s Refuse = tt
+
+begun_finish : (s : GoalState) (o : Option Linear) → OnGo (goal_finish s o)
+begun_finish s None = tt
+begun_finish s (Some c) = tt
+
+begun_act : (s : GoalState) (b : ℕ) (m : GoalMove) → OnMove m → OnGo (goal_act s b m)
+begun_act s b (To p) k = k
+begun_act s b Give k = begun_given s (sums.step s.inner b)
+begun_act s b Finish k = begun_finish s s.linear
+begun_act s b Stop k = tt
+
+pub goal_begins : (s next : GoalState) (b : ℕ) → goal_automaton.step s b ≡ Go next → goal_automaton.begun next ≡ true
+goal_begins s next b e = subst OnGo e (begun_act s b (goal_plan s.phase b) (on_plan s.phase b))
+
+midway_not_done : (p : GoalPhase) → goal_midway p ≡ true → goal_done p ≡ false
+midway_not_done Start h = refl
+midway_not_done Gap h = refl
+midway_not_done Inside h = refl
+midway_not_done Tail h = refl
+midway_not_done Done h = sym h
+
+done_not_midway : (p : GoalPhase) → goal_done p ≡ true → goal_midway p ≡ false
+done_not_midway Done h = refl
+done_not_midway Start h = refl
+done_not_midway Gap h = sym h
+done_not_midway Inside h = sym h
+done_not_midway Tail h = sym h
+
+done_stops : (s : GoalState) (p : GoalPhase) (b : ℕ) → goal_done p ≡ true → goal_act s b (goal_plan p b) ≡ Refuse
+done_stops s Done b h = refl
+done_stops s Start b h = never false h refl
+done_stops s Gap b h = never false h refl
+done_stops s Inside b h = never false h refl
+done_stops s Tail b h = never false h refl
+
+outside_plain : (s : GoalState) (p : GoalPhase) → goal_midway p ≡ false → goal_in_number s p ≡ false
+outside_plain s Start h = refl
+outside_plain s Done h = refl
+outside_plain s Gap h = refl
+outside_plain s Inside h = never true refl h
+outside_plain s Tail h = refl
+
+empty_outside : (s : GoalState) (p : GoalPhase) → GoalHolds s p → goal_midway p ≡ false → goal_automaton.spent s ≡ 0
+empty_outside s Start h k = rw h.0 (ap (λ (x : SumState). 0 + sums.spent x) h.1)
+empty_outside s Done h k = rw h.0 (ap (λ (n : ℕ). 0 + n) h.1)
+empty_outside s Gap h k = never true refl k
+empty_outside s Inside h k = never true refl k
+empty_outside s Tail h k = never true refl k
+
+-- Each state that has not ended can end.
+finishing : (s : GoalState) (c : Linear) → s.phase ≡ Tail → s.linear ≡ Some c → IsAlive goal_automaton s
+finishing s c p e =
+    final goal_automaton s (record s { phase = Done; linear = None }) 10 c (ap (λ x. goal_act s 10 (goal_plan x 10)) p ∙ ap (goal_finish s) e) [] refl
+
+inside_alive : (s : GoalState) → s.phase ≡ Inside → sums.done s.inner ≡ false → IsAlive goal_automaton s
+inside_alive s p d =
+    let (text, e, last, r) = reads_something s.inner.spaces s.inner.part s.inner.limit s.inner.work d in
+    let tail = finishing (record { phase = Tail; inner = last; linear = Some (linear_of e) }) (linear_of e) refl refl in
+    subst (IsAlive goal_automaton) (sym (same s p)) (record {
+      text = text ++ tail.text;
+      event = tail.event;
+      after = tail.after;
+      reads = reads_behind goal_automaton text tail.text (record s { phase = Inside }) (record { phase = Tail; inner = last; linear = Some (linear_of e) }) tail.after tail.event
+          (walks s.linear text s.inner last e r) tail.reads;
+      rest = tail.rest;
+      accepts = tail.accepts;
+    })
+  where
+    same : (s : GoalState) → s.phase ≡ Inside → s ≡ record s { phase = Inside }
+    same s p = rw p refl
+
+    at : Option Linear → SumState → GoalState
+    at o inner = record { phase = Inside; inner = inner; linear = o }
+
+    walks : (o : Option Linear) (t : List Letter) (inner new : SumState) (e : SumEvent) → Reads sums inner t e new
+        → Walks goal_automaton (at o inner) t (record { phase = Tail; inner = new; linear = Some (linear_of e) })
+    walks o [] inner new e r = absurd r
+    walks o (l ∷ []) inner new e (g, n) = (record { phase = Tail; inner = new; linear = Some (linear_of e) }, ap (goal_over (at o inner)) g, refl, n, refl)
+    walks o (l ∷ k ∷ t) inner new e (mid, g, i, n, r) =
+        (at o mid, ap (goal_over (at o inner)) g, refl, n, walks o (k ∷ t) mid new e r)
+
+-- behind blanks, with `>`
+gap_alive : (s : GoalState) → s.phase ≡ Gap → s.inner ≡ goals s.inner.limit → IsAlive goal_automaton s
+gap_alive s p i =
+    let mid : GoalState = record s { phase = Inside; inner = record { spaces = s.inner.spaces; part = s.inner.part; limit = s.inner.limit; work = record { terms = []; name = []; phase = sum_phase.TheVariants.Greater } } } in
+    before goal_automaton s mid 62 (ap (λ x. goal_act s 62 (goal_plan x 62)) p ∙ stepped s i) refl (inside_alive mid refl refl)
+  where
+    stepped : (s : GoalState) → s.inner ≡ goals s.inner.limit → goal_over s (sums.step s.inner 62) ≡ Go (record s { phase = Inside; inner = record { spaces = s.inner.spaces; part = s.inner.part; limit = s.inner.limit; work = record { terms = []; name = []; phase = sum_phase.TheVariants.Greater } } })
+    stepped s i = rw i refl
+
+start_alive : (s : GoalState) → s.phase ≡ Start → s.inner ≡ goals s.inner.limit → IsAlive goal_automaton s
+start_alive s p i =
+    let mid : GoalState = record s { phase = Gap } in
+    before goal_automaton s mid 32 (ap (λ x. goal_act s 32 (goal_plan x 32)) p) refl (gap_alive mid refl i)
+
+alive : (s : GoalState) (p : GoalPhase) → s.phase ≡ p → GoalHolds s p → goal_done p ≡ false → IsAlive goal_automaton s
+alive s Start e h d = start_alive s e h.1
+alive s Gap e h d = gap_alive s e h.1
+alive s Inside e h d = inside_alive s e h.1
+alive s Tail e h d = finishing s h.0.0 e h.0.1
+alive s Done e h d = never true refl d
+
+live : (s : GoalState) → IsGoalInOrder s → (d : Bool) → goal_done s.phase ≡ d → (items : List (Item Linear)) × Accepts goal_automaton s items
+live s h true d = ([], d)
+live s h false d = accepted goal_automaton s (alive s s.phase refl h.holds d)
+
+pub goal_is_state : (s : GoalState) → IsGoalInOrder s → IsState goal_automaton s
+goal_is_state s h = record {
+  live = live s h (goal_done s.phase) refl;
+  ends = λ d b. done_stops s s.phase b d;
+  owes = λ b next e. midway_not_done next.phase (goes s next b h e).begins;
+  stays = λ i b next e. (goes s next b h e).begins;
+  closes = λ b c next e. done_not_midway next.phase (ends s next b c h e).0;
+  plain = λ o. outside_plain s s.phase o;
+  grows = λ b next e. (goes s next b h e).grows;
+  bounds = omega (arith, h.state.bounds);
+  empties = λ o. empty_outside s s.phase h.holds o;
+}
+
+-- before a line
+pub goal_first_in_order : (limit : ℕ) → IsState sums (goals limit) → IsGoalInOrder (goal_first limit)
+goal_first_in_order limit state = record { holds = (refl, refl); state = state }
+
+-- What a byte leaves a machine with.
+pub to_order : (s : GoalState) → IsGoalInOrder s → (b : ℕ) (p : GoalPhase) → goal_plan s.phase b ≡ To p → IsGoalInOrder (record s { phase = p })
+to_order s h b p e = record { holds = held s.phase h.holds e; state = h.state }
+  where
+    at_gap : (x : Bool) (m : GoalMove) → cond x (To Gap) m ≡ To p → (m ≡ To p → p ≡ Gap) → p ≡ Gap
+    at_gap true m e k = cc
+    at_gap false m e k = k e
+
+    at_tail : (x y : Bool) → cond x (To Tail) (cond y Finish Stop) ≡ To p → p ≡ Tail
+    at_tail true y e = cc
+    at_tail false true e = absurd (let f : ⊥ = cc in f)
+    at_tail false false e = absurd (let f : ⊥ = cc in f)
+
+    held : (q : GoalPhase) → GoalHolds s q → goal_plan q b ≡ To p → GoalHolds s p
+    held Start h e = subst (GoalHolds s) (sym (at_gap (is_blank b) Stop e (λ k. absurd (let f : ⊥ = cc in f)))) h
+    held Gap h e = subst (GoalHolds s) (sym (at_gap (is_blank b) Give e (λ k. absurd (let f : ⊥ = cc in f)))) h
+    held Inside h e = absurd (let f : ⊥ = cc in f)
+    held Tail h e = subst (GoalHolds s) (sym (at_tail (is_blank b) (nat_eq b 10) e)) h
+    held Done h e = absurd (let f : ⊥ = cc in f)
+
+pub give_order : (s : GoalState) → IsGoalInOrder s → (b : ℕ) (inner : SumState) → goal_plan s.phase b ≡ Give → sums.step s.inner b ≡ Go inner → IsState sums inner → IsGoalInOrder (record s { phase = Inside; inner = inner })
+give_order s h b inner e g state = record {
+  holds = (given_none s s.phase b h.holds e, midway-not-done inner.work.phase (goes-midway s.inner inner b g));
+  state = state;
+}
+
+pub tail_order : (s : GoalState) (b : ℕ) (e : SumEvent) (inner : SumState) → sums.step s.inner b ≡ End e inner → IsState sums inner → IsGoalInOrder (record { phase = Tail; inner = inner; linear = Some (linear_of e) })
+tail_order s b e inner g state = record { holds = ((linear_of e, refl), ended_empty s.inner inner b e g); state = state }
+
+pub done_order : (s : GoalState) → IsGoalInOrder s → (b : ℕ) → goal_plan s.phase b ≡ Finish → IsGoalInOrder (record s { phase = Done; linear = None })
+done_order s h b e = record { holds = (refl, finish_empty s s.phase b h.holds e); state = h.state }
+
+-- where bytes are given the numbers are those of the machine of sums
+given_number : (s : GoalState) (p : GoalPhase) (b : ℕ) → GoalHolds s p → goal_plan p b ≡ Give → goal_in_number s p ≡ sums.in_number s.inner
+given_number s Inside b h e = refl
+given_number s Gap b h e = sym (ap sums.in_number h.1)
+given_number s Start b h e = sym (ap sums.in_number h.1)
+given_number s Tail b h e = absurd (not_given (is_blank b) (nat_eq b 10) e)
+  where
+    not_given : (x y : Bool) → cond x (To Tail) (cond y Finish Stop) ≡ Give → ⊥
+    not_given true y e = cc
+    not_given false true e = cc
+    not_given false false e = cc
+given_number s Done b h e = absurd (let f : ⊥ = cc in f)
+
+module _ (s : GoalState) (h : IsGoalInOrder s) (b : ℕ) (planned : goal_plan s.phase b ≡ Give) where
+  pub give_refused : sums.step s.inner b ≡ Refuse → (goal_automaton.step s b ≡ Refuse) × (is_large goal_automaton s b ≡ is_large sums s.inner b)
+  give_refused stops = (
+    ap (goal_act s b) planned ∙ ap (goal_over s) stops,
+    ap (λ (x : Bool). x && is_digit b) (given_number s s.phase b h.holds planned),
+  )
+
+  by_step : (n : Next SumState SumEvent) → sums.step s.inner b ≡ n → Admits sums s.inner b → Admits goal_automaton s b
+  by_step (Go inner) e a =
+      admits_before goal_automaton s (record s { phase = Inside; inner = inner }) b (ap (goal_act s b) planned ∙ ap (goal_over s) e) refl
+      (inside_alive (record s { phase = Inside; inner = inner }) refl (midway-not-done inner.work.phase (goes-midway s.inner inner b e)))
+  by_step (End x inner) e a =
+      admits_before goal_automaton s (record { phase = Tail; inner = inner; linear = Some (linear_of x) }) b (ap (goal_act s b) planned ∙ ap (goal_over s) e) refl
+      (finishing (record { phase = Tail; inner = inner; linear = Some (linear_of x) }) (linear_of x) refl refl)
+  by_step Refuse e a = absurd (refuses sums s.inner s.inner b e a.0 a.1 (a.2, a.3))
+
+  pub give_admits : IsTrue (sums.asks s.inner b) → Admits sums s.inner b → IsTrue (goal_automaton.asks s b) × Admits goal_automaton s b
+  give_admits asking a = (subst (λ (m : GoalMove). IsTrue (goal_asks s b m)) (sym planned) asking, by_step (sums.step s.inner b) refl a)
+
+-- the count of one more literal
+pub count_more : (xs : List Term) (i : ℕ) (d : Term) (c m r : ℕ) → i < length xs → c ≡ min (units (take i xs)) (2 ^ 64 - 1) → m ≡ min (length (get_or xs i d).literal.name + 1) (2 ^ 64 - 1)
+    → r ≡ min (c + m) (2 ^ 64 - 1) → r ≡ min (units (take (i + 1) xs)) (2 ^ 64 - 1)
+count_more xs i d c m r h e f g =
+    counted (units (take i xs)) (length (get_or xs i d).literal.name) c m r e f g
+    ∙ ap (λ n. min n (2 ^ 64 - 1)) (sym (ap units (take_more xs i d h) ∙ units-append (take i xs) (get_or xs i d)))
+  where
+    counted : (u n c m r : ℕ) → c ≡ min u (2 ^ 64 - 1) → m ≡ min (n + 1) (2 ^ 64 - 1) → r ≡ min (c + m) (2 ^ 64 - 1) → r ≡ min (u + (1 + n)) (2 ^ 64 - 1)
+    counted u n c m r e f g = omega arith
+
+-- Each state in order that has not ended reads some text.
+pub goal_goes_on : (s : GoalState) → IsGoalInOrder s → goal_automaton.done s ≡ false → ReadsOn goal_automaton s
+goal_goes_on s h d = reads_on goal_automaton goal_begins s (goal_is_state s h) d

@@ -1,0 +1,161 @@
+-- Words with blanks between them, byte by byte.
+use Rattle.std.proofs.Common.{◌≡◌, ℕ, Bool, true, false, not, ◌&&◌, List, [], ◌∷◌, ◌++◌, refl, sym, ap, subst, ◌∙◌, append_assoc, cond}
+use Rattle.std.proofs.lemmas.List.{append-nil}
+use Rattle.std.proofs.lemmas.Bool.{eqb-true}
+use Rattle.std.specs.Prelude.{IsTrue, nat_eq}
+use Rattle.pb_text.specs.Classes.{is_blank}
+use Rattle.pb_text.specs.Languages.{unmarked, Language, ◌⋅◌, Empty, Byte, Bytes, Blanks1}
+use Rattle.pb_text.specs.Spelling.{Letter, plain}
+use Rattle.pb_text.proofs.Languages.{grown, none_yet, regroup, regroup⁻¹, behind_it, some-grown, some-one}
+use Rattle.pb_proof.specs.Machine.Transition.{words_of, meets}
+use Rattle.pb_proof.specs.Lines.{pseudo_word, proof_word, version_word, two_word, f_word, pol_word, rup_word, del_word, id_word, output_word, none_word, conclusion_word, end_word}
+use Rattle.pb_proof.specs.Machine.Transition.{sol_word}
+use Rattle.pb_proof.specs.declared.machine.phase.Front.{Front}
+use Rattle.pb_proof.specs.declared.machine.phase.Front.TheVariants.{Header, Formula, Pol, Rup, Solution, Delete, Output, Conclusion, End}
+use Rattle.pb_proof.proofs.lemmas.Choices.{both}
+use Rattle.pb_proof.proofs.lemmas.Line.Ends.{as_unmarked}
+
+abbrev pub chooses : Bool → Language → Language → Language
+chooses true P Q = P
+chooses false P Q = Q
+
+-- a byte of words, and one or more blanks for a space
+abbrev pub One : ℕ → Language
+One c = chooses (nat_eq c 32) Blanks1 (Byte c)
+
+abbrev pub Spaced : List ℕ → Language
+Spaced [] = Empty
+Spaced (c ∷ cs) = One c ⋅ Spaced cs
+
+-- the letter that meets a byte of the words
+pub one_met : (c : ℕ) (l : Letter) → meets c l.byte ≡ true → l.numeral ≡ false → One c (l ∷ [])
+one_met c l h n = by_test (nat_eq c 32) h
+  where
+    by_test : (x : Bool) → cond x (is_blank l.byte) (nat_eq l.byte c) ≡ true → chooses x Blanks1 (Byte c) (l ∷ [])
+    by_test true e = some-one (λ b. IsTrue (is_blank b)) l.byte l (as_unmarked l l.byte refl n) e
+    by_test false e = ap (λ x. x ∷ []) (as_unmarked l c (eqb-true l.byte c e) n)
+
+-- one more byte of the words
+pub spaced_then : (cs ds : List ℕ) (p q : List Letter) → Spaced cs p → Spaced ds q → Spaced (cs ++ ds) (p ++ q)
+spaced_then [] ds p q h k = subst (λ x. Spaced ds (x ++ q)) (sym h) k
+spaced_then (c ∷ cs) ds p q (a, b, e, h, i) k =
+    (a, b ++ q, ap (λ x. x ++ q) e ∙ append_assoc a b q, h, spaced_then cs ds b q i k)
+
+pub spaced_more : (cs : List ℕ) (c : ℕ) (p : List Letter) (l : Letter) → Spaced cs p → One c (l ∷ []) → Spaced (cs ++ c ∷ []) (p ++ l ∷ [])
+spaced_more cs c p l h k = spaced_then cs (c ∷ []) p (l ∷ []) h (l ∷ [], [], refl, k, refl)
+
+-- one more blank behind a space
+pub spaced_blank : (cs : List ℕ) (p : List Letter) (l : Letter) → is_blank l.byte ≡ true → l.numeral ≡ false → Spaced (cs ++ 32 ∷ []) p → Spaced (cs ++ 32 ∷ []) (p ++ l ∷ [])
+spaced_blank [] p l h n k =
+    none_yet Blanks1 Empty (p ++ l ∷ []) refl
+    (some-grown (λ b. IsTrue (is_blank b)) l.byte l (as_unmarked l l.byte refl n) h p (whole k))
+  where
+    whole : (Blanks1 ⋅ Empty) p → Blanks1 p
+    whole (a, b, e, i, j) = subst Blanks1 (sym (e ∙ (ap (λ x. a ++ x) j ∙ append-nil a))) i
+spaced_blank (c ∷ cs) p l h n k = grown (One c) (Spaced (cs ++ 32 ∷ [])) (Spaced (cs ++ 32 ∷ [])) p l (λ q i. spaced_blank cs q l h n i) k
+
+-- Words without spaces, and words with a space before each.
+abbrev pub is_plain : List ℕ → Bool
+is_plain [] = true
+is_plain (c ∷ w) = not (nat_eq c 32) && is_plain w
+
+abbrev pub are_plain : List (List ℕ) → Bool
+are_plain [] = true
+are_plain (w ∷ ws) = is_plain w && are_plain ws
+
+abbrev pub led : List (List ℕ) → List ℕ
+led [] = []
+led (w ∷ ws) = 32 ∷ (w ++ led ws)
+
+-- a text of P, and the words with blanks before each
+abbrev pub Words : Language → List (List ℕ) → Language
+Words P [] = P
+Words P (w ∷ ws) = Words (P ⋅ Blanks1 ⋅ Bytes w) ws
+
+is_not : (x : Bool) → not x ≡ true → x ≡ false
+is_not true h = sym h
+is_not false h = refl
+
+plain_only : (w more : List ℕ) → is_plain w ≡ true → (t : List Letter) → Spaced (w ++ more) t → (Bytes w ⋅ Spaced more) t
+plain_only [] more h t k = ([], t, refl, refl, k)
+plain_only (c ∷ w) more h t (a, b, e, i, j) =
+    let g = both (not (nat_eq c 32)) (is_plain w) h in
+    let first : a ≡ unmarked c ∷ [] = subst (λ x. chooses x Blanks1 (Byte c) a) (is_not (nat_eq c 32) g.0) i in
+    let (p, q, f, u, v) = plain_only w more g.1 b j in
+    (unmarked c ∷ p, q, e ∙ (ap (λ x. x ++ b) first ∙ ap (λ x. unmarked c ∷ x) f), ap (λ x. unmarked c ∷ x) u, v)
+
+plain_each : (w more : List ℕ) → is_plain w ≡ true → (t : List Letter) → (Bytes w ⋅ Spaced more) t → Spaced (w ++ more) t
+plain_each [] more h t (a, b, e, i, j) = subst (Spaced more) (sym (e ∙ ap (λ x. x ++ b) i)) j
+plain_each (c ∷ w) more h t (a, b, e, i, j) =
+    let g = both (not (nat_eq c 32)) (is_plain w) h in (
+      unmarked c ∷ [],
+      plain w ++ b,
+      e ∙ ap (λ x. x ++ b) i,
+      subst (λ x. chooses x Blanks1 (Byte c) (unmarked c ∷ [])) (sym (is_not (nat_eq c 32) g.0)) refl,
+      plain_each w more g.1 (plain w ++ b) (plain w, b, refl, refl, j),
+    )
+
+led_only : (P : Language) (ws : List (List ℕ)) → are_plain ws ≡ true → (t : List Letter) → (P ⋅ Spaced (led ws)) t → Words P ws t
+led_only P [] h t (a, b, e, i, j) = subst P (sym (e ∙ (ap (λ x. a ++ x) j ∙ append-nil a))) i
+led_only P (w ∷ ws) h t k =
+    let g = both (is_plain w) (are_plain ws) h in
+    led_only (P ⋅ Blanks1 ⋅ Bytes w) ws g.1 t
+    (regroup⁻¹ (P ⋅ Blanks1) (Bytes w) (Spaced (led ws)) t
+    (behind_it (P ⋅ Blanks1) (Spaced (w ++ led ws)) (Bytes w ⋅ Spaced (led ws)) t (plain_only w (led ws) g.0)
+    (regroup⁻¹ P Blanks1 (Spaced (w ++ led ws)) t k)))
+
+led_each : (P : Language) (ws : List (List ℕ)) → are_plain ws ≡ true → (t : List Letter) → Words P ws t → (P ⋅ Spaced (led ws)) t
+led_each P [] h t k = (t, [], sym (append-nil t), k, refl)
+led_each P (w ∷ ws) h t k =
+    let g = both (is_plain w) (are_plain ws) h in
+    regroup P Blanks1 (Spaced (w ++ led ws)) t
+    (behind_it (P ⋅ Blanks1) (Bytes w ⋅ Spaced (led ws)) (Spaced (w ++ led ws)) t (plain_each w (led ws) g.0)
+    (regroup (P ⋅ Blanks1) (Bytes w) (Spaced (led ws)) t
+    (led_each (P ⋅ Blanks1 ⋅ Bytes w) ws g.1 t k)))
+
+words_only : (w : List ℕ) (ws : List (List ℕ)) → is_plain w ≡ true → are_plain ws ≡ true → (t : List Letter) → Spaced (w ++ led ws) t → Words (Bytes w) ws t
+words_only w ws h k t s = led_only (Bytes w) ws k t (plain_only w (led ws) h t s)
+
+words_each : (w : List ℕ) (ws : List (List ℕ)) → is_plain w ≡ true → are_plain ws ≡ true → (t : List Letter) → Words (Bytes w) ws t → Spaced (w ++ led ws) t
+words_each w ws h k t s = plain_each w (led ws) h t (led_each (Bytes w) ws k t s)
+
+-- The words that a statement begins with.
+abbrev pub first_word : Front → List ℕ
+first_word Header = pseudo_word
+first_word Formula = f_word
+first_word Pol = pol_word
+first_word Rup = rup_word
+first_word Solution = sol_word
+first_word Delete = del_word
+first_word Output = output_word
+first_word Conclusion = conclusion_word
+first_word End = end_word
+
+abbrev pub more_words : Front → List (List ℕ)
+more_words Header = proof_word ∷ version_word ∷ two_word ∷ []
+more_words Delete = id_word ∷ []
+more_words Output = none_word ∷ []
+more_words End = pseudo_word ∷ proof_word ∷ []
+more_words _ = []
+
+abbrev pub FrontWords : Front → Language
+FrontWords f = Words (Bytes (first_word f)) (more_words f)
+
+same_words : (f : Front) → (words_of f ≡ first_word f ++ led (more_words f)) × (is_plain (first_word f) ≡ true) × (are_plain (more_words f) ≡ true)
+same_words Header = (refl, refl, refl)
+same_words Formula = (refl, refl, refl)
+same_words Pol = (refl, refl, refl)
+same_words Rup = (refl, refl, refl)
+same_words Solution = (refl, refl, refl)
+same_words Delete = (refl, refl, refl)
+same_words Output = (refl, refl, refl)
+same_words Conclusion = (refl, refl, refl)
+same_words End = (refl, refl, refl)
+
+pub front_only : (f : Front) (t : List Letter) → Spaced (words_of f) t → FrontWords f t
+front_only f t h =
+    let g = same_words f in words_only (first_word f) (more_words f) g.1 g.2 t (subst (λ x. Spaced x t) g.0 h)
+
+pub front_each : (f : Front) (t : List Letter) → FrontWords f t → Spaced (words_of f) t
+front_each f t h =
+    let g = same_words f in subst (λ x. Spaced x t) (sym g.0) (words_each (first_word f) (more_words f) g.1 g.2 t h)

@@ -1,0 +1,91 @@
+-- What is written, in parts.
+use Rattle.std.proofs.Common.{◌≡◌, ℕ, suc, ◌+◌, ◌<◌, List, [], ◌∷◌, ◌++◌, take, drop, length, refl, ap, sym, append_assoc, ◌∙◌, get_or, take-append-drop}
+use Rattle.std.proofs.lemmas.List.{append-nil, take_more}
+use Rattle.std.proofs.Math.Seq.{drop-cons}
+use Rattle.pb_proof.specs.Canonical.{listed_bytes, statement_bytes, lines, proof_bytes}
+use Rattle.pb_proof.specs.Line.Ended.{ended_lines}
+use Rattle.pb_proof.specs.declared.proof.Proof.{Proof}
+use Rattle.pb_proof.specs.declared.statement.Statement.{Statement}
+use Rattle.pb_proof.specs.declared.statement.Statement.TheVariants.{Header, F, Output, Conclude, End}
+
+-- each with a space before it
+module _ {A : Type 0} (line : A → List ℕ) where
+  pub listed_none : listed_bytes line [] ≡ []
+  unfolding listed_bytes
+  listed_none = refl
+
+  pub listed-cons : (x : A) (xs : List A) → listed_bytes line (x ∷ xs) ≡ (32 ∷ line x) ++ listed_bytes line xs
+  unfolding listed_bytes
+  listed-cons x xs = refl
+
+  listed-append : (xs ys : List A) → listed_bytes line (xs ++ ys) ≡ listed_bytes line xs ++ listed_bytes line ys
+  unfolding listed_bytes
+  listed-append [] ys = refl
+  listed-append (x ∷ xs) ys =
+      ap (λ z. 32 ∷ (line x ++ z)) (listed-append xs ys) ∙ ap (λ z. 32 ∷ z) (sym (append_assoc (line x) (listed_bytes line xs) (listed_bytes line ys)))
+
+  pub listed_more : (xs : List A) (i : ℕ) (d : A) → i < length xs → listed_bytes line (take (i + 1) xs) ≡ listed_bytes line (take i xs) ++ (32 ∷ line (get_or xs i d))
+  listed_more xs i d h =
+      ap (listed_bytes line) (take_more xs i d h)
+      ∙ (listed-append (take i xs) (get_or xs i d ∷ [])
+      ∙ ap (λ z. listed_bytes line (take i xs) ++ z)
+      (listed-cons (get_or xs i d) [] ∙ (ap (λ z. (32 ∷ line (get_or xs i d)) ++ z) listed_none ∙ append-nil (32 ∷ line (get_or xs i d)))))
+
+  pub listed_at : (xs : List A) (i : ℕ) (d : A) → i < length xs →
+      listed_bytes line xs ≡ listed_bytes line (take i xs) ++ ((32 ∷ line (get_or xs i d)) ++ listed_bytes line (drop (suc i) xs))
+  listed_at xs i d h =
+      ap (listed_bytes line) (sym (take-append-drop i xs))
+      ∙ (listed-append (take i xs) (drop i xs)
+      ∙ ap (λ z. listed_bytes line (take i xs) ++ z) (ap (listed_bytes line) (drop-cons xs i d h) ∙ listed-cons (get_or xs i d) (drop (suc i) xs)))
+
+-- each with a line feed behind it
+pub ended_none : ended_lines [] ≡ []
+unfolding ended_lines
+ended_none = refl
+
+pub ended-cons : (s : Statement) (xs : List Statement) → ended_lines (s ∷ xs) ≡ (statement_bytes s ++ (10 ∷ [])) ++ ended_lines xs
+unfolding ended_lines
+ended-cons s xs = refl
+
+ended-append : (xs ys : List Statement) → ended_lines (xs ++ ys) ≡ ended_lines xs ++ ended_lines ys
+unfolding ended_lines
+ended-append [] ys = refl
+ended-append (x ∷ xs) ys =
+    ap (λ z. (statement_bytes x ++ (10 ∷ [])) ++ z) (ended-append xs ys) ∙ sym (append_assoc (statement_bytes x ++ (10 ∷ [])) (ended_lines xs) (ended_lines ys))
+
+pub ended_more : (xs : List Statement) (i : ℕ) (d : Statement) → i < length xs → ended_lines (take (i + 1) xs) ≡ ended_lines (take i xs) ++ (statement_bytes (get_or xs i d) ++ (10 ∷ []))
+ended_more xs i d h =
+    ap ended_lines (take_more xs i d h)
+    ∙ (ended-append (take i xs) (get_or xs i d ∷ [])
+    ∙ ap (λ z. ended_lines (take i xs) ++ z)
+    (ended-cons (get_or xs i d) [] ∙ (ap (λ z. (statement_bytes (get_or xs i d) ++ (10 ∷ [])) ++ z) ended_none ∙ append-nil (statement_bytes (get_or xs i d) ++ (10 ∷ [])))))
+
+pub ended_at : (xs : List Statement) (i : ℕ) (d : Statement) → i < length xs →
+    ended_lines xs ≡ ended_lines (take i xs) ++ ((statement_bytes (get_or xs i d) ++ (10 ∷ [])) ++ ended_lines (drop (suc i) xs))
+ended_at xs i d h =
+    ap ended_lines (sym (take-append-drop i xs))
+    ∙ (ended-append (take i xs) (drop i xs)
+    ∙ ap (λ z. ended_lines (take i xs) ++ z) (ap ended_lines (drop-cons xs i d h) ∙ ended-cons (get_or xs i d) (drop (suc i) xs)))
+
+-- lines with a line feed between two
+pub lines-ended : (xs : List Statement) (s : Statement) (ys : List Statement) → lines (xs ++ s ∷ ys) ≡ ended_lines xs ++ lines (s ∷ ys)
+lines-ended [] s ys = rw ended_none refl
+lines-ended (x ∷ xs) s ys =
+    after xs
+    ∙ (ap (λ z. statement_bytes x ++ (10 ∷ z)) (lines-ended xs s ys)
+    ∙ (sym (append_assoc (statement_bytes x) (10 ∷ []) (ended_lines xs ++ lines (s ∷ ys)))
+    ∙ (sym (append_assoc (statement_bytes x ++ (10 ∷ [])) (ended_lines xs) (lines (s ∷ ys))) ∙ ap (λ z. z ++ lines (s ∷ ys)) (sym (ended-cons x xs)))))
+  where
+    after : (xs : List Statement) → lines (x ∷ (xs ++ s ∷ ys)) ≡ statement_bytes x ++ (10 ∷ lines (xs ++ s ∷ ys))
+    after [] = refl
+    after (y ∷ xs) = refl
+
+-- a proof's parts
+pub proof_parts : (v : Proof) → proof_bytes v ≡ (statement_bytes Header ++ (10 ∷ [])) ++ (statement_bytes (F v.count)
+    ++ ((10 ∷ []) ++ (ended_lines v.steps ++ ((statement_bytes Output ++ (10 ∷ [])) ++ (statement_bytes (Conclude v.conclusion) ++ ((10 ∷ []) ++ statement_bytes End))))))
+proof_parts v =
+    ap (λ z. statement_bytes Header ++ (10 ∷ z)) (after v.steps ∙ ap (λ z. statement_bytes (F v.count) ++ (10 ∷ z)) (lines-ended v.steps Output (Conclude v.conclusion ∷ End ∷ [])))
+  where
+    after : (xs : List Statement) → lines (F v.count ∷ (xs ++ Output ∷ Conclude v.conclusion ∷ End ∷ [])) ≡ statement_bytes (F v.count) ++ (10 ∷ lines (xs ++ Output ∷ Conclude v.conclusion ∷ End ∷ []))
+    after [] = refl
+    after (y ∷ xs) = refl

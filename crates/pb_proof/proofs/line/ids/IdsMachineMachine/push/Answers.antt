@@ -1,0 +1,44 @@
+use Rattle.std.proofs.Common.{refl, sym, ap}
+use Rattle.pb_proof.specs.Line.Ids.{ids_at}
+use Rattle.pb_proof.specs.declared.line.ids.phase.IdsMove.TheVariants as move
+use Rattle.pb_proof.proofs.lemmas.Ids.Theorems.{ids_is_state}
+use Rattle.pb_proof.proofs.lemmas.Ids.Pushes.{wants, midway_state}
+use Rattle.pb_proof.proofs.lemmas.Results.{unchanged}
+use Rattle.pb_proof.proofs.line.ids.IdsMachineMachine.push.Goals as goal
+
+pub returns-then-is_err-clause-pushes : goal.returns-then-is_err-clause-pushes
+returns-then-is_err-clause-pushes c = rw (← c.self.view_is) (
+    let k = unchanged c.push.result _ _ _ c.push.ensures.items (sym c.if-is_err.ensures.value) in
+    let f = wants c.self.inside.top c.self.inside.ids c.self.inside.phase c.args.byte c.number_mark.result
+    (move.Keep c.in-Keep.phase c.in-Keep.id) c.self.invariant c.number_mark.ensures.mark c.in-Keep.ensures.plan refl in
+    (f.0, f.1, ap (λ x. ids_at c.self.inside.top x c.self.inside.phase) k)
+    )
+
+pub returns-then-is_err-clause-state : goal.returns-then-is_err-clause-state
+returns-then-is_err-clause-state c =
+    let k = unchanged c.push.result _ _ _ c.push.ensures.items (sym c.if-is_err.ensures.value) in
+    rw k (ids_is_state _ c.self.invariant)
+
+pub returns-then-is_err-2-clause-pushes : goal.returns-then-is_err-2-clause-pushes
+returns-then-is_err-2-clause-pushes c = rw (← c.self.view_is) (
+    let k = unchanged c.push-in-EndWith.result _ _ _ c.push-in-EndWith.ensures.items (sym c.if-is_err-2.ensures.value) in
+    let f = wants c.self.inside.top c.self.inside.ids c.self.inside.phase c.args.byte c.number_mark.result
+    (move.EndWith c.in-EndWith.id) c.self.invariant c.number_mark.ensures.mark c.in-EndWith.ensures.plan refl in
+    (f.0, f.1, ap (λ x. ids_at c.self.inside.top x c.self.inside.phase) k)
+    )
+
+pub returns-then-is_err-2-clause-state : goal.returns-then-is_err-2-clause-state
+returns-then-is_err-2-clause-state c =
+    let k = unchanged c.push-in-EndWith.result _ _ _ c.push-in-EndWith.ensures.items (sym c.if-is_err-2.ensures.value) in
+    rw k (ids_is_state _ c.self.invariant)
+
+pub returns-in-To-clause-state : goal.returns-in-To-clause-state
+returns-in-To-clause-state c =
+    midway_state c.self.inside.top c.self.inside.ids c.in-To.phase c.self.invariant.0 c.self.invariant.1 c.in-To.ensures.fits.0 c.in-To.ensures.fits.1
+
+pub returns-else-is_err-clause-state : goal.returns-else-is_err-clause-state
+returns-else-is_err-clause-state c =
+    midway_state c.self.inside.top _ c.in-Keep.phase c.self.invariant.0 c.self.invariant.1 c.in-Keep.ensures.fits.0 c.in-Keep.ensures.fits.1
+
+pub returns-after-matches-clause-state : goal.returns-after-matches-clause-state
+returns-after-matches-clause-state c = rw (← c.self.view_is) (ids_is_state _ c.self.invariant)

@@ -1,0 +1,52 @@
+use Rattle.std.proofs.Common.{sym, ap, refl, ◌∙◌}
+use Rattle.pb_text.specs.Automaton.{Go}
+use Rattle.pb_proof.specs.declared.line.pol.phase.Move.TheVariants.{To, Turn}
+use Rattle.pb_proof.proofs.lemmas.Pol.Theorems.{pol_is_state}
+use Rattle.pb_proof.proofs.lemmas.Pol.Pushes.{moved, same_state, midway_state, when_ok, when_err, unchanged}
+use Rattle.pb_proof.proofs.line.pol.PolMachineMachine.goes.Goals as goal
+
+pub returns-then-is_err-clause-state : goal.returns-then-is_err-clause-state
+returns-then-is_err-clause-state c = rw (← c.self.view_is) (pol_is_state _ c.self.invariant.4)
+
+pub returns-then-is_err-2-clause-state : goal.returns-then-is_err-2-clause-state
+returns-then-is_err-2-clause-state c =
+    let k = unchanged c.push-in-Add.result _ _ _ c.push-in-Add.ensures (sym c.if-is_err-2.ensures.value) in
+    rw k (pol_is_state _ c.self.invariant.4)
+
+pub returns-then-is_err-3-clause-state : goal.returns-then-is_err-3-clause-state
+returns-then-is_err-3-clause-state c =
+    let k = when_err c.turn.result _ c.turn.ensures.err (sym c.if-is_err-3.ensures.value) in
+    rw (k.1, k.2, k.3) (pol_is_state _ c.self.invariant.4)
+
+pub returns-in-To-clause-goes : goal.returns-in-To-clause-goes
+returns-in-To-clause-goes c = rw (← c.self.view_is) (
+    moved c.self.inside.limit c.self.inside.top c.self.inside.words.items c.self.inside.depth c.self.inside.name c.self.inside.phase c.args.byte
+    c.kind_of.result (To c.in-To.phase) c.kind_of.ensures.kind c.in-To.ensures.plan
+    )
+
+pub returns-in-To-clause-state : goal.returns-in-To-clause-state
+returns-in-To-clause-state c =
+    midway_state c.self.inside.limit c.self.inside.top c.self.inside.words.items c.self.inside.depth c.self.inside.name c.in-To.phase c.self.invariant.4.0 c.in-To.ensures.fits.1
+
+pub returns-else-is_err-clause-state : goal.returns-else-is_err-clause-state
+returns-else-is_err-clause-state c =
+    midway_state c.self.inside.limit c.self.inside.top c.self.inside.words.items c.self.inside.depth _ c.in-Begin.phase c.self.invariant.4.0 c.in-Begin.ensures.fits.1
+
+pub returns-else-is_err-2-clause-state : goal.returns-else-is_err-2-clause-state
+returns-else-is_err-2-clause-state c =
+    midway_state c.self.inside.limit c.self.inside.top c.self.inside.words.items c.self.inside.depth _ c.in-Add.phase c.self.invariant.4.0 c.in-Add.ensures.fits.1
+
+pub returns-else-is_err-3-clause-goes : goal.returns-else-is_err-3-clause-goes
+returns-else-is_err-3-clause-goes c = rw (← c.self.view_is) (
+    let k = when_ok c.turn.result _ c.turn.ensures.ok (sym c.if-is_err-3.ensures.value) in
+    moved c.self.inside.limit c.self.inside.top c.self.inside.words.items c.self.inside.depth c.self.inside.name c.self.inside.phase c.args.byte
+    c.kind_of.result (Turn c.in-Turn.change c.in-Turn.phase) c.kind_of.ensures.kind c.in-Turn.ensures.plan
+    ∙ ap (λ s. Go s) (same_state c.self.inside.limit c.self.inside.top _ _ _ _ _ _ _ _ (sym k.0) (sym k.1) (sym k.2) refl)
+    )
+
+pub returns-else-is_err-3-clause-state : goal.returns-else-is_err-3-clause-state
+returns-else-is_err-3-clause-state c =
+    midway_state c.self.inside.limit c.self.inside.top _ _ _ c.in-Turn.phase c.self.invariant.4.0 c.in-Turn.ensures.fits.1
+
+pub returns-in-End-clause-state : goal.returns-in-End-clause-state
+returns-in-End-clause-state c = rw (← c.self.view_is) (pol_is_state _ c.self.invariant.4)

@@ -1,0 +1,18 @@
+use Rattle.std.proofs.Common.{◌≡◌, ℕ, ◌+◌, take, subst, arith, length-drop, length-take}
+use Rattle.pb_text.specs.Automaton.{Runs}
+use Rattle.pb_sums.proofs.Spans.{runs_further}
+use Rattle.pb_proof.specs.Line.Rup.{goal_automaton}
+use Rattle.pb_proof.proofs.line.rup.GoalMachineMachine.run.Goals as goal
+
+pub returns-then-more-eq0-clause-runs : goal.returns-then-more-eq0-clause-runs
+returns-then-more-eq0-clause-runs c =
+    let none : c.loop-taken.taken + c.take_front-more.result ≡ c.loop-taken.taken = omega arith in
+    subst (λ (n : ℕ). Runs goal_automaton c.args.self.now (take n c.args.piece.now) c.take_front-more.new.self) none
+    (runs_further goal_automaton c.args.self.now c.args.piece.now c.loop-taken.taken c.take_front-more.result c.loop-taken.self _ c.loop-taken.invariant.runs c.take_front-more.ensures.runs)
+
+pub loop-taken-preserved : goal.loop-taken-preserved
+loop-taken-preserved c = record {
+  bound = omega (arith, c.take_front-more.ensures.bound, length-take {A = ℕ}, length-drop {A = ℕ});
+  runs = runs_further goal_automaton c.args.self.now c.args.piece.now c.loop-taken.taken c.take_front-more.result c.loop-taken.self _ c.loop-taken.invariant.runs c.take_front-more.ensures.runs;
+  state = c.take_front-more.ensures.state;
+}

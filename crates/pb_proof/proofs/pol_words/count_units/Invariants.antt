@@ -1,6 +1,0 @@
-use Rattle.std.proofs.Common.{◌≡◌, ◌-◌, ◌^◌, min, take}
-use Rattle.pb_proof.specs.PolState.{units}
-use Rattle.pb_proof.proofs.pol_words.count_units.Given as goal
-
-abbrev pub invariant-loop-word : goal.invariant-loop-word
-invariant-loop-word l = l.count ≡ min (units (take l.word-index l.words)) (2 ^ 64 - 1)

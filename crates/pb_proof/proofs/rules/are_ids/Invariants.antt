@@ -1,6 +1,0 @@
-use Rattle.std.proofs.Common.{take, All}
-use Rattle.pb_proof.specs.Values.{IsId}
-use Rattle.pb_proof.proofs.rules.are_ids.Given as goal
-
-abbrev pub invariant-loop-id : goal.invariant-loop-id
-invariant-loop-id l = All (IsId l.top) (take l.id-index l.ids)

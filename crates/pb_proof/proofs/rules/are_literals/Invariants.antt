@@ -1,6 +1,0 @@
-use Rattle.std.proofs.Common.{take}
-use Rattle.pb_proof.specs.Values.{AreLiterals}
-use Rattle.pb_proof.proofs.rules.are_literals.Given as goal
-
-abbrev pub invariant-loop-literal : goal.invariant-loop-literal
-invariant-loop-literal l = AreLiterals (take l.literal-index l.literals)

@@ -1,8 +1,0 @@
-use Rattle.std.proofs.Common.{take, All}
-use Rattle.pb_text.specs.Limits.{largest, top_of}
-use Rattle.pb_proof.specs.Proofs.{IsStep}
-use Rattle.pb_proof.specs.Values.{IsStatementValue}
-use Rattle.pb_proof.proofs.rules.are_steps.Given as goal
-
-abbrev pub invariant-loop-step : goal.invariant-loop-step
-invariant-loop-step l = All (λ s. IsStep s × IsStatementValue (largest l.limits) (top_of l.limits) s) (take l.step-index l.steps)

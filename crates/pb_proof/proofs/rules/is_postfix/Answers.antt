@@ -1,6 +1,0 @@
-use Rattle.std.proofs.Common.{arith}
-use Rattle.pb_proof.proofs.Finished.{postfix_leads}
-use Rattle.pb_proof.proofs.rules.is_postfix.Goals as goal
-
-pub loop-word-init : goal.loop-word-init
-loop-word-init c = record { most = omega arith; leads = postfix_leads c.args.words.now }

@@ -1,0 +1,18 @@
+use Rattle.std.proofs.Common.{arith, rules, ℤ, pos, get_or}
+use mir.Val.{SFits}
+use Rattle.std.specs.Int.{w64}
+use Rattle.std.proofs.lemmas.Int.{to_z-of_z}
+use Rattle.std.proofs.lemmas.List.Elements.{All-more}
+use Rattle.pb_proof.specs.Values.{IsId}
+use Rattle.pb_proof.proofs.lemmas.Each.{each_end}
+use Rattle.pb_proof.proofs.validity.are_ids.Goals as goal
+
+pub loop-id-preserved : goal.loop-id-preserved
+loop-id-preserved c =
+    let id : ℤ = get_or c.args.ids.now c.loop-id.id-index (pos 0) in
+    let fits : SFits w64 id = search rules in
+    All-more (IsId c.args.top) c.args.ids.now c.loop-id.id-index (pos 0) (omega arith) c.loop-id.invariant
+    (rw (to_z-of_z w64 id fits) at (c.is_id.ensures.0 c.if-not-is_id.false))
+
+pub returns : goal.returns
+returns c = each_end (IsId c.args.top) c.args.ids.now c.loop-id.id-index c.loop-id-test.false c.loop-id.invariant

@@ -1,0 +1,6 @@
+use Rattle.std.proofs.Common.{arith}
+use Rattle.pb_proof.proofs.lemmas.Pol.Finished.{postfix_leads}
+use Rattle.pb_proof.proofs.validity.is_postfix.Goals as goal
+
+pub loop-word-init : goal.loop-word-init
+loop-word-init c = record { most = omega arith; leads = postfix_leads c.args.words.now }

@@ -1,0 +1,106 @@
+-- The states of a machine of claims, and its automaton.
+use Rattle.std.specs.Prelude.{◌≡◌, ℕ, ◌<◌, ◌^◌, Bool, true, false, Option, Some, None, List}
+use Rattle.pb_text.specs.Automaton.{Automaton, Next, Go, End, Refuse}
+use Rattle.pb_sums.specs.declared.Literal.{Literal}
+use Rattle.pb_proof.specs.Line.Claim.{plan, is_within, is_done, is_in_digits, PhaseFits}
+use Rattle.pb_proof.specs.Line.Literals.{LiteralsState, literals_automaton, literals_first, IsLiteralsInOrder}
+use Rattle.pb_proof.specs.declared.line.claim.phase.Showing.{Showing}
+use Rattle.pb_proof.specs.declared.line.claim.phase.Showing as showing
+use Rattle.pb_proof.specs.declared.line.claim.phase.Claim.{Claim}
+use Rattle.pb_proof.specs.declared.line.claim.phase.Claim as claim
+use Rattle.pb_proof.specs.declared.line.claim.phase.Phase.{Phase}
+use Rattle.pb_proof.specs.declared.line.claim.phase.Phase.TheVariants as phase
+use Rattle.pb_proof.specs.declared.line.claim.phase.Move.{Move}
+use Rattle.pb_proof.specs.declared.line.claim.phase.Move.TheVariants.{To, Finish, Give, Stop}
+use Rattle.pb_proof.specs.declared.conclusion.Conclusion.{Conclusion}
+use Rattle.pb_proof.specs.declared.conclusion.Conclusion.TheVariants.{NoClaim, Unsat, Sat, Bounds}
+
+-- what a machine keeps: its limits, what was read last, and the machine of literals, which reads what stands behind `:`
+pub record ClaimState : Type 0 where
+  pub limit : ℕ
+  pub top : ℕ
+  pub phase : Phase
+  pub inner : LiteralsState
+
+-- with no literal read
+abbrev pub claim_at : ℕ → ℕ → Phase → ClaimState
+claim_at limit top p = record { limit = limit; top = top; phase = p; inner = literals_first true }
+
+-- before a claim, and after it
+abbrev pub claim_first : ℕ → ℕ → ClaimState
+claim_first limit top = claim_at limit top phase.Start
+
+abbrev pub claim_last : ℕ → ℕ → ClaimState
+claim_last limit top = claim_at limit top phase.Done
+
+-- the conclusion that is claimed, and the literals that are shown
+abbrev pub showing_value : Showing → Option (List Literal) → Conclusion
+showing_value showing.TheVariants.Sat shown = Sat shown
+showing_value (showing.TheVariants.Bounds lower id upper) shown = Bounds lower id upper shown
+
+abbrev pub claim_value : Claim → Conclusion
+claim_value claim.TheVariants.NoClaim = NoClaim
+claim_value (claim.TheVariants.Unsat id) = Unsat id
+claim_value (claim.TheVariants.Shows shows) = showing_value shows None
+
+-- with what the machine of literals has read
+abbrev pub giving : ClaimState → LiteralsState → ClaimState
+giving s inner = record s { inner = inner }
+
+-- What a step of the machine of literals leads to: where it ends, its literals are shown.
+abbrev pub over : ClaimState → Showing → Next LiteralsState (List Literal) → Next ClaimState Conclusion
+over s shows (Go inner) = Go (giving s inner)
+over s shows (End literals inner) = End (showing_value shows (Some literals)) (claim_last s.limit s.top)
+over s shows Refuse = Refuse
+
+-- what it does
+abbrev pub act : ClaimState → ℕ → Move → Next ClaimState Conclusion
+act s b (To p) = Go (claim_at s.limit s.top p)
+act s b (Finish claim) = End (claim_value claim) (claim_last s.limit s.top)
+act s b (Give shows) = over s shows (literals_automaton.step s.inner b)
+act s b Stop = Refuse
+
+-- the byte before is a digit of a number
+abbrev pub is_in_number : ClaimState → Phase → Bool
+is_in_number s (phase.Shown shows) = literals_automaton.in_number s.inner
+is_in_number s p = is_in_digits p
+
+-- memory is asked for by the machine of literals alone
+abbrev pub asks : ClaimState → ℕ → Move → Bool
+asks s b (Give shows) = literals_automaton.asks s.inner b
+asks s b _ = false
+
+-- nothing is kept but by the machine of literals, once it has begun
+abbrev pub kept : ClaimState → Phase → ℕ
+kept s (phase.Shown shows) = literals_automaton.kept s.inner
+kept s _ = 0
+
+abbrev pub spent : ClaimState → Phase → ℕ
+spent s (phase.Shown shows) = literals_automaton.spent s.inner
+spent s _ = 0
+
+-- the automaton
+abbrev pub claim_automaton : Automaton ClaimState Conclusion
+claim_automaton = record {
+  step = λ s b. act s b (plan s.limit s.top s.phase b);
+  done = λ s. is_done s.phase;
+  begun = λ s. is_within s.phase;
+  in_number = λ s. is_in_number s s.phase;
+  asks = λ s b. asks s b (plan s.limit s.top s.phase b);
+  kept = λ s. kept s s.phase;
+  spent = λ s. spent s s.phase;
+}
+
+-- The machine of literals has read nothing, or some of what stands behind `:` and not all.
+abbrev pub Holds : ClaimState → Phase → Type 0
+Holds s (phase.Shown shows) = literals_automaton.done s.inner ≡ false
+Holds s _ = s.inner ≡ literals_first true
+
+-- What a machine of claims keeps of its state.
+pub record IsClaimInOrder (s : ClaimState) : Type 0 where
+  pub limit : s.limit < 2 ^ 127
+  pub top : s.top < 2 ^ 63
+  pub some : 0 < s.top
+  pub fits : PhaseFits s.limit s.top s.phase
+  pub holds : Holds s s.phase
+  pub inner : IsLiteralsInOrder s.inner

@@ -1,0 +1,114 @@
+-- The machine of the ids behind `del id`, through the line feed.
+use Rattle.std.specs.Prelude.{◌≡◌, ℕ, ◌+◌, ◌*◌, ◌-◌, ◌^◌, ◌≤◌, ◌<◌, min, ℤ, Bool, true, false, cond, nat_eq, nat_le, List, [], ◌∷◌, ◌++◌, length}
+use Rattle.pb_text.specs.Automaton.{Automaton, Next, Go, End, Refuse}
+use Rattle.pb_text.specs.Numbers.{signed}
+use Rattle.pb_proof.specs.Line.ByteKind.{number_mark}
+use Rattle.pb_proof.specs.declared.line.byte_kind.NumberMark.{NumberMark}
+use Rattle.pb_proof.specs.declared.line.byte_kind.NumberMark.TheVariants as mark
+use Rattle.pb_proof.specs.declared.line.ids.phase.IdsPhase.{IdsPhase}
+use Rattle.pb_proof.specs.declared.line.ids.phase.IdsPhase.TheVariants.{Start, Gap, Between, Minus, Digits, Closing, Done}
+use Rattle.pb_proof.specs.declared.line.ids.phase.IdsMove.{IdsMove}
+use Rattle.pb_proof.specs.declared.line.ids.phase.IdsMove.TheVariants as move
+
+-- the largest magnitude of an id, the ids that are whole, and what was read last
+pub record IdsState : Type 0 where
+  pub top : ℕ
+  pub ids : List ℤ
+  pub phase : IdsPhase
+
+abbrev pub ids_at : ℕ → List ℤ → IdsPhase → IdsState
+ids_at top ids p = record { top = top; ids = ids; phase = p }
+
+-- before the ids, and after them
+abbrev pub ids_first : ℕ → IdsState
+ids_first top = ids_at top [] Start
+
+abbrev pub ids_last : ℕ → IdsState
+ids_last top = ids_at top [] Done
+
+-- The plan for a phase and what the byte is.
+abbrev pub digits : ℕ → Bool → ℕ → ℕ → IdsMove
+digits top negative n d = cond (nat_le (10 * n + d) top) (move.To (Digits negative (10 * n + d))) move.Stop
+
+-- where an id may begin
+abbrev pub before : ℕ → NumberMark → IdsMove
+before top mark.Minus = move.To Minus
+before top (mark.Digit d) = digits top false 0 d
+before top _ = move.Stop
+
+-- where an id may end
+abbrev pub behind : ℤ → NumberMark → IdsMove
+behind id mark.Blank = move.Keep Between id
+behind id mark.Semicolon = move.Keep Closing id
+behind id mark.Feed = move.EndWith id
+behind id _ = move.Stop
+
+abbrev pub plan : ℕ → IdsPhase → NumberMark → IdsMove
+plan top Start mark.Blank = move.To Gap
+plan top Gap mark.Blank = move.To Gap
+plan top Gap k = before top k
+plan top Between mark.Blank = move.To Between
+plan top Between mark.Semicolon = move.To Closing
+plan top Between mark.Feed = move.End
+plan top Between k = before top k
+plan top Minus (mark.Digit d) = digits top true 0 d
+plan top (Digits negative n) (mark.Digit d) = digits top negative n d
+plan top (Digits negative n) k = cond (nat_eq n 0) move.Stop (behind (signed negative n) k)
+plan top Closing mark.Blank = move.To Closing
+plan top Closing mark.Feed = move.End
+plan _ _ _ = move.Stop
+
+abbrev pub act : ℕ → List ℤ → IdsMove → Next IdsState (List ℤ)
+act top ids (move.To p) = Go (ids_at top ids p)
+act top ids (move.Keep p id) = Go (ids_at top (ids ++ id ∷ []) p)
+act top ids move.End = End ids (ids_last top)
+act top ids (move.EndWith id) = End (ids ++ id ∷ []) (ids_last top)
+act top ids move.Stop = Refuse
+
+abbrev pub step : IdsState → NumberMark → Next IdsState (List ℤ)
+step s k = act s.top s.ids (plan s.top s.phase k)
+
+abbrev pub is_midway : IdsPhase → Bool
+is_midway Start = false
+is_midway Done = false
+is_midway _ = true
+
+abbrev pub is_done : IdsPhase → Bool
+is_done Done = true
+is_done _ = false
+
+abbrev pub is_in_number : IdsPhase → Bool
+is_in_number (Digits negative n) = true
+is_in_number _ = false
+
+-- whether memory may be asked for: at a byte that ends an id
+abbrev pub keeps : IdsMove → Bool
+keeps (move.Keep p id) = true
+keeps (move.EndWith id) = true
+keeps _ = false
+
+-- the automaton: ids are kept, and their count stays at its largest
+abbrev pub ids_automaton : Automaton IdsState (List ℤ)
+ids_automaton = record {
+  step = λ s b. step s (number_mark b);
+  done = λ s. is_done s.phase;
+  begun = λ s. is_midway s.phase;
+  in_number = λ s. is_in_number s.phase;
+  asks = λ s b. keeps (plan s.top s.phase (number_mark b));
+  kept = λ s. min (length s.ids) (2 ^ 64 - 1);
+  spent = λ s. length s.ids;
+}
+
+-- an id in hand is at most top
+abbrev pub PhaseFits : ℕ → IdsPhase → Type 0
+PhaseFits top (Digits negative n) = n ≤ top
+PhaseFits top _ = Unit {0}
+
+abbrev pub MoveFits : ℕ → IdsMove → Type 0
+MoveFits top (move.To p) = PhaseFits top p × (is_midway p ≡ true)
+MoveFits top (move.Keep p id) = PhaseFits top p × (is_midway p ≡ true)
+MoveFits top _ = Unit {0}
+
+-- What a machine keeps of its state: some id is within top, and before the ids and after them nothing is kept.
+abbrev pub IsIdsInOrder : IdsState → Type 0
+IsIdsInOrder s = (s.top < 2 ^ 63) × (0 < s.top) × PhaseFits s.top s.phase × (is_midway s.phase ≡ false → s.ids ≡ [])

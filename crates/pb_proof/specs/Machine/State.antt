@@ -1,0 +1,121 @@
+-- The states of a machine of proofs, and its automaton.
+use Rattle.std.specs.Prelude.{◌≡◌, ℕ, ◌^◌, ◌<◌, Bool, true, false, Option, Some, None, length}
+use Rattle.pb_text.specs.Automaton.{Automaton, Next, Go, End, Refuse, IsState}
+use Rattle.pb_proof.specs.Line.Machine.{inners, inner_first}
+use Rattle.pb_proof.specs.Machine.Transition.{plan, words_of}
+use Rattle.pb_proof.specs.declared.line.Inner.{Inner}
+use Rattle.pb_proof.specs.declared.machine.phase.Stage.{Stage}
+use Rattle.pb_proof.specs.declared.machine.phase.Stage as stage
+use Rattle.pb_proof.specs.declared.machine.phase.Rest.{Rest}
+use Rattle.pb_proof.specs.declared.machine.phase.Rest as rest
+use Rattle.pb_proof.specs.declared.machine.phase.Phase.{Phase}
+use Rattle.pb_proof.specs.declared.machine.phase.Phase as phase
+use Rattle.pb_proof.specs.declared.machine.phase.Move.{Move}
+use Rattle.pb_proof.specs.declared.machine.phase.Move.TheVariants.{To, Begin, Give, EndHeader, EndOutput, EndProof, Stop}
+use Rattle.pb_proof.specs.declared.statement.Statement.{Statement}
+use Rattle.pb_proof.specs.declared.statement.Statement as statement
+
+-- what a machine keeps: its limits, what was read last, and the machine of what stands behind a first word
+pub record ProofState : Type 0 where
+  pub limit : ℕ
+  pub top : ℕ
+  pub phase : Phase
+  pub inner : Option Inner
+
+-- with no such machine
+abbrev pub at : ℕ → ℕ → Phase → ProofState
+at limit top p = record { limit = limit; top = top; phase = p; inner = None }
+
+-- between two statements
+abbrev pub idle : ℕ → ℕ → Stage → ProofState
+idle limit top stage = at limit top (phase.TheVariants.Between stage)
+
+-- before a proof
+abbrev pub begin : ℕ → ℕ → ProofState
+begin limit top = idle limit top stage.TheVariants.Opening
+
+-- within what stands behind a first word
+abbrev pub giving : ℕ → ℕ → Rest → Inner → ProofState
+giving limit top r inner = record { limit = limit; top = top; phase = phase.TheVariants.Inside r; inner = Some inner }
+
+-- what may come behind a statement
+abbrev pub stage_behind : Rest → Stage
+stage_behind rest.TheVariants.Claimed = stage.TheVariants.Closing
+stage_behind _ = stage.TheVariants.Steps
+
+abbrev pub over : ProofState → Rest → Next Inner Statement → Next ProofState Statement
+over s r (Go inner) = Go (giving s.limit s.top r inner)
+over s r (End e inner) = End e (idle s.limit s.top (stage_behind r))
+over s r Refuse = Refuse
+
+abbrev pub step_inner : Option Inner → ℕ → Next Inner Statement
+step_inner None b = Refuse
+step_inner (Some inner) b = inners.step inner b
+
+abbrev pub act : ProofState → ℕ → Move → Next ProofState Statement
+act s b (To p) = Go (record s { phase = p })
+act s b (Begin r) = Go (giving s.limit s.top r (inner_first s.limit s.top r))
+act s b (Give r) = over s r (step_inner s.inner b)
+act s b EndHeader = End statement.TheVariants.Header (idle s.limit s.top stage.TheVariants.Formula)
+act s b EndOutput = End statement.TheVariants.Output (idle s.limit s.top stage.TheVariants.Claim)
+act s b EndProof = End statement.TheVariants.End (idle s.limit s.top stage.TheVariants.Complete)
+act s b Stop = Refuse
+
+-- a statement has begun and not ended
+abbrev pub is_within : Phase → Bool
+is_within (phase.TheVariants.Between at) = false
+is_within (phase.TheVariants.Comment at) = false
+is_within _ = true
+
+abbrev pub is_complete : Stage → Bool
+is_complete stage.TheVariants.Complete = true
+is_complete _ = false
+
+abbrev pub is_done : Phase → Bool
+is_done (phase.TheVariants.Between at) = is_complete at
+is_done _ = false
+
+-- what is asked of the machine behind a first word, where there is one
+abbrev pub asked : {A : Type 0} → A → (Inner → A) → Option Inner → A
+asked none ask None = none
+asked none ask (Some inner) = ask inner
+
+-- memory is asked for by that machine alone
+abbrev pub asks : ProofState → ℕ → Move → Bool
+asks s b (Give r) = asked false (λ i. inners.asks i b) s.inner
+asks s b _ = false
+
+abbrev pub proofs : Automaton ProofState Statement
+proofs = record {
+  step = λ s b. act s b (plan s.phase b);
+  done = λ s. is_done s.phase;
+  begun = λ s. is_within s.phase;
+  in_number = λ s. asked false inners.in_number s.inner;
+  asks = λ s b. asks s b (plan s.phase b);
+  kept = λ s. asked 0 inners.kept s.inner;
+  spent = λ s. asked 0 inners.spent s.inner;
+}
+
+-- the stages with gaps before their statements
+abbrev pub HasGaps : Stage → Type 0
+HasGaps stage.TheVariants.Opening = ⊥
+HasGaps stage.TheVariants.Complete = ⊥
+HasGaps _ = Unit {0}
+
+-- a comment stands in a gap, and words are not read to their end
+abbrev pub PhaseFits : Phase → Type 0
+PhaseFits (phase.TheVariants.Comment at) = HasGaps at
+PhaseFits (phase.TheVariants.Spelling f k) = (0 < k) × (k < length (words_of f))
+PhaseFits _ = Unit {0}
+
+-- What stands with what was read last.
+abbrev pub Holds : ProofState → Phase → Type 0
+Holds s (phase.TheVariants.Inside r) = (i : Inner) × (s.inner ≡ Some i) × (inners.done i ≡ false) × IsState inners i
+Holds s _ = s.inner ≡ None
+
+pub record IsInOrder (s : ProofState) : Type 0 where
+  pub limit : s.limit < 2 ^ 127
+  pub top : s.top < 2 ^ 63
+  pub some : 0 < s.top
+  pub fits : PhaseFits s.phase
+  pub holds : Holds s s.phase

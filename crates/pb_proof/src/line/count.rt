@@ -1,0 +1,145 @@
+//! The machine of what stands behind `f`.
+
+ghost use Rattle.std.specs.Prelude.{◌≡◌, ◌<◌, ◌≤◌, ◌^◌};
+ghost use Rattle.pb_text.specs.Limits.{top_of};
+ghost use Rattle.pb_proof.specs.Line.ByteKind.{NumberMarkFits};
+ghost use Rattle.pb_proof.specs.Line.Count.{digits, behind, plan, counting, is_done, PhaseFits, MoveFits};
+
+mod phase;
+
+use crate::line::byte_kind::NumberMark;
+use crate::line::classes::number_mark;
+use crate::line::count::phase::{CountMove, CountPhase};
+use pb_text::{Limits, Machine, Push};
+use std::marker::Model;
+
+/// A machine that reads a count or none, with blanks before it, through the line feed.
+#[derive(Drop)]
+pub struct CountMachine {
+    top: u64,
+    phase: CountPhase,
+}
+
+impl Model for CountMachine {
+    ghost use Rattle.pb_proof.specs.Line.Count.{CountState, IsCountInOrder};
+
+    ghost Value = { CountState };
+
+    ghost view = { λ m. record { top = m.top; phase = m.phase } };
+
+    ghost invariant = { λ m. IsCountInOrder (record { top = m.top; phase = m.phase }) };
+}
+
+/// The next digit of a count.
+fn digits(top: u64, value: u64, digit: u8) -> CountMove
+    requires top { top < 2 ^ 63 }
+    requires value { value ≤ top }
+    requires digit { digit < 10 }
+    ensures plan { result ≡ digits top value digit }
+    ensures fits { MoveFits top result }
+{
+    let next = 10 * value as u128 + digit as u128;
+    if next > top as u128 {
+        return CountMove::Stop;
+    }
+    CountMove::To(CountPhase::Digits(next as u64))
+}
+
+/// What a machine does where the line may end, with a count or none.
+fn behind(count: Option<u64>, gap: CountPhase, mark: NumberMark) -> CountMove
+    ensures { result ≡ behind count gap mark }
+{
+    match mark {
+        NumberMark::Blank => CountMove::To(gap),
+        NumberMark::Semicolon => CountMove::To(CountPhase::Closing(count)),
+        NumberMark::Feed => CountMove::End(count),
+        _ => CountMove::Stop,
+    }
+}
+
+/// What a machine does with a byte.
+fn plan(top: u64, phase: CountPhase, mark: NumberMark) -> CountMove
+    requires top { top < 2 ^ 63 }
+    requires phase { PhaseFits top phase }
+    requires mark { NumberMarkFits mark }
+    ensures plan { result ≡ plan top phase mark }
+    ensures fits { MoveFits top result }
+{
+    match (phase, mark) {
+        (CountPhase::Gap, NumberMark::Digit(digit)) => digits(top, 0, digit),
+        (CountPhase::Digits(value), NumberMark::Digit(digit)) => digits(top, value, digit),
+        (CountPhase::Start | CountPhase::Gap, _) => behind(None, CountPhase::Gap, mark),
+        (CountPhase::Digits(value) | CountPhase::Tail(value), _) => {
+            behind(Some(value), CountPhase::Tail(value), mark)
+        }
+        (CountPhase::Closing(_), NumberMark::Blank) => CountMove::To(phase),
+        (CountPhase::Closing(count), NumberMark::Feed) => CountMove::End(count),
+        _ => CountMove::Stop,
+    }
+}
+
+/// Whether the line has ended.
+fn is_done(phase: CountPhase) -> bool
+    ensures { result ≡ is_done phase }
+{
+    matches!(phase, CountPhase::Done)
+}
+
+impl CountMachine {
+    /// A machine before its line. It takes no memory.
+    pub fn new(limits: Limits) -> Self
+        ensures begins { result ≡ counting (top_of limits) }
+    {
+        CountMachine {
+            top: limits.top(),
+            phase: CountPhase::Start,
+        }
+    }
+}
+
+impl Machine for CountMachine {
+    ghost use Rattle.std.specs.Prelude.{Option, ℕ};
+    ghost use Rattle.pb_proof.specs.Line.Count.{count_automaton};
+
+    type Event = Option<u64>;
+
+    ghost automaton = { count_automaton };
+
+    fn push(&mut self, byte: u8) -> Push<Option<u64>> {
+        match plan(self.top, self.phase, number_mark(byte)) {
+            CountMove::To(phase) => {
+                self.phase = phase;
+                Push::Go
+            }
+            CountMove::End(count) => {
+                self.phase = CountPhase::Done;
+                Push::Event(count)
+            }
+            CountMove::Stop => {
+                if matches!(self.phase, CountPhase::Digits(_)) && byte.is_ascii_digit() {
+                    Push::Large
+                } else {
+                    Push::No
+                }
+            }
+        }
+    }
+
+    fn is_done(&self) -> bool {
+        is_done(self.phase)
+    }
+
+    fn starts(&self, byte: u8) -> bool {
+        if !matches!(self.phase, CountPhase::Start) {
+            return false;
+        }
+        !matches!(
+            plan(self.top, self.phase, number_mark(byte)),
+            CountMove::Stop
+        )
+    }
+
+    fn held(&self) -> usize {
+        0
+    }
+}

@@ -1,0 +1,209 @@
+//! The machine of ids.
+
+ghost use Rattle.std.specs.Prelude.{◌≡◌, ◌<◌, ◌≤◌, ◌^◌, ℕ};
+ghost use Rattle.pb_text.specs.Limits.{top_of};
+ghost use Rattle.pb_text.specs.Numbers.{signed};
+ghost use Rattle.pb_proof.specs.Line.ByteKind.{NumberMarkFits};
+ghost use Rattle.pb_proof.specs.Line.Ids.{digits, before, behind, plan, ids_first, is_done, PhaseFits, MoveFits};
+
+mod phase;
+
+use crate::line::byte_kind::NumberMark;
+use crate::line::classes::number_mark;
+use crate::line::ids::phase::{IdsMove, IdsPhase};
+use pb_text::{Limits, Machine, Push, Sequence};
+use std::alloc::Global;
+use std::marker::Model;
+use std::mem;
+
+/// A machine that reads one id or more with blanks before each, through the line feed.
+#[derive(Drop)]
+pub struct IdsMachine {
+    alloc: Global,
+    top: u64,
+    ids: Sequence<i64>,
+    phase: IdsPhase,
+}
+
+impl Model for IdsMachine {
+    ghost use Rattle.pb_proof.specs.Line.Ids.{IdsState, IsIdsInOrder};
+
+    ghost Value = { IdsState };
+
+    ghost view = { λ m. record { top = m.top; ids = m.ids; phase = m.phase } };
+
+    ghost invariant = { λ m. IsIdsInOrder (record { top = m.top; ids = m.ids; phase = m.phase }) };
+}
+
+fn signed(negative: bool, magnitude: u64) -> i64
+    requires { magnitude < 2 ^ 63 }
+    ensures { result ≡ signed negative magnitude }
+{
+    let value = magnitude as i64;
+    if negative { -value } else { value }
+}
+
+/// The next digit of an id.
+fn digits(top: u64, negative: bool, value: u64, digit: u8) -> IdsMove
+    requires top { top < 2 ^ 63 }
+    requires value { value ≤ top }
+    requires digit { digit < 10 }
+    ensures plan { result ≡ digits top negative value digit }
+    ensures fits { MoveFits top result }
+{
+    let next = 10 * value as u128 + digit as u128;
+    if next > top as u128 {
+        return IdsMove::Stop;
+    }
+    IdsMove::To(IdsPhase::Digits(negative, next as u64))
+}
+
+/// What a machine does where an id may begin.
+fn before(top: u64, mark: NumberMark) -> IdsMove
+    requires top { top < 2 ^ 63 }
+    requires mark { NumberMarkFits mark }
+    ensures plan { result ≡ before top mark }
+    ensures fits { MoveFits top result }
+{
+    match mark {
+        NumberMark::Minus => IdsMove::To(IdsPhase::Minus),
+        NumberMark::Digit(digit) => digits(top, false, 0, digit),
+        _ => IdsMove::Stop,
+    }
+}
+
+/// What a machine does where an id may end.
+fn behind(id: i64, mark: NumberMark) -> IdsMove
+    ensures plan { result ≡ behind id mark }
+    ensures fits { (top : ℕ) → MoveFits top result }
+{
+    match mark {
+        NumberMark::Blank => IdsMove::Keep(IdsPhase::Between, id),
+        NumberMark::Semicolon => IdsMove::Keep(IdsPhase::Closing, id),
+        NumberMark::Feed => IdsMove::EndWith(id),
+        _ => IdsMove::Stop,
+    }
+}
+
+/// What a machine does with a byte. It asks for no memory.
+#[inline(always)]
+fn plan(top: u64, phase: IdsPhase, mark: NumberMark) -> IdsMove
+    requires top { top < 2 ^ 63 }
+    requires phase { PhaseFits top phase }
+    requires mark { NumberMarkFits mark }
+    ensures plan { result ≡ plan top phase mark }
+    ensures fits { MoveFits top result }
+{
+    match (phase, mark) {
+        (IdsPhase::Start | IdsPhase::Gap, NumberMark::Blank) => IdsMove::To(IdsPhase::Gap),
+        (IdsPhase::Between, NumberMark::Blank) => IdsMove::To(IdsPhase::Between),
+        (IdsPhase::Between, NumberMark::Semicolon) => IdsMove::To(IdsPhase::Closing),
+        (IdsPhase::Between, NumberMark::Feed) => IdsMove::End,
+        (IdsPhase::Gap | IdsPhase::Between, _) => before(top, mark),
+        (IdsPhase::Minus, NumberMark::Digit(digit)) => digits(top, true, 0, digit),
+        (IdsPhase::Digits(negative, value), NumberMark::Digit(digit)) => {
+            digits(top, negative, value, digit)
+        }
+        (IdsPhase::Digits(_, 0), _) => IdsMove::Stop,
+        (IdsPhase::Digits(negative, value), _) => behind(signed(negative, value), mark),
+        (IdsPhase::Closing, NumberMark::Blank) => IdsMove::To(phase),
+        (IdsPhase::Closing, NumberMark::Feed) => IdsMove::End,
+        _ => IdsMove::Stop,
+    }
+}
+
+/// Whether the line has ended.
+fn is_done(phase: IdsPhase) -> bool
+    ensures { result ≡ is_done phase }
+{
+    matches!(phase, IdsPhase::Done)
+}
+
+impl IdsMachine {
+    /// A machine before its ids. It takes no memory.
+    pub fn new(alloc: Global, limits: Limits) -> Self
+        ensures begins { result ≡ ids_first (top_of limits) }
+    {
+        IdsMachine {
+            alloc,
+            top: limits.top(),
+            ids: Sequence::new(alloc),
+            phase: IdsPhase::Start,
+        }
+    }
+}
+
+impl Machine for IdsMachine {
+    ghost use Rattle.std.specs.Prelude.{List, ℤ};
+    ghost use Rattle.pb_proof.specs.Line.Ids.{ids_automaton};
+
+    type Event = Sequence<i64>;
+
+    ghost automaton = { ids_automaton };
+
+    fn goes(&mut self, byte: u8) -> bool {
+        match plan(self.top, self.phase, number_mark(byte)) {
+            IdsMove::To(next) => {
+                self.phase = next;
+                true
+            }
+            IdsMove::Keep(next, id) => {
+                if self.ids.push(id).is_err() {
+                    return false;
+                }
+                self.phase = next;
+                true
+            }
+            _ => false,
+        }
+    }
+
+    fn push(&mut self, byte: u8) -> Push<Sequence<i64>> {
+        match plan(self.top, self.phase, number_mark(byte)) {
+            IdsMove::To(phase) => {
+                self.phase = phase;
+                Push::Go
+            }
+            IdsMove::Keep(phase, id) => {
+                if self.ids.push(id).is_err() {
+                    return Push::Memory;
+                }
+                self.phase = phase;
+                Push::Go
+            }
+            IdsMove::End => {
+                self.phase = IdsPhase::Done;
+                Push::Event(mem::replace(&mut self.ids, Sequence::new(self.alloc)))
+            }
+            IdsMove::EndWith(id) => {
+                if self.ids.push(id).is_err() {
+                    return Push::Memory;
+                }
+                self.phase = IdsPhase::Done;
+                Push::Event(mem::replace(&mut self.ids, Sequence::new(self.alloc)))
+            }
+            IdsMove::Stop => {
+                if matches!(self.phase, IdsPhase::Digits(_, _)) && byte.is_ascii_digit() {
+                    Push::Large
+                } else {
+                    Push::No
+                }
+            }
+        }
+    }
+
+    fn is_done(&self) -> bool {
+        is_done(self.phase)
+    }
+
+    fn starts(&self, byte: u8) -> bool {
+        if !matches!(self.phase, IdsPhase::Start) {
+            return false;
+        }
+        !matches!(plan(self.top, self.phase, number_mark(byte)), IdsMove::Stop)
+    }
+
+    fn held(&self) -> usize {
+        self.ids.len()
+    }
+}

@@ -1,0 +1,269 @@
+//! The machine of literals.
+
+ghost use Rattle.std.specs.Prelude.{true, ◌≡◌, ℕ, ◌-◌, ◌^◌, ◌<◌, List, [], IfOk, OnOk, OnErr, min};
+ghost use Rattle.pb_proof.specs.Line.ByteKind.{NameMarkFits};
+ghost use Rattle.pb_proof.specs.Line.Literals.{behind, before, plan, flushed, is_more, is_done, in_hand, units, MoveFits};
+
+mod phase;
+
+use crate::line::byte_kind::NameMark;
+use crate::line::classes::name_mark;
+use crate::line::literals::phase::{LiteralsMove, LiteralsPhase};
+use pb_sums::{Literal, Name};
+use pb_text::{Machine, Push, Sequence};
+use std::alloc::{AllocError, Global};
+use std::marker::Model;
+use std::mem;
+
+/// A machine that reads literals with blanks before each, through the line feed.
+#[derive(Drop)]
+pub struct LiteralsMachine {
+    alloc: Global,
+    joined: bool,
+    literals: Sequence<Literal>,
+    name: Name,
+    phase: LiteralsPhase,
+}
+
+impl Model for LiteralsMachine {
+    ghost use Rattle.pb_proof.specs.Line.Literals.{LiteralsState, IsLiteralsInOrder};
+
+    ghost Value = { LiteralsState };
+
+    ghost view = { λ m. record { joined = m.joined; literals = m.literals; name = m.name; phase = m.phase } };
+
+    ghost invariant = { λ m. IsLiteralsInOrder (record { joined = m.joined; literals = m.literals; name = m.name; phase = m.phase }) };
+}
+
+/// What a machine does where the line may end.
+fn behind(mark: NameMark) -> LiteralsMove
+    ensures plan { result ≡ behind mark }
+    ensures fits { MoveFits result }
+{
+    match mark {
+        NameMark::Blank => LiteralsMove::To(LiteralsPhase::Gap),
+        NameMark::Semicolon => LiteralsMove::To(LiteralsPhase::Closing),
+        NameMark::Feed => LiteralsMove::End,
+        _ => LiteralsMove::Stop,
+    }
+}
+
+/// What a machine does where a literal may begin, or the line end.
+fn before(mark: NameMark) -> LiteralsMove
+    requires { NameMarkFits mark }
+    ensures plan { result ≡ before mark }
+    ensures fits { MoveFits result }
+{
+    match mark {
+        NameMark::Tilde => LiteralsMove::To(LiteralsPhase::Negation),
+        NameMark::Letter(byte) => LiteralsMove::Begin(LiteralsPhase::First(false), byte),
+        _ => behind(mark),
+    }
+}
+
+/// What a machine does with a byte. It asks for no memory.
+#[inline(always)]
+fn plan(joined: bool, phase: LiteralsPhase, mark: NameMark) -> LiteralsMove
+    requires { NameMarkFits mark }
+    ensures plan { result ≡ plan joined phase mark }
+    ensures fits { MoveFits result }
+{
+    match (phase, mark) {
+        (LiteralsPhase::Start, _) => { if joined { before(mark) } else { behind(mark) } }
+        (LiteralsPhase::Gap, _) => before(mark),
+        (LiteralsPhase::Negation, NameMark::Letter(byte)) => {
+            LiteralsMove::Begin(LiteralsPhase::First(true), byte)
+        }
+        (
+            LiteralsPhase::First(negated) | LiteralsPhase::More(negated),
+            NameMark::Letter(byte) | NameMark::Inner(byte),
+        ) => LiteralsMove::Add(LiteralsPhase::More(negated), byte),
+        (LiteralsPhase::More(_), _) => behind(mark),
+        (LiteralsPhase::Closing, NameMark::Blank) => LiteralsMove::To(phase),
+        (LiteralsPhase::Closing, NameMark::Feed) => LiteralsMove::End,
+        _ => LiteralsMove::Stop,
+    }
+}
+
+/// Whether the line has ended.
+fn is_done(phase: LiteralsPhase) -> bool
+    ensures { result ≡ is_done phase }
+{
+    matches!(phase, LiteralsPhase::Done)
+}
+
+/// How many literals have a name and are not whole.
+fn in_hand(phase: LiteralsPhase) -> usize
+    ensures { result ≡ in_hand phase }
+{
+    match phase {
+        LiteralsPhase::First(_) | LiteralsPhase::More(_) => 1,
+        _ => 0,
+    }
+}
+
+/// Ends the literal whose name is whole.
+fn flush(
+    alloc: Global,
+    literals: &mut Sequence<Literal>,
+    name: &mut Name,
+    phase: LiteralsPhase,
+) -> Result<(), AllocError>
+    ensures ok { OnOk result ((literals.new ≡ flushed phase literals.old name.old) × (name.new ≡ [])) }
+    ensures err { OnErr result ((is_more phase ≡ true) × (literals.new ≡ literals.old) × (name.new ≡ name.old)) }
+{
+    if let LiteralsPhase::More(negated) = phase {
+        let whole = mem::replace(name, Name::new(alloc));
+        if let Err(failed) = literals.push(Literal {
+            negated,
+            name: whole,
+        }) {
+            *name = failed.value.name;
+            return Err(AllocError);
+        }
+    }
+    *name = Name::new(alloc);
+    Ok(())
+}
+
+/// Ends the line: gives its literals, and keeps nothing.
+fn finish(
+    alloc: Global,
+    literals: &mut Sequence<Literal>,
+    name: &mut Name,
+    phase: &mut LiteralsPhase,
+) -> Result<Sequence<Literal>, AllocError>
+    ensures literals { IfOk result (λ all. all ≡ flushed phase.old literals.old name.old) }
+    ensures ok { OnOk result ((literals.new ≡ []) × (name.new ≡ []) × (phase.new ≡ LiteralsPhase.Done)) }
+    ensures err { OnErr result ((is_more phase.old ≡ true) × (literals.new ≡ literals.old) × (name.new ≡ name.old) × (phase.new ≡ phase.old)) }
+{
+    flush(alloc, literals, name, *phase)?;
+    *phase = LiteralsPhase::Done;
+    Ok(mem::replace(literals, Sequence::new(alloc)))
+}
+
+/// How many literals are kept, and bytes of their names. The count stays at its largest.
+fn count_units(literals: &[Literal]) -> usize
+    ensures { result ≡ min (units literals.now) (2 ^ 64 - 1) }
+{
+    let mut count: usize = 0;
+    for literal in literals {
+        let more = literal.name.as_str().len().saturating_add(1);
+        count = count.saturating_add(more);
+    }
+    count
+}
+
+impl LiteralsMachine {
+    ghost use Rattle.pb_proof.specs.Line.Literals.{literals_first};
+
+    /// A machine before its literals, which are joined to what stands before them or not. It takes no memory.
+    pub fn new(alloc: Global, joined: bool) -> Self
+        ensures begins { result ≡ literals_first joined }
+    {
+        LiteralsMachine {
+            alloc,
+            joined,
+            literals: Sequence::new(alloc),
+            name: Name::new(alloc),
+            phase: LiteralsPhase::Start,
+        }
+    }
+}
+
+impl Machine for LiteralsMachine {
+    ghost use Rattle.pb_proof.specs.Line.Literals.{literals_automaton};
+
+    type Event = Sequence<Literal>;
+
+    ghost automaton = { literals_automaton };
+
+    fn goes(&mut self, byte: u8) -> bool {
+        match plan(self.joined, self.phase, name_mark(byte)) {
+            LiteralsMove::Begin(phase, first) => {
+                let mut name = Name::new(self.alloc);
+                if name.push(first).is_err() {
+                    return false;
+                }
+                self.name = name;
+                self.phase = phase;
+                true
+            }
+            LiteralsMove::Add(phase, next) => {
+                if self.name.push(next).is_err() {
+                    return false;
+                }
+                self.phase = phase;
+                true
+            }
+            LiteralsMove::To(phase) => {
+                if flush(self.alloc, &mut self.literals, &mut self.name, self.phase).is_err() {
+                    return false;
+                }
+                self.phase = phase;
+                true
+            }
+            LiteralsMove::End | LiteralsMove::Stop => false,
+        }
+    }
+
+    fn push(&mut self, byte: u8) -> Push<Sequence<Literal>> {
+        match plan(self.joined, self.phase, name_mark(byte)) {
+            LiteralsMove::Stop => Push::No,
+            LiteralsMove::Begin(phase, first) => {
+                let mut name = Name::new(self.alloc);
+                if name.push(first).is_err() {
+                    return Push::Memory;
+                }
+                self.name = name;
+                self.phase = phase;
+                Push::Go
+            }
+            LiteralsMove::Add(phase, next) => {
+                if self.name.push(next).is_err() {
+                    return Push::Memory;
+                }
+                self.phase = phase;
+                Push::Go
+            }
+            LiteralsMove::To(phase) => {
+                if flush(self.alloc, &mut self.literals, &mut self.name, self.phase).is_err() {
+                    return Push::Memory;
+                }
+                self.phase = phase;
+                Push::Go
+            }
+            LiteralsMove::End => {
+                let Ok(literals) = finish(
+                    self.alloc,
+                    &mut self.literals,
+                    &mut self.name,
+                    &mut self.phase,
+                ) else {
+                    return Push::Memory;
+                };
+                Push::Event(literals)
+            }
+        }
+    }
+
+    fn is_done(&self) -> bool {
+        is_done(self.phase)
+    }
+
+    fn starts(&self, byte: u8) -> bool {
+        if self.joined || !matches!(self.phase, LiteralsPhase::Start) {
+            return false;
+        }
+        !matches!(
+            plan(self.joined, self.phase, name_mark(byte)),
+            LiteralsMove::Stop
+        )
+    }
+
+    fn held(&self) -> usize {
+        count_units(self.literals.as_slice())
+            .saturating_add(in_hand(self.phase))
+            .saturating_add(self.name.as_str().len())
+    }
+}

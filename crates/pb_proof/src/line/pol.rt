@@ -1,0 +1,212 @@
+//! The machine of postfix words.
+
+ghost use Rattle.std.specs.Prelude.{◌≡◌, ◌&&◌, if◌then◌else◌};
+ghost use Rattle.pb_text.specs.Automaton.{IsState};
+ghost use Rattle.pb_text.specs.Classes.{is_digit};
+ghost use Rattle.pb_text.specs.Limits.{largest, top_of};
+ghost use Rattle.pb_proof.specs.Line.Pol.{is_in_number};
+
+mod close;
+mod kind;
+mod phase;
+mod transition;
+mod words;
+
+use crate::line::pol::kind::kind_of;
+use crate::line::pol::phase::{Kind, Move, Phase};
+use crate::line::pol::transition::{in_hand, is_done, is_in_number, plan};
+use crate::line::pol::words::{count_units, finish, turn};
+use crate::word::PolWord;
+use pb_sums::Name;
+use pb_text::{Limits, Machine, Push, Sequence};
+use std::alloc::Global;
+use std::marker::Model;
+
+/// A machine that reads the words of one expression, from behind `pol` through the line feed.
+#[derive(Drop)]
+pub struct PolMachine {
+    alloc: Global,
+    limit: u128,
+    top: u64,
+    words: Vec<PolWord>,
+    depth: usize,
+    name: Name,
+    phase: Phase,
+}
+
+impl Model for PolMachine {
+    ghost use Rattle.std.specs.Prelude.{◌<◌, ◌≤◌, ◌^◌, vec_len};
+    ghost use Rattle.pb_proof.specs.Line.Pol.{PhaseFits};
+    ghost use Rattle.pb_proof.specs.Line.PolState.{PolState, IsPolInOrder};
+
+    ghost Value = { PolState };
+
+    ghost view = { λ m. record {
+      limit = m.limit;
+      top = m.top;
+      work = record { words = m.words.items; depth = m.depth; name = m.name; phase = m.phase };
+    } };
+
+    ghost invariant = { λ m. (m.limit < 2 ^ 127) × (m.top < 2 ^ 63) × (m.depth ≤ vec_len m.words) × PhaseFits m.limit m.top m.depth m.phase × IsPolInOrder (record {
+      limit = m.limit;
+      top = m.top;
+      work = record { words = m.words.items; depth = m.depth; name = m.name; phase = m.phase };
+    }) };
+}
+
+/// The answer to a byte that is not grammatical.
+fn refusal(phase: Phase, byte: u8) -> Push<Sequence<PolWord>>
+    ensures { result ≡ (if is_in_number phase && is_digit byte then Push.Large else Push.No) }
+{
+    if is_in_number(phase) && byte.is_ascii_digit() {
+        Push::Large
+    } else {
+        Push::No
+    }
+}
+
+impl PolMachine {
+    ghost use Rattle.pb_proof.specs.Line.PolState.{pol_first};
+
+    /// A machine before its words. It takes no memory.
+    pub fn new(alloc: Global, limits: Limits) -> Self
+        ensures begins { result ≡ pol_first (largest limits) (top_of limits) }
+    {
+        PolMachine {
+            alloc,
+            limit: limits.largest(),
+            top: limits.top(),
+            words: Vec::new(alloc),
+            depth: 0,
+            name: Name::new(alloc),
+            phase: Phase::Start,
+        }
+    }
+}
+
+impl Machine for PolMachine {
+    ghost use Rattle.pb_proof.specs.Line.PolState.{pol_automaton};
+
+    type Event = Sequence<PolWord>;
+
+    ghost automaton = { pol_automaton };
+
+    fn goes(&mut self, byte: u8) -> bool {
+        match plan(self.limit, self.top, self.depth, self.phase, kind_of(byte)) {
+            Move::To(phase) => {
+                self.phase = phase;
+                true
+            }
+            Move::Begin(phase) => {
+                let mut name = Name::new(self.alloc);
+                if name.push(byte).is_err() {
+                    return false;
+                }
+                self.name = name;
+                self.phase = phase;
+                true
+            }
+            Move::Add(phase) => {
+                if self.name.push(byte).is_err() {
+                    return false;
+                }
+                self.phase = phase;
+                true
+            }
+            Move::Turn(change, phase) => {
+                if turn(
+                    self.alloc,
+                    &mut self.words,
+                    &mut self.depth,
+                    &mut self.name,
+                    change,
+                )
+                .is_err()
+                {
+                    return false;
+                }
+                self.phase = phase;
+                true
+            }
+            Move::End(_) | Move::Stop => false,
+        }
+    }
+
+    fn push(&mut self, byte: u8) -> Push<Sequence<PolWord>> {
+        match plan(self.limit, self.top, self.depth, self.phase, kind_of(byte)) {
+            Move::Stop => refusal(self.phase, byte),
+            Move::To(phase) => {
+                self.phase = phase;
+                Push::Go
+            }
+            Move::Begin(phase) => {
+                let mut name = Name::new(self.alloc);
+                if name.push(byte).is_err() {
+                    return Push::Memory;
+                }
+                self.name = name;
+                self.phase = phase;
+                Push::Go
+            }
+            Move::Add(phase) => {
+                if self.name.push(byte).is_err() {
+                    return Push::Memory;
+                }
+                self.phase = phase;
+                Push::Go
+            }
+            Move::Turn(change, phase) => {
+                if turn(
+                    self.alloc,
+                    &mut self.words,
+                    &mut self.depth,
+                    &mut self.name,
+                    change,
+                )
+                .is_err()
+                {
+                    return Push::Memory;
+                }
+                self.phase = phase;
+                Push::Go
+            }
+            Move::End(change) => {
+                let Ok(words) = finish(
+                    self.alloc,
+                    &mut self.words,
+                    &mut self.depth,
+                    &mut self.name,
+                    &mut self.phase,
+                    change,
+                ) else {
+                    return Push::Memory;
+                };
+                Push::Event(words)
+            }
+        }
+    }
+
+    fn is_done(&self) -> bool {
+        is_done(self.phase)
+    }
+
+    fn starts(&self, byte: u8) -> bool {
+        if !matches!(self.phase, Phase::Start) {
+            return false;
+        }
+        let planned = plan(
+            self.limit,
+            self.top,
+            self.depth,
+            Phase::Start,
+            kind_of(byte),
+        );
+        !matches!(planned, Move::Stop)
+    }
+
+    fn held(&self) -> usize {
+        count_units(self.words.as_slice())
+            .saturating_add(in_hand(self.phase))
+            .saturating_add(self.name.as_str().len())
+    }
+}

@@ -1,0 +1,239 @@
+//! What a machine of postfix words does with a kind of byte.
+
+ghost use Rattle.std.specs.Prelude.{◌≡◌, ℕ, ◌+◌, ◌*◌, ◌<◌, ◌^◌, nat_le};
+ghost use Rattle.pb_proof.specs.Line.Pol.{is_in_number, is_done, bound, signed, number, blank, semicolon, feed, role_of, next_large, star, next_word, next, may_be_name, read, late, plan, KindFits, PhaseFits, MoveFits};
+ghost use Rattle.pb_proof.specs.Line.PolState.{in_hand};
+
+use crate::line::pol::close::{close, counted};
+use crate::line::pol::kind::{is_letter_kind, is_name_kind};
+use crate::line::pol::phase::{Change, Held, Kind, Move, Phase, Role};
+
+/// Whether the byte before is a digit of a number.
+pub fn is_in_number(phase: Phase) -> bool
+    ensures { result ≡ is_in_number phase }
+{
+    match phase {
+        Phase::Signed(_) | Phase::Number(_) => true,
+        _ => false,
+    }
+}
+
+/// Whether the line is complete.
+pub fn is_done(phase: Phase) -> bool
+    ensures { result ≡ is_done phase }
+{
+    match phase {
+        Phase::Done => true,
+        _ => false,
+    }
+}
+
+/// How many literals have a name and no word yet.
+pub fn in_hand(phase: Phase) -> usize
+    ensures { result ≡ in_hand phase }
+{
+    match phase {
+        Phase::First | Phase::Lone(_) | Phase::Name(_) => 1,
+        _ => 0,
+    }
+}
+
+/// The largest value of digits: an id, or with an expression before it a factor.
+fn bound(limit: u128, top: u64, depth: usize) -> u128
+    ensures { result ≡ bound limit top depth }
+{
+    let top = top as u128;
+    if depth == 0 || limit < top {
+        return top;
+    }
+    limit
+}
+
+/// Whether a number with one digit more is within a bound.
+fn fits(most: u128, number: u128, digit: u8) -> bool
+    requires digit { digit < 10 }
+    ensures { result ≡ nat_le (10 * number + digit) most }
+{
+    let digit = digit as u128;
+    digit <= most && number <= (most - digit) / 10
+}
+
+fn signed(top: u64, magnitude: u128, digit: u8) -> Move
+    requires digit { digit < 10 }
+    ensures plan { result ≡ signed top magnitude digit }
+    ensures fits { (limit depth : ℕ) (kind : Kind) → MoveFits limit top depth kind result }
+{
+    if !fits(top as u128, magnitude, digit) {
+        return Move::Stop;
+    }
+    Move::To(Phase::Signed(10 * magnitude + digit as u128))
+}
+
+fn number(limit: u128, top: u64, depth: usize, magnitude: u128, digit: u8) -> Move
+    requires digit { digit < 10 }
+    ensures plan { result ≡ number limit top depth magnitude digit }
+    ensures fits { (kind : Kind) → MoveFits limit top depth kind result }
+{
+    if !fits(bound(limit, top, depth), magnitude, digit) {
+        return Move::Stop;
+    }
+    Move::To(Phase::Number(10 * magnitude + digit as u128))
+}
+
+fn blank(closing: Option<(Change, Held)>) -> Move
+    ensures plan { result ≡ blank closing }
+    ensures fits { (limit top depth : ℕ) (kind : Kind) → MoveFits limit top depth kind result }
+{
+    match closing {
+        None => Move::Stop,
+        Some((change, held)) => Move::Turn(change, Phase::Gap(held)),
+    }
+}
+
+fn semicolon(depth: usize, closing: Option<(Change, Held)>) -> Move
+    requires { depth < 2 ^ 63 }
+    ensures plan { result ≡ semicolon depth closing }
+    ensures fits { (limit top : ℕ) (kind : Kind) → MoveFits limit top depth kind result }
+{
+    match closing {
+        Some((change, _)) if counted(change, depth) == 1 => Move::Turn(change, Phase::Ending),
+        _ => Move::Stop,
+    }
+}
+
+fn feed(depth: usize, closing: Option<(Change, Held)>) -> Move
+    requires { depth < 2 ^ 63 }
+    ensures plan { result ≡ feed depth closing }
+    ensures fits { (limit top : ℕ) (kind : Kind) → MoveFits limit top depth kind result }
+{
+    match closing {
+        Some((change, _)) if counted(change, depth) == 1 => Move::End(change),
+        _ => Move::Stop,
+    }
+}
+
+fn role_of(depth: usize, held: Held, kind: Kind) -> Role
+    ensures { result ≡ role_of depth held kind }
+{
+    match (held, kind) {
+        (Held::Number, Kind::D) => Role::Divide,
+        (Held::Name, Kind::W) => Role::Weaken,
+        (_, Kind::S) if depth > 0 => Role::Saturate,
+        _ => Role::Name,
+    }
+}
+
+fn next_large(kind: Kind) -> Move
+    ensures plan { result ≡ next_large kind }
+    ensures fits { (limit top depth : ℕ) → MoveFits limit top depth kind result }
+{
+    match kind {
+        Kind::Star => Move::Turn(Change::Multiply, Phase::After),
+        Kind::D => Move::Begin(Phase::Lone(Role::DivideLarge)),
+        _ => Move::Stop,
+    }
+}
+
+fn star(held: Held) -> Move
+    ensures plan { result ≡ star held }
+    ensures fits { (limit top depth : ℕ) (kind : Kind) → MoveFits limit top depth kind result }
+{
+    match held {
+        Held::Number => Move::Turn(Change::Multiply, Phase::After),
+        _ => Move::Stop,
+    }
+}
+
+fn next_word(limit: u128, top: u64, depth: usize, held: Held, kind: Kind) -> Move
+    requires limit { limit < 2 ^ 127 }
+    requires kind { KindFits kind }
+    ensures plan { result ≡ next_word limit top depth held kind }
+    ensures fits { MoveFits limit top depth kind result }
+{
+    match kind {
+        Kind::Digit(digit) => number(limit, top, depth, 0, digit),
+        Kind::Minus => Move::To(Phase::Minus),
+        Kind::Tilde => Move::To(Phase::Tilde),
+        Kind::Plus if depth >= 2 => Move::Turn(Change::Sum, Phase::After),
+        Kind::Star => star(held),
+        _ if is_letter_kind(kind) => Move::Begin(Phase::Lone(role_of(depth, held, kind))),
+        _ => Move::Stop,
+    }
+}
+
+/// The first byte of a word.
+fn next(limit: u128, top: u64, depth: usize, held: Held, kind: Kind) -> Move
+    requires limit { limit < 2 ^ 127 }
+    requires kind { KindFits kind }
+    ensures plan { result ≡ next limit top depth held kind }
+    ensures fits { MoveFits limit top depth kind result }
+{
+    match held {
+        Held::Large => next_large(kind),
+        _ => next_word(limit, top, depth, held, kind),
+    }
+}
+
+fn may_be_name(role: Role) -> bool
+    ensures { result ≡ may_be_name role }
+{
+    match role {
+        Role::DivideLarge => false,
+        _ => true,
+    }
+}
+
+/// A further byte of a word.
+fn read(limit: u128, top: u64, depth: usize, phase: Phase, kind: Kind) -> Move
+    requires limit { limit < 2 ^ 127 }
+    requires phase { PhaseFits limit top depth phase }
+    requires kind { KindFits kind }
+    ensures plan { result ≡ read limit top depth phase kind }
+    ensures fits { MoveFits limit top depth kind result }
+{
+    match (phase, kind) {
+        (Phase::Gap(held), _) => next(limit, top, depth, held, kind),
+        (Phase::Minus, Kind::Digit(digit)) => signed(top, 0, digit),
+        (Phase::Signed(n), Kind::Digit(digit)) => signed(top, n, digit),
+        (Phase::Number(n), Kind::Digit(digit)) => number(limit, top, depth, n, digit),
+        (Phase::Tilde, _) if is_letter_kind(kind) => Move::Begin(Phase::First),
+        (Phase::First, _) if is_name_kind(kind) => Move::Add(Phase::Name(true)),
+        (Phase::Lone(role), _) if may_be_name(role) && is_name_kind(kind) => {
+            Move::Add(Phase::Name(false))
+        }
+        (Phase::Name(negated), _) if is_name_kind(kind) => Move::Add(Phase::Name(negated)),
+        _ => Move::Stop,
+    }
+}
+
+/// A byte behind the `;`.
+fn late(kind: Kind) -> Move
+    ensures plan { result ≡ late kind }
+    ensures fits { (limit top depth : ℕ) → MoveFits limit top depth kind result }
+{
+    match kind {
+        Kind::Blank => Move::To(Phase::Ending),
+        Kind::Feed => Move::End(Change::Keep),
+        _ => Move::Stop,
+    }
+}
+
+/// What a machine does with a kind of byte. It asks for no memory.
+#[inline(always)]
+pub fn plan(limit: u128, top: u64, depth: usize, phase: Phase, kind: Kind) -> Move
+    requires limit { limit < 2 ^ 127 }
+    requires top { top < 2 ^ 63 }
+    requires depth { depth < 2 ^ 63 }
+    requires phase { PhaseFits limit top depth phase }
+    requires kind { KindFits kind }
+    ensures plan { result ≡ plan limit top depth phase kind }
+    ensures fits { MoveFits limit top depth kind result }
+{
+    match (phase, kind) {
+        (Phase::Ending, _) => late(kind),
+        (_, Kind::Blank) => blank(close(limit, top, depth, phase)),
+        (_, Kind::Semicolon) => semicolon(depth, close(limit, top, depth, phase)),
+        (_, Kind::Feed) => feed(depth, close(limit, top, depth, phase)),
+        _ => read(limit, top, depth, phase, kind),
+    }
+}

@@ -1,0 +1,60 @@
+//! Puts the statements of a proof together.
+
+ghost use Rattle.std.specs.Prelude.{◌≡◌, OnOk};
+
+use crate::conclusion::Conclusion;
+use crate::proof::Proof;
+use crate::statement::Statement;
+use pb_text::{Gather, Sequence};
+use std::alloc::{AllocError, Global};
+
+/// The proof of the statements so far.
+#[derive(Drop)]
+pub struct Building {
+    pub proof: Proof,
+}
+
+impl Building {
+    ghost use Rattle.pb_proof.specs.Gather.{nothing};
+
+    /// Before any statement.
+    pub fn new(alloc: Global) -> Self
+        ensures { result.proof ≡ nothing }
+    {
+        Building {
+            proof: Proof {
+                count: None,
+                steps: Sequence::new(alloc),
+                conclusion: Conclusion::NoClaim,
+            },
+        }
+    }
+}
+
+impl Gather for Building {
+    ghost use Rattle.pb_proof.specs.Gather.{with, asks};
+
+    type Event = Statement;
+
+    ghost with = { λ b e. record { proof = with b.proof e } };
+
+    ghost asks = { λ b e. asks e };
+
+    fn add(&mut self, statement: Statement) -> Result<(), AllocError> {
+        match statement {
+            Statement::Header | Statement::Output | Statement::End => Ok(()),
+            Statement::F(count) => {
+                self.proof.count = count;
+                Ok(())
+            }
+            Statement::Conclude(conclusion) => {
+                self.proof.conclusion = conclusion;
+                Ok(())
+            }
+            step => match self.proof.steps.push(step) {
+                Ok(()) => Ok(()),
+                Err(_) => Err(AllocError),
+            },
+        }
+    }
+}
