@@ -1,11 +1,14 @@
 //! Lists and texts that contracts see as plain lists.
 
-ghost use Rattle.std.specs.Prelude.{◌≡◌, ◌↔◌, ◌∷◌, ◌++◌, [], List, ℕ, Bool, IsTrue, eqb, if◌then◌else◌, is_ok, IfErr, length};
+ghost use Rattle.std.specs.Prelude.{◌≡◌, ◌↔◌, ◌∷◌, ◌++◌, [], List, ℕ, Bool, IsTrue, eqb, if◌then◌else◌, is_ok, IfErr, length, ◌<◌, ◌^◌};
+ghost use Rattle.std.specs.Iterator.Adapters.{IterYieldsInOrder};
+ghost use Rattle.std.specs.Slice.Iter.{iter_rest};
 ghost use Rattle.std.specs.Cmp.Lexicographic.{pointwise, lists_per, nat_list_eq_equiv};
 ghost use Rattle.std.specs.Cmp.{partial_equiv_from_equiv};
 
 use std::alloc::{AllocFailed, Global};
 use std::marker::Model;
+use std::slice::Iter;
 
 /// A list of values, which grows at its end.
 #[derive(Debug, Drop)]
@@ -50,6 +53,15 @@ impl<T> Sequence<T> {
         self.items.as_slice()
     }
 
+    /// The values in turn.
+    pub fn iter(&self) -> Iter<'_, T>
+        ensures rest { iter_rest result ≡ self.now }
+        ensures bound { length (iter_rest result) < 2 ^ 64 }
+        ensures runs { IterYieldsInOrder T }
+    {
+        self.items.as_slice().iter()
+    }
+
     /// Adds a value at the end, or gives it back where memory ran out.
     pub fn push(&mut self, value: T) -> Result<(), AllocFailed<T>>
         ensures items { self.new ≡ (if is_ok result then self.old ++ value ∷ [] else self.old) }
@@ -70,6 +82,18 @@ impl<T> Sequence<T> {
         ensures { IsTrue result ↔ (self.now ≡ []) }
     {
         self.items.is_empty()
+    }
+}
+
+impl<'a, T> IntoIterator for &'a Sequence<T> {
+    type Item = &'a T;
+
+    type IntoIter = Iter<'a, T>;
+
+    ghost into_iter_gives = { λ s it. (iter_rest it ≡ s.now) × (length (iter_rest it) < 2 ^ 64) × IterYieldsInOrder T };
+
+    fn into_iter(self) -> Iter<'a, T> {
+        self.iter()
     }
 }
 
