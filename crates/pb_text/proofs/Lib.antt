@@ -11,6 +11,7 @@ pub mod FixedMarks
 pub mod Follows
 pub mod Formats
 pub mod HexDigits
+pub mod ItemsPulled
 pub mod Languages
 pub mod Lists
 pub mod Numbers

@@ -1,8 +1,9 @@
-//! Machines.
+//! Sources, sinks, and machines that read a text one byte at a time.
 #![tactic(auto)]
 
 mod blank;
 pub mod doubles;
+mod events;
 mod failing;
 mod feeder;
 mod history;
@@ -23,6 +24,7 @@ mod toy;
 mod whole;
 
 pub use blank::rest_is_blank;
+pub use events::Events;
 pub use failing::unread;
 pub use feeder::{BYTE_LIMIT, Fed, Feeder};
 pub use limits::Limits;
