@@ -1,8 +1,9 @@
 -- What is owed of the bytes that a source's calls have given.
 use Rattle.std.proofs.Common.{◌≡◌, ℕ, ◌≤◌, ◌<◌, ◌++◌, Bool, true, false, List, [], Option, Some, Result, Ok, Err, inl, inr, refl, sym, ap, subst, ◌∙◌, append_assoc, append-nil, length, length-append, arith}
-use Rattle.pb_text.specs.Blank.{GivesBlank}
+use Rattle.pb_text.specs.Blank.{GivesBlank, ReadsBlank}
 use Rattle.pb_text.specs.Limits.{largest}
 use Rattle.pb_text.specs.NothingRead.{ReadsNothing, first_fault}
+use Rattle.pb_text.specs.Pulling.{Took}
 use Rattle.pb_text.specs.Reading.{byte_limit}
 use Rattle.pb_text.specs.Spelling.{place_after}
 use Rattle.pb_text.specs.declared.Limits.{Limits}
@@ -21,6 +22,7 @@ use Rattle.pb_tool.specs.declared.fault.ToolFault.{ToolFault}
 use Rattle.pb_tool.specs.declared.fault.ToolFault.TheVariants.{Text, Open, Overflow, Memory, Write, Step}
 use Rattle.pb_tool.specs.declared.fault.Input.TheVariants.{File, Instance, Proof}
 use Rattle.pb_tool.proofs.Chosen.{shows_nothing, tidies_no_proof}
+use Rattle.pb_tool.proofs.Feeds.{took_join}
 use Rattle.pb_tool.proofs.Shown.{after_offset}
 
 -- what was given by one call, and then by the next
@@ -28,6 +30,14 @@ pub given_both : (before mid after used rest : List ℕ) → mid ≡ before ++ u
 given_both before mid after used rest e f = f ∙ (ap (λ (x : List ℕ). x ++ rest) e ∙ append_assoc before used rest)
 
 -- a spelling and then a blank rest
+pub file_behind : {V : Type 0} (IsReadOf : List ℕ → Spanned V → Type 0) (read : Spanned V) (before mid after : Option (List ℕ)) (used seen : List ℕ) → Took before used seen mid → IsReadOf used read → read.past ≡ place_after used
+    → ReadsBlank read.past mid (Ok tt) after → IsFile IsReadOf before after read.event
+file_behind IsReadOf read before mid after used seen took is past (rest, more, blank, bound) =
+    let at = ap (λ (q : Place). q.offset) past ∙ after_offset used in
+    let within : length (used ++ rest) ≤ byte_limit = omega (arith, bound, at, length-append used rest) in
+    record { used = used; rest = rest; took = took_join before mid after used rest seen [] took more; read = read; spelled = is; blank = blank; within = within; value = refl }
+
+-- the same of what the calls have given
 pub given_file : {V : Type 0} (IsReadOf : List ℕ → Spanned V → Type 0) (read : Spanned V) (before mid after used : List ℕ) → mid ≡ before ++ used → IsReadOf used read → read.past ≡ place_after used
     → GivesBlank read.past mid (Ok tt) after → OfGiven (λ left end. IsFile IsReadOf left end read.event) before after
 given_file IsReadOf read before mid after used e is past (rest, f, blank, bound) =

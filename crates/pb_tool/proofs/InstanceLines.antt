@@ -1,7 +1,7 @@
 -- The text of an instance whose statements are put together one by one is its canonical text.
 use Rattle.std.proofs.Common.{◌≡◌, ◌↔◌, ℕ, suc, zero, List, [], ◌∷◌, ◌++◌, map, Bool, true, false, IsTrue, Option, None, Result, Ok, Err, refl, sym, ap, ap₂, subst, ◌∙◌, append_assoc, append-nil}
 use Rattle.pb_text.specs.Spelling.{Item, Letter}
-use Rattle.pb_text.specs.Whole.{gathered, events_of, IsWhole, IsAsking, StopsAfter, ReadsWhole, ReadsGiven, Reading as reading, Keeping as keeping}
+use Rattle.pb_text.specs.Whole.{gathered, events_of, IsWhole, IsAsking, StopsAfter, ReadsWhole, Reading as reading, Keeping as keeping}
 use Rattle.pb_text.specs.declared.Spanned.{Spanned}
 use Rattle.pb_text.specs.declared.Stop.{Stop}
 use Rattle.pb_text.specs.declared.Why.{Why}
@@ -11,7 +11,7 @@ use Rattle.pb_text.proofs.Unkept.{unkept_viable, unkept_place}
 use Rattle.pb_opb.specs.Building.{MayKeep}
 use Rattle.pb_opb.specs.Instances.{IsEntry, IsBody, IsBegun, IsInstance}
 use Rattle.pb_opb.specs.Values.{IsValueOf, last_or}
-use Rattle.pb_opb.specs.Whole.{IsRead, StopsIn, ReadsValue, GivesValue, WantsMemory, WantsIn, Reading, Keeping, Asking, Ending}
+use Rattle.pb_opb.specs.Whole.{IsRead, StopsIn, ReadsValue, WantsMemory, WantsIn, Reading, Keeping, Asking, Ending}
 use Rattle.pb_opb.specs.declared.Instance.{Instance}
 use Rattle.pb_opb.specs.declared.OpbEvent.{OpbEvent}
 use Rattle.pb_opb.specs.declared.OpbEvent.TheVariants.{Header, Comment, Objective, Constraint}
@@ -97,7 +97,7 @@ module _ (limit top longest : ℕ) (accepted : List (Item OpbEvent) → Type 0) 
   abbrev keeps : InstanceText → OpbEvent → Bool
   keeps t e = asks e
 
-  is_text : (used : List ℕ) (m : Spanned InstanceText) → IsWhole accepted longest with empty used m → IsRead (IsInstance limit top) longest IsTextOf used m
+  pub is_text : (used : List ℕ) (m : Spanned InstanceText) → IsWhole accepted longest with empty used m → IsRead (IsInstance limit top) longest IsTextOf used m
   is_text used m w = record {
     marks = w.marks;
     spelled = formats.is_spelled accepted (IsInstance limit top) only each longest used w.marks w.spelled;
@@ -117,11 +117,6 @@ module _ (limit top longest : ℕ) (accepted : List (Item OpbEvent) → Type 0) 
         → ReadsValue (IsInstance limit top) longest IsTextOf before result after
     reads_text before (Ok m) after (used, seen, took, w) = (used, seen, took, is_text used m w)
     reads_text before (Err s) after (used, seen, took, w) = (used, seen, took, stops_text used seen s w)
-
-    pub gives_text : (before : List ℕ) (result : Result (Spanned InstanceText) Stop) (after : List ℕ) → ReadsGiven accepted longest with empty may_ask keeps before result after
-        → GivesValue (IsInstance limit top) longest IsTextOf before result after
-    gives_text before (Ok m) after (used, e, w) = (used, e, is_text used m w)
-    gives_text before (Err s) after (used, seen, e, w) = (used, seen, e, stops_text used seen s w)
 
     -- a stop for want of memory
     module _ (may : List ℕ → ℕ → Type 0) (to : (used : List ℕ) (b : ℕ) → may_ask used b → may used b) where

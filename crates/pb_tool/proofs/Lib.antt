@@ -4,8 +4,10 @@ mod Parsed
 mod Sequence
 mod Feeds
 mod ProofLines
+mod ProofFile
 mod Ordered
 mod InstanceLines
+mod InstanceFile
 mod Shown
 mod ShownLine
 mod Chosen

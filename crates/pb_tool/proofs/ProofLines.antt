@@ -2,7 +2,7 @@
 use Rattle.std.proofs.Common.{◌≡◌, ◌↔◌, ℕ, List, [], ◌∷◌, ◌++◌, Bool, Option, None, Result, Ok, Err, refl, sym, ap, ◌∙◌, subst, append_assoc, append-nil, All}
 use Rattle.std.proofs.lemmas.List.Elements.{All-head, All-tail}
 use Rattle.pb_text.specs.Spelling.{Item}
-use Rattle.pb_text.specs.Whole.{gathered, events_of, IsWhole, IsAsking, StopsAfter, ReadsWhole, ReadsGiven, Reading as reading, Keeping as keeping}
+use Rattle.pb_text.specs.Whole.{gathered, events_of, IsWhole, IsAsking, StopsAfter, ReadsWhole, Reading as reading, Keeping as keeping}
 use Rattle.pb_text.specs.declared.Spanned.{Spanned}
 use Rattle.pb_text.specs.declared.Stop.{Stop}
 use Rattle.pb_text.specs.declared.Why.{Why}
@@ -12,7 +12,7 @@ use Rattle.pb_text.proofs.Unkept.{unkept_viable, unkept_place}
 use Rattle.pb_proof.specs.Gather.{asks, MayKeep}
 use Rattle.pb_proof.specs.Canonical.{statement_bytes, lines}
 use Rattle.pb_proof.specs.Proofs.{IsStep, statements_of, IsProof, IsProofOf}
-use Rattle.pb_proof.specs.Whole.{IsRead, StopsIn, ReadsValue, GivesValue, WantsMemory, WantsIn, Reading, Keeping, Asking, Ending}
+use Rattle.pb_proof.specs.Whole.{IsRead, StopsIn, ReadsValue, WantsMemory, WantsIn, Reading, Keeping, Asking, Ending}
 use Rattle.pb_proof.specs.declared.Proof.{Proof}
 use Rattle.pb_proof.specs.declared.Statement.{Statement}
 use Rattle.pb_proof.specs.declared.Statement.TheVariants.{Header, F, Pol, Rup, Soli, Solx, Delete, Output, Conclude, End}
@@ -82,7 +82,7 @@ module _ (limit top longest : ℕ) (accepted : List (Item Statement) → Type 0)
   of_items : (t : ProofText) (items : List (Item Statement)) → t ≡ gathered with empty (events_of items) → IsProof limit top items → IsTextOf (events_of items) t
   of_items t items e (v, (steps, are, first, spelled)) = (v, are, ap text_of (e ∙ ap (gathered with empty) are) ∙ proof_text empty n v steps)
 
-  is_text : (used : List ℕ) (m : Spanned ProofText) → IsWhole accepted longest with empty used m → IsRead (IsProof limit top) longest IsTextOf used m
+  pub is_text : (used : List ℕ) (m : Spanned ProofText) → IsWhole accepted longest with empty used m → IsRead (IsProof limit top) longest IsTextOf used m
   is_text used m w = record {
     marks = w.marks;
     spelled = formats.is_spelled accepted (IsProof limit top) only each longest used w.marks w.spelled;
@@ -102,11 +102,6 @@ module _ (limit top longest : ℕ) (accepted : List (Item Statement) → Type 0)
         → ReadsValue (IsProof limit top) longest IsTextOf before result after
     reads_text before (Ok m) after (used, seen, took, w) = (used, seen, took, is_text used m w)
     reads_text before (Err s) after (used, seen, took, w) = (used, seen, took, stops_text used seen s w)
-
-    pub gives_text : (before : List ℕ) (result : Result (Spanned ProofText) Stop) (after : List ℕ) → ReadsGiven accepted longest with empty may_ask keeps before result after
-        → GivesValue (IsProof limit top) longest IsTextOf before result after
-    gives_text before (Ok m) after (used, e, w) = (used, e, is_text used m w)
-    gives_text before (Err s) after (used, seen, e, w) = (used, seen, e, stops_text used seen s w)
 
     -- a stop for want of memory
     module _ (may : List ℕ → ℕ → Type 0) (to : (used : List ℕ) (b : ℕ) → may_ask used b → may used b) where

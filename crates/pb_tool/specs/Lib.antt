@@ -3,6 +3,7 @@ pub mod Checks
 pub mod Deciding
 pub mod Faults
 pub mod Files
+pub mod Gathered
 pub mod Headline
 pub mod InstanceText
 pub mod Given

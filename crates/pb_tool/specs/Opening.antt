@@ -1,8 +1,8 @@
 -- What a source is read as.
 use Rattle.std.specs.Prelude.{ℕ, List, Option}
 use Rattle.pb_tool.specs.Files.{MayBeProof, MayBeInstance}
-use Rattle.pb_tool.specs.declared.opening.Format.{Format}
-use Rattle.pb_tool.specs.declared.opening.Format.TheVariants as format
+use Rattle.pb_tool.specs.declared.file.Format.{Format}
+use Rattle.pb_tool.specs.declared.file.Format.TheVariants as format
 
 -- the source may have this format
 abbrev pub IsReadAs : Option (List ℕ) → Format → Type 0

@@ -4,6 +4,7 @@ ghost use Rattle.std.specs.Prelude.{◌≡◌, ◌++◌, None, OnErr, OnOk};
 ghost use Rattle.pb_text.specs.Writing.{Writes};
 ghost use Rattle.pb_tool.specs.InstanceText.{line, line_if, text_of};
 
+use crate::canonical::Canonical;
 use crate::page::Page;
 use pb_opb::{OpbEvent, write_event};
 use pb_text::{Failed, Gather, Sink, write_bytes};
@@ -32,15 +33,6 @@ impl InstanceText {
             page: Page::new(alloc),
             objective: None,
         }
-    }
-
-    /// Writes the text.
-    pub(crate) fn write<W: Sink>(&self, out: &mut W) -> Result<(), Failed>
-        ensures { Writes W.contents W.faults out.old (text_of self.now) result out.new }
-    {
-        write_line_if(&self.header, out)?;
-        write_bytes(self.page.as_slice(), out)?;
-        write_line_if(&self.objective, out)
     }
 
     /// Adds a statement to the text, behind an objective that is kept. Where memory ran out the text is unchanged.
@@ -90,6 +82,16 @@ fn write_behind<W: Sink>(
 {
     write_line_if(before, out)?;
     write_line(event, out)
+}
+
+impl Canonical for InstanceText {
+    ghost text = { text_of };
+
+    fn write_text<W: Sink>(&self, out: &mut W) -> Result<(), Failed> {
+        write_line_if(&self.header, out)?;
+        write_bytes(self.page.as_slice(), out)?;
+        write_line_if(&self.objective, out)
+    }
 }
 
 impl Gather for InstanceText {

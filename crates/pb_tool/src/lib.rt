@@ -1,21 +1,19 @@
 //! The command: its words and its faults.
 #![tactic(auto)]
 
+mod canonical;
 mod check_laws;
 mod checker;
 mod fault;
+mod file;
 mod instance_text;
-mod instance_tidying;
 mod laws;
 mod limiting;
 mod normalising;
-mod opening;
 mod page;
 mod proof_text;
-mod proof_tidying;
 mod refusal;
 mod showing;
-mod statement;
 mod tidying;
 mod verdict;
 mod verify;

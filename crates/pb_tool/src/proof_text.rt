@@ -4,6 +4,7 @@ ghost use Rattle.std.specs.Prelude.{◌≡◌, ◌++◌, OnErr, OnOk};
 ghost use Rattle.pb_text.specs.Writing.{Writes};
 ghost use Rattle.pb_tool.specs.ProofText.{back_of, front_of, line, text_of};
 
+use crate::canonical::Canonical;
 use crate::page::Page;
 use pb_proof::{Conclusion, Statement, write_statement};
 use pb_text::{Failed, Gather, Sink, write_bytes};
@@ -29,15 +30,6 @@ impl ProofText {
             steps: Page::new(alloc),
             conclusion: Statement::Conclude(Conclusion::NoClaim),
         }
-    }
-
-    /// Writes the text.
-    pub(crate) fn write<W: Sink>(&self, out: &mut W) -> Result<(), Failed>
-        ensures { Writes W.contents W.faults out.old (text_of self.now) result out.new }
-    {
-        self.write_front(out)?;
-        write_bytes(self.steps.as_slice(), out)?;
-        self.write_back(out)
     }
 
     /// Writes the lines before the steps.
@@ -79,6 +71,16 @@ fn write_line<W: Sink>(statement: &Statement, out: &mut W) -> Result<(), Failed>
 {
     write_statement(statement, out)?;
     write_bytes(b"\n", out)
+}
+
+impl Canonical for ProofText {
+    ghost text = { text_of };
+
+    fn write_text<W: Sink>(&self, out: &mut W) -> Result<(), Failed> {
+        self.write_front(out)?;
+        write_bytes(self.steps.as_slice(), out)?;
+        self.write_back(out)
+    }
 }
 
 impl Gather for ProofText {

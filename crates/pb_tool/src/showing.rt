@@ -13,9 +13,9 @@ ghost use Rattle.pb_tool.specs.Showing.{shown_line, EndsAt, Shows};
 ghost use Rattle.pb_tool.specs.Tidying.{IsOpb};
 ghost use Rattle.pb_tool.specs.Wants.{AsksOpb, AsksVeri, IfStopped, WantsEach, WantsShowing};
 
+use crate::canonical::Canonical;
 use crate::fault::{ToolFault, refused};
-use crate::opening::{Format, format_of, unread_file};
-use crate::statement::Statement;
+use crate::file::{Format, format_of, unread_file};
 use pb_opb::OpbMachine;
 use pb_proof::ProofMachine;
 use pb_sums::write_place;
@@ -90,7 +90,7 @@ fn show_instance<S: Source, W: Sink>(
 }
 
 /// The same for what a machine reads.
-fn show_each<S: Source, W: Sink, E: Statement + Drop, M: Machine<Event = E> + Drop>(
+fn show_each<S: Source, W: Sink, E: Canonical + Drop, M: Machine<Event = E> + Drop>(
     machine: M,
     longest: u64,
     input: &mut S,
@@ -131,14 +131,14 @@ fn end_of<S: Source>(input: &mut S, place: Place) -> Result<(), ToolFault>
 }
 
 /// Writes the line of a statement, which nothing wants any more.
-fn show_one<W: Sink, E: Statement + Drop>(read: Spanned<E>, out: &mut W) -> Result<(), Failed>
+fn show_one<W: Sink, E: Canonical + Drop>(read: Spanned<E>, out: &mut W) -> Result<(), Failed>
     ensures { Writes W.contents W.faults out.old (shown_line E.text read) result out.new }
 {
     write_shown(&read, out)
 }
 
 /// Writes the line of a statement.
-fn write_shown<W: Sink, E: Statement>(read: &Spanned<E>, out: &mut W) -> Result<(), Failed>
+fn write_shown<W: Sink, E: Canonical>(read: &Spanned<E>, out: &mut W) -> Result<(), Failed>
     ensures { Writes W.contents W.faults out.old (shown_line E.text read.now) result out.new }
 {
     write_place(read.first, out)?;

@@ -1,23 +1,26 @@
 //! `pb tidy`: the canonical spelling of a file.
 
-ghost use Rattle.std.specs.Prelude.{◌≡◌, ◌<◌, ◌^◌, true, None, unwrap_or, IfSome, IfOk, IfErr};
+ghost use Rattle.std.specs.Prelude.{◌≡◌, ◌<◌, ◌^◌, false, true, unwrap_or, IfSome, IfOk, IfErr};
+ghost use Rattle.pb_text.specs.Automaton.{Accepts, MayAsk};
 ghost use Rattle.pb_text.specs.Limits.{largest};
-ghost use Rattle.pb_text.specs.Pulling.{faults_after};
 ghost use Rattle.pb_text.specs.Writing.{Writes};
 ghost use Rattle.pb_tool.specs.Faults.{faults_told};
-ghost use Rattle.pb_tool.specs.Files.{TidiesFile};
+ghost use Rattle.pb_tool.specs.Files.{TidiesFile, TidiesProof};
+ghost use Rattle.pb_tool.specs.Gathered.{TidiesEach};
 ghost use Rattle.pb_tool.specs.Given.{OfGiven, TidiesGiven};
-ghost use Rattle.pb_tool.specs.Tidying.{is_bare, tidied, IsAsked, IsDenied, IsNoOpbFile, IsOpbFile, Tidies};
-ghost use Rattle.pb_tool.specs.Wants.{IfStopped, WantsInstance, WantsTidying};
+ghost use Rattle.pb_tool.specs.Tidying.{is_bare, tidied, IsAsked, IsDenied, Tidies};
+ghost use Rattle.pb_tool.specs.Wants.{IfStopped, WantsInstance, WantsProof, WantsTidying};
 
+use crate::canonical::Canonical;
 use crate::fault::{Input, ToolFault, refused};
-use crate::instance_tidying::tidy_instance;
+use crate::file::{Format, format_of, read_file, read_instance_file, unread_file};
+use crate::instance_text::InstanceText;
 use crate::normalising::{normalised, overflows};
-use crate::opening::{Format, format_of, unread_file};
-use crate::proof_tidying::tidy_proof;
+use crate::proof_text::ProofText;
 use pb_normal::HashKeys;
-use pb_opb::{Instance, read_instance_within, write_instance};
-use pb_text::{BYTE_LIMIT, Failed, Limits, Sink, Source, Stop, rest_is_blank, write_bytes};
+use pb_opb::{Instance, OpbMachine, write_instance};
+use pb_proof::ProofMachine;
+use pb_text::{BYTE_LIMIT, Failed, Gather, Limits, Machine, Sink, Source, write_bytes};
 use std::alloc::Global;
 
 /// Reads a file, behind whose text only white space and comments may stand, and writes its canonical spelling and a
@@ -80,6 +83,77 @@ pub fn tidy_with_hasher<S: Source, W: Sink>(
     }
 }
 
+/// The same for a proof: its canonical spelling and a line feed.
+fn tidy_proof<S: Source, W: Sink>(
+    alloc: Global,
+    input: &mut S,
+    out: &mut W,
+    longest: u64,
+    limits: Limits,
+) -> Result<(), ToolFault>
+    requires { 0 < longest }
+    ensures tidies { TidiesProof limits longest W.contents W.faults (S.left input.old) out.old result (S.left input.new) out.new }
+    ensures given { OfGiven (λ left rest. TidiesProof limits longest W.contents W.faults left out.old result rest out.new) (S.history input.old) (S.history input.new) }
+    ensures memory { IfStopped result (WantsProof limits longest (S.left input.old) (S.left input.new)) }
+    ensures faults { S.faults input.new ≡ faults_told result (S.faults input.old) }
+{
+    tidy_each(
+        ProofMachine::new(alloc, limits),
+        ProofText::new(alloc),
+        longest,
+        input,
+        out,
+    )
+}
+
+/// The same for an instance: its canonical spelling and a line feed if that does not end in one.
+fn tidy_instance<S: Source, W: Sink>(
+    alloc: Global,
+    input: &mut S,
+    out: &mut W,
+    longest: u64,
+    limits: Limits,
+) -> Result<(), ToolFault>
+    requires { 0 < longest }
+    ensures tidies { Tidies limits longest false W.contents W.faults (S.left input.old) out.old result (S.left input.new) out.new }
+    ensures given { OfGiven (λ left rest. Tidies limits longest false W.contents W.faults left out.old result rest out.new) (S.history input.old) (S.history input.new) }
+    ensures memory { IfStopped result (WantsInstance limits longest (S.left input.old) (S.left input.new)) }
+    ensures faults { S.faults input.new ≡ faults_told result (S.faults input.old) }
+{
+    tidy_each(
+        OpbMachine::new(alloc, limits),
+        InstanceText::new(alloc),
+        longest,
+        input,
+        out,
+    )
+}
+
+/// The same for what a machine reads: the text of its statements put together, beginning with `empty`. It writes nothing
+/// before the whole input was accepted.
+fn tidy_each<S: Source, W: Sink, M: Machine + Drop, G: Gather<Event = M::Event> + Canonical + Drop>(
+    machine: M,
+    empty: G,
+    longest: u64,
+    input: &mut S,
+    out: &mut W,
+) -> Result<(), ToolFault>
+    requires between { M.automaton.begun machine ≡ false }
+    requires some { 0 < longest }
+    ensures tidies { TidiesEach (Accepts M.automaton machine) longest G.with empty (MayAsk M.automaton machine) G.asks G.text W.contents W.faults (S.left input.old) out.old result (S.left input.new) out.new }
+    ensures given { OfGiven (λ left rest. TidiesEach (Accepts M.automaton machine) longest G.with empty (MayAsk M.automaton machine) G.asks G.text W.contents W.faults left out.old result rest out.new) (S.history input.old) (S.history input.new) }
+    ensures faults { S.faults input.new ≡ faults_told result (S.faults input.old) }
+{
+    let text = match read_file(input, machine, longest, empty) {
+        Ok(text) => text,
+        Err(stop) => return Err(refused(stop)),
+    };
+    match text.write_text(out) {
+        Ok(()) => Ok(()),
+        Err(Failed) => Err(ToolFault::Write),
+    }
+}
+
 /// Reads an instance, behind which only white space and comments may stand, and writes its normal form and a line feed if
 /// that does not end in one.
 fn tidy_normal<S: Source, W: Sink>(
@@ -96,9 +170,9 @@ fn tidy_normal<S: Source, W: Sink>(
     ensures memory { IfStopped result (WantsInstance limits longest (S.left input.old) (S.left input.new)) }
     ensures faults { S.faults input.new ≡ faults_told result (S.faults input.old) }
 {
-    let instance = match read_file(alloc, input, longest, limits) {
+    let instance = match read_instance_file(alloc, input, longest, limits) {
         Ok(instance) => instance,
-        Err(stop) => return Err(refused(stop)),
+        Err(refusal) => return Err(refused(refusal)),
     };
     let form = match normal_form(alloc, keys, instance, limits) {
         Ok(form) => form,
@@ -107,31 +181,6 @@ fn tidy_normal<S: Source, W: Sink>(
     match write_tidied(&form, out) {
         Ok(()) => Ok(()),
         Err(Failed) => Err(ToolFault::Write),
-    }
-}
-
-/// Reads an instance, behind which only white space and comments may stand.
-pub(crate) fn read_file<S: Source>(
-    alloc: Global,
-    input: &mut S,
-    longest: u64,
-    limits: Limits,
-) -> Result<Instance, Stop>
-    requires { 0 < longest }
-    ensures file { IfOk result (IsOpbFile limits longest (S.left input.old) (S.left input.new)) }
-    ensures refused { IfErr result (IsNoOpbFile limits longest (S.left input.old) (S.left input.new)) }
-    ensures given { IfOk result (λ v. OfGiven (λ left rest. IsOpbFile limits longest left rest v) (S.history input.old) (S.history input.new)) }
-    ensures refused_given { IfErr result (λ s. OfGiven (λ left rest. IsNoOpbFile limits longest left rest s) (S.history input.old) (S.history input.new)) }
-    ensures memory { IfErr result (WantsInstance limits longest (S.left input.old) (S.left input.new)) }
-    ensures faults { S.faults input.new ≡ faults_after None result (S.faults input.old) }
-{
-    let read = match read_instance_within(alloc, input, longest, limits) {
-        Ok(read) => read,
-        Err(stop) => return Err(stop),
-    };
-    match rest_is_blank(input, read.past) {
-        Ok(()) => Ok(read.event),
-        Err(stop) => Err(stop),
     }
 }
 

@@ -15,7 +15,7 @@ ghost use Rattle.pb_tool.specs.Wants.{IfInstanceStopped, IfProofStopped, IfTextS
 
 use crate::checker::{CheckFault, step_through};
 use crate::fault::{Input, ToolFault};
-use crate::tidying::read_file;
+use crate::file::read_instance_file;
 use crate::verdict::write_verdict;
 use pb_normal::HashKeys;
 use pb_proof::{ProofMachine, proofs_are_exact, reads_are_of_proofs};
@@ -116,7 +116,7 @@ fn opened<S: Source>(
     ensures wants { IfErr result (λ f. IfInstanceStopped f (WantsInstance limits longest (S.left input.old) (S.left input.new))) }
     ensures faults { S.faults input.new ≡ faults_of_instance result (S.faults input.old) }
 {
-    let instance = match read_file(alloc, input, longest, limits) {
+    let instance = match read_instance_file(alloc, input, longest, limits) {
         Ok(instance) => instance,
         Err(stop) => {
             return Err(ToolFault::Text {

@@ -45,11 +45,11 @@ loop-read-preserved g c =
     let (more, sofar) = t.row c.args.longest c.args.machine (g.S.Source.left c.args.input.now) marks pulled in
     record {
       faults = rw pulled.running at t.faults ∙ c.loop-read.invariant.faults;
-      shown = (marks ++ c.in-Ok-Some.read ∷ [], more, part_wrote g.W.Sink.contents g.W.Sink.faults _ _ _ _ _ _ (shown_more g.E.Statement.text marks c.in-Ok-Some.read) wrote c.in-Ok.ensures);
+      shown = (marks ++ c.in-Ok-Some.read ∷ [], more, part_wrote g.W.Sink.contents g.W.Sink.faults _ _ _ _ _ _ (shown_more g.E.Canonical.text marks c.in-Ok-Some.read) wrote c.in-Ok.ensures);
       given = (
         given_marks ++ c.in-Ok-Some.read ∷ [],
         given_next {g = g.M.Machine} c.args.longest c.args.machine (g.S.Source.history c.args.input.now) (g.S.Source.history c.loop-read.input) (g.S.Source.history c.pull.new.source) given_marks c.loop-read.feeder c.pull.new.feeder has (g.S.Source.left c.loop-read.input) (g.S.Source.left c.pull.new.source) c.in-Ok-Some.read (t.pulls c.args.longest c.args.machine has.0 given_marks (rw has.4 tt) has.3) t.stop,
-        part_wrote g.W.Sink.contents g.W.Sink.faults _ _ _ _ _ _ (shown_more g.E.Statement.text given_marks c.in-Ok-Some.read) went c.in-Ok.ensures,
+        part_wrote g.W.Sink.contents g.W.Sink.faults _ _ _ _ _ _ (shown_more g.E.Canonical.text given_marks c.in-Ok-Some.read) went c.in-Ok.ensures,
       );
     }
 
@@ -72,13 +72,13 @@ returns-clause-shows g c =
     let t = rw (c.in-Ok-None.is, c.in-Ok-None.field-0-is) at c.pull.ensures in
     let all = t.row c.args.longest c.args.machine (g.S.Source.left c.args.input.now) marks pulled in
     let ends = subst (λ (p : Place). EndsAt p (g.S.Source.left c.pull.new.source) c.end_of.result (g.S.Source.left c.end_of.new.input)) c.place.ensures.place c.end_of.ensures.ends in
-    shows_end (Accepts g.M.Machine.automaton c.args.machine) c.args.longest g.E.Statement.text g.W.Sink.contents g.W.Sink.faults (g.S.Source.left c.args.input.now) (g.S.Source.left c.pull.new.source) (g.S.Source.left c.end_of.new.input) marks _ _ _ c.end_of.result all ends wrote
+    shows_end (Accepts g.M.Machine.automaton c.args.machine) c.args.longest g.E.Canonical.text g.W.Sink.contents g.W.Sink.faults (g.S.Source.left c.args.input.now) (g.S.Source.left c.pull.new.source) (g.S.Source.left c.end_of.new.input) marks _ _ _ c.end_of.result all ends wrote
 
 pub returns-in-Err-show_one-clause-given : goal.returns-in-Err-show_one-clause-given
 returns-in-Err-show_one-clause-given g c =
     let (marks, has, wrote) = c.loop-read.invariant.given in
     let t = rw (c.in-Ok-Some.is, c.in-Ok-Some.field-0-is) at c.pull.ensures in
-    given_broken (Accepts g.M.Machine.automaton c.args.machine) c.args.longest g.E.Statement.text g.W.Sink.contents g.W.Sink.faults (g.S.Source.history c.args.input.now) (g.S.Source.history c.pull.new.source) marks c.in-Ok-Some.read c.args.out.now c.loop-read.out c.show_one.new.out
+    given_broken (Accepts g.M.Machine.automaton c.args.machine) c.args.longest g.E.Canonical.text g.W.Sink.contents g.W.Sink.faults (g.S.Source.history c.args.input.now) (g.S.Source.history c.pull.new.source) marks c.in-Ok-Some.read c.args.out.now c.loop-read.out c.show_one.new.out
     (given_so_far {g = g.M.Machine} c.args.longest c.args.machine (g.S.Source.history c.args.input.now) (g.S.Source.history c.loop-read.input) (g.S.Source.history c.pull.new.source) marks c.loop-read.feeder c.pull.new.feeder has (g.S.Source.left c.loop-read.input) (g.S.Source.left c.pull.new.source) c.in-Ok-Some.read (given_row {g = g.M.Machine} c.args.longest c.args.machine (g.S.Source.history c.args.input.now) (g.S.Source.history c.loop-read.input) (g.S.Source.history c.pull.new.source) marks c.loop-read.feeder c.pull.new.feeder has (g.S.Source.left c.loop-read.input) (g.S.Source.left c.pull.new.source) (Ok (Some c.in-Ok-Some.read)) (t.pulls c.args.longest c.args.machine has.0 marks (rw has.4 tt) has.3) t.stop t.last t.past))
     wrote c.in-Err-show_one.ensures
 
@@ -86,7 +86,7 @@ pub returns-in-Err-clause-given : goal.returns-in-Err-clause-given
 returns-in-Err-clause-given g c =
     let (marks, has, wrote) = c.loop-read.invariant.given in
     let t = rw c.in-Err.is at c.pull.ensures in
-    rw c.refused.ensures (given_refused (Accepts g.M.Machine.automaton c.args.machine) c.args.longest g.E.Statement.text g.W.Sink.contents g.W.Sink.faults (g.S.Source.history c.args.input.now) (g.S.Source.history c.pull.new.source) marks c.in-Err.stop c.args.out.now c.loop-read.out
+    rw c.refused.ensures (given_refused (Accepts g.M.Machine.automaton c.args.machine) c.args.longest g.E.Canonical.text g.W.Sink.contents g.W.Sink.faults (g.S.Source.history c.args.input.now) (g.S.Source.history c.pull.new.source) marks c.in-Err.stop c.args.out.now c.loop-read.out
     (given_row {g = g.M.Machine} c.args.longest c.args.machine (g.S.Source.history c.args.input.now) (g.S.Source.history c.loop-read.input) (g.S.Source.history c.pull.new.source) marks c.loop-read.feeder c.pull.new.feeder has (g.S.Source.left c.loop-read.input) (g.S.Source.left c.pull.new.source) (Err c.in-Err.stop) (t.pulls c.args.longest c.args.machine has.0 marks (rw has.4 tt) has.3) t.stop t.last t.past)
     wrote)
 
@@ -95,7 +95,7 @@ returns-clause-given g c =
     let (marks, has, wrote) = c.loop-read.invariant.given in
     let t = rw (c.in-Ok-None.is, c.in-Ok-None.field-0-is) at c.pull.ensures in
     let ends = subst (λ (p : Place). OfGiven (λ left rest. EndsAt p left c.end_of.result rest) (g.S.Source.history c.pull.new.source) (g.S.Source.history c.end_of.new.input)) c.place.ensures.place c.end_of.ensures.given in
-    given_shown (Accepts g.M.Machine.automaton c.args.machine) c.args.longest g.E.Statement.text g.W.Sink.contents g.W.Sink.faults (g.S.Source.history c.args.input.now) (g.S.Source.history c.pull.new.source) (g.S.Source.history c.end_of.new.input) marks (place_of c.pull.new.feeder) c.args.out.now c.loop-read.out c.end_of.result
+    given_shown (Accepts g.M.Machine.automaton c.args.machine) c.args.longest g.E.Canonical.text g.W.Sink.contents g.W.Sink.faults (g.S.Source.history c.args.input.now) (g.S.Source.history c.pull.new.source) (g.S.Source.history c.end_of.new.input) marks (place_of c.pull.new.feeder) c.args.out.now c.loop-read.out c.end_of.result
     (given_row {g = g.M.Machine} c.args.longest c.args.machine (g.S.Source.history c.args.input.now) (g.S.Source.history c.loop-read.input) (g.S.Source.history c.pull.new.source) marks c.loop-read.feeder c.pull.new.feeder has (g.S.Source.left c.loop-read.input) (g.S.Source.left c.pull.new.source) (Ok None) (t.pulls c.args.longest c.args.machine has.0 marks (rw has.4 tt) has.3) t.stop t.last t.past)
     ends wrote
 

@@ -12,9 +12,9 @@ abbrev pub invariant-loop-read : goal.invariant-loop-read
 invariant-loop-read g l = record {
   faults : g.S.Source.faults l.input ≡ g.S.Source.faults l.fn.input;
   given : (marks : List (Spanned _)) × HasGiven {g = g.M.Machine} l.fn.longest l.fn.machine (g.S.Source.history l.fn.input) marks l.feeder (g.S.Source.history l.input)
-      × Wrote g.W.Sink.contents g.W.Sink.faults l.fn.out (shown g.E.Statement.text marks) l.out;
+      × Wrote g.W.Sink.contents g.W.Sink.faults l.fn.out (shown g.E.Canonical.text marks) l.out;
   shown : (marks : List (Spanned _)) × HasPulled {g = g.M.Machine} l.fn.longest l.fn.machine (g.S.Source.left l.fn.input) marks l.feeder (g.S.Source.left l.input)
-      × Wrote g.W.Sink.contents g.W.Sink.faults l.fn.out (shown g.E.Statement.text marks) l.out;
+      × Wrote g.W.Sink.contents g.W.Sink.faults l.fn.out (shown g.E.Canonical.text marks) l.out;
 }
 
 -- the bytes that may still be read

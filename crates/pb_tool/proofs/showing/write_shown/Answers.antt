@@ -5,14 +5,14 @@ use Rattle.pb_tool.proofs.showing.write_shown.Goals as goal
 
 pub returns-in_err-write_place : goal.returns-in_err-write_place
 returns-in_err-write_place g c =
-    part_broke g.W.Sink.contents g.W.Sink.faults _ _ _ _ _ _ (line_parts g.E.Statement.text c.args.read.now) c.from_residual.ensures.0 c.in_err-write_place.ensures
+    part_broke g.W.Sink.contents g.W.Sink.faults _ _ _ _ _ _ (line_parts g.E.Canonical.text c.args.read.now) c.from_residual.ensures.0 c.in_err-write_place.ensures
 
 pub returns-in_err-write_text : goal.returns-in_err-write_text
 returns-in_err-write_text g c =
-    part_then g.W.Sink.contents g.W.Sink.faults _ _ _ _ _ _ _ (line_parts g.E.Statement.text c.args.read.now) c.in_ok-write_place.ensures
+    part_then g.W.Sink.contents g.W.Sink.faults _ _ _ _ _ _ _ (line_parts g.E.Canonical.text c.args.read.now) c.in_ok-write_place.ensures
     (part_broke g.W.Sink.contents g.W.Sink.faults _ _ _ _ _ _ refl c.from_residual-in_err-write_text.ensures.0 c.in_err-write_text.ensures)
 
 pub returns : goal.returns
 returns g c =
-    part_then g.W.Sink.contents g.W.Sink.faults _ _ _ _ _ _ _ (line_parts g.E.Statement.text c.args.read.now) c.in_ok-write_place.ensures
+    part_then g.W.Sink.contents g.W.Sink.faults _ _ _ _ _ _ _ (line_parts g.E.Canonical.text c.args.read.now) c.in_ok-write_place.ensures
     (part_then g.W.Sink.contents g.W.Sink.faults _ _ _ _ _ _ _ refl c.in_ok-write_text.ensures c.write_bytes.ensures)

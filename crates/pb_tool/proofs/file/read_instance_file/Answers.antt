@@ -1,0 +1,35 @@
+use Rattle.std.proofs.Common.{ℕ, refl, ap, ◌∙◌}
+use Rattle.pb_text.specs.Pulling.{faults_with}
+use Rattle.pb_tool.specs.Tidying.{IsOpb}
+use Rattle.pb_tool.specs.Tidying.IsRefused.{InText, InRest}
+use Rattle.pb_opb.specs.Values.{IsValueOf}
+use Rattle.pb_opb.specs.Whole.{IsRead, ReadsValue}
+use Rattle.pb_tool.proofs.Given.{file_behind, given_file, given_stray}
+use Rattle.pb_tool.proofs.file.read_instance_file.Goals as goal
+
+pub returns-in-Ok-rest_is_blank-clause-file : goal.returns-in-Ok-rest_is_blank-clause-file
+returns-in-Ok-rest_is_blank-clause-file g c =
+    let (used, seen, took, read) = c.in-Ok.ensures.reads in
+    file_behind (IsRead (IsOpb c.args.limits) c.args.longest IsValueOf) c.in-Ok.instance _ _ _ used seen took read read.past c.in-Ok-rest_is_blank.ensures.blank
+
+pub returns-in-Err-rest_is_blank-clause-refused : goal.returns-in-Err-rest_is_blank-clause-refused
+returns-in-Err-rest_is_blank-clause-refused g c =
+    InRest c.in-Ok.instance (g.S.Source.left c.read_instance_within.new.input) c.in-Ok.ensures.reads c.in-Err-rest_is_blank.ensures.blank
+
+pub returns-in-Err-rest_is_blank-clause-faults : goal.returns-in-Err-rest_is_blank-clause-faults
+returns-in-Err-rest_is_blank-clause-faults g c = c.in-Err-rest_is_blank.ensures.faults ∙ ap (λ (n : ℕ). faults_with c.in-Err-rest_is_blank.stop.why n) c.in-Ok.ensures.faults
+
+pub returns-in-Err-clause-refused_given : goal.returns-in-Err-clause-refused_given
+returns-in-Err-clause-refused_given g c =
+    let (used, seen, e, stops) = c.in-Err.ensures.given in
+    (used, seen, e, InText (used, seen, (refl, refl), stops))
+
+pub returns-in-Ok-rest_is_blank-clause-given : goal.returns-in-Ok-rest_is_blank-clause-given
+returns-in-Ok-rest_is_blank-clause-given g c =
+    let (used, e, read) = c.in-Ok.ensures.given in
+    given_file (IsRead (IsOpb c.args.limits) c.args.longest IsValueOf) c.in-Ok.instance _ _ _ used e read read.past c.in-Ok-rest_is_blank.ensures.given
+
+pub returns-in-Err-rest_is_blank-clause-refused_given : goal.returns-in-Err-rest_is_blank-clause-refused_given
+returns-in-Err-rest_is_blank-clause-refused_given g c =
+    let (used, e, read) = c.in-Ok.ensures.given in
+    given_stray (ReadsValue (IsOpb c.args.limits) c.args.longest IsValueOf) c.in-Ok.instance c.in-Err-rest_is_blank.stop _ _ _ used e (λ seen. (used, seen, (refl, refl), read)) c.in-Err-rest_is_blank.ensures.given

@@ -1,0 +1,32 @@
+-- A file whose statements are put together one by one, and what is owed of the text of these.
+use Rattle.std.specs.Prelude.{◌≡◌, ℕ, Bool, List, Option, Result, Ok, Err}
+use Rattle.pb_text.specs.Spelling.{Item}
+use Rattle.pb_text.specs.Whole.{IsWhole, ReadsWhole}
+use Rattle.pb_text.specs.Writing.{Wrote, Broke}
+use Rattle.pb_text.specs.declared.Stop.{Stop}
+use Rattle.pb_tool.specs.Tidying.{IsFile, IsRefused}
+use Rattle.pb_tool.specs.declared.fault.ToolFault.{ToolFault}
+use Rattle.pb_tool.specs.declared.fault.ToolFault.TheVariants.{Text, Open, Overflow, Memory, Write, Step}
+use Rattle.pb_tool.specs.declared.fault.Input.TheVariants.{File}
+
+module _ {V E : Type 0} (format : List (Item E) → Type 0) (longest : ℕ) (with : V → E → V) (empty : V) where
+  -- The input was a spelling and a blank rest, and the value is that of its statements.
+  abbrev pub IsGathered : Option (List ℕ) → Option (List ℕ) → V → Type 0
+  IsGathered = IsFile (IsWhole format longest with empty)
+
+  module _ (MayAsk : List ℕ → ℕ → Type 0) (asks : V → E → Bool) where
+    abbrev pub IsNotGathered : Option (List ℕ) → Option (List ℕ) → Stop → Type 0
+    IsNotGathered = IsRefused (ReadsWhole format longest with empty MayAsk asks)
+
+    module _ (text : V → List ℕ) {W : Type 0} (contents : W → Option (List ℕ)) (faults : W → ℕ) where
+      -- What was read of the source, and what was written: the text of the value, and nothing before the whole input
+      -- was accepted.
+      abbrev pub TidiesEach : Option (List ℕ) → W → Result Unit ToolFault → Option (List ℕ) → W → Type 0
+      TidiesEach before old (Ok u) after new = (v : V) × IsGathered before after v × Wrote contents faults old (text v) new
+      TidiesEach before old (Err Write) after new = (v : V) × IsGathered before after v × Broke contents faults old (text v) new
+      TidiesEach before old (Err (Text File s)) after new = IsNotGathered before after s × (new ≡ old)
+      TidiesEach before old (Err (Text i s)) after new = ⊥
+      TidiesEach before old (Err (Overflow i)) after new = ⊥
+      TidiesEach before old (Err (Memory i)) after new = ⊥
+      TidiesEach before old (Err (Open i)) after new = ⊥
+      TidiesEach before old (Err (Step place e name)) after new = ⊥

@@ -1,0 +1,36 @@
+//! What has a canonical text.
+
+ghost use Rattle.std.specs.Prelude.{ℕ, List};
+ghost use Rattle.pb_text.specs.Writing.{Writes};
+ghost use Rattle.pb_opb.specs.Canonical.{event_bytes};
+ghost use Rattle.pb_proof.specs.Canonical.{statement_bytes};
+
+use pb_opb::{OpbEvent, write_event};
+use pb_proof::{Statement, write_statement};
+use pb_text::{Failed, Sink};
+
+/// A value with a canonical text. That of a statement has no line feed behind it.
+pub trait Canonical {
+    /// Its canonical text.
+    ghost text: { Self → List ℕ };
+
+    /// Writes its canonical text.
+    fn write_text<W: Sink>(&self, out: &mut W) -> Result<(), Failed>
+        ensures { Writes W.contents W.faults out.old (text self.now) result out.new };
+}
+
+impl Canonical for OpbEvent {
+    ghost text = { event_bytes };
+
+    fn write_text<W: Sink>(&self, out: &mut W) -> Result<(), Failed> {
+        write_event(self, out)
+    }
+}
+
+impl Canonical for Statement {
+    ghost text = { statement_bytes };
+
+    fn write_text<W: Sink>(&self, out: &mut W) -> Result<(), Failed> {
+        write_statement(self, out)
+    }
+}

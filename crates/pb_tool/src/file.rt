@@ -1,0 +1,105 @@
+//! A file: what it is read as, and its text with the blank rest behind it.
+
+ghost use Rattle.std.specs.Prelude.{◌≡◌, ◌<◌, ℕ, false, None, IfErr, IfOk, OnOk, OnErr};
+ghost use Rattle.std.specs.Io.KnownBytes.{Keeps};
+ghost use Rattle.pb_text.specs.Automaton.{Accepts, MayAsk};
+ghost use Rattle.pb_text.specs.NothingRead.{ReadsNothing, first_fault};
+ghost use Rattle.pb_text.specs.Pulling.{faults_after};
+ghost use Rattle.pb_text.specs.Writing.{one_more};
+ghost use Rattle.pb_tool.specs.Files.{IsVeri};
+ghost use Rattle.pb_tool.specs.Gathered.{IsGathered, IsNotGathered};
+ghost use Rattle.pb_tool.specs.Given.{OfGiven};
+ghost use Rattle.pb_tool.specs.Opening.{IsReadAs};
+ghost use Rattle.pb_tool.specs.Tidying.{IsNoOpbFile, IsOpb, IsOpbFile};
+ghost use Rattle.pb_tool.specs.Wants.{WantsInstance};
+ghost use Rattle.pb_tool.specs.declared.fault.Input.TheVariants.{File};
+
+use crate::fault::{ToolFault, refused};
+use pb_opb::{Instance, OpbMachine, read_instance_within};
+use pb_proof::ProofMachine;
+use pb_text::{Failed, Gather, Limits, Machine, Source, Stop, read_whole, rest_is_blank, unread};
+use std::alloc::Global;
+
+/// A format that files have.
+#[derive(Clone, Copy)]
+pub(crate) enum Format {
+    Instance,
+    Proof,
+}
+
+/// The format of a file: a proof's where its first byte is `p`, and else an instance's. It takes no byte.
+pub(crate) fn format_of<S: Source>(input: &mut S) -> Result<Format, Failed>
+    ensures format { IfOk result (IsReadAs (S.left input.old)) }
+    ensures left { Keeps (S.left input.old) (S.left input.new) }
+    ensures history { S.history input.new ≡ S.history input.old }
+    ensures calm { OnOk result (S.faults input.new ≡ S.faults input.old) }
+    ensures faulty { OnErr result (S.faults input.new ≡ one_more (S.faults input.old)) }
+{
+    match input.peek() {
+        Ok(Some(b'p')) => Ok(Format::Proof),
+        Ok(_) => Ok(Format::Instance),
+        Err(Failed) => Err(Failed),
+    }
+}
+
+/// The fault of a file whose first byte could not be read: neither machine was given a byte.
+pub(crate) fn unread_file(alloc: Global, limits: Limits) -> ToolFault
+    ensures fault { result ≡ ToolFault.Text File first_fault }
+    ensures instance { (longest : ℕ) → 0 < longest → ReadsNothing (IsOpb limits) longest }
+    ensures proof { (longest : ℕ) → 0 < longest → ReadsNothing (IsVeri limits) longest }
+{
+    let stop = unread(&OpbMachine::new(alloc, limits));
+    let _ = unread(&ProofMachine::new(alloc, limits));
+    refused(stop)
+}
+
+/// Reads a text by a machine, behind which only white space and comments may stand, and puts its statements together,
+/// beginning with `empty`.
+pub(crate) fn read_file<S: Source, M: Machine + Drop, G: Gather<Event = M::Event> + Drop>(
+    input: &mut S,
+    machine: M,
+    longest: u64,
+    empty: G,
+) -> Result<G, Stop>
+    requires between { M.automaton.begun machine ≡ false }
+    requires some { 0 < longest }
+    ensures file { IfOk result (IsGathered (Accepts M.automaton machine) longest G.with empty (S.left input.old) (S.left input.new)) }
+    ensures refused { IfErr result (IsNotGathered (Accepts M.automaton machine) longest G.with empty (MayAsk M.automaton machine) G.asks (S.left input.old) (S.left input.new)) }
+    ensures given { IfOk result (λ v. OfGiven (λ left rest. IsGathered (Accepts M.automaton machine) longest G.with empty left rest v) (S.history input.old) (S.history input.new)) }
+    ensures refused_given { IfErr result (λ s. OfGiven (λ left rest. IsNotGathered (Accepts M.automaton machine) longest G.with empty (MayAsk M.automaton machine) G.asks left rest s) (S.history input.old) (S.history input.new)) }
+    ensures faults { S.faults input.new ≡ faults_after None result (S.faults input.old) }
+{
+    let read = match read_whole(input, machine, longest, empty) {
+        Ok(read) => read,
+        Err(stop) => return Err(stop),
+    };
+    match rest_is_blank(input, read.past) {
+        Ok(()) => Ok(read.event),
+        Err(stray) => Err(stray),
+    }
+}
+
+/// Reads an instance, behind which only white space and comments may stand.
+pub(crate) fn read_instance_file<S: Source>(
+    alloc: Global,
+    input: &mut S,
+    longest: u64,
+    limits: Limits,
+) -> Result<Instance, Stop>
+    requires { 0 < longest }
+    ensures file { IfOk result (IsOpbFile limits longest (S.left input.old) (S.left input.new)) }
+    ensures refused { IfErr result (IsNoOpbFile limits longest (S.left input.old) (S.left input.new)) }
+    ensures given { IfOk result (λ v. OfGiven (λ left rest. IsOpbFile limits longest left rest v) (S.history input.old) (S.history input.new)) }
+    ensures refused_given { IfErr result (λ s. OfGiven (λ left rest. IsNoOpbFile limits longest left rest s) (S.history input.old) (S.history input.new)) }
+    ensures memory { IfErr result (WantsInstance limits longest (S.left input.old) (S.left input.new)) }
+    ensures faults { S.faults input.new ≡ faults_after None result (S.faults input.old) }
+{
+    let instance = match read_instance_within(alloc, input, longest, limits) {
+        Ok(instance) => instance,
+        Err(stop) => return Err(stop),
+    };
+    match rest_is_blank(input, instance.past) {
+        Ok(()) => Ok(instance.event),
+        Err(stop) => Err(stop),
+    }
+}
