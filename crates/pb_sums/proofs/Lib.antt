@@ -19,3 +19,4 @@ mod Names
 mod Behind
 mod NameBytes
 mod Shorts
+mod WholeTerms

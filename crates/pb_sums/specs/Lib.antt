@@ -7,3 +7,4 @@ pub mod State
 pub mod Canonical
 pub mod Statements
 pub mod Names
+pub mod WholeTerms

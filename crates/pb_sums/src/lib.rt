@@ -13,6 +13,7 @@ mod prefix;
 mod rules;
 mod short;
 mod values;
+mod wholes;
 mod writing;
 
 pub use grammar::{Part, Spaces};

@@ -18,6 +18,7 @@ use crate::plans::{
 };
 use crate::prefix::{name_prefix, number_prefix, sign_prefix};
 use crate::values::{Linear, Literal, SumEvent, Term};
+use crate::wholes::{begins_term, coefficient_prefix, literal_prefix};
 use pb_text::{Limits, Machine, Push, Sequence};
 use std::alloc::{AllocError, Global};
 use std::marker::Model;
@@ -156,6 +157,52 @@ impl SumMachine {
     ghost use Rattle.pb_text.specs.Automaton.{Goes, Runs};
     ghost use Rattle.pb_sums.specs.State.{sums};
 
+    /// Takes a whole term and a space behind it, where a term may begin.
+    #[inline(always)]
+    fn take_term(&mut self, text: &[u8]) -> usize
+        ensures bound { result ≤ length text.now }
+        ensures runs { Runs sums self.old (take result text.now) self.new }
+        ensures state { IsState sums self.new }
+    {
+        let _ = self.is_done();
+        if !begins_term(self.phase) || !self.name.as_bytes().is_empty() {
+            return 0;
+        }
+        let Some((number, coefficient)) = coefficient_prefix(self.limit, text) else {
+            return 0;
+        };
+        let rest = &text[number..];
+        let Some((length, literal)) = literal_prefix(self.alloc, rest) else {
+            return 0;
+        };
+        if length >= rest.len() || rest[length] != b' ' {
+            return 0;
+        }
+        let term = Term {
+            coefficient,
+            literal,
+        };
+        if self.terms.push(term).is_err() {
+            return 0;
+        }
+        self.phase = Phase::Between;
+        number + length + 1
+    }
+
+    /// Takes a whole term, or else a number, where they may begin.
+    #[inline(always)]
+    fn take_start(&mut self, text: &[u8]) -> usize
+        ensures bound { result ≤ length text.now }
+        ensures runs { Runs sums self.old (take result text.now) self.new }
+        ensures state { IsState sums self.new }
+    {
+        let length = self.take_term(text);
+        if length > 0 {
+            return length;
+        }
+        self.take_number(text)
+    }
+
     /// Takes a number that is small, where one may begin.
     #[inline(always)]
     fn take_number(&mut self, text: &[u8]) -> usize
@@ -248,7 +295,7 @@ impl SumMachine {
     {
         let _ = self.is_done();
         match self.phase {
-            Phase::Start | Phase::Between | Phase::Operator(_) => self.take_number(text),
+            Phase::Start | Phase::Between | Phase::Operator(_) => self.take_start(text),
             Phase::Gap(_) | Phase::Tilde(_) => self.take_name(text),
             Phase::More(_, _) => self.take_more(text),
             _ => 0,

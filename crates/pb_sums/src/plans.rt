@@ -130,7 +130,8 @@ fn allows(part: Part, relation: Relation) -> bool
     }
 }
 
-fn signed(negative: bool, magnitude: u128) -> i128
+#[inline(always)]
+pub fn signed(negative: bool, magnitude: u128) -> i128
     requires { magnitude < 2 ^ 127 }
     ensures { result ≡ signed negative magnitude }
 {
