@@ -4,6 +4,7 @@ pub mod Counts
 pub mod Links
 pub mod Fields
 pub mod Forms
+pub mod Terms
 pub mod Live
 pub mod Rest
 pub mod Slots

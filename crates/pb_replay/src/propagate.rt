@@ -3,6 +3,7 @@
 pub mod assignment;
 pub mod eager;
 pub mod engine;
+pub mod falling;
 pub mod kept;
 pub mod laws;
 pub mod links;

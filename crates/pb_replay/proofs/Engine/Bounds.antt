@@ -11,6 +11,7 @@ use Rattle.pb_replay.specs.Engine.Lists.{Shape}
 use Rattle.pb_replay.specs.Engine.Forms.{entry_of}
 use Rattle.pb_replay.specs.Engine.Counts.{AreFound}
 use Rattle.pb_replay.specs.Engine.Fields.{shapes_of, kept_shape}
+use Rattle.pb_replay.specs.Engine.Terms.{terms_of}
 use Rattle.pb_replay.specs.Engine.Live.{terms_in, one_in}
 use Rattle.pb_replay.specs.Engine.Rest.{IsSlot, AreSlots, eager_one}
 
@@ -38,7 +39,7 @@ slots-eager (o ∷ os) (k ∷ ks) a = omega (arith, first o k a.0, slots-eager o
       | inl eager ↦ rw eager (live p s (x.busy eager))
     ]
       where
-        live : (q : Option Form) → IsSlot q (kept_shape x) → 0 < x.degree + length x.terms.items → 1 ≤ one_in q
+        live : (q : Option Form) → IsSlot q (kept_shape x) → 0 < x.degree + length (terms_of x.terms) → 1 ≤ one_in q
         live None e some = absurd (omega (arith, some, ap length e.0, e.1))
         live (Some f) e some = omega arith
 

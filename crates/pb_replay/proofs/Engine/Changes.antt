@@ -1,15 +1,18 @@
 -- The store after a form came, left, or was made empty.
-use Rattle.std.specs.Prelude.{map}
+use Rattle.std.specs.Prelude.{map, option_map, slice_get, Option, Some, None}
 use Rattle.std.proofs.Common.{◌≡◌, ℕ, ◌+◌, ◌<◌, ◌≤◌, ◌++◌, ◌∷◌, [], List, Vec, Global, refl, sym, ◌∙◌, ap, subst, arith, inl, inr, length, get_or, take, set, length-set, length-append, get_or-set_same, get_or-set_other, zero, suc}
 use Rattle.std.proofs.Math.Seq.{set-append_seam}
 use Rattle.std.proofs.lemmas.Bool.{cases_eq, cases_lt}
+use Rattle.std.proofs.lemmas.Option.{slice_get-map}
+use Rattle.pb_normal.specs.Form.{Form}
 use Rattle.std.proofs.lemmas.List.{map-append, length-map, get_or_past, take_more, take_all, length-take-le, get_or_append_left, map-set}
 use Rattle.std.proofs.lemmas.List.Elements.{All-push, All-set, All-take}
 use Rattle.pb_replay.specs.declared.propagate.term.Term.{Term}
 use Rattle.pb_replay.specs.declared.propagate.term.Occurrence.{Occurrence}
 use Rattle.pb_replay.specs.declared.propagate.kept.Kept.{Kept}
 use Rattle.pb_replay.specs.Engine.Lists.{Shape, AreInside}
-use Rattle.pb_replay.specs.Engine.Fields.{shapes_of, kept_shape, spots_of, entries_of}
+use Rattle.pb_replay.specs.Engine.Fields.{shapes_of, kept_shape, forms_of, spots_of, entries_of}
+use Rattle.pb_replay.specs.Engine.Terms.{terms_of}
 use Rattle.pb_replay.specs.Engine.Links.{terms_at, degree_at, IsLinked, IsStored, cut}
 use Rattle.pb_replay.proofs.Engine.Gets.{last-is}
 use Rattle.pb_replay.proofs.Engine.Places.{entries-length}
@@ -21,12 +24,12 @@ use Rattle.pb_replay.proofs.Engine.Weights.{entries-apart, others-named, others-
 pub set-end : {X : Type 0} (xs ys : List X) (n : ℕ) (y z : X) → ys ≡ xs ++ (y ∷ []) → n ≡ length xs → set ys n z ≡ xs ++ (z ∷ [])
 set-end xs ys n y z e at = ap (λ zs. set zs n z) e ∙ ap (λ m. set (xs ++ (y ∷ [])) m z) at ∙ set-append_seam xs y [] z
 
-pub empty-end : (keep keep' : List Kept) (k : Kept) (n : ℕ) → keep' ≡ keep ++ (k ∷ []) → n ≡ length keep → k.terms.items ≡ [] → terms_at (shapes_of keep') n ≡ []
+pub empty-end : (keep keep' : List Kept) (k : Kept) (n : ℕ) → keep' ≡ keep ++ (k ∷ []) → n ≡ length keep → (terms_of k.terms) ≡ [] → terms_at (shapes_of keep') n ≡ []
 empty-end keep keep' k n e at empty =
     rw (e, map-append kept_shape keep (k ∷ [])) (ap (λ (f : Shape). f.terms) (last-is (shapes_of keep) (kept_shape k) (record { terms = []; degree = 0 }) n (at ∙ sym (length-map keep kept_shape))) ∙ empty)
 
 -- an empty form behind the others
-pub widened-forms : (keep : List Kept) (k : Kept) (sp : List (Vec ℕ Global)) (v : Vec ℕ Global) (occ : List (Vec Occurrence Global)) (n : ℕ) → k.terms.items ≡ [] → v.items ≡ [] →
+pub widened-forms : (keep : List Kept) (k : Kept) (sp : List (Vec ℕ Global)) (v : Vec ℕ Global) (occ : List (Vec Occurrence Global)) (n : ℕ) → (terms_of k.terms) ≡ [] → v.items ≡ [] →
     IsStored (shapes_of keep) (spots_of sp) (entries_of (shapes_of keep) occ) n → IsStored (shapes_of (keep ++ (k ∷ []))) (spots_of (sp ++ (v ∷ []))) (entries_of (shapes_of (keep ++ (k ∷ []))) occ) n
 widened-forms keep k sp v occ n empty no_spots old =
     let forms = shapes_of keep in
@@ -43,7 +46,7 @@ widened-forms keep k sp v occ n empty no_spots old =
       whole = whole;
       named = linked-named base (spots_of sp ++ ([] ∷ [])) (entries_of base occ) whole;
       places = omega (arith, old.places, entries-length forms occ, entries-length base occ);
-      inside = All-push (λ (f : Shape). AreInside n f.terms) forms x old.inside (none_inside k.terms.items empty);
+      inside = All-push (λ (f : Shape). AreInside n f.terms) forms x old.inside (none_inside (terms_of k.terms) empty);
       rooms = λ s less. elim (cases_lt s (length forms)) [
         | inl before ↦
             ap length (get_or_append_left (spots_of sp) ([] ∷ []) [] s (omega (arith, before, old.whole.sizes)))
@@ -61,7 +64,7 @@ widened-forms keep k sp v occ n empty no_spots old =
 
 -- a form where an empty one stood
 pub filled-stored : (keep : List Kept) (k : Kept) (sp : List (Vec ℕ Global)) (v : Vec ℕ Global) (occ occ' : List (Vec Occurrence Global)) (n form : ℕ) (terms : List Term) →
-    form < length keep → terms_at (shapes_of keep) form ≡ [] → terms ≡ k.terms.items → length occ' ≡ length occ → length v.items ≡ length terms → AreInside n k.terms.items →
+    form < length keep → terms_at (shapes_of keep) form ≡ [] → terms ≡ (terms_of k.terms) → length occ' ≡ length occ → length v.items ≡ length terms → AreInside n (terms_of k.terms) →
     ((base : List Shape) (all : List (List ℕ)) → form < length base → terms_at base form ≡ terms → form < length all → IsLinked (cut base form 0) (set all form []) (entries_of base occ) → IsLinked (cut base form (length terms)) (set all form v.items) (entries_of base occ')) →
     IsStored (shapes_of keep) (spots_of sp) (entries_of (shapes_of keep) occ) n → IsStored (shapes_of (set keep form k)) (spots_of (set sp form v)) (entries_of (shapes_of (set keep form k)) occ') n
 filled-stored keep k sp v occ occ' n form terms room empty terms_is sizes count inside link old =
@@ -160,7 +163,7 @@ left-stored keep sp sp0 occ occ0 n number count sizes rooms linked old =
     map-take f zero (x ∷ xs) = refl
     map-take f (suc m) (x ∷ xs) = ap (λ ys. f x ∷ ys) (map-take f m xs)
 
-pub vacated-stored : (keep : List Kept) (k : Kept) (sp sp0 : List (Vec ℕ Global)) (v : Vec ℕ Global) (occ occ0 : List (Vec Occurrence Global)) (n form : ℕ) → form < length keep → k.terms.items ≡ [] → v.items ≡ [] → length occ ≡ length occ0 →
+pub vacated-stored : (keep : List Kept) (k : Kept) (sp sp0 : List (Vec ℕ Global)) (v : Vec ℕ Global) (occ occ0 : List (Vec Occurrence Global)) (n form : ℕ) → form < length keep → (terms_of k.terms) ≡ [] → v.items ≡ [] → length occ ≡ length occ0 →
     ((s : ℕ) → length (get_or (spots_of sp) s []) ≡ length (get_or (spots_of sp0) s [])) → IsLinked (cut (shapes_of keep) form 0) (spots_of sp) (entries_of (shapes_of keep) occ) → IsStored (shapes_of keep) (spots_of sp0) (entries_of (shapes_of keep) occ0) n →
     IsStored (shapes_of (set keep form k)) (spots_of (set sp form v)) (entries_of (shapes_of (set keep form k)) occ) n
 vacated-stored keep k sp sp0 v occ occ0 n form inside empty no_spots sizes rooms linked old =
@@ -179,7 +182,7 @@ vacated-stored keep k sp sp0 v occ occ0 n form inside empty no_spots sizes rooms
       whole = whole;
       named = linked-named base (set (spots_of sp) form []) (entries_of base occ) whole;
       places = omega (arith, old.places, sizes, entries-length base occ, entries-length forms occ0);
-      inside = All-set (λ (f : Shape). AreInside n f.terms) forms form (kept_shape k) (none_inside k.terms.items empty) old.inside;
+      inside = All-set (λ (f : Shape). AreInside n f.terms) forms form (kept_shape k) (none_inside (terms_of k.terms) empty) old.inside;
       rooms = λ s less. elim (cases_eq s form) [
         | inl at ↦ rw at (ap length (get_or-set_same (spots_of sp) form [] [] (omega (arith, here, spots_size))) ∙ sym (ap (λ (f : Shape). length f.terms) (get_or-set_same forms form (kept_shape k) e here) ∙ ap length empty))
         | inr other ↦ ap length (get_or-set_other (spots_of sp) form s [] [] other) ∙ rooms s ∙ old.rooms s (omega (arith, less, length-set forms form (kept_shape k))) ∙ sym (ap (λ (f : Shape). length f.terms) (get_or-set_other forms form s (kept_shape k) e other))
@@ -191,3 +194,26 @@ vacated-stored keep k sp sp0 v occ occ0 n form inside empty no_spots sizes rooms
 
 pub take-at : {X : Type 0} (xs ys : List X) (a b : ℕ) → a ≡ b → xs ≡ ys → take a xs ≡ take b ys
 take-at xs ys a b e f = ap (λ n. take n xs) e ∙ ap (take b) f
+
+-- an empty form more is none of the forms
+pub forms-more : (keep keep' : List Kept) (k : Kept) (s : ℕ) → keep' ≡ keep ++ (k ∷ []) → k.terms.form ≡ None → get_or (forms_of keep') s None ≡ get_or (forms_of keep) s None
+forms-more keep keep' k s same e = ap (λ ks. get_or (forms_of ks) s None) same ∙ at keep s
+  where
+    at : (ks : List Kept) (n : ℕ) → get_or (forms_of (ks ++ (k ∷ []))) n None ≡ get_or (forms_of ks) n None
+    at [] zero = e
+    at [] (suc n) = refl
+    at (x ∷ ks) zero = refl
+    at (x ∷ ks) (suc n) = at ks n
+
+-- the forms, as one comes or goes
+pub forms-widened : (keep keep' : List Kept) (k : Kept) → keep' ≡ keep ++ (k ∷ []) → k.terms.form ≡ None → forms_of keep' ≡ forms_of keep ++ (None ∷ [])
+forms-widened keep keep' k same e = ap forms_of same ∙ map-append (λ (x : Kept). x.terms.form) keep (k ∷ []) ∙ ap (λ o. forms_of keep ++ (o ∷ [])) e
+
+pub forms-filled : (keep keep' : List Kept) (k : Kept) (s : ℕ) (o : Option Form) → keep' ≡ set keep s k → k.terms.form ≡ o → forms_of keep' ≡ set (forms_of keep) s o
+forms-filled keep keep' k s o same e = ap forms_of same ∙ map-set (λ (x : Kept). x.terms.form) keep s k ∙ ap (set (forms_of keep) s) e
+
+pub forms-get : (keep : List Kept) (s : ℕ) (k : Kept) → slice_get keep s ≡ Some k → slice_get (forms_of keep) s ≡ Some k.terms.form
+forms-get keep s k h = slice_get-map (λ (x : Kept). x.terms.form) keep s ∙ ap (option_map (λ (x : Kept). x.terms.form)) h
+
+pub forms-length : (keep : List Kept) → length (forms_of keep) ≡ length keep
+forms-length keep = length-map keep (λ (k : Kept). k.terms.form)

@@ -9,6 +9,7 @@ use Rattle.pb_replay.specs.Engine.Lists.{Shape, AreInside, open_sum, size, Deriv
 use Rattle.pb_replay.specs.Engine.Counts.{IsCounted, IsTidy, IsPaid, IsAbsent, Adopted, kept, added, IsCalm, IsDone, AreFound, Grown, pushed, spared, spent, weight_in}
 use Rattle.pb_replay.specs.declared.propagate.kept.Kept.{Kept}
 use Rattle.pb_replay.specs.Engine.Fields.{shapes_of, kept_shape}
+use Rattle.pb_replay.specs.Engine.Terms.{terms_of}
 use Rattle.pb_replay.specs.Engine.Links.{coefficient_at}
 use Rattle.pb_replay.proofs.Engine.Runs.{Tidy-pass, Tidy-settle, done-new}
 
@@ -134,7 +135,7 @@ Looking-settled_by aside forms lists form list0 cands0 work0 visits0 opens cands
     rw (← e) (Looking-settled aside forms lists form list0 cands0 work0 visits0 opens cands list work trail next visits f is calm p)
 
 pub Looking-next_by : (aside : List ℕ) (keep : List Kept) (lists : List (List Weighted)) (form : ℕ) (list0 : List NumberedLiteral) (cands0 work0 : List ℕ) (visits0 : ℕ) (opens cands : List ℕ) (list : List NumberedLiteral) (work trail : List ℕ) (next visits seen : ℕ) (opens' mid cands' : List ℕ) (list' : List NumberedLiteral) (work' trail' : List ℕ) (next' visits' : ℕ) (k : Kept) (items : List Term) (o c : ℕ) (t : Term) →
-    form < length keep → k ≡ get_or keep form k → o ≡ get_or opens form o → c ≡ get_or cands form c → items ≡ k.terms.items → c < length items → t ≡ get_or items c t →
+    form < length keep → k ≡ get_or keep form k → o ≡ get_or opens form o → c ≡ get_or cands form c → items ≡ (terms_of k.terms) → c < length items → t ≡ get_or items c t →
     seen ≡ min (visits + 1) (2 ^ 64 - 1) → visits ≤ seen → o < k.degree + t.coefficient →
     mid ≡ cands → next' ≡ next →
     Adopted t.literal list list' → IsCounted (shapes_of keep) opens' list' [] →
@@ -152,30 +153,30 @@ Looking-next_by aside keep lists form list0 cands0 work0 visits0 opens cands lis
     let open_0 = get_or_read opens form o room open_is 0 in
     let cand_0 = get_or_read cands form c roomc cand_is 0 in
     let low_0 : get_or opens form 0 < k.degree + t.coefficient = omega (arith, open_0, low) in
-    let here_k : c < length k.terms.items = omega (arith, ap length items_is, here) in
-    let item_k : t ≡ get_or k.terms.items c t = rw (← items_is) item in
+    let here_k : c < length (terms_of k.terms) = omega (arith, ap length items_is, here) in
+    let item_k : t ≡ get_or (terms_of k.terms) c t = rw (← items_is) item in
     let tidy_c : (busy : ℕ) → IsTidy aside (shapes_of keep) opens cands list work trail next busy → IsTidy aside (shapes_of keep) opens' cands list' work' trail' next busy = λ busy d. rw (← mid_is, ← next_is) (tidy busy d) in
     let paid_c : IsPaid lists list list' cands cands work work' seen visits' 0 = subst (λ (x : List ℕ). IsPaid lists list list' cands x work work' seen visits' 0) mid_is paid in
     let passed_c : cands' ≡ set cands form (c + 1) = passed ∙ ap (λ (x : List ℕ). set x form (c + 1)) mid_is in
     rw next_is (Looking-next aside (shapes_of keep) lists form list0 cands0 work0 visits0 opens cands list work trail next visits seen opens' cands' list' work' trail' visits' (kept_shape k) c t inside_f (shape-at keep form k inside is) cand_0 here_k item_k counted_visit rising low_0 adopted counted tidy_c paid_c gone longer sizes passed_c p)
 
-pub calm-by : (k : Kept) (opens cands : List ℕ) (form o c : ℕ) → form < length opens → form < length cands → o ≡ get_or opens form o → c ≡ get_or cands form c → k.degree ≤ o → ((d : Term) → c < length k.terms.items → k.degree + (get_or k.terms.items c d).coefficient ≤ o) → IsCalm (kept_shape k) (get_or opens form 0) (get_or cands form 0)
+pub calm-by : (k : Kept) (opens cands : List ℕ) (form o c : ℕ) → form < length opens → form < length cands → o ≡ get_or opens form o → c ≡ get_or cands form c → k.degree ≤ o → ((d : Term) → c < length (terms_of k.terms) → k.degree + (get_or (terms_of k.terms) c d).coefficient ≤ o) → IsCalm (kept_shape k) (get_or opens form 0) (get_or cands form 0)
 calm-by k opens cands form o c room roomc open_is cand_is met waiting =
     let open_0 = get_or_read opens form o room open_is 0 in
     let cand_0 = get_or_read cands form c roomc cand_is 0 in
     rw (← open_0, ← cand_0) (record { met = met; waiting = waiting })
 
-pub waiting-by : (k : Kept) (items : List Term) (o c : ℕ) (t : Term) → items ≡ k.terms.items → t ≡ get_or items c t → k.degree + t.coefficient ≤ o → (d : Term) → c < length k.terms.items → k.degree + (get_or k.terms.items c d).coefficient ≤ o
+pub waiting-by : (k : Kept) (items : List Term) (o c : ℕ) (t : Term) → items ≡ (terms_of k.terms) → t ≡ get_or items c t → k.degree + t.coefficient ≤ o → (d : Term) → c < length (terms_of k.terms) → k.degree + (get_or (terms_of k.terms) c d).coefficient ≤ o
 waiting-by k items o c t items_is item low d here =
-    let item_k : t ≡ get_or k.terms.items c t = rw (← items_is) item in
-    let same : get_or k.terms.items c d ≡ t = get_or_default k.terms.items c d t here ∙ sym item_k in
+    let item_k : t ≡ get_or (terms_of k.terms) c t = rw (← items_is) item in
+    let same : get_or (terms_of k.terms) c d ≡ t = get_or_default (terms_of k.terms) c d t here ∙ sym item_k in
     rw same low
 
-pub term-inside : (keep : List Kept) (n form : ℕ) (k : Kept) (items : List Term) (c : ℕ) (t : Term) → form < length keep → k ≡ get_or keep form k → items ≡ k.terms.items → c < length items → t ≡ get_or items c t → All (λ f. AreInside n f.terms) (shapes_of keep) → t.literal.variable < n
+pub term-inside : (keep : List Kept) (n form : ℕ) (k : Kept) (items : List Term) (c : ℕ) (t : Term) → form < length keep → k ≡ get_or keep form k → items ≡ (terms_of k.terms) → c < length items → t ≡ get_or items c t → All (λ f. AreInside n f.terms) (shapes_of keep) → t.literal.variable < n
 term-inside keep n form k items c t inside is items_is here item all =
     let of_form = all form (kept_shape k) (omega (arith, inside, length-map keep kept_shape)) in
     let of_kept : AreInside n (kept_shape k).terms = rw (shape-at keep form k inside is (kept_shape k)) at of_form in
-    let item_k : t ≡ get_or k.terms.items c t = rw (← items_is) item in
+    let item_k : t ≡ get_or (terms_of k.terms) c t = rw (← items_is) item in
     let of_term = of_kept c t (omega (arith, here, ap length items_is)) in
     rw (← item_k) at of_term
 
@@ -192,11 +193,11 @@ idle-at keep opens form k o e inside is room open_is low d c =
 pub changed-at : (keep : List Kept) (opens : List ℕ) (form : ℕ) (k : Kept) (o : ℕ) → form < length keep → k ≡ get_or keep form k → form < length opens → o ≡ get_or opens form o → (o ≡ k.total → ⊥) → (d : Shape) → get_or opens form 0 ≡ size (get_or (shapes_of keep) form d).terms → ⊥
 changed-at keep opens form k o inside is room open_is other d e =
     let open_0 = get_or_read opens form o room open_is 0 in
-    let shape : size (get_or (shapes_of keep) form d).terms ≡ size k.terms.items = ap (λ (f : Shape). size f.terms) (shape-at keep form k inside is d) in
+    let shape : size (get_or (shapes_of keep) form d).terms ≡ size (terms_of k.terms) = ap (λ (f : Shape). size f.terms) (shape-at keep form k inside is d) in
     other (open_0 ∙ e ∙ shape ∙ sym k.sum)
 
 -- a coefficient that is read
-pub weight-read : (keep : List Kept) (form index : ℕ) (k : Kept) (w : ℕ) → form < length keep → k ≡ get_or keep form k → ((d : Term) → w ≡ (get_or k.terms.items index d).coefficient) → w ≡ coefficient_at (shapes_of keep) form index
+pub weight-read : (keep : List Kept) (form index : ℕ) (k : Kept) (w : ℕ) → form < length keep → k ≡ get_or keep form k → ((d : Term) → w ≡ (get_or (terms_of k.terms) index d).coefficient) → w ≡ coefficient_at (shapes_of keep) form index
 weight-read keep form index k w inside is read =
     let t : Term = record { literal = record { variable = 0; negated = false }; coefficient = 0 } in
     read t ∙ ap (λ (f : Shape). (get_or f.terms index t).coefficient) (sym (shape-at keep form k inside is (record { terms = []; degree = 0 })))

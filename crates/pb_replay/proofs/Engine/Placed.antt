@@ -2,10 +2,12 @@
 use Rattle.std.specs.Prelude.{sum_by, Option, Some, None, slice_get}
 use Rattle.std.proofs.Common.{◌≡◌, ℕ, zero, suc, ◌-◌, ◌^◌, ◌<◌, ◌≤◌, ◌⊎◌, ◌++◌, ◌∷◌, [], List, refl, sym, ◌∙◌, ap, arith, inl, inr, length, get_or, set, get_or-set_same, get_or-set_other, length-set, length-append}
 use Rattle.std.proofs.lemmas.Bool.{cases_eq, cases_lt}
-use Rattle.std.proofs.lemmas.List.{length-map, map-append, get_or-map, get_or_past, set-get_or}
+use Rattle.std.proofs.lemmas.List.{length-map, map-append, get_or-map, get_or_past, get_or_append_left, set-get_or}
 use Rattle.std.proofs.lemmas.List.Sums.{sum_by-set, sum_by_push, sum_by-cons}
 use Rattle.std.proofs.lemmas.Option.{slice_get_within, slice_get-get_or, get_or_from_slice_get}
 use Rattle.pb_normal.specs.Form.{Form}
+use Rattle.pb_replay.specs.declared.propagate.kept.Kept.{Kept}
+use Rattle.pb_replay.specs.Engine.Fields.{forms_of}
 use Rattle.pb_replay.specs.Engine.Lists.{Shape}
 use Rattle.pb_replay.specs.Engine.Live.{Live}
 use Rattle.pb_replay.specs.Engine.Slots.{form_at, numbered, ArePlaced}
@@ -244,3 +246,16 @@ numbered-none forms places number s inside is past =
     let got : slice_get places number ≡ Some s = slice_get-get_or places number s inside ∙ ap (λ z. Some z) (sym is) in
     let none : get_or (numbered forms places) number None ≡ None = numbered-at forms places number s None got ∙ get_or_past forms s None past in
     sym (ap (set (numbered forms places) number) (sym none) ∙ set-get_or (numbered forms places) number None)
+
+-- one more form, which no number names
+numbered-more : (forms : List (Option Form)) (o : Option Form) (places : List ℕ) → length forms < 2 ^ 64 - 1 → ArePlaced forms places → numbered (forms ++ (o ∷ [])) places ≡ numbered forms places
+numbered-more forms o places small p = numbered-same forms (forms ++ (o ∷ [])) places (λ n s h. elim (p.live n s h) [
+  | inl past ↦ get_or_past (forms ++ (o ∷ [])) s None (omega (arith, past, small, length-append forms (o ∷ []))) ∙ sym (get_or_past forms s None (omega (arith, past, small)))
+  | inr found ↦ get_or_append_left forms (o ∷ []) None s (at-inside forms s found.0 found.1)
+])
+
+pub numbered-entered : (keep keep' : List Kept) (k : Kept) (places : List ℕ) → keep' ≡ keep ++ (k ∷ []) → length keep < 2 ^ 64 - 1 → ArePlaced (forms_of keep) places → numbered (forms_of keep') places ≡ numbered (forms_of keep) places
+numbered-entered keep keep' k places same small p =
+    let form : Kept → Option Form = λ x. x.terms.form in
+    let more : forms_of keep' ≡ forms_of keep ++ (form k ∷ []) = ap forms_of same ∙ map-append form keep (k ∷ []) in
+    rw more (numbered-more (forms_of keep) (form k) places (omega (arith, small, length-map keep form)) p)

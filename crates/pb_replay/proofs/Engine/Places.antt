@@ -9,6 +9,7 @@ use Rattle.pb_replay.specs.declared.propagate.term.Occurrence.{Occurrence}
 use Rattle.pb_replay.specs.Engine.Lists.{Shape, Weighted, AreInside}
 use Rattle.pb_replay.specs.Engine.Counts.{place}
 use Rattle.pb_replay.specs.Engine.Fields.{entries_of, lists_of, spots_of}
+use Rattle.pb_replay.specs.Engine.Terms.{terms_of}
 use Rattle.pb_replay.specs.Engine.Links.{terms_at, weighted, Moved, none, last, IsLinked, cut}
 use Rattle.pb_replay.proofs.Engine.Gets.{get-push_same, get-push_other}
 use Rattle.pb_replay.proofs.Engine.Crosses.{Same}
@@ -100,29 +101,31 @@ spots-read spots s i w0 room value h =
 
 -- what a term's removal needs and does
 pub record UnlinkRead (base : List Shape) (spots : List (List ℕ)) (occ : List (Vec Occurrence Global)) (form j q p : ℕ) : Type 0 where
+  pub room : p < length occ
   pub spot_in : q < length (get_or (lists_of occ) p [])
   pub named : (o : Occurrence) → slice_get (get_or (lists_of occ) p []) (length (get_or (lists_of occ) p []) - 1) ≡ Some o → (o.form < length spots) × (o.index < length (get_or spots o.form []))
   pub next : (spots' : List (List ℕ)) (occ' : List (Vec Occurrence Global)) → ((o : Occurrence) × (o ≡ get_or (get_or (lists_of occ) p []) q o) × (lists_of occ' ≡ set (lists_of occ) p (swap_remove (get_or (lists_of occ) p []) q o))) → Moved (get_or (lists_of occ) p []) q spots spots' → IsLinked (cut base form j) spots' (entries_of base occ')
 
 pub unlink-read : (keep keep' : List Kept) (sp : List (Vec ℕ Global)) (occ : List (Vec Occurrence Global)) (n form left j : ℕ) (k : Kept) (t : Term) (w : Vec ℕ Global) (q p : ℕ) →
-    keep' ≡ keep → left ≡ j + 1 → form < length keep → k ≡ get_or keep' form k → left ≤ length (terms_at (shapes_of keep) form) → t ≡ get_or k.terms.items j t → w ≡ get_or sp form w → length (get_or (spots_of sp) form []) ≡ length (terms_at (shapes_of keep) form) → q ≡ get_or w.items j q → p ≡ place t.literal →
+    keep' ≡ keep → left ≡ j + 1 → form < length keep → k ≡ get_or keep' form k → left ≤ length (terms_at (shapes_of keep) form) → t ≡ get_or (terms_of k.terms) j t → w ≡ get_or sp form w → length (get_or (spots_of sp) form []) ≡ length (terms_at (shapes_of keep) form) → q ≡ get_or w.items j q → p ≡ place t.literal →
     All (λ f. AreInside n f.terms) (shapes_of keep) → length occ ≡ 2 * n → IsLinked (cut (shapes_of keep) form left) (spots_of sp) (entries_of (shapes_of keep) occ) → UnlinkRead (shapes_of keep) (spots_of sp) occ form j q p
 unlink-read keep keep' sp occ n form left j k t w q p same count inside kept_is most item spots_is rooms spot_is place_is all places old =
     let base = shapes_of keep in
     let kept_here : k ≡ get_or keep form k = rw same at kept_is in
     let inside_base : form < length base = omega (arith, inside, length-map keep kept_shape) in
     let within : j < length (terms_at base form) = omega (arith, most, count) in
-    let those : terms_at base form ≡ k.terms.items = ap (λ (f : Shape). f.terms) (shape-at keep form k inside kept_here (record { terms = []; degree = 0 })) in
+    let those : terms_at base form ≡ (terms_of k.terms) = ap (λ (f : Shape). f.terms) (shape-at keep form k inside kept_here (record { terms = []; degree = 0 })) in
     let is : t ≡ get_or (terms_at base form) j t = rw those item in
     let inside_sp : form < length sp = omega (arith, old.sizes, cut-length base form left, inside_base, length-map sp (λ (v : Vec ℕ Global). v.items)) in
     let spots_here : get_or (spots_of sp) form [] ≡ w.items = get_or-map (λ (v : Vec ℕ Global). v.items) sp form w [] inside_sp ∙ ap (λ (v : Vec ℕ Global). v.items) (sym spots_is) in
     let within_w : j < length w.items = omega (arith, within, rooms, ap length spots_here) in
     let spot : slice_get (get_or (spots_of sp) form []) j ≡ Some q = ap (λ (xs : List ℕ). slice_get xs j) spots_here ∙ slice_get-get_or w.items j q within_w ∙ ap (λ x. Some x) (sym spot_is) in
     let linked : IsLinked (cut base form (j + 1)) (spots_of sp) (entries_of base occ) = subst (λ x. IsLinked (cut base form x) (spots_of sp) (entries_of base occ)) count old in
-    let variable : t.literal.variable < n = term-inside keep n form k k.terms.items j t inside kept_here refl (omega (arith, within, ap length those)) item all in
+    let variable : t.literal.variable < n = term-inside keep n form k (terms_of k.terms) j t inside kept_here refl (omega (arith, within, ap length those)) item all in
     let room : place t.literal < length (entries_of base occ) = omega (arith, place-inside t.literal n variable, places, entries-length base occ) in
     let entry = named-entry base (spots_of sp) (entries_of base occ) form j q t inside_base within is spot linked in
     rw place_is (record {
+      room = omega (arith, room, entries-length base occ);
       spot_in = omega (arith, slice_get_within (get_or (entries_of base occ) (place t.literal) []) q entry.entry entry.is, entries-size base occ (place t.literal));
       named = λ o h. named-spot (cut base form (j + 1)) (spots_of sp) (entries_of base occ) (place t.literal) (length (get_or (lists_of occ) (place t.literal) []) - 1) (weighted base o) (entry-weighted base occ (place t.literal) (length (get_or (lists_of occ) (place t.literal) []) - 1) o h) linked;
       next = λ spots' occ' taken moved. unlink-next base (spots_of sp) spots' (entries_of base occ) (entries_of base occ') form j q t (weighted base taken.0) inside_base within is spot room (item-taken base occ (place t.literal) q taken.0 taken.1) (entries-taken base occ occ' (place t.literal) q taken.0 taken.2) (shifted base occ (place t.literal) q (spots_of sp) spots' moved) linked;

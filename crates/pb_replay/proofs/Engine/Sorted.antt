@@ -1,8 +1,8 @@
 -- A form's terms, as they are read and put in order.
-use Rattle.std.specs.Prelude.{Bool, ℤ, unsigned_abs, map, sum_by, IsPermutation, slice_get, Some}
-use Rattle.std.proofs.Common.{FitsSigned, pos, to_z, of_z, ◌≡◌, ℕ, ◌+◌, ◌-◌, ◌^◌, ◌<◌, ◌≤◌, ◌++◌, ◌∷◌, [], List, refl, sym, ◌∙◌, ap, arith, length, get_or, take}
-use Rattle.std.proofs.lemmas.List.{take_more, take_all, map-append, get_or_default}
-use Rattle.std.proofs.lemmas.Option.{slice_get_within, get_or_from_slice_get}
+use Rattle.std.specs.Prelude.{ℤ, unsigned_abs, All, map, sum_by, IsPermutation}
+use Rattle.std.proofs.Common.{FitsSigned, pos, to_z, of_z, ◌≡◌, ℕ, ◌+◌, ◌-◌, ◌^◌, ◌<◌, ◌≤◌, ◌++◌, ◌∷◌, [], List, false, refl, sym, ◌∙◌, ap, subst, arith, length, get_or, take}
+use Rattle.std.proofs.lemmas.List.{take_more, take_all, map-append, length-map, get_or-map, get_or_default}
+use Rattle.std.proofs.lemmas.List.Elements.{All-push}
 use Rattle.std.proofs.lemmas.List.Sums.{sum_by-cons, get_or-le-sum_by}
 use Rattle.std.proofs.lemmas.List.Sorted.{IsPermutation-sym, IsPermutation-map, sum_by-IsPermutation}
 use Rattle.std.specs.Int.{w128}
@@ -11,21 +11,83 @@ use Rattle.std.specs.List.Sorted.{IsNonDecreasingBy}
 use Rattle.pb_normal.specs.declared.entry.Entry.{Entry}
 use Rattle.pb_normal.specs.Form.{total, each}
 use Rattle.pb_replay.specs.declared.propagate.term.Term.{Term}
-use Rattle.pb_replay.specs.Engine.Forms.{entry_of}
+use Rattle.pb_replay.specs.declared.propagate.term.Rank.{Rank}
+use Rattle.pb_replay.specs.Engine.Forms.{entry_of, as_term, entry_at_place, picked, IsPlaced}
 use Rattle.pb_replay.specs.Engine.Counts.{AreFalling, IsCalm}
 
-pub collect-next : (done more : List Term) (ts : List Entry) (i : ℕ) (t : Term) → map entry_of done ≡ take i ts → more ≡ done ++ (t ∷ []) → slice_get ts i ≡ Some (entry_of t) → map entry_of more ≡ take (i + 1) ts
-collect-next done more ts i t e m at =
-    let inside = slice_get_within ts i (entry_of t) at in
-    let here = get_or_from_slice_get ts i (entry_of t) (entry_of t) at in
-    let step : take (i + 1) ts ≡ take i ts ++ (entry_of t ∷ []) = take_more ts i (entry_of t) inside ∙ ap (λ x. take i ts ++ (x ∷ [])) here in
-    ap (map entry_of) m ∙ map-append entry_of done (t ∷ []) ∙ ap (λ xs. xs ++ (entry_of t ∷ [])) e ∙ sym step
+-- the ranks of the first terms
+pub record IsStanding (es : List Entry) (ranks : List Rank) (i : ℕ) : Type 0 where
+  pub placed : All (IsPlaced es) ranks
+  pub same : map entry_of (picked es (map (λ r. r.place) ranks)) ≡ take i es
 
-pub sorted-same : (old new : List Term) (ts : List Entry) (i : ℕ) → length ts ≤ i → map entry_of old ≡ take i ts → IsPermutation old new → IsPermutation (map entry_of new) ts
-sorted-same old new ts i all e p =
-    let whole : map entry_of old ≡ ts = e ∙ take_all i ts all in
-    let back = IsPermutation-map entry_of new old (IsPermutation-sym old new p) in
-    rw whole at back
+pub standing-none : (es : List Entry) (ranks : List Rank) → ranks ≡ [] → IsStanding es ranks 0
+standing-none es ranks e = rw e (record { placed = λ k d h. absurd (omega (arith, h)); same = sym (nothing es) })
+  where
+    nothing : (xs : List Entry) → take 0 xs ≡ []
+    nothing [] = refl
+    nothing (x ∷ xs) = refl
+
+pub standing-next : (es : List Entry) (ranks more : List Rank) (i : ℕ) → i < length es → more ≡ ranks ++ (record { place = i; coefficient = (entry_at_place es i).coefficient } ∷ []) → IsStanding es ranks i → IsStanding es more (i + 1)
+standing-next es ranks more i inside m old =
+    let r : Rank = record { place = i; coefficient = (entry_at_place es i).coefficient } in
+    let place : Rank → ℕ = λ x. x.place in
+    let pick : ℕ → Term = λ q. as_term (entry_at_place es q) in
+    rw m (record {
+      placed = All-push (IsPlaced es) ranks r old.placed (inside, refl);
+      same =
+          ap (λ xs. map entry_of (picked es xs)) (map-append place ranks (r ∷ []))
+          ∙ ap (map entry_of) (map-append pick (map place ranks) (i ∷ []))
+          ∙ map-append entry_of (picked es (map place ranks)) (pick i ∷ [])
+          ∙ ap (λ xs. xs ++ (entry_at_place es i ∷ [])) old.same
+          ∙ sym (take_more es i (record { variable = 0; negated = false; coefficient = 0 }) inside);
+    })
+
+pub standing-all : (es : List Entry) (ranks : List Rank) (i : ℕ) → length es ≤ i → IsStanding es ranks i → All (IsPlaced es) ranks × (map entry_of (picked es (map (λ r. r.place) ranks)) ≡ es)
+standing-all es ranks i all old = (old.placed, old.same ∙ take_all i es all)
+
+picked-ranks : (es : List Entry) (ranks : List Rank) → map (λ (r : Rank). entry_of (as_term (entry_at_place es r.place))) ranks ≡ map entry_of (picked es (map (λ r. r.place) ranks))
+picked-ranks es [] = refl
+picked-ranks es (r ∷ ranks) = ap (λ xs. entry_at_place es r.place ∷ xs) (picked-ranks es ranks)
+
+pub ranked-same : (es : List Entry) (old new : List Rank) → map entry_of (picked es (map (λ r. r.place) old)) ≡ es → IsPermutation old new → IsPermutation (map entry_of (picked es (map (λ r. r.place) new))) es
+ranked-same es old new e p =
+    let back = IsPermutation-map (λ (r : Rank). entry_of (as_term (entry_at_place es r.place))) new old (IsPermutation-sym old new p) in
+    rw (picked-ranks es new, picked-ranks es old, e) at back
+
+pub placed-inside : (es : List Entry) (ranks : List Rank) → All (IsPlaced es) ranks → All (λ p. p < length es) (map (λ r. r.place) ranks)
+placed-inside es ranks all k d h =
+    let place : Rank → ℕ = λ r. r.place in
+    let r0 : Rank = record { place = 0; coefficient = 0 } in
+    let inside : k < length ranks = omega (arith, h, length-map ranks place) in
+    let at : get_or (map place ranks) k d ≡ (get_or ranks k r0).place = get_or-map place ranks k r0 d inside in
+    let one = all k r0 inside in
+    omega (arith, at, one.0)
+
+pub ranked-falling : (es : List Entry) (ranks : List Rank) (m : ℕ) → IsNonDecreasingBy (λ r. m - r.coefficient) ranks → sum_by (λ e. e.coefficient) es ≤ m → All (IsPlaced es) ranks → AreFalling (picked es (map (λ r. r.place) ranks))
+ranked-falling es ranks m up small all i j d less inside =
+    let place : Rank → ℕ = λ r. r.place in
+    let pick : ℕ → Term = λ q. as_term (entry_at_place es q) in
+    let inside_r : j < length ranks = omega (arith, inside, length-map (map place ranks) pick, length-map ranks place) in
+    let keys = up i j r0 less inside_r in
+    let one = all j r0 inside_r in
+    let top = get_or-le-sum_by (λ (e : Entry). e.coefficient) es (get_or ranks j r0).place none one.0 in
+    let falls : (get_or ranks j r0).coefficient ≤ (get_or ranks i r0).coefficient = omega (arith, keys, one.1, top, small) in
+    let ts = picked es (map place ranks) in
+    subst (λ (x : ℕ). x ≤ (get_or ts i d).coefficient) (sym (at j inside_r)) (subst (λ (x : ℕ). (get_or ranks j r0).coefficient ≤ x) (sym (at i (omega (arith, less, inside_r)))) falls)
+  where
+    r0 : Rank
+    r0 = record { place = 0; coefficient = 0 }
+
+    none : Entry
+    none = record { variable = 0; negated = false; coefficient = 0 }
+
+    at : (k : ℕ) → k < length ranks → (get_or (picked es (map (λ r. r.place) ranks)) k d).coefficient ≡ (get_or ranks k r0).coefficient
+    at k less =
+        let place : Rank → ℕ = λ r. r.place in
+        let pick : ℕ → Term = λ q. as_term (entry_at_place es q) in
+        let outer : get_or (picked es (map place ranks)) k d ≡ pick (get_or (map place ranks) k 0) = get_or-map pick (map place ranks) k 0 d (omega (arith, less, length-map ranks place)) in
+        let inner : get_or (map place ranks) k 0 ≡ (get_or ranks k r0).place = get_or-map place ranks k r0 0 less in
+        ap (λ (t : Term). t.coefficient) (outer ∙ ap pick inner) ∙ sym (all k r0 less).1
 
 sum_by-entries : (ts : List Term) → sum_by (λ e. e.coefficient) (map entry_of ts) ≡ sum_by (λ t. t.coefficient) ts
 sum_by-entries [] = refl
@@ -33,7 +95,7 @@ sum_by-entries (t ∷ ts) =
     let rest = sum_by-entries ts in
     omega (arith, rest, sum_by-cons (λ (x : Term). x.coefficient) t ts, sum_by-cons (λ (x : Entry). x.coefficient) (entry_of t) (map entry_of ts))
 
-total-each : (es : List Entry) → total each es ≡ sum_by (λ e. e.coefficient) es
+pub total-each : (es : List Entry) → total each es ≡ sum_by (λ e. e.coefficient) es
 total-each [] = refl
 total-each (e ∷ es) =
     let rest = total-each es in
@@ -42,22 +104,6 @@ total-each (e ∷ es) =
 pub kept-size : (ts : List Term) (es : List Entry) → IsPermutation (map entry_of ts) es → sum_by (λ t. t.coefficient) ts ≡ total each es
 kept-size ts es p =
     omega (arith, sum_by-entries ts, total-each es, sum_by-IsPermutation (λ (e : Entry). e.coefficient) (map entry_of ts) es p)
-
-pub falling-from : (ts : List Term) (m : ℕ) → IsNonDecreasingBy (λ t. m - t.coefficient) ts → sum_by (λ t. t.coefficient) ts ≤ m → AreFalling ts
-falling-from ts m up small i j d less inside =
-    let keys = up i j d less inside in
-    let top = get_or-le-sum_by (λ (t : Term). t.coefficient) ts j d inside in
-    omega (arith, keys, top, small)
-
--- a coefficient fits
-pub read-fits : (es : List Entry) (i : ℕ) (r : ℕ × Bool × ℤ) → slice_get es i ≡ Some record { variable = r.0; negated = r.1; coefficient = unsigned_abs r.2 } → total each es < 2 ^ 127 → FitsSigned w128 r.2
-read-fits es i r is small =
-    let e : Entry = record { variable = r.0; negated = r.1; coefficient = unsigned_abs r.2 } in
-    let inside = slice_get_within es i e is in
-    let here = get_or_from_slice_get es i e e is in
-    let part = get_or-le-sum_by (λ (x : Entry). x.coefficient) es i e inside in
-    let value : (get_or es i e).coefficient ≡ unsigned_abs r.2 = ap (λ (x : Entry). x.coefficient) here in
-    fits_signed_from_abs _ _ (omega (arith, part, value, total-each es, small))
 
 pub degree-read : (u : ℕ) (r : ℤ) (d : ℕ) → u ≡ unsigned_abs (to_z w128 (of_z w128 r)) → r ≡ pos d → d < 2 ^ 127 → u ≡ d
 degree-read u r d e is small =

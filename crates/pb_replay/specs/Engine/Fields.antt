@@ -1,5 +1,5 @@
 -- The engine's fields as lists.
-use Rattle.std.specs.Prelude.{◌≡◌, ℕ, false, [], ◌∷◌, ◌++◌, List, map, slice_set, Vec}
+use Rattle.std.specs.Prelude.{◌≡◌, ℕ, false, [], ◌∷◌, ◌++◌, List, Option, Some, None, map, slice_set, Vec}
 use Rattle.std.specs.Global.{Global}
 use Rattle.pb_replay.specs.declared.propagate.term.Occurrence.{Occurrence}
 use Rattle.pb_replay.specs.declared.propagate.kept.Kept.{Kept}
@@ -7,13 +7,18 @@ use Rattle.pb_replay.specs.declared.propagate.store.Store.{Store}
 use Rattle.pb_replay.specs.Engine.Lists.{Shape, Weighted}
 use Rattle.pb_normal.specs.Form.{Form}
 use Rattle.pb_replay.specs.Engine.Forms.{IsKeptAs}
+use Rattle.pb_replay.specs.Engine.Terms.{terms_of}
 use Rattle.pb_replay.specs.Engine.Links.{IsStored, weighted}
 
 abbrev pub kept_shape : Kept → Shape
-kept_shape k = record { terms = k.terms.items; degree = k.degree }
+kept_shape k = record { terms = terms_of k.terms; degree = k.degree }
 
 abbrev pub shapes_of : List Kept → List Shape
 shapes_of kept = map kept_shape kept
+
+-- the forms, where one has left none
+abbrev pub forms_of : List Kept → List (Option Form)
+forms_of kept = map (λ k. k.terms.form) kept
 
 abbrev pub lists_of : List (Vec Occurrence Global) → List (List Occurrence)
 lists_of lists = map (λ v. v.items) lists
@@ -33,6 +38,7 @@ IsSound s = IsStored (shapes_of s.kept.items) (spots_of s.spots.items) (entries_
 pub record HasEntered (f : Form) (keep keep' : List Kept) (opens opens' cands cands' : List ℕ) : Type 0 where
   pub kept : Kept
   pub is : IsKeptAs f (kept_shape kept)
+  pub form : kept.terms.form ≡ Some f
   pub keeps : keep' ≡ keep ++ (kept ∷ [])
   pub opened : opens' ≡ opens ++ (kept.total ∷ [])
   pub candidates : cands' ≡ cands ++ (0 ∷ [])
@@ -41,12 +47,14 @@ pub record HasEntered (f : Form) (keep keep' : List Kept) (opens opens' cands ca
 pub record HasFilled (f : Form) (slot : ℕ) (keep keep' : List Kept) (opens opens' : List ℕ) : Type 0 where
   pub kept : Kept
   pub is : IsKeptAs f (kept_shape kept)
+  pub form : kept.terms.form ≡ Some f
   pub keeps : keep' ≡ slice_set keep slot kept
   pub opened : opens' ≡ slice_set opens slot kept.total
 
 -- a form that says nothing
 pub record IsEmpty (k : Kept) : Type 0 where
-  pub terms : k.terms.items ≡ []
+  pub form : k.terms.form ≡ None
+  pub terms : terms_of k.terms ≡ []
   pub degree : k.degree ≡ 0
   pub total : k.total ≡ 0
   pub eager : k.eager ≡ false

@@ -1,12 +1,31 @@
 -- A form as the engine keeps it.
-use Rattle.std.specs.Prelude.{◌≡◌, map, IsPermutation}
+use Rattle.std.specs.Prelude.{◌≡◌, ℕ, ◌<◌, false, List, [], Option, Some, None, map, length, slice_index_or, IsPermutation}
 use Rattle.pb_normal.specs.declared.entry.Entry.{Entry}
 use Rattle.pb_normal.specs.Form.{Form, IsNormal}
 use Rattle.pb_replay.specs.declared.propagate.term.Term.{Term}
+use Rattle.pb_replay.specs.declared.propagate.term.Rank.{Rank}
 use Rattle.pb_replay.specs.Engine.Lists.{Shape}
 
 abbrev pub entry_of : Term → Entry
 entry_of t = record { variable = t.literal.variable; negated = t.literal.negated; coefficient = t.coefficient }
+
+abbrev pub as_term : Entry → Term
+as_term e = record { literal = record { variable = e.variable; negated = e.negated }; coefficient = e.coefficient }
+
+abbrev pub entries_in : Option Form → List Entry
+entries_in None = []
+entries_in (Some f) = f.terms
+
+abbrev pub entry_at_place : List Entry → ℕ → Entry
+entry_at_place es p = slice_index_or es p record { variable = 0; negated = false; coefficient = 0 }
+
+-- the terms at some places
+abbrev pub picked : List Entry → List ℕ → List Term
+picked es places = map (λ p. as_term (entry_at_place es p)) places
+
+-- the place is one of the list, and the coefficient is its own
+abbrev pub IsPlaced : List Entry → Rank → Type 0
+IsPlaced es r = (r.place < length es) × (r.coefficient ≡ (entry_at_place es r.place).coefficient)
 
 -- the same terms, perhaps in another order
 pub record IsKeptAs (f : Form) (s : Shape) : Type 0 where

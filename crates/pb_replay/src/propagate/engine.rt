@@ -29,9 +29,7 @@ pub struct Engine {
     store: Store,
     run: Run,
     eager: Eager,
-    // The forms by slot. A slot that a form has left is used again.
-    forms: Vec<Option<Normal>>,
-    // For each number the slot of its form, and no slot where it has left.
+    // For each number the slot of its form, and no slot where it has left. A slot that a form has left is used again.
     places: Vec<usize>,
     // The slots that forms have left.
     free: Vec<usize>,
@@ -45,12 +43,13 @@ impl Model for Engine {
     ghost Value = { Standing };
 
     ghost use Rattle.std.specs.Prelude.{◌≡◌, false};
+    ghost use Rattle.pb_replay.specs.Engine.Fields.{forms_of};
     ghost use Rattle.pb_replay.specs.Engine.Rest.{IsAtRest};
     ghost use Rattle.pb_replay.specs.Engine.Slots.{numbered, ArePlaced};
 
-    ghost view = { λ e. record { forms = numbered e.forms.items e.places.items; variables = e.store.variables; visits = e.run.visits; spent = e.spent } };
+    ghost view = { λ e. record { forms = numbered (forms_of e.store.kept.items) e.places.items; variables = e.store.variables; visits = e.run.visits; spent = e.spent } };
 
-    ghost invariant = { λ e. e.spent ≡ false → IsAtRest e.store e.run e.eager e.forms.items × ArePlaced e.forms.items e.places.items };
+    ghost invariant = { λ e. e.spent ≡ false → IsAtRest e.store e.run e.eager (forms_of e.store.kept.items) × ArePlaced (forms_of e.store.kept.items) e.places.items };
 }
 
 // Puts the given literals on the list; whether two of them are opposite.
@@ -158,7 +157,6 @@ impl Engine {
                 visits: 0,
             },
             eager: Eager::new(alloc),
-            forms: Vec::new(alloc),
             places: Vec::new(alloc),
             free: Vec::new(alloc),
             spent: false,
@@ -173,7 +171,7 @@ impl Engine {
         ensures visits { OnOk result (self.new.visits ≡ self.old.visits) }
         ensures ready { OnOk result (self.new.spent ≡ false) }
     {
-        let alloc = *self.forms.allocator();
+        let alloc = *self.places.allocator();
         self.spent = true;
         self.store.occurrences.push(Vec::new(alloc))?;
         self.store.occurrences.push(Vec::new(alloc))?;
@@ -198,17 +196,9 @@ impl Engine {
             &mut self.store,
             &mut self.run,
             &mut self.eager,
-            &mut self.forms,
             &mut self.free,
         )?;
-        occupy(
-            &mut self.store,
-            &mut self.run,
-            &mut self.eager,
-            &mut self.forms,
-            slot,
-            form,
-        )?;
+        occupy(&mut self.store, &mut self.run, &mut self.eager, slot, form)?;
         self.places.push(slot)?;
         self.spent = false;
         Ok(())
@@ -224,17 +214,11 @@ impl Engine {
         ensures ready { self.new.spent ≡ false }
     {
         let slot = self.places[number];
-        if slot >= self.forms.len() {
+        if slot >= self.store.kept.len() {
             return;
         }
         self.places[number] = usize::MAX;
-        quit(
-            &mut self.store,
-            &mut self.run,
-            &mut self.eager,
-            &mut self.forms,
-            slot,
-        );
+        quit(&mut self.store, &mut self.run, &mut self.eager, slot);
         let _noted = self.free.push(slot);
     }
 
@@ -244,8 +228,8 @@ impl Engine {
         ensures some { IfSome result (λ f. slice_index_or self.now.forms number None ≡ Some f.now) }
         ensures none { IfNone result (slice_index_or self.now.forms number None ≡ None) }
     {
-        match self.forms.get(self.places[number]) {
-            Some(form) => form.as_ref(),
+        match self.store.kept.get(self.places[number]) {
+            Some(kept) => kept.terms.form.as_ref(),
             None => None,
         }
     }
@@ -288,8 +272,8 @@ impl Engine {
         let Ok(negation) = goal.negation() else {
             return Err(AllocError);
         };
-        let number = self.forms.len();
-        enter(&mut self.store, &mut self.run, &negation)?;
+        let number = self.store.kept.len();
+        enter(&mut self.store, &mut self.run, negation)?;
         choose(&self.store, number, &mut self.run.trail)?;
         choose(&self.store, number, &mut self.run.work)?;
         let found = propagate(&self.store, &mut self.run, self.eager.list.as_slice())?;
@@ -327,7 +311,7 @@ impl Engine {
             given,
             self.eager.list.as_slice(),
         )?;
-        let mut values = Vec::new(*self.forms.allocator());
+        let mut values = Vec::new(*self.places.allocator());
         values.extend_from_slice(self.run.assignment.values.as_slice())?;
         rest(&self.store, &mut self.run);
         self.run.visits = visits;

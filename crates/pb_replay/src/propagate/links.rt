@@ -1,78 +1,51 @@
 //! Forms enter and leave.
 
-ghost use Rattle.std.specs.Prelude.{◌≡◌, ℕ, List, All, Some, ◌+◌, ◌-◌, ◌*◌, ◌<◌, ◌≤◌, ◌^◌, ◌++◌, ◌∷◌, [], false, true, length, map, take, sum_by, IfOk, OnOk, IsPermutation, slice_get, slice_index, slice_index_or, slice_set, swap_remove};
+ghost use Rattle.std.specs.Prelude.{◌≡◌, ℕ, List, All, Some, None, ◌+◌, ◌-◌, ◌*◌, ◌<◌, ◌≤◌, ◌^◌, ◌++◌, ◌∷◌, [], false, true, length, map, take, sum_by, IfOk, OnOk, OnErr, IsPermutation, slice_get, slice_index, slice_index_or, slice_set, swap_remove};
 ghost use Rattle.pb_replay.specs.declared.propagate.term.Term.{Term};
 ghost use Rattle.pb_replay.specs.declared.propagate.term.Occurrence.{Occurrence};
 ghost use Rattle.pb_replay.specs.declared.propagate.kept.Kept.{Kept};
 ghost use Rattle.pb_replay.specs.Engine.Lists.{Shape, AreInside};
 ghost use Rattle.pb_replay.specs.Engine.Counts.{AreFalling, IsCalm, place};
-ghost use Rattle.pb_replay.specs.Engine.Forms.{entry_of, IsKeptAs};
-ghost use Rattle.pb_replay.specs.Engine.Fields.{kept_shape, shapes_of, spots_of, lists_of, entries_of, IsSound, HasEntered, HasFilled, IsEmpty};
+ghost use Rattle.pb_replay.specs.Engine.Forms.{IsKeptAs};
+ghost use Rattle.pb_replay.specs.Engine.Terms.{terms_of};
+ghost use Rattle.pb_replay.specs.Engine.Fields.{kept_shape, shapes_of, forms_of, spots_of, lists_of, entries_of, IsSound, HasEntered, HasFilled, IsEmpty};
 ghost use Rattle.pb_replay.specs.Engine.Links.{IsLinked, Moved, cut, terms_at};
 
 use crate::numbered::NumberedLiteral;
+use crate::propagate::falling::Falling;
 use crate::propagate::kept::Kept;
 use crate::propagate::run::{Run, place_of};
 use crate::propagate::store::Store;
-use crate::propagate::term::{Occurrence, Term};
+use crate::propagate::term::Occurrence;
 use pb_normal::Normal;
 use std::alloc::{AllocError, Global};
 
-// The terms of a form in order of falling coefficient.
-fn sorted_terms(alloc: Global, form: &Normal) -> Result<Vec<Term>, AllocError>
-    ensures same { IfOk result (λ terms. IsPermutation (map entry_of terms.items) form.now.terms) }
-    ensures falling { IfOk result (λ terms. AreFalling terms.items) }
-{
-    let mut terms = Vec::with_capacity(alloc, form.len())?;
-    'terms: for i in 0..form.len() {
-        let (variable, negated, coefficient) = form.term(i);
-        terms.push(Term {
-            literal: NumberedLiteral { variable, negated },
-            coefficient: coefficient.unsigned_abs(),
-        })?;
-    }
-    terms.sort_unstable_by_key(|t| u128::MAX - t.coefficient);
-    Ok(terms)
-}
-
-// The sum of the coefficients.
-fn total_of(terms: &[Term]) -> u128
-    requires { sum_by (λ t. t.coefficient) terms.now < 2 ^ 128 }
-    ensures { result ≡ sum_by (λ t. t.coefficient) terms.now }
-{
-    let mut total = 0;
-    for t in terms {
-        total += t.coefficient;
-    }
-    total
-}
-
 // The degree and the largest coefficient: with an open sum of that size a form puts no literal and is not falsified.
-fn bound_of(terms: &[Term], degree: u128) -> u128
-    requires size { sum_by (λ t. t.coefficient) terms.now < 2 ^ 127 }
+fn bound_of(terms: &Falling, degree: u128) -> u128
+    requires size { sum_by (λ t. t.coefficient) (terms_of terms.now) < 2 ^ 127 }
     requires small { degree < 2 ^ 127 }
-    requires falling { AreFalling terms.now }
-    ensures first { (d : Term) → 0 < length terms.now → result ≡ degree + (slice_index_or terms.now 0 d).coefficient }
-    ensures calm { (opened c : ℕ) → result ≤ opened → IsCalm record { terms = terms.now; degree = degree } opened c }
-    ensures some { 0 < result → 0 < degree + length terms.now }
+    requires falling { AreFalling (terms_of terms.now) }
+    ensures first { (d : Term) → 0 < length (terms_of terms.now) → result ≡ degree + (slice_index_or (terms_of terms.now) 0 d).coefficient }
+    ensures calm { (opened c : ℕ) → result ≤ opened → IsCalm record { terms = terms_of terms.now; degree = degree } opened c }
+    ensures some { 0 < result → 0 < degree + length (terms_of terms.now) }
 {
     if terms.len() == 0 {
         return degree;
     }
-    let first = terms[0];
+    let first = terms.term(0);
     degree + first.coefficient
 }
 
 // Whether all coefficients are equal.
-fn is_even(terms: &[Term]) -> bool
-    requires { AreFalling terms.now }
-    ensures { result ≡ true → (i : ℕ) (d : Term) → i < length terms.now → (slice_index_or terms.now i d).coefficient ≡ (slice_index_or terms.now 0 d).coefficient }
+fn is_even(terms: &Falling) -> bool
+    requires { AreFalling (terms_of terms.now) }
+    ensures { result ≡ true → (i : ℕ) (d : Term) → i < length (terms_of terms.now) → (slice_index_or (terms_of terms.now) i d).coefficient ≡ (slice_index_or (terms_of terms.now) 0 d).coefficient }
 {
     if terms.len() == 0 {
         return true;
     }
-    let largest = terms[0];
-    let least = terms[terms.len() - 1];
+    let largest = terms.term(0);
+    let least = terms.term(terms.len() - 1);
     largest.coefficient == least.coefficient
 }
 
@@ -85,15 +58,16 @@ fn is_below(total: u128, bound: u128) -> bool
 }
 
 // A form as the engine keeps it.
-fn kept_of(alloc: Global, form: &Normal) -> Result<Kept, AllocError>
-    ensures { IfOk result (λ kept. IsKeptAs form.now (kept_shape kept)) }
+fn kept_of(alloc: Global, form: Normal) -> Result<Kept, AllocError>
+    ensures is { IfOk result (λ kept. IsKeptAs form (kept_shape kept)) }
+    ensures form { IfOk result (λ kept. kept.terms.form ≡ Some form) }
 {
-    let terms = sorted_terms(alloc, form)?;
     let degree = form.degree().unsigned_abs();
-    let total = total_of(terms.as_slice());
-    let bound = bound_of(terms.as_slice(), degree);
+    let total = form.size();
+    let terms = Falling::new(alloc, form)?;
+    let bound = bound_of(&terms, degree);
     let eager = is_below(total, bound);
-    let even = is_even(terms.as_slice());
+    let even = is_even(&terms);
     Ok(Kept {
         terms,
         degree,
@@ -106,19 +80,19 @@ fn kept_of(alloc: Global, form: &Normal) -> Result<Kept, AllocError>
 
 // Enters a form's terms in the lists of their literals, and tells where.
 fn link(
-    terms: &[Term],
+    terms: &Falling,
     form: usize,
     lists: &mut Vec<Vec<Occurrence>>,
     spots: &mut Vec<usize>,
 ) -> Result<(), AllocError>
-    requires inside { All (λ t. place t.literal < length lists.old.items) terms.now }
+    requires inside { All (λ t. place t.literal < length lists.old.items) (terms_of terms.now) }
     requires empty { spots.old.items ≡ [] }
     ensures sizes { length lists.new.items ≡ length lists.old.items }
-    ensures count { OnOk result (length spots.new.items ≡ length terms.now) }
-    ensures linked { OnOk result ((base : List Shape) (all : List (List ℕ)) → form < length base → terms_at base form ≡ terms.now → form < length all → IsLinked (cut base form 0) (slice_set all form []) (entries_of base lists.old.items) → IsLinked (cut base form (length terms.now)) (slice_set all form spots.new.items) (entries_of base lists.new.items)) }
+    ensures count { OnOk result (length spots.new.items ≡ length (terms_of terms.now)) }
+    ensures linked { OnOk result ((base : List Shape) (all : List (List ℕ)) → form < length base → terms_at base form ≡ terms_of terms.now → form < length all → IsLinked (cut base form 0) (slice_set all form []) (entries_of base lists.old.items) → IsLinked (cut base form (length (terms_of terms.now))) (slice_set all form spots.new.items) (entries_of base lists.new.items)) }
 {
     'terms: for i in 0..terms.len() {
-        let term = terms[i];
+        let term = terms.term(i);
         let place = place_of(term.literal);
         let spot = lists[place].len();
         spots.push(spot)?;
@@ -162,7 +136,7 @@ fn unlink(store: &mut Store, form: usize)
     let mut left = store.kept[form].terms.len();
     'terms: while left > 0 {
         left -= 1;
-        let term = store.kept[form].terms[left];
+        let term = store.kept[form].terms.term(left);
         let spot = store.spots[form][left];
         let place = place_of(term.literal);
         take_out(&mut store.occurrences, &mut store.spots, place, spot);
@@ -174,7 +148,7 @@ fn empty_kept(alloc: Global) -> Kept
     ensures { IsEmpty result }
 {
     Kept {
-        terms: Vec::new(alloc),
+        terms: Falling::none(alloc),
         degree: 0,
         total: 0,
         bound: 0,
@@ -188,6 +162,7 @@ pub fn widen(store: &mut Store, run: &mut Run) -> Result<(), AllocError>
     requires sound { IsSound store.old }
     ensures sound { OnOk result (IsSound store.new) }
     ensures kept { OnOk result ((k : Kept) × IsEmpty k × (store.new.kept.items ≡ store.old.kept.items ++ k ∷ [])) }
+    ensures unchanged { OnErr result (store.new.kept.items ≡ store.old.kept.items) }
     ensures opens { OnOk result (run.new.opens.items ≡ run.old.opens.items ++ 0 ∷ []) }
     ensures candidates { OnOk result (run.new.candidates.items ≡ run.old.candidates.items ++ 0 ∷ []) }
     ensures variables { store.new.variables ≡ store.old.variables }
@@ -203,14 +178,15 @@ pub fn widen(store: &mut Store, run: &mut Run) -> Result<(), AllocError>
 }
 
 /// Enters a form where an empty one stands.
-pub fn fill(store: &mut Store, run: &mut Run, slot: usize, form: &Normal) -> Result<(), AllocError>
+pub fn fill(store: &mut Store, run: &mut Run, slot: usize, form: Normal) -> Result<(), AllocError>
     requires sound { IsSound store.old }
-    requires inside { All (λ t. t.variable < store.old.variables) form.now.terms }
+    requires inside { All (λ t. t.variable < store.old.variables) form.terms }
     requires slot { slot < length store.old.kept.items }
     requires empty { terms_at (shapes_of store.old.kept.items) slot ≡ [] }
     requires opens { length run.old.opens.items ≡ length store.old.kept.items }
     ensures sound { OnOk result (IsSound store.new) }
-    ensures filled { OnOk result (HasFilled form.now slot store.old.kept.items store.new.kept.items run.old.opens.items run.new.opens.items) }
+    ensures unchanged { OnErr result (store.new.kept.items ≡ store.old.kept.items) }
+    ensures filled { OnOk result (HasFilled form slot store.old.kept.items store.new.kept.items run.old.opens.items run.new.opens.items) }
     ensures variables { store.new.variables ≡ store.old.variables }
     ensures trail { run.new.trail ≡ run.old.trail }
     ensures rest { (run.new.candidates ≡ run.old.candidates) × (run.new.assignment ≡ run.old.assignment) × (run.new.work ≡ run.old.work) × (run.new.next ≡ run.old.next) × (run.new.visits ≡ run.old.visits) }
@@ -218,12 +194,7 @@ pub fn fill(store: &mut Store, run: &mut Run, slot: usize, form: &Normal) -> Res
     let alloc = *store.kept.allocator();
     let kept = kept_of(alloc, form)?;
     let mut spots = Vec::with_capacity(alloc, kept.terms.len())?;
-    link(
-        kept.terms.as_slice(),
-        slot,
-        &mut store.occurrences,
-        &mut spots,
-    )?;
+    link(&kept.terms, slot, &mut store.occurrences, &mut spots)?;
     run.opens[slot] = kept.total;
     store.spots[slot] = spots;
     store.kept[slot] = kept;
@@ -231,12 +202,13 @@ pub fn fill(store: &mut Store, run: &mut Run, slot: usize, form: &Normal) -> Res
 }
 
 /// Enters a form behind the others.
-pub fn enter(store: &mut Store, run: &mut Run, form: &Normal) -> Result<(), AllocError>
+pub fn enter(store: &mut Store, run: &mut Run, form: Normal) -> Result<(), AllocError>
     requires sound { IsSound store.old }
-    requires inside { All (λ t. t.variable < store.old.variables) form.now.terms }
+    requires inside { All (λ t. t.variable < store.old.variables) form.terms }
     requires opens { length run.old.opens.items ≡ length store.old.kept.items }
     ensures sound { OnOk result (IsSound store.new) }
-    ensures entered { OnOk result (HasEntered form.now store.old.kept.items store.new.kept.items run.old.opens.items run.new.opens.items run.old.candidates.items run.new.candidates.items) }
+    ensures unchanged { OnErr result ((s : ℕ) → slice_index_or (forms_of store.new.kept.items) s None ≡ slice_index_or (forms_of store.old.kept.items) s None) }
+    ensures entered { OnOk result (HasEntered form store.old.kept.items store.new.kept.items run.old.opens.items run.new.opens.items run.old.candidates.items run.new.candidates.items) }
     ensures variables { store.new.variables ≡ store.old.variables }
     ensures trail { run.new.trail ≡ run.old.trail }
     ensures rest { (run.new.assignment ≡ run.old.assignment) × (run.new.work ≡ run.old.work) × (run.new.next ≡ run.old.next) × (run.new.visits ≡ run.old.visits) }

@@ -8,11 +8,12 @@ ghost use Rattle.pb_replay.specs.Engine.Counts.{place, Grown, IsCalm, IsCounted,
 ghost use Rattle.pb_replay.specs.Engine.Rest.{waits};
 ghost use Rattle.pb_replay.specs.Engine.Fields.{shapes_of, entries_of, IsSound};
 ghost use Rattle.pb_replay.specs.Engine.Links.{terms_at, coefficient_at};
+ghost use Rattle.pb_replay.specs.Engine.Terms.{terms_of};
 
 use crate::numbered::NumberedLiteral;
 use crate::propagate::assignment::Assignment;
 use crate::propagate::kept::Kept;
-use crate::propagate::store::{Store, visit};
+use crate::propagate::store::{Store, visit, visit_term};
 use crate::propagate::term::Occurrence;
 use std::alloc::AllocError;
 
@@ -53,13 +54,13 @@ fn queue(work: &mut Vec<usize>, form: usize, left: u128, bound: u128) -> Result<
 
 // The coefficient of a kept form's term. Where all are equal the bound tells it, and the terms need not be read.
 fn weight_of(kept: &Kept, index: usize) -> u128
-    requires { index < length kept.now.terms.items }
-    ensures { (d : Term) → result ≡ (slice_index_or kept.now.terms.items index d).coefficient }
+    requires { index < length (terms_of kept.now.terms) }
+    ensures { (d : Term) → result ≡ (slice_index_or (terms_of kept.now.terms) index d).coefficient }
 {
     if kept.even {
         return kept.bound - kept.degree;
     }
-    kept.terms[index].coefficient
+    kept.terms.term(index).coefficient
 }
 
 /// Takes an entry from its form's open sum, and puts the form on the work list where it then may put a literal or is falsified.
@@ -198,7 +199,7 @@ fn look(store: &Store, run: &mut Run, form: usize, waiting: &[usize]) -> Result<
         if candidate >= kept.terms.len() {
             return Ok(false);
         }
-        let term = visit(&kept.terms, candidate, &mut run.visits);
+        let term = visit_term(&kept.terms, candidate, &mut run.visits);
         if kept.degree + term.coefficient <= opened {
             return Ok(false);
         }

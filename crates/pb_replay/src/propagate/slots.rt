@@ -1,10 +1,12 @@
 //! Forms take slots and leave them.
 
-ghost use Rattle.std.specs.Prelude.{◌≡◌, ℕ, ◌<◌, ◌++◌, ◌∷◌, [], All, Some, None, true, false, length, filter, slice_get, slice_set, slice_index_or, swap_remove, IfSome, IfOk, OnOk, OnErr};
+ghost use Rattle.std.specs.Prelude.{◌≡◌, ℕ, ◌<◌, ◌++◌, ◌∷◌, ◌⊎◌, [], All, Some, None, true, false, length, filter, slice_get, slice_set, slice_index_or, swap_remove, IfSome, IfOk, OnOk, OnErr};
 ghost use Rattle.pb_replay.specs.Engine.Counts.{IsAbsent};
+ghost use Rattle.pb_replay.specs.Engine.Fields.{forms_of};
 ghost use Rattle.pb_replay.specs.Engine.Rest.{IsAtRest, waits};
 
 use crate::propagate::eager::Eager;
+use crate::propagate::kept::Kept;
 use crate::propagate::links::{fill, vacate, widen};
 use crate::propagate::run::Run;
 use crate::propagate::store::Store;
@@ -12,14 +14,15 @@ use pb_normal::Normal;
 use std::alloc::AllocError;
 
 // A slot that a form has left.
-fn left_slot(forms: &[Option<Normal>], free: &mut Vec<usize>) -> Option<usize>
-    ensures { IfSome result (λ slot. slice_get forms.now slot ≡ Some None) }
+fn left_slot(kept: &[Kept], free: &mut Vec<usize>) -> Option<usize>
+    ensures { IfSome result (λ slot. slice_get (forms_of kept.now) slot ≡ Some None) }
 {
     let slot = free.pop()?;
-    match forms.get(slot) {
-        Some(None) => Some(slot),
-        _ => None,
+    let kept = kept.get(slot)?;
+    if kept.terms.form.is_some() {
+        return None;
     }
+    Some(slot)
 }
 
 /// A slot that no form is in: one that a form has left, or a new one.
@@ -27,25 +30,23 @@ pub fn vacancy(
     store: &mut Store,
     run: &mut Run,
     eager: &mut Eager,
-    forms: &mut Vec<Option<Normal>>,
     free: &mut Vec<usize>,
 ) -> Result<usize, AllocError>
-    requires rest { IsAtRest store.old run.old eager.old forms.old.items }
-    ensures rest { OnOk result (IsAtRest store.new run.new eager.new forms.new.items) }
-    ensures slot { IfOk result (λ slot. slice_get forms.new.items slot ≡ Some None) }
-    ensures forms { (s : ℕ) → slice_index_or forms.new.items s None ≡ slice_index_or forms.old.items s None }
+    requires rest { IsAtRest store.old run.old eager.old (forms_of store.old.kept.items) }
+    ensures rest { OnOk result (IsAtRest store.new run.new eager.new (forms_of store.new.kept.items)) }
+    ensures slot { IfOk result (λ slot. slice_get (forms_of store.new.kept.items) slot ≡ Some None) }
+    ensures forms { (s : ℕ) → slice_index_or (forms_of store.new.kept.items) s None ≡ slice_index_or (forms_of store.old.kept.items) s None }
     ensures variables { store.new.variables ≡ store.old.variables }
     ensures visits { run.new.visits ≡ run.old.visits }
 {
-    if let Some(slot) = left_slot(forms.as_slice(), free) {
+    if let Some(slot) = left_slot(store.kept.as_slice(), free) {
         return Ok(slot);
     }
-    let slot = forms.len();
+    let slot = store.kept.len();
     widen(store, run)?;
     eager.widen()?;
     // Room for each slot, so that none is lost when its form leaves.
     free.reserve(slot.saturating_add(1).saturating_sub(free.len()))?;
-    forms.push(None)?;
     Ok(slot)
 }
 
@@ -69,22 +70,21 @@ pub fn occupy(
     store: &mut Store,
     run: &mut Run,
     eager: &mut Eager,
-    forms: &mut Vec<Option<Normal>>,
     slot: usize,
     form: Normal,
 ) -> Result<(), AllocError>
-    requires rest { IsAtRest store.old run.old eager.old forms.old.items }
-    requires slot { slice_get forms.old.items slot ≡ Some None }
+    requires rest { IsAtRest store.old run.old eager.old (forms_of store.old.kept.items) }
+    requires slot { slice_get (forms_of store.old.kept.items) slot ≡ Some None }
     requires inside { All (λ t. t.variable < store.old.variables) form.terms }
-    ensures rest { OnOk result (IsAtRest store.new run.new eager.new forms.new.items) }
-    ensures forms { OnOk result (forms.new.items ≡ slice_set forms.old.items slot (Some form)) }
-    ensures unchanged { OnErr result (forms.new.items ≡ forms.old.items) }
+    ensures rest { OnOk result (IsAtRest store.new run.new eager.new (forms_of store.new.kept.items)) }
+    ensures forms { OnOk result (forms_of store.new.kept.items ≡ slice_set (forms_of store.old.kept.items) slot (Some form)) }
+    // The form may have its slot, and be out of the list of those that may put a literal on the empty list.
+    ensures refused { OnErr result ((forms_of store.new.kept.items ≡ forms_of store.old.kept.items) ⊎ (forms_of store.new.kept.items ≡ slice_set (forms_of store.old.kept.items) slot (Some form))) }
     ensures variables { store.new.variables ≡ store.old.variables }
     ensures visits { run.new.visits ≡ run.old.visits }
 {
-    fill(store, run, slot, &form)?;
+    fill(store, run, slot, form)?;
     seat(store, eager, slot)?;
-    forms[slot] = Some(form);
     Ok(())
 }
 
@@ -103,21 +103,14 @@ fn unseat(store: &Store, eager: &mut Eager, slot: usize)
 }
 
 /// A form leaves its slot, which is then empty.
-pub fn quit(
-    store: &mut Store,
-    run: &mut Run,
-    eager: &mut Eager,
-    forms: &mut Vec<Option<Normal>>,
-    slot: usize,
-)
-    requires rest { IsAtRest store.old run.old eager.old forms.old.items }
-    requires slot { slot < length forms.old.items }
-    ensures rest { IsAtRest store.new run.new eager.new forms.new.items }
-    ensures forms { forms.new.items ≡ slice_set forms.old.items slot None }
+pub fn quit(store: &mut Store, run: &mut Run, eager: &mut Eager, slot: usize)
+    requires rest { IsAtRest store.old run.old eager.old (forms_of store.old.kept.items) }
+    requires slot { slot < length store.old.kept.items }
+    ensures rest { IsAtRest store.new run.new eager.new (forms_of store.new.kept.items) }
+    ensures forms { forms_of store.new.kept.items ≡ slice_set (forms_of store.old.kept.items) slot None }
     ensures variables { store.new.variables ≡ store.old.variables }
     ensures visits { run.new.visits ≡ run.old.visits }
 {
     unseat(store, eager, slot);
     vacate(store, run, slot);
-    forms[slot] = None;
 }

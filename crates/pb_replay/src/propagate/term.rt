@@ -11,6 +11,13 @@ pub struct Term {
     pub coefficient: u128,
 }
 
+/// The place of a form's term, and its coefficient.
+#[derive(Clone, Copy)]
+pub struct Rank {
+    pub place: usize,
+    pub coefficient: u128,
+}
+
 /// A form in which a literal stands, and the place of its term there.
 #[derive(Clone, Copy)]
 pub struct Occurrence {

@@ -1,16 +1,37 @@
-use Rattle.std.proofs.Common.{[], ℕ, ◌-◌, ◌∙◌, Vec, Global, get_or, ap, arith}
+use Rattle.std.proofs.Common.{[], ℕ, ◌-◌, ◌∙◌, Vec, Global, get_or, refl, ap, arith}
 use Rattle.std.proofs.lemmas.List.{length-map}
 use Rattle.pb_replay.specs.declared.propagate.kept.Kept.{Kept}
+use Rattle.pb_replay.specs.Engine.Counts.{place}
 use Rattle.pb_replay.specs.Engine.Fields.{spots_of, shapes_of, lists_of, kept_shape}
 use Rattle.pb_replay.proofs.Engine.Places.{unlink-read, moved-rooms, entries-length, taken-length}
 use Rattle.pb_replay.proofs.propagate.links.unlink.Goals as goal
+
+pub place_of-place-requires : goal.place_of-place-requires
+place_of-place-requires c =
+    let store = c.args.store.now in
+    let now = c.terms.store in
+    let read = unlink-read store.kept.items now.kept.items now.spots.items now.occurrences.items store.variables c.args.form c.terms.left (c.terms.left - 1) c.index-in-terms.result.now c.term-term.result c.index-in-terms-2.result.now c.index-spot.result.now (place c.term-term.result.literal)
+    (ap (λ (v : Vec Kept Global). v.items) c.terms.invariant.kept) (omega (arith, c.terms-test.true)) c.requires.form c.index-in-terms.ensures c.terms.invariant.within (c.term-term.ensures c.term-term.result) c.index-in-terms-2.ensures
+    (c.terms.invariant.rooms c.args.form ∙ c.requires.sound.rooms c.args.form (omega (arith, c.requires.form, length-map store.kept.items kept_shape))) c.index-spot.ensures refl c.requires.sound.inside
+    (omega (arith, c.terms.invariant.lists, c.requires.sound.places, entries-length (shapes_of store.kept.items) store.occurrences.items)) c.terms.invariant.linked in
+    omega (arith, read.room, now.occurrences.ok.0)
+
+pub take_out-requires-clause-place : goal.take_out-requires-clause-place
+take_out-requires-clause-place c =
+    let store = c.args.store.now in
+    let now = c.terms.store in
+    let read = unlink-read store.kept.items now.kept.items now.spots.items now.occurrences.items store.variables c.args.form c.terms.left (c.terms.left - 1) c.index-in-terms.result.now c.term-term.result c.index-in-terms-2.result.now c.index-spot.result.now c.place_of-place.result
+    (ap (λ (v : Vec Kept Global). v.items) c.terms.invariant.kept) (omega (arith, c.terms-test.true)) c.requires.form c.index-in-terms.ensures c.terms.invariant.within (c.term-term.ensures c.term-term.result) c.index-in-terms-2.ensures
+    (c.terms.invariant.rooms c.args.form ∙ c.requires.sound.rooms c.args.form (omega (arith, c.requires.form, length-map store.kept.items kept_shape))) c.index-spot.ensures c.place_of-place.ensures.place c.requires.sound.inside
+    (omega (arith, c.terms.invariant.lists, c.requires.sound.places, entries-length (shapes_of store.kept.items) store.occurrences.items)) c.terms.invariant.linked in
+    read.room
 
 pub take_out-requires-clause-spot : goal.take_out-requires-clause-spot
 take_out-requires-clause-spot c =
     let store = c.args.store.now in
     let now = c.terms.store in
-    let read = unlink-read store.kept.items now.kept.items now.spots.items now.occurrences.items store.variables c.args.form c.terms.left (c.terms.left - 1) c.index-in-terms.result.now c.index-term.result.now c.index-in-terms-2.result.now c.index-spot.result.now c.place_of-place.result
-    (ap (λ (v : Vec Kept Global). v.items) c.terms.invariant.kept) (omega (arith, c.terms-test.true)) c.requires.form c.index-in-terms.ensures c.terms.invariant.within c.index-term.ensures c.index-in-terms-2.ensures
+    let read = unlink-read store.kept.items now.kept.items now.spots.items now.occurrences.items store.variables c.args.form c.terms.left (c.terms.left - 1) c.index-in-terms.result.now c.term-term.result c.index-in-terms-2.result.now c.index-spot.result.now c.place_of-place.result
+    (ap (λ (v : Vec Kept Global). v.items) c.terms.invariant.kept) (omega (arith, c.terms-test.true)) c.requires.form c.index-in-terms.ensures c.terms.invariant.within (c.term-term.ensures c.term-term.result) c.index-in-terms-2.ensures
     (c.terms.invariant.rooms c.args.form ∙ c.requires.sound.rooms c.args.form (omega (arith, c.requires.form, length-map store.kept.items kept_shape))) c.index-spot.ensures c.place_of-place.ensures.place c.requires.sound.inside
     (omega (arith, c.terms.invariant.lists, c.requires.sound.places, entries-length (shapes_of store.kept.items) store.occurrences.items)) c.terms.invariant.linked in
     read.spot_in
@@ -19,8 +40,8 @@ pub take_out-requires-clause-named : goal.take_out-requires-clause-named
 take_out-requires-clause-named c =
     let store = c.args.store.now in
     let now = c.terms.store in
-    let read = unlink-read store.kept.items now.kept.items now.spots.items now.occurrences.items store.variables c.args.form c.terms.left (c.terms.left - 1) c.index-in-terms.result.now c.index-term.result.now c.index-in-terms-2.result.now c.index-spot.result.now c.place_of-place.result
-    (ap (λ (v : Vec Kept Global). v.items) c.terms.invariant.kept) (omega (arith, c.terms-test.true)) c.requires.form c.index-in-terms.ensures c.terms.invariant.within c.index-term.ensures c.index-in-terms-2.ensures
+    let read = unlink-read store.kept.items now.kept.items now.spots.items now.occurrences.items store.variables c.args.form c.terms.left (c.terms.left - 1) c.index-in-terms.result.now c.term-term.result c.index-in-terms-2.result.now c.index-spot.result.now c.place_of-place.result
+    (ap (λ (v : Vec Kept Global). v.items) c.terms.invariant.kept) (omega (arith, c.terms-test.true)) c.requires.form c.index-in-terms.ensures c.terms.invariant.within (c.term-term.ensures c.term-term.result) c.index-in-terms-2.ensures
     (c.terms.invariant.rooms c.args.form ∙ c.requires.sound.rooms c.args.form (omega (arith, c.requires.form, length-map store.kept.items kept_shape))) c.index-spot.ensures c.place_of-place.ensures.place c.requires.sound.inside
     (omega (arith, c.terms.invariant.lists, c.requires.sound.places, entries-length (shapes_of store.kept.items) store.occurrences.items)) c.terms.invariant.linked in
     λ e h.
@@ -31,8 +52,8 @@ pub terms-preserved : goal.terms-preserved
 terms-preserved c =
     let store = c.args.store.now in
     let now = c.terms.store in
-    let read = unlink-read store.kept.items now.kept.items now.spots.items now.occurrences.items store.variables c.args.form c.terms.left (c.terms.left - 1) c.index-in-terms.result.now c.index-term.result.now c.index-in-terms-2.result.now c.index-spot.result.now c.place_of-place.result
-    (ap (λ (v : Vec Kept Global). v.items) c.terms.invariant.kept) (omega (arith, c.terms-test.true)) c.requires.form c.index-in-terms.ensures c.terms.invariant.within c.index-term.ensures c.index-in-terms-2.ensures
+    let read = unlink-read store.kept.items now.kept.items now.spots.items now.occurrences.items store.variables c.args.form c.terms.left (c.terms.left - 1) c.index-in-terms.result.now c.term-term.result c.index-in-terms-2.result.now c.index-spot.result.now c.place_of-place.result
+    (ap (λ (v : Vec Kept Global). v.items) c.terms.invariant.kept) (omega (arith, c.terms-test.true)) c.requires.form c.index-in-terms.ensures c.terms.invariant.within (c.term-term.ensures c.term-term.result) c.index-in-terms-2.ensures
     (c.terms.invariant.rooms c.args.form ∙ c.requires.sound.rooms c.args.form (omega (arith, c.requires.form, length-map store.kept.items kept_shape))) c.index-spot.ensures c.place_of-place.ensures.place c.requires.sound.inside
     (omega (arith, c.terms.invariant.lists, c.requires.sound.places, entries-length (shapes_of store.kept.items) store.occurrences.items)) c.terms.invariant.linked in
     let done = c.take_out.new in

@@ -2,7 +2,10 @@ use Rattle.std.specs.Prelude.{filter, sum}
 use Rattle.pb_replay.specs.Engine.Rest.{waits}
 use Rattle.std.proofs.Common.{ℕ, ◌<◌, ◌+◌, Vec, Global, set, length, get_or, refl, ap, sym, ◌∙◌, arith}
 use Rattle.std.proofs.lemmas.List.{length-map, get_or_read}
+use Rattle.std.proofs.lemmas.List.Sums.{get_or-le-sum_by}
+use Rattle.pb_replay.specs.declared.propagate.term.Term.{Term}
 use Rattle.pb_replay.specs.Engine.Fields.{shapes_of, entries_of, kept_shape}
+use Rattle.pb_replay.specs.Engine.Terms.{terms_of}
 use Rattle.pb_replay.proofs.Engine.Looks.{Looking-start, Looking-next_by, calm-by, waiting-by, Looking-settled_by, Looking-conflict, shape-at, term-inside}
 use Rattle.pb_replay.proofs.Engine.Spent.{sum-bounded, derivation-single}
 use Rattle.pb_replay.proofs.propagate.run.look.Goals as goal
@@ -39,7 +42,7 @@ returns-then-candidate-len-clause-tidy c = λ found.
     let room : c.args.form < length run.opens.items = omega (arith, c.terms.invariant.looking.open_sizes, sizes, c.requires.form) in
     let roomc : c.args.form < length run.candidates.items = omega (arith, c.terms.invariant.looking.candidate_sizes, sizes, c.requires.form) in
     let calm = calm-by c.index-kept.result.now run.opens.items run.candidates.items c.args.form c.index-opened.result.now c.index-candidate.result.now room roomc c.index-opened.ensures c.index-candidate.ensures c.if-opened-kept.false
-    (λ d less. absurd (omega (arith, less, c.len.ensures, c.if-candidate-len.true, c.index-kept.result.now.terms.ok.0))) in
+    (λ d less. absurd (omega (arith, less, c.len.ensures, c.if-candidate-len.true))) in
     Looking-settled_by (filter (waits store.kept.items) c.args.waiting.now) (shapes_of store.kept.items) (entries_of (shapes_of store.kept.items) store.occurrences.items) c.args.form start.assignment.list.items start.candidates.items start.work.items start.visits run.opens.items run.candidates.items run.assignment.list.items run.work.items run.trail.items run.next run.visits (kept_shape c.index-kept.result.now) (length store.kept.items) sizes
     (shape-at store.kept.items c.args.form c.index-kept.result.now c.requires.form c.index-kept.ensures) calm c.terms.invariant.looking
 
@@ -52,9 +55,16 @@ returns-then-kept-term-clause-tidy c = λ found.
     let room : c.args.form < length run.opens.items = omega (arith, c.terms.invariant.looking.open_sizes, sizes, c.requires.form) in
     let roomc : c.args.form < length run.candidates.items = omega (arith, c.terms.invariant.looking.candidate_sizes, sizes, c.requires.form) in
     let calm = calm-by c.index-kept.result.now run.opens.items run.candidates.items c.args.form c.index-opened.result.now c.index-candidate.result.now room roomc c.index-opened.ensures c.index-candidate.ensures c.if-opened-kept.false
-    (waiting-by c.index-kept.result.now c.deref.result.now c.index-opened.result.now c.index-candidate.result.now c.visit-term.result c.deref.ensures.value c.visit-term.ensures.item c.if-kept-term.true) in
+    (waiting-by c.index-kept.result.now (terms_of c.index-kept.result.now.terms) c.index-opened.result.now c.index-candidate.result.now c.visit_term-term.result refl (c.visit_term-term.ensures.item c.visit_term-term.result) c.if-kept-term.true) in
     Looking-settled_by (filter (waits store.kept.items) c.args.waiting.now) (shapes_of store.kept.items) (entries_of (shapes_of store.kept.items) store.occurrences.items) c.args.form start.assignment.list.items start.candidates.items start.work.items start.visits run.opens.items run.candidates.items run.assignment.list.items run.work.items run.trail.items run.next run.visits (kept_shape c.index-kept.result.now) (length store.kept.items) sizes
     (shape-at store.kept.items c.args.form c.index-kept.result.now c.requires.form c.index-kept.ensures) calm c.terms.invariant.looking
+
+pub overflow_add-kept : goal.overflow_add-kept
+overflow_add-kept c =
+    let k = c.index-kept.result.now in
+    let t = c.visit_term-term.result in
+    let top = get_or-le-sum_by (λ (x : Term). x.coefficient) (terms_of k.terms) c.index-candidate.result.now t (omega (arith, c.if-candidate-len.false, c.len.ensures)) in
+    omega (arith, ap (λ (x : Term). x.coefficient) (c.visit_term-term.ensures.item t), top, k.small, k.low)
 
 pub terms-preserved : goal.terms-preserved
 terms-preserved c =
@@ -66,11 +76,11 @@ terms-preserved c =
     record {
       values = told.values ∙ c.terms.invariant.values;
       next = told.next ∙ c.terms.invariant.next;
-      looking = Looking-next_by (filter (waits store.kept.items) c.args.waiting.now) store.kept.items (entries_of (shapes_of store.kept.items) store.occurrences.items) c.args.form start.assignment.list.items start.candidates.items start.work.items start.visits run.opens.items run.candidates.items run.assignment.list.items run.work.items run.trail.items run.next run.visits c.visit-term.new.visits
+      looking = Looking-next_by (filter (waits store.kept.items) c.args.waiting.now) store.kept.items (entries_of (shapes_of store.kept.items) store.occurrences.items) c.args.form start.assignment.list.items start.candidates.items start.work.items start.visits run.opens.items run.candidates.items run.assignment.list.items run.work.items run.trail.items run.next run.visits c.visit_term-term.new.visits
           done.opens.items done.candidates.items (set done.candidates.items c.args.form (c.index-candidate.result.now + 1)) done.assignment.list.items done.work.items done.trail.items done.next done.visits
-          c.index-kept.result.now c.deref.result.now c.index-opened.result.now c.index-candidate.result.now c.visit-term.result
-          c.requires.form c.index-kept.ensures c.index-opened.ensures c.index-candidate.ensures c.deref.ensures.value (omega (arith, c.if-candidate-len.false, c.len.ensures, c.deref.ensures.len)) c.visit-term.ensures.item
-          c.visit-term.ensures.count c.visit-term.ensures.rising c.if-kept-term.false
+          c.index-kept.result.now (terms_of c.index-kept.result.now.terms) c.index-opened.result.now c.index-candidate.result.now c.visit_term-term.result
+          c.requires.form c.index-kept.ensures c.index-opened.ensures c.index-candidate.ensures refl (omega (arith, c.if-candidate-len.false, c.len.ensures)) (c.visit_term-term.ensures.item c.visit_term-term.result)
+          c.visit_term-term.ensures.count c.visit_term-term.ensures.rising c.if-kept-term.false
           (ap (λ (v : Vec ℕ Global). v.items) told.candidates) told.next told.adopted told.counted (told.tidy (filter (waits store.kept.items) c.args.waiting.now)) told.paid told.kept_work told.longer_work told.opens refl c.terms.invariant.looking;
     }
 
@@ -86,8 +96,8 @@ returns-then-kept-term-clause-bounded c = sum-bounded (shapes_of c.args.store.no
 pub try_put-requires-clause-inside : goal.try_put-requires-clause-inside
 try_put-requires-clause-inside c =
     let store = c.args.store.now in
-    term-inside store.kept.items store.variables c.args.form c.index-kept.result.now c.deref.result.now c.index-candidate.result.now c.visit-term.result c.requires.form c.index-kept.ensures c.deref.ensures.value
-    (omega (arith, c.if-candidate-len.false, c.len.ensures, c.deref.ensures.len)) c.visit-term.ensures.item c.requires.store.inside
+    term-inside store.kept.items store.variables c.args.form c.index-kept.result.now (terms_of c.index-kept.result.now.terms) c.index-candidate.result.now c.visit_term-term.result c.requires.form c.index-kept.ensures refl
+    (omega (arith, c.if-candidate-len.false, c.len.ensures)) (c.visit_term-term.ensures.item c.visit_term-term.result) c.requires.store.inside
 
 pub returns-then-opened-kept-clause-single : goal.returns-then-opened-kept-clause-single
 returns-then-opened-kept-clause-single c = λ s. derivation-single (shapes_of c.args.store.now.kept.items) _ _ s c.terms.invariant.looking.derived

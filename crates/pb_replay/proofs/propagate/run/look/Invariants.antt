@@ -3,6 +3,7 @@ use Rattle.pb_replay.specs.Engine.Rest.{waits}
 use Rattle.std.proofs.Common.{◌≡◌, ◌-◌, length, get_or}
 use Rattle.pb_replay.specs.Engine.Fields.{shapes_of, entries_of}
 use Rattle.pb_replay.proofs.Engine.Looks.{IsLooking}
+use Rattle.pb_replay.specs.Engine.Terms.{terms_of}
 use Rattle.pb_replay.proofs.propagate.run.look.Given as goal
 
 abbrev pub invariant-terms : goal.invariant-terms
@@ -13,4 +14,4 @@ invariant-terms l = record {
 }
 
 abbrev pub decreases-terms : goal.decreases-terms
-decreases-terms l = length l.kept.terms.items - get_or l.run.candidates.items l.form 0
+decreases-terms l = length (terms_of l.kept.terms) - get_or l.run.candidates.items l.form 0

@@ -1,6 +1,6 @@
 use Rattle.std.proofs.Common.{◌++◌, ◌∙◌, ap}
 use Rattle.pb_replay.specs.Engine.Live.{Standing, Live}
-use Rattle.pb_replay.specs.Engine.Fields.{shapes_of}
+use Rattle.pb_replay.specs.Engine.Fields.{shapes_of, forms_of}
 use Rattle.pb_replay.proofs.Engine.Rested.{rest-counted}
 use Rattle.pb_replay.proofs.Engine.Rests.{rest-undone, rest-tidy-all, slots-kept}
 use Rattle.pb_replay.specs.Engine.Slots.{numbered}
@@ -57,7 +57,7 @@ returns-then-found-clause-conflict c =
     let both = c.self.invariant (ap (λ (v : Standing). v.spent) c.self.view_is ∙ c.requires.ready) in
     let r = both.0 in
     let shapes = shapes_of e.store.kept.items in
-    rw (← c.self.view_is) (refuted-meets (Live (numbered e.forms.items e.places.items)) shapes c.args.given.now c.settle.new.run.assignment.list.items (placed-kept e.forms.items e.places.items shapes both.1 (slots-kept e.forms.items shapes r.slots)) (c.in_ok-found.ensures.refuted c.if-found.true))
+    rw (← c.self.view_is) (refuted-meets (Live (numbered (forms_of e.store.kept.items) e.places.items)) shapes c.args.given.now c.settle.new.run.assignment.list.items (placed-kept (forms_of e.store.kept.items) e.places.items shapes both.1 (slots-kept (forms_of e.store.kept.items) shapes r.slots)) (c.in_ok-found.ensures.refuted c.if-found.true))
 
 pub invariant_of-self-2 : goal.invariant_of-self-2
 invariant_of-self-2 c = λ ready.
@@ -88,7 +88,7 @@ returns-clause-no_conflict c =
     let r = both.0 in
     let shapes = shapes_of e.store.kept.items in
     let done = c.settle.new.run.assignment in
-    rw (← c.self.view_is) (ended-free (Live (numbered e.forms.items e.places.items)) shapes c.args.given.now done.list.items done.values.items (placed-kept e.forms.items e.places.items shapes both.1 (slots-kept e.forms.items shapes r.slots)) done.agrees (c.in_ok-found.ensures.ended c.if-found.false))
+    rw (← c.self.view_is) (ended-free (Live (numbered (forms_of e.store.kept.items) e.places.items)) shapes c.args.given.now done.list.items done.values.items (placed-kept (forms_of e.store.kept.items) e.places.items shapes both.1 (slots-kept (forms_of e.store.kept.items) shapes r.slots)) done.agrees (c.in_ok-found.ensures.ended c.if-found.false))
 
 pub returns-clause-completed : goal.returns-clause-completed
 returns-clause-completed c =
@@ -97,4 +97,4 @@ returns-clause-completed c =
     let r = both.0 in
     let shapes = shapes_of e.store.kept.items in
     let done = c.settle.new.run.assignment in
-    rw (← c.self.view_is) (ended-completion (Live (numbered e.forms.items e.places.items)) shapes c.args.given.now done.list.items done.values.items _ (placed-kept e.forms.items e.places.items shapes both.1 (slots-kept e.forms.items shapes r.slots)) done.agrees (c.in_ok-extend_from_slice.ensures.items ∙ ap (λ xs. xs ++ c.as_slice-2.result.now) c.new-values.ensures.items ∙ c.as_slice-2.ensures.value) (c.in_ok-found.ensures.ended c.if-found.false))
+    rw (← c.self.view_is) (ended-completion (Live (numbered (forms_of e.store.kept.items) e.places.items)) shapes c.args.given.now done.list.items done.values.items _ (placed-kept (forms_of e.store.kept.items) e.places.items shapes both.1 (slots-kept (forms_of e.store.kept.items) shapes r.slots)) done.agrees (c.in_ok-extend_from_slice.ensures.items ∙ ap (λ xs. xs ++ c.as_slice-2.result.now) c.new-values.ensures.items ∙ c.as_slice-2.ensures.value) (c.in_ok-found.ensures.ended c.if-found.false))

@@ -1,8 +1,10 @@
 use Rattle.std.specs.Prelude.{Some, None}
-use Rattle.std.proofs.Common.{rules, ◌≡◌, set, ◌-◌, ◌^◌, ◌<◌, ◌++◌, ◌∷◌, [], ◌∙◌, ap, arith}
+use Rattle.std.proofs.Common.{rules, inl, inr, ◌≡◌, set, ◌-◌, ◌^◌, ◌<◌, ◌++◌, ◌∷◌, [], ◌∙◌, ap, arith}
 use Rattle.std.proofs.lemmas.Option.{slice_get_within}
 use Rattle.pb_replay.specs.Engine.Live.{Standing}
+use Rattle.pb_replay.specs.Engine.Fields.{forms_of}
 use Rattle.pb_replay.specs.Engine.Slots.{numbered}
+use Rattle.pb_replay.proofs.Engine.Changes.{forms-length}
 use Rattle.pb_replay.proofs.Engine.Placed.{numbered-same, numbered-filled, numbered-grown, placed-agree, placed-filled}
 use Rattle.pb_replay.proofs.propagate.engine.Engine.insert.Goals as goal
 
@@ -10,34 +12,66 @@ pub invariant_of-self-2 : goal.invariant_of-self-2
 invariant_of-self-2 c = λ ready.
     let e = c.self.inside in
     let r = c.self.invariant (ap (λ (v : Standing). v.spent) c.self.view_is ∙ c.requires.ready) in
-    let forms = c.vacancy.new.forms in
+    let keep = c.vacancy.new.store.kept in
+    let forms = forms_of keep.items in
+    let was = forms_of e.store.kept.items in
     let slot = c.in_ok-slot.slot in
     let none = c.in_ok-slot.ensures.slot in
-    let small : slot < 2 ^ 64 - 1 = omega (arith, slice_get_within forms.items slot None none, forms.ok.0, forms.ok.1) in
-    let placed = placed-agree e.forms.items forms.items e.places.items c.vacancy.ensures.forms r.1 in
-    (c.in_ok-occupy.ensures.rest, rw (c.in_ok-occupy.ensures.forms, c.in_ok-push.ensures.items) (placed-filled forms.items e.places.items slot c.args.form none small placed))
+    let small : slot < 2 ^ 64 - 1 = omega (arith, slice_get_within forms slot None none, keep.ok.0, keep.ok.1, forms-length keep.items) in
+    let placed = placed-agree was forms e.places.items c.vacancy.ensures.forms r.1 in
+    (c.in_ok-occupy.ensures.rest, rw (c.in_ok-occupy.ensures.forms, c.in_ok-push.ensures.items) (placed-filled forms e.places.items slot c.args.form none small placed))
+
+pub returns-in_err-slot-clause-unchanged : goal.returns-in_err-slot-clause-unchanged
+returns-in_err-slot-clause-unchanged c =
+    let e = c.self.inside in
+    let was = forms_of e.store.kept.items in
+    let same : numbered (forms_of c.vacancy.new.store.kept.items) e.places.items ≡ c.args.self.now.forms =
+    numbered-same was (forms_of c.vacancy.new.store.kept.items) e.places.items (λ n s h. c.vacancy.ensures.forms s) ∙ ap (λ (v : Standing). v.forms) c.self.view_is in
+    search (rules, same)
+
+pub returns-in_err-occupy-clause-unchanged : goal.returns-in_err-occupy-clause-unchanged
+returns-in_err-occupy-clause-unchanged c =
+    let e = c.self.inside in
+    let r = c.self.invariant (ap (λ (v : Standing). v.spent) c.self.view_is ∙ c.requires.ready) in
+    let keep = c.vacancy.new.store.kept in
+    let forms = forms_of keep.items in
+    let was = forms_of e.store.kept.items in
+    let slot = c.in_ok-slot.slot in
+    let none = c.in_ok-slot.ensures.slot in
+    let small : slot < 2 ^ 64 - 1 = omega (arith, slice_get_within forms slot None none, keep.ok.0, keep.ok.1, forms-length keep.items) in
+    let placed = placed-agree was forms e.places.items c.vacancy.ensures.forms r.1 in
+    let same = numbered-same was forms e.places.items (λ n s h. c.vacancy.ensures.forms s) ∙ ap (λ (v : Standing). v.forms) c.self.view_is in
+    let told : numbered (forms_of c.occupy.new.store.kept.items) e.places.items ≡ c.args.self.now.forms = elim c.in_err-occupy.ensures.refused [
+      | inl still ↦ ap (λ fs. numbered fs e.places.items) still ∙ same
+      | inr filled ↦ ap (λ fs. numbered fs e.places.items) filled ∙ numbered-filled forms e.places.items slot c.args.form none small placed ∙ same
+    ] in
+    search (rules, told)
 
 pub returns-in_err-push-clause-unchanged : goal.returns-in_err-push-clause-unchanged
 returns-in_err-push-clause-unchanged c =
     let e = c.self.inside in
     let r = c.self.invariant (ap (λ (v : Standing). v.spent) c.self.view_is ∙ c.requires.ready) in
-    let forms = c.vacancy.new.forms in
+    let keep = c.vacancy.new.store.kept in
+    let forms = forms_of keep.items in
+    let was = forms_of e.store.kept.items in
     let slot = c.in_ok-slot.slot in
     let none = c.in_ok-slot.ensures.slot in
-    let small : slot < 2 ^ 64 - 1 = omega (arith, slice_get_within forms.items slot None none, forms.ok.0, forms.ok.1) in
-    let placed = placed-agree e.forms.items forms.items e.places.items c.vacancy.ensures.forms r.1 in
-    let same : numbered (set forms.items slot (Some c.args.form)) e.places.items ≡ c.args.self.now.forms =
-    numbered-filled forms.items e.places.items slot c.args.form none small placed ∙ numbered-same e.forms.items forms.items e.places.items (λ n s h. c.vacancy.ensures.forms s) ∙ ap (λ (v : Standing). v.forms) c.self.view_is in
+    let small : slot < 2 ^ 64 - 1 = omega (arith, slice_get_within forms slot None none, keep.ok.0, keep.ok.1, forms-length keep.items) in
+    let placed = placed-agree was forms e.places.items c.vacancy.ensures.forms r.1 in
+    let same : numbered (set forms slot (Some c.args.form)) e.places.items ≡ c.args.self.now.forms =
+    numbered-filled forms e.places.items slot c.args.form none small placed ∙ numbered-same was forms e.places.items (λ n s h. c.vacancy.ensures.forms s) ∙ ap (λ (v : Standing). v.forms) c.self.view_is in
     search (rules, same)
 
 pub returns-clause-forms : goal.returns-clause-forms
 returns-clause-forms c =
     let e = c.self.inside in
     let r = c.self.invariant (ap (λ (v : Standing). v.spent) c.self.view_is ∙ c.requires.ready) in
-    let forms = c.vacancy.new.forms in
+    let keep = c.vacancy.new.store.kept in
+    let forms = forms_of keep.items in
+    let was = forms_of e.store.kept.items in
     let slot = c.in_ok-slot.slot in
     let none = c.in_ok-slot.ensures.slot in
-    let small : slot < 2 ^ 64 - 1 = omega (arith, slice_get_within forms.items slot None none, forms.ok.0, forms.ok.1) in
-    let placed = placed-agree e.forms.items forms.items e.places.items c.vacancy.ensures.forms r.1 in
-    let same = numbered-same e.forms.items forms.items e.places.items (λ n s h. c.vacancy.ensures.forms s) ∙ ap (λ (v : Standing). v.forms) c.self.view_is in
-    rw (c.in_ok-occupy.ensures.forms, c.in_ok-push.ensures.items) (numbered-grown forms.items e.places.items slot c.args.form none small placed ∙ ap (λ xs. xs ++ (Some c.args.form ∷ [])) same)
+    let small : slot < 2 ^ 64 - 1 = omega (arith, slice_get_within forms slot None none, keep.ok.0, keep.ok.1, forms-length keep.items) in
+    let placed = placed-agree was forms e.places.items c.vacancy.ensures.forms r.1 in
+    let same = numbered-same was forms e.places.items (λ n s h. c.vacancy.ensures.forms s) ∙ ap (λ (v : Standing). v.forms) c.self.view_is in
+    rw (c.in_ok-occupy.ensures.forms, c.in_ok-push.ensures.items) (numbered-grown forms e.places.items slot c.args.form none small placed ∙ ap (λ xs. xs ++ (Some c.args.form ∷ [])) same)

@@ -1,6 +1,8 @@
 use Rattle.std.specs.Prelude.{None}
 use Rattle.std.proofs.Common.{◌<◌, sym, ◌∙◌, ap, length, set, arith}
 use Rattle.pb_replay.specs.Engine.Live.{Standing}
+use Rattle.pb_replay.specs.Engine.Fields.{forms_of}
+use Rattle.pb_replay.proofs.Engine.Changes.{forms-length}
 use Rattle.pb_replay.proofs.Engine.Placed.{numbered-length, numbered-none, numbered-left, placed-left, taken-by}
 use Rattle.pb_replay.proofs.propagate.engine.Engine.remove.Goals as goal
 
@@ -13,20 +15,20 @@ pub invariant_of-self : goal.invariant_of-self
 invariant_of-self c = λ ready.
     let e = c.self.inside in
     let r = c.self.invariant ready in
-    let inside : c.args.number < length e.places.items = omega (arith, c.requires.number, ap (λ (v : Standing). length v.forms) c.self.view_is, numbered-length e.forms.items e.places.items) in
-    let t = taken-by e.forms.items e.places.items c.args.number c.index-slot.result.now inside c.index-slot.ensures (omega (arith, c.if-slot-len.false, c.len.ensures, e.forms.ok.0)) (omega (arith, e.forms.ok.0, e.forms.ok.1)) r.1 in
-    (c.quit.ensures.rest, rw c.quit.ensures.forms (placed-left e.forms.items e.places.items c.args.number c.index-slot.result.now t r.1))
+    let inside : c.args.number < length e.places.items = omega (arith, c.requires.number, ap (λ (v : Standing). length v.forms) c.self.view_is, numbered-length (forms_of e.store.kept.items) e.places.items) in
+    let t = taken-by (forms_of e.store.kept.items) e.places.items c.args.number c.index-slot.result.now inside c.index-slot.ensures (omega (arith, c.if-slot-len.false, c.len.ensures, e.store.kept.ok.0, forms-length e.store.kept.items)) (omega (arith, e.store.kept.ok.0, e.store.kept.ok.1, forms-length e.store.kept.items)) r.1 in
+    (c.quit.ensures.rest, rw c.quit.ensures.forms (placed-left (forms_of e.store.kept.items) e.places.items c.args.number c.index-slot.result.now t r.1))
 
 pub returns-then-slot-len-clause-forms : goal.returns-then-slot-len-clause-forms
 returns-then-slot-len-clause-forms c =
     let e = c.self.inside in
-    let inside : c.args.number < length e.places.items = omega (arith, c.requires.number, ap (λ (v : Standing). length v.forms) c.self.view_is, numbered-length e.forms.items e.places.items) in
-    sym (ap (λ (v : Standing). v.forms) c.self.view_is) ∙ numbered-none e.forms.items e.places.items c.args.number c.index-slot.result.now inside c.index-slot.ensures (omega (arith, c.if-slot-len.true, c.len.ensures, e.forms.ok.0)) ∙ ap (λ (v : Standing). set v.forms c.args.number None) c.self.view_is
+    let inside : c.args.number < length e.places.items = omega (arith, c.requires.number, ap (λ (v : Standing). length v.forms) c.self.view_is, numbered-length (forms_of e.store.kept.items) e.places.items) in
+    sym (ap (λ (v : Standing). v.forms) c.self.view_is) ∙ numbered-none (forms_of e.store.kept.items) e.places.items c.args.number c.index-slot.result.now inside c.index-slot.ensures (omega (arith, c.if-slot-len.true, c.len.ensures, e.store.kept.ok.0, forms-length e.store.kept.items)) ∙ ap (λ (v : Standing). set v.forms c.args.number None) c.self.view_is
 
 pub returns-clause-forms : goal.returns-clause-forms
 returns-clause-forms c =
     let e = c.self.inside in
     let r = c.self.invariant (ap (λ (v : Standing). v.spent) c.self.view_is ∙ c.requires.ready) in
-    let inside : c.args.number < length e.places.items = omega (arith, c.requires.number, ap (λ (v : Standing). length v.forms) c.self.view_is, numbered-length e.forms.items e.places.items) in
-    let t = taken-by e.forms.items e.places.items c.args.number c.index-slot.result.now inside c.index-slot.ensures (omega (arith, c.if-slot-len.false, c.len.ensures, e.forms.ok.0)) (omega (arith, e.forms.ok.0, e.forms.ok.1)) r.1 in
-    rw c.quit.ensures.forms (numbered-left e.forms.items e.places.items c.args.number c.index-slot.result.now t r.1 ∙ ap (λ (v : Standing). set v.forms c.args.number None) c.self.view_is)
+    let inside : c.args.number < length e.places.items = omega (arith, c.requires.number, ap (λ (v : Standing). length v.forms) c.self.view_is, numbered-length (forms_of e.store.kept.items) e.places.items) in
+    let t = taken-by (forms_of e.store.kept.items) e.places.items c.args.number c.index-slot.result.now inside c.index-slot.ensures (omega (arith, c.if-slot-len.false, c.len.ensures, e.store.kept.ok.0, forms-length e.store.kept.items)) (omega (arith, e.store.kept.ok.0, e.store.kept.ok.1, forms-length e.store.kept.items)) r.1 in
+    rw c.quit.ensures.forms (numbered-left (forms_of e.store.kept.items) e.places.items c.args.number c.index-slot.result.now t r.1 ∙ ap (λ (v : Standing). set v.forms c.args.number None) c.self.view_is)

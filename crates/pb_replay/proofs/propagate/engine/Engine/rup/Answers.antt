@@ -9,7 +9,7 @@ use Rattle.pb_replay.specs.declared.numbered.NumberedLiteral.{NumberedLiteral}
 use Rattle.pb_replay.specs.Engine.Counts.{none}
 use Rattle.pb_replay.specs.Engine.Live.{Standing, Live, terms_in, one_in}
 use Rattle.pb_replay.specs.Propagation.{With, MeetsConflict, IsCompletion}
-use Rattle.pb_replay.specs.Engine.Fields.{shapes_of, kept_shape, entries_of}
+use Rattle.pb_replay.specs.Engine.Fields.{shapes_of, forms_of, entries_of}
 use Rattle.pb_normal.specs.declared.entry.Entry.{Entry}
 use Rattle.pb_replay.specs.Engine.Rest.{waits}
 use Rattle.pb_replay.proofs.Engine.Rested.{rest-counted}
@@ -20,10 +20,10 @@ use Rattle.std.proofs.lemmas.List.Sums.{sum_by_push}
 use Rattle.pb_normal.specs.Rules.{opposite as opposite_entry}
 use Rattle.pb_replay.specs.Engine.Lists.{Shape}
 use Rattle.pb_replay.specs.Engine.Slots.{numbered}
-use Rattle.pb_replay.proofs.Engine.Placed.{placed-with}
+use Rattle.pb_replay.proofs.Engine.Placed.{placed-with, numbered-same, numbered-entered}
 use Rattle.pb_replay.proofs.Engine.Bounds.{slots-terms, slots-eager, filter-few, found-least, most-looks}
 use Rattle.pb_replay.proofs.Engine.Completions.{closed-none}
-use Rattle.pb_replay.proofs.Engine.Rests.{slots-length, slots-entered, rest-entered, rest-tidy-first, rest-undone, rest-lengths, rest-left, eager-entered, with-kept, opposite-inside}
+use Rattle.pb_replay.proofs.Engine.Rests.{slots-entered, rest-entered, rest-tidy-first, rest-undone, rest-lengths, rest-left, eager-entered, with-kept, opposite-inside}
 use Rattle.pb_replay.proofs.propagate.engine.Engine.rup.Goals as goal
 
 pub enter-requires-clause-inside : goal.enter-requires-clause-inside
@@ -42,7 +42,7 @@ choose-requires c =
     let r = both.0 in
     let keep = e.store.kept.items in
     let h = c.in_ok-enter.ensures.entered in
-    omega (arith, c.len-number.ensures, e.forms.ok.0, slots-length e.forms.items (shapes_of keep) r.slots, length-map keep kept_shape, ap length h.keeps, length-append keep (h.kept ∷ []))
+    omega (arith, c.len-number.ensures, e.store.kept.ok.0, ap length h.keeps, length-append keep (h.kept ∷ []))
 
 pub choose-requires-2 : goal.choose-requires-2
 choose-requires-2 c =
@@ -51,7 +51,7 @@ choose-requires-2 c =
     let r = both.0 in
     let keep = e.store.kept.items in
     let h = c.in_ok-enter.ensures.entered in
-    omega (arith, c.len-number.ensures, e.forms.ok.0, slots-length e.forms.items (shapes_of keep) r.slots, length-map keep kept_shape, ap length h.keeps, length-append keep (h.kept ∷ []))
+    omega (arith, c.len-number.ensures, e.store.kept.ok.0, ap length h.keeps, length-append keep (h.kept ∷ []))
 
 pub propagate-requires-clause-opens : goal.propagate-requires-clause-opens
 propagate-requires-clause-opens c =
@@ -93,7 +93,7 @@ propagate-requires-clause-tidy c =
     let new = c.enter.new in
     let h = c.in_ok-enter.ensures.entered in
     let rest = rest-entered c.in-Ok.negation keep new.store.kept.items e.run.opens.items new.run.opens.items e.run.candidates.items new.run.candidates.items h r.rest in
-    let number_is : c.len-number.result ≡ length keep = omega (arith, c.len-number.ensures, e.forms.ok.0, slots-length e.forms.items (shapes_of keep) r.slots, length-map keep kept_shape) in
+    let number_is : c.len-number.result ≡ length keep = omega (arith, c.len-number.ensures, e.store.kept.ok.0) in
     let inside : c.len-number.result < length new.store.kept.items = omega (arith, number_is, ap length h.keeps, length-append keep (h.kept ∷ [])) in
     let work_is = ap (λ (v : Vec ℕ Global). v.items) c.enter.ensures.rest.1 ∙ r.work in
     let first = c.in_ok-choose-2.ensures ∙ ap (λ (xs : List ℕ). xs ++ filter (waits new.store.kept.items) (c.len-number.result ∷ [])) work_is in
@@ -130,7 +130,7 @@ invariant_of-self-then-found c = λ ready.
         few = rw left.0 r.few;
         seats = rw left.0 r.seats;
       },
-      both.1,
+      rw left.0 both.1,
     )
 
 pub invariant_of-self-2 : goal.invariant_of-self-2
@@ -160,7 +160,7 @@ invariant_of-self-2 c = λ ready.
         few = rw left.0 r.few;
         seats = rw left.0 r.seats;
       },
-      both.1,
+      rw left.0 both.1,
     )
 
 pub returns-then-found-clause-implied : goal.returns-then-found-clause-implied
@@ -172,7 +172,7 @@ returns-then-found-clause-implied c = λ found.
     let new = c.enter.new in
     let h = c.in_ok-enter.ensures.entered in
     let g = c.in-Ok.negation in
-    let forms = e.forms.items in
+    let forms = forms_of e.store.kept.items in
     let told = c.in_ok-found.ensures in
     let shapes = shapes_of new.store.kept.items in
     let a = placed-with forms e.places.items g shapes both.1 (with-kept forms g shapes (slots-entered forms g keep new.store.kept.items e.run.opens.items new.run.opens.items e.run.candidates.items new.run.candidates.items h r.slots)) in
@@ -191,7 +191,7 @@ returns-clause-not_implied c = λ found rup.
     let new = c.enter.new in
     let h = c.in_ok-enter.ensures.entered in
     let g = c.in-Ok.negation in
-    let forms = e.forms.items in
+    let forms = forms_of e.store.kept.items in
     let told = c.in_ok-found.ensures in
     let run = c.propagate.new.run in
     let shapes = shapes_of new.store.kept.items in
@@ -218,14 +218,14 @@ returns-then-found-clause-most c =
     let new = c.enter.new in
     let h = c.in_ok-enter.ensures.entered in
     let g = c.in-Ok.negation in
-    let forms = e.forms.items in
+    let forms = forms_of e.store.kept.items in
     let number = c.len-number.result in
     let shapes = shapes_of new.store.kept.items in
     let slots = slots-entered forms g keep new.store.kept.items e.run.opens.items new.run.opens.items e.run.candidates.items new.run.candidates.items h r.slots in
     let terms = slots-terms (forms ++ (Some g ∷ [])) shapes slots in
     let more = sum_by_push terms_in forms (Some g) in
     let goal_terms : length g.terms ≡ length c.args.goal.now.terms = ap (λ (f : Form). length f.terms) c.in-Ok.ensures.negation ∙ length-map c.args.goal.now.terms opposite_entry in
-    let number_is : number ≡ length keep = omega (arith, c.len-number.ensures, e.forms.ok.0, slots-length forms (shapes_of keep) r.slots, length-map keep kept_shape) in
+    let number_is : number ≡ length keep = omega (arith, c.len-number.ensures, e.store.kept.ok.0) in
     let few = slots-eager forms keep r.slots in
     let first = filter-few (waits new.store.kept.items) (number ∷ []) in
     let stand = filter-few (waits new.store.kept.items) e.eager.list.items in
@@ -246,14 +246,14 @@ returns-clause-most c =
     let new = c.enter.new in
     let h = c.in_ok-enter.ensures.entered in
     let g = c.in-Ok.negation in
-    let forms = e.forms.items in
+    let forms = forms_of e.store.kept.items in
     let number = c.len-number.result in
     let shapes = shapes_of new.store.kept.items in
     let slots = slots-entered forms g keep new.store.kept.items e.run.opens.items new.run.opens.items e.run.candidates.items new.run.candidates.items h r.slots in
     let terms = slots-terms (forms ++ (Some g ∷ [])) shapes slots in
     let more = sum_by_push terms_in forms (Some g) in
     let goal_terms : length g.terms ≡ length c.args.goal.now.terms = ap (λ (f : Form). length f.terms) c.in-Ok.ensures.negation ∙ length-map c.args.goal.now.terms opposite_entry in
-    let number_is : number ≡ length keep = omega (arith, c.len-number.ensures, e.forms.ok.0, slots-length forms (shapes_of keep) r.slots, length-map keep kept_shape) in
+    let number_is : number ≡ length keep = omega (arith, c.len-number.ensures, e.store.kept.ok.0) in
     let few = slots-eager forms keep r.slots in
     let first = filter-few (waits new.store.kept.items) (number ∷ []) in
     let stand = filter-few (waits new.store.kept.items) e.eager.list.items in
@@ -274,14 +274,14 @@ returns-in_err-found-clause-most c =
     let new = c.enter.new in
     let h = c.in_ok-enter.ensures.entered in
     let g = c.in-Ok.negation in
-    let forms = e.forms.items in
+    let forms = forms_of e.store.kept.items in
     let number = c.len-number.result in
     let shapes = shapes_of new.store.kept.items in
     let slots = slots-entered forms g keep new.store.kept.items e.run.opens.items new.run.opens.items e.run.candidates.items new.run.candidates.items h r.slots in
     let terms = slots-terms (forms ++ (Some g ∷ [])) shapes slots in
     let more = sum_by_push terms_in forms (Some g) in
     let goal_terms : length g.terms ≡ length c.args.goal.now.terms = ap (λ (f : Form). length f.terms) c.in-Ok.ensures.negation ∙ length-map c.args.goal.now.terms opposite_entry in
-    let number_is : number ≡ length keep = omega (arith, c.len-number.ensures, e.forms.ok.0, slots-length forms (shapes_of keep) r.slots, length-map keep kept_shape) in
+    let number_is : number ≡ length keep = omega (arith, c.len-number.ensures, e.store.kept.ok.0) in
     let few = slots-eager forms keep r.slots in
     let first = filter-few (waits new.store.kept.items) (number ∷ []) in
     let stand = filter-few (waits new.store.kept.items) e.eager.list.items in
@@ -302,7 +302,7 @@ returns-then-found-clause-conflict c = λ found.
     let new = c.enter.new in
     let h = c.in_ok-enter.ensures.entered in
     let g = c.in-Ok.negation in
-    let forms = e.forms.items in
+    let forms = forms_of e.store.kept.items in
     let told = c.in_ok-found.ensures in
     let run = c.propagate.new.run in
     let shapes = shapes_of new.store.kept.items in
@@ -324,7 +324,7 @@ returns-clause-completion c = λ found.
     let new = c.enter.new in
     let h = c.in_ok-enter.ensures.entered in
     let g = c.in-Ok.negation in
-    let forms = e.forms.items in
+    let forms = forms_of e.store.kept.items in
     let told = c.in_ok-found.ensures in
     let run = c.propagate.new.run in
     let shapes = shapes_of new.store.kept.items in
@@ -345,3 +345,55 @@ propagate-requires-clause-waiting c =
     let r = both.0 in
     let h = c.in_ok-enter.ensures.entered in
     rw c.as_slice.ensures.value (λ k d less. omega (arith, r.eager.named k d less, ap length h.keeps, length-append e.store.kept.items (h.kept ∷ [])))
+
+pub returns-then-found-clause-forms : goal.returns-then-found-clause-forms
+returns-then-found-clause-forms c =
+    let e = c.self.inside in
+    let both = c.self.invariant (ap (λ (v : Standing). v.spent) c.self.view_is ∙ c.requires.ready) in
+    let r = both.0 in
+    let keep = e.store.kept.items in
+    let new = c.enter.new in
+    let h = c.in_ok-enter.ensures.entered in
+    let done = c.rest.new.run in
+    let last = c.leave.new in
+    let left = rest-left c.in-Ok.negation keep new.store.kept.items last.store.kept.items e.run.opens.items new.run.opens.items e.run.candidates.items new.run.candidates.items done.opens.items last.run.opens.items done.candidates.items last.run.candidates.items h c.rest.ensures.rest c.leave.ensures.kept c.leave.ensures.opens c.leave.ensures.candidates in
+    rw left.0 (ap (λ (v : Standing). v.forms) c.self.view_is)
+
+pub returns-clause-forms : goal.returns-clause-forms
+returns-clause-forms c =
+    let e = c.self.inside in
+    let both = c.self.invariant (ap (λ (v : Standing). v.spent) c.self.view_is ∙ c.requires.ready) in
+    let r = both.0 in
+    let keep = e.store.kept.items in
+    let new = c.enter.new in
+    let h = c.in_ok-enter.ensures.entered in
+    let done = c.rest.new.run in
+    let last = c.leave.new in
+    let left = rest-left c.in-Ok.negation keep new.store.kept.items last.store.kept.items e.run.opens.items new.run.opens.items e.run.candidates.items new.run.candidates.items done.opens.items last.run.opens.items done.candidates.items last.run.candidates.items h c.rest.ensures.rest c.leave.ensures.kept c.leave.ensures.opens c.leave.ensures.candidates in
+    rw left.0 (ap (λ (v : Standing). v.forms) c.self.view_is)
+
+pub returns-in_err-enter-clause-forms : goal.returns-in_err-enter-clause-forms
+returns-in_err-enter-clause-forms c =
+    let e = c.self.inside in
+    numbered-same (forms_of e.store.kept.items) (forms_of c.enter.new.store.kept.items) e.places.items (λ n s h. c.in_err-enter.ensures.unchanged s) ∙ ap (λ (v : Standing). v.forms) c.self.view_is
+
+pub returns-in_err-choose-clause-forms : goal.returns-in_err-choose-clause-forms
+returns-in_err-choose-clause-forms c =
+    let e = c.self.inside in
+    let both = c.self.invariant (ap (λ (v : Standing). v.spent) c.self.view_is ∙ c.requires.ready) in
+    let h = c.in_ok-enter.ensures.entered in
+    numbered-entered e.store.kept.items c.enter.new.store.kept.items h.kept e.places.items h.keeps (omega (arith, e.store.kept.ok.0, e.store.kept.ok.1)) both.1 ∙ ap (λ (v : Standing). v.forms) c.self.view_is
+
+pub returns-in_err-choose-2-clause-forms : goal.returns-in_err-choose-2-clause-forms
+returns-in_err-choose-2-clause-forms c =
+    let e = c.self.inside in
+    let both = c.self.invariant (ap (λ (v : Standing). v.spent) c.self.view_is ∙ c.requires.ready) in
+    let h = c.in_ok-enter.ensures.entered in
+    numbered-entered e.store.kept.items c.enter.new.store.kept.items h.kept e.places.items h.keeps (omega (arith, e.store.kept.ok.0, e.store.kept.ok.1)) both.1 ∙ ap (λ (v : Standing). v.forms) c.self.view_is
+
+pub returns-in_err-found-clause-forms : goal.returns-in_err-found-clause-forms
+returns-in_err-found-clause-forms c =
+    let e = c.self.inside in
+    let both = c.self.invariant (ap (λ (v : Standing). v.spent) c.self.view_is ∙ c.requires.ready) in
+    let h = c.in_ok-enter.ensures.entered in
+    numbered-entered e.store.kept.items c.enter.new.store.kept.items h.kept e.places.items h.keeps (omega (arith, e.store.kept.ok.0, e.store.kept.ok.1)) both.1 ∙ ap (λ (v : Standing). v.forms) c.self.view_is
