@@ -44,8 +44,9 @@ fn is_even(terms: &Falling) -> bool
     if terms.len() == 0 {
         return true;
     }
+    let last = terms.len() - 1;
     let largest = terms.term(0);
-    let least = terms.term(terms.len() - 1);
+    let least = terms.term(last);
     largest.coefficient == least.coefficient
 }
 

@@ -12,4 +12,4 @@ pub returns : goal.returns
 returns c = λ even i d h.
     let ts = terms_of c.args.terms.now in
     let e : Term = record { literal = record { variable = 0; negated = false }; coefficient = 0 } in
-    even-falling ts e d i c.requires (omega (arith, eqb-true c.term-largest.result.coefficient c.term-least.result.coefficient even, ap (λ (t : Term). t.coefficient) (c.term-largest.ensures e), ap (λ (t : Term). t.coefficient) (c.term-least.ensures e), ap (λ (n : ℕ). (get_or ts (n - 1) e).coefficient) c.len-2.ensures)) h
+    even-falling ts e d i c.requires (omega (arith, eqb-true c.term-largest.result.coefficient c.term-least.result.coefficient even, ap (λ (t : Term). t.coefficient) (c.term-largest.ensures e), ap (λ (t : Term). t.coefficient) (c.term-least.ensures e), ap (λ (n : ℕ). (get_or ts (n - 1) e).coefficient) c.len-last.ensures)) h
