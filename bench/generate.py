@@ -1,9 +1,18 @@
 #!/usr/bin/env python3
-"""Writes an OPB instance of about so many megabytes: covering and knapsack constraints of 3 to 30 terms over names x1, x2, ...
+"""Writes an instance or a proof of about so many megabytes:
 
-    bench/generate.py MEGABYTES > FILE
+    bench/generate.py KIND MEGABYTES > FILE
 
-The same size gives the same bytes: the numbers come from a fixed seed.
+The kinds:
+
+    usual      an instance of covering and knapsack constraints of 3 to 30 terms over names x1, x2, ...
+    short      an instance of constraints of two terms
+    commented  an instance half of which is comments
+    rups       a proof of short rup lines
+    pols       a proof of pol lines
+
+A proof is to be read alone: its steps do not follow from any instance. The same kind and size give the same bytes: the numbers
+come from a fixed seed.
 """
 import random
 import sys
@@ -29,17 +38,54 @@ def literal(rng):
     return f"{sign}x{rng.randint(1, VARIABLES)}"
 
 
-def main():
-    size = int(sys.argv[1]) * 1_000_000
+def usual(rng):
+    return covering(rng) if rng.random() < 0.5 else knapsack(rng)
+
+
+def short(rng):
+    return f"+{rng.randint(1, 99)} {literal(rng)} +{rng.randint(1, 99)} {literal(rng)} >= {rng.randint(1, 99)} ;\n"
+
+
+def commented(rng):
+    """A constraint, and a comment of about its length before it."""
+    line = usual(rng)
+    words = " ".join("word" * rng.randint(1, 3) for _ in range(len(line) // 10))
+    return f"* {words}\n{line}"
+
+
+def rups(rng):
+    return f"rup +1 {literal(rng)} +1 {literal(rng)} >= 1 ;\n"
+
+
+def pols(rng):
+    return f"pol {rng.randint(1, 9999)} {rng.randint(1, 9999)} + {rng.randint(2, 9)} d s\n"
+
+
+KINDS = {"usual": usual, "short": short, "commented": commented, "rups": rups, "pols": pols}
+PROOFS = ["rups", "pols"]
+
+
+def lines_of(kind, size):
+    """Lines of a kind, of so many bytes or a few more."""
     rng = random.Random(2012)
-    lines = []
-    written = 0
+    lines, written = [], 0
     while written < size:
-        line = covering(rng) if rng.random() < 0.5 else knapsack(rng)
+        line = KINDS[kind](rng)
         lines.append(line)
         written += len(line)
-    sys.stdout.write(f"* #variable= {VARIABLES} #constraint= {len(lines)}\n")
-    sys.stdout.writelines(lines)
+    return lines
+
+
+def main():
+    kind, size = sys.argv[1], int(sys.argv[2]) * 1_000_000
+    lines = lines_of(kind, size)
+    if kind in PROOFS:
+        sys.stdout.write("pseudo-Boolean proof version 2.0\nf 9999\n")
+        sys.stdout.writelines(lines)
+        sys.stdout.write("output NONE\nconclusion NONE\nend pseudo-Boolean proof\n")
+    else:
+        sys.stdout.write(f"* #variable= {VARIABLES} #constraint= {len(lines)}\n")
+        sys.stdout.writelines(lines)
 
 
 if __name__ == "__main__":

@@ -1,10 +1,31 @@
-"""Runs a command several times and prints what it takes; bench/run calls it."""
+"""Runs the commands on generated files and prints a table of what they take; bench/run calls it."""
 import os
+import re
+import shutil
 import subprocess
 import sys
 import time
 
-SIZES = [50, 100]
+# The kinds of bench/generate.py, and the commands that each is given to.
+COMMANDS = {
+    "usual": ["show", "tidy", "tidy --normal"],
+    "short": ["show", "tidy", "tidy --normal"],
+    "commented": ["show", "tidy"],
+    "rups": ["show", "tidy"],
+    "pols": ["show", "tidy"],
+}
+GENERATOR = os.path.join(os.path.dirname(os.path.abspath(__file__)), "generate.py")
+# Instructions are counted on a file of so many megabytes.
+COUNTED = 5
+
+
+def file_of(kind, size, folder):
+    """Writes a file of a kind; its path."""
+    path = os.path.join(folder, f"{kind}-{size}")
+    if not os.path.exists(path):
+        with open(path, "wb") as file:
+            subprocess.run([sys.executable, GENERATOR, kind, str(size)], stdout=file, check=True)
+    return path
 
 
 def start(words, path):
@@ -22,7 +43,7 @@ def seconds_of(words, path):
 
 
 def peak_of(words, path):
-    """The most memory that a run holds, in kilobytes, as the system tells it while it runs."""
+    """The most memory that a run holds, in megabytes, as the system tells it while it runs."""
     process = start(words, path)
     peak = 0
     while process.poll() is None:
@@ -31,21 +52,35 @@ def peak_of(words, path):
                 if line.startswith("VmHWM:"):
                     peak = int(line.split()[1])
         time.sleep(0.01)
-    return peak
+    return peak / 1000
+
+
+def instructions_of(words, path, folder):
+    """The instructions for a byte of a file, or a dash where there is no valgrind."""
+    if shutil.which("valgrind") is None:
+        return "-"
+    tool = ["valgrind", "--tool=callgrind", f"--callgrind-out-file={folder}/callgrind.out"]
+    with open(path, "rb") as file:
+        told = subprocess.run(tool + words, stdin=file, stdout=subprocess.DEVNULL, stderr=subprocess.PIPE, text=True, check=True).stderr
+    instructions = int(re.search(r"Collected : (\d+)", told)[1])
+    return f"{instructions / os.path.getsize(path):.0f}"
 
 
 def main():
-    program, folder, times = sys.argv[1], sys.argv[2], int(sys.argv[3])
-    for command in ["show", "tidy"]:
-        seconds = {}
-        for size in SIZES:
-            path = os.path.join(folder, f"{size}.opb")
-            words = [program, command]
-            seconds[size] = min(seconds_of(words, path) for _ in range(times))
-            peak = peak_of(words, path)
-            speed = os.path.getsize(path) / 1e6 / seconds[size]
-            print(f"pb {command}, {size} MB: {seconds[size]:.2f} s, {speed:.0f} MB/s, {peak / 1000:.1f} MB of memory")
-        print(f"pb {command}: {seconds[100] / seconds[50]:.2f} times as long at double size")
+    program, folder, size, times = sys.argv[1], sys.argv[2], int(sys.argv[3]), int(sys.argv[4])
+    print(f"| File | Command | Instructions a byte | {size} MB | MB a second | Memory | At double size |")
+    print("|---|---|---|---|---|---|---|")
+    for kind, commands in COMMANDS.items():
+        for command in commands:
+            words = [program] + command.split()
+            instructions = instructions_of(words, file_of(kind, COUNTED, folder), folder)
+            once, twice = (file_of(kind, number * size, folder) for number in [1, 2])
+            seconds, longer = (min(seconds_of(words, path) for _ in range(times)) for path in [once, twice])
+            peak = peak_of(words, once)
+            print(
+                f"| {kind} | `{command}` | {instructions} | {seconds:.2f} s | {size / seconds:.0f} | {peak:.0f} MB | {longer / seconds:.2f} times the time |",
+                flush=True,
+            )
 
 
 if __name__ == "__main__":
