@@ -11,6 +11,7 @@ use Rattle.pb_text.specs.Spelling.{Letter, bytes}
 use Rattle.pb_text.proofs.Asked as asked
 use Rattle.pb_text.proofs.Languages.{bytes-plain}
 use Rattle.pb_text.proofs.Lists.{bytes-append}
+use Rattle.pb_text.proofs.Walking.{Walks, reads_behind, fronts}
 use Rattle.pb_sums.specs.State.{SumState, sums}
 use Rattle.pb_sums.specs.Sums.{Spells}
 use Rattle.pb_sums.specs.declared.grammar.Part as part
@@ -39,7 +40,6 @@ use Rattle.pb_opb.proofs.Fronts.{line_grown, tail_grown}
 use Rattle.pb_opb.proofs.HeaderFront as header
 use Rattle.pb_opb.proofs.Inners.{Gives, gives_objective, gives_constraint}
 use Rattle.pb_opb.proofs.Stands.{idle}
-use Rattle.pb_opb.proofs.Walking.{Walks, reads_behind, fronts, walks_from, walks_into}
 
 -- no byte asks where the moves ask for nothing
 silent : {A : Type 0} (s : OpbState) (b : ℕ) (m : Move) → asks s b m ≡ false → asks s b m ≡ true → A
@@ -213,7 +213,7 @@ module _ (limit top : ℕ) where
     where
       by_event : (g : SumEvent) → Spells White s.limit part.TheVariants.Sum g (c ++ l ∷ rest) → Asks top (statement_of g) (bytes (a ++ c)) l.byte
       by_event (sum.TheVariants.Sum xs) k =
-          (a, bytes c, lead, bytes-append a c, sums_asked White part.TheVariants.Sum s.limit c s.inner l.byte (walks_into sums c (objectives s.limit) s.inner w) h)
+          (a, bytes c, lead, bytes-append a c, sums_asked White part.TheVariants.Sum s.limit c s.inner l.byte w h)
       by_event (sum.TheVariants.Linear d) k = never false k.0 refl
 
   in_constraint : (s : OpbState) (inner : SumState) (p rest : List Letter) (l : Letter) (f : SumEvent) → Walks sums (linears s.limit) p s.inner → Reads sums s.inner (l ∷ rest) f inner
@@ -223,7 +223,7 @@ module _ (limit top : ℕ) where
     where
       by_event : (g : SumEvent) → Spells White s.limit part.TheVariants.Linear g (p ++ l ∷ rest) → Asks top (statement_of g) (bytes p) l.byte
       by_event (sum.TheVariants.Sum xs) k = never false k.0 refl
-      by_event (sum.TheVariants.Linear d) k = sums_asked White part.TheVariants.Linear s.limit p s.inner l.byte (walks_into sums p (linears s.limit) s.inner w) h
+      by_event (sum.TheVariants.Linear d) k = sums_asked White part.TheVariants.Linear s.limit p s.inner l.byte w h
 
   module _ (v n : ℕ) (may : Bool) (s next : OpbState) (p rest : List Letter) (l : Letter) (e : OpbEvent) where
     entry_asks : (q : Phase) → s.phase ≡ q → entry.front limit top v n may s q p → Reads opb s (l ∷ rest) e next → Then s p l.byte (Asks top e (bytes p) l.byte) (plan s.top q l.byte)
@@ -257,19 +257,19 @@ module _ (limit top : ℕ) where
     entry_asks phase.TheVariants.Tail at h r = absurd h
     entry_asks phase.TheVariants.Done at h r = absurd h
 
-  texts : (at s next : OpbState) (front rest : List Letter) (l : Letter) (e : OpbEvent) → Idle at → asked.Walks opb at front s → Reads opb s (l ∷ rest) e next
+  texts : (at s next : OpbState) (front rest : List Letter) (l : Letter) (e : OpbEvent) → Idle at → Walks opb at front s → Reads opb s (l ∷ rest) e next
       → IsTrue (opb.asks s l.byte) → Asks top e (bytes front) l.byte
   texts at s next front rest l e (inl f) w r a =
-      let walk : Walks opb (begin limit top) front s = walks_from opb front (begin limit top) s (subst (λ x. asked.Walks opb x front s) f w) in
+      let walk : Walks opb (begin limit top) front s = subst (λ x. Walks opb x front s) f w in
       let k : header.Front limit top s front = fronts opb (header.Front limit top) (header.Told limit top) (header.keeps limit top) front (begin limit top) [] s walk ((refl, refl), refl) in
       let h : header.IsHeader limit top e next (front ++ l ∷ rest) = header.header_only limit top (front ++ l ∷ rest) e next (reads_behind opb front (l ∷ rest) (begin limit top) s next e walk r) in
       at_header e next (front ++ l ∷ rest) (bytes front) l.byte h (subst (λ x. AsksHeader x (bytes front) l.byte) k.0.1 (header_asks s front l.byte s.phase k.1 a))
   texts at s next front rest l e (inr (v, may, zero, f)) w r a =
-      let walk : Walks opb (idle limit top v may zero) front s = walks_from opb front (idle limit top v may zero) s (subst (λ x. asked.Walks opb x front s) f w) in
+      let walk : Walks opb (idle limit top v may zero) front s = subst (λ x. Walks opb x front s) f w in
       absurd (nothing_read limit top v may [] (front ++ l ∷ rest) e (idle limit top v may zero) next refl (reads_behind opb front (l ∷ rest) (idle limit top v may zero) s next e walk r))
   texts at s next front rest l e (inr (v, may, suc n, f)) w r a =
       let start : OpbState = idle limit top v may (suc n) in
-      let walk : Walks opb start front s = walks_from opb front start s (subst (λ x. asked.Walks opb x front s) f w) in
+      let walk : Walks opb start front s = subst (λ x. Walks opb x front s) f w in
       let k : entry.Front limit top v n may s front = fronts opb (entry.Front limit top v n may) (entry.IsStatement limit top v n may) (entry.keeps limit top v n may) front start [] s walk ((refl, refl, refl, refl), (refl, refl, refl, refl)) in
       entry_asks v n may s next front rest l e s.phase refl k.1 r a
 

@@ -8,6 +8,7 @@ use Rattle.pb_text.specs.Classes.{is_white}
 use Rattle.pb_text.specs.Languages.{unmarked, Language, ◌⋅◌, Byte, Bytes}
 use Rattle.pb_text.specs.Spelling.{Letter, plain}
 use Rattle.pb_text.proofs.Languages.{grown, next, none_yet, many-grown}
+use Rattle.pb_text.proofs.Walking.{Walks, walks_more, ends_walk, On, Keeps, told}
 use Rattle.pb_sums.specs.State.{SumState, sums}
 use Rattle.pb_sums.specs.Sums.{SpellsLinear, Spells}
 use Rattle.pb_sums.specs.declared.grammar.Part as part
@@ -28,7 +29,6 @@ use Rattle.pb_opb.proofs.ByteCases.{never, chosen, both, as_unmarked}
 use Rattle.pb_opb.proofs.Fronts.{bytes_grown, word_grown, word_whole, line_grown}
 use Rattle.pb_opb.proofs.Objectives.{MinFront, objective_of}
 use Rattle.pb_opb.proofs.Stands.{idle}
-use Rattle.pb_opb.proofs.Walking.{Walks, walks_more, ends_walk, On, Keeps, told}
 
 abbrev IsWhite : ℕ → Type 0
 IsWhite b = IsTrue (is_white b)

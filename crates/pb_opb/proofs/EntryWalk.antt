@@ -5,6 +5,7 @@ use Rattle.pb_text.specs.Automaton.{Go, Reads}
 use Rattle.pb_text.specs.Classes.{is_white}
 use Rattle.pb_text.specs.Languages.{unmarked, ◌⋅◌, Byte, Bytes}
 use Rattle.pb_text.specs.Spelling.{Letter, plain}
+use Rattle.pb_text.proofs.Walking.{Walks, Leads, leads_then, longer, reads_behind}
 use Rattle.pb_sums.specs.State.{SumState, sums, last}
 use Rattle.pb_sums.specs.Sums.{Spaces0, SpellsSum, SpellsLinear, Spells}
 use Rattle.pb_sums.specs.declared.grammar.Part as part
@@ -26,7 +27,6 @@ use Rattle.pb_opb.proofs.FirstLetters.{spaces_white, IsDark, sum-dark, linear_fi
 use Rattle.pb_opb.proofs.Inners.{gives_objective, gives_constraint, given_reads}
 use Rattle.pb_opb.proofs.Objectives.{MinFront, objective_parts}
 use Rattle.pb_opb.proofs.Stands.{stands, idle, stays, stays_many, Keeps, line_reads}
-use Rattle.pb_opb.proofs.Walking.{Walks, Leads, leads_then, longer, reads_behind}
 
 given_between : (top b : ℕ) (may : Bool) → is_white b ≡ false → nat_eq b 42 ≡ false → nat_eq b 109 ≡ false
     → plan top (phase.TheVariants.Between may) b ≡ Give phase.TheVariants.Constraint

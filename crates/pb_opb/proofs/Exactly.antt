@@ -7,13 +7,13 @@ use Rattle.pb_text.specs.Reading.{Reads}
 use Rattle.pb_text.specs.declared.Place.{Place}
 use Rattle.pb_text.specs.declared.Spanned.{Spanned}
 use Rattle.pb_text.specs.declared.Stop.{Stop}
+use Rattle.pb_text.specs.ValueRead.{IsRead, StopsIn, Reading, Keeping, WantsIn, Asking, Ending}
 use Rattle.pb_text.proofs.Formats as formats
 use Rattle.pb_opb.specs.Instances.{IsInstance}
 use Rattle.pb_opb.specs.State.{opb, begin}
 use Rattle.pb_opb.specs.Values.{IsValueOf}
 use Rattle.pb_opb.specs.Asking.{Asks}
 use Rattle.pb_opb.specs.Building.{MayKeep}
-use Rattle.pb_opb.specs.Whole.{IsRead, StopsIn, Reading, Keeping, WantsIn, Asking, Ending}
 use Rattle.pb_opb.specs.declared.instance.Instance.{Instance}
 use Rattle.pb_opb.specs.declared.event.OpbEvent.{OpbEvent}
 use Rattle.pb_opb.proofs.Asked.{asks_only}

@@ -7,9 +7,9 @@ use Rattle.pb_text.specs.Spelling.{Item}
 use Rattle.pb_text.specs.Whole.{gathered, events_of, IsWhole, StopsAfter, IsAsking, Reading as reading, Keeping as keeping}
 use Rattle.pb_text.specs.declared.Spanned.{Spanned}
 use Rattle.pb_text.specs.declared.Stop.{Stop}
+use Rattle.pb_text.specs.ValueRead.{IsRead, StopsIn, Reading, Keeping, WantsIn, Asking, Ending}
 use Rattle.pb_opb.specs.Building.{with, ended_with, asks, counted, MayKeep, nothing}
 use Rattle.pb_opb.specs.Values.{IsValueOf, last_or, variables_in, tails_in, objectives_in, constraints_in, comments_in, comment_at}
-use Rattle.pb_opb.specs.Whole.{IsRead, StopsIn, Reading, Keeping, WantsIn, Asking, Ending}
 use Rattle.pb_opb.specs.declared.building.Building.{Building}
 use Rattle.pb_opb.specs.declared.instance.Instance.{Instance}
 use Rattle.pb_opb.specs.declared.event.OpbEvent.{OpbEvent}

@@ -10,6 +10,7 @@ use Rattle.pb_text.specs.Numbers.{Digits, Count}
 use Rattle.pb_text.specs.Spelling.{Letter, plain}
 use Rattle.pb_text.proofs.Languages.{grown, next, none_yet, behind_it, many-grown, some-grown, some-one}
 use Rattle.pb_text.proofs.Numbers.{digits-grown, digits-one}
+use Rattle.pb_text.proofs.Walking.{On, Keeps, told}
 use Rattle.pb_opb.specs.Instances.{variable_word, constraint_word, IsTail, SpellsHeader}
 use Rattle.pb_opb.specs.Machine.{word_of, behind_count, plan}
 use Rattle.pb_opb.specs.State.{OpbState, opb, begin, act, is_in_number}
@@ -24,7 +25,6 @@ use Rattle.pb_opb.specs.declared.phase.Move.TheVariants.{To}
 use Rattle.pb_opb.proofs.ByteCases.{chosen, both, as_unmarked, as_digit}
 use Rattle.pb_opb.proofs.Fronts.{bytes_grown, word_grown, word_whole, tail_grown}
 use Rattle.pb_opb.proofs.Stands.{idle}
-use Rattle.pb_opb.proofs.Walking.{On, Keeps, told}
 
 abbrev IsBlank : ℕ → Type 0
 IsBlank b = IsTrue (is_blank b)

@@ -10,6 +10,7 @@ use Rattle.pb_text.specs.Classes.{is_blank}
 use Rattle.pb_text.specs.Languages.{unmarked, digit, Language, ◌⋅◌, Byte, Bytes, Each, Blanks0, Blanks1}
 use Rattle.pb_text.specs.Numbers.{value, Count}
 use Rattle.pb_text.specs.Spelling.{Letter, plain}
+use Rattle.pb_text.proofs.Walking.{Walks, Leads, leads_then, longer, reads_behind}
 use Rattle.pb_opb.specs.Instances.{variable_word, constraint_word, IsTail, SpellsHeader}
 use Rattle.pb_opb.specs.Machine.{word_of, spell, count, behind_count, plan}
 use Rattle.pb_opb.specs.State.{OpbState, opb, begin, act}
@@ -21,7 +22,6 @@ use Rattle.pb_opb.specs.declared.phase.Phase as phase
 use Rattle.pb_opb.specs.declared.phase.Move.TheVariants.{To}
 use Rattle.pb_opb.proofs.ByteCases.{blank_each, digit-byte, digit-blank}
 use Rattle.pb_opb.proofs.Stands.{stands, idle, stays_many, Keeps, line_reads}
-use Rattle.pb_opb.proofs.Walking.{Walks, Leads, leads_then, longer, reads_behind}
 
 nat-same : (b : ℕ) → nat_eq b b ≡ true
 nat-same b = grind (arith, nat_tests)

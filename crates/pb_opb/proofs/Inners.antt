@@ -2,6 +2,7 @@
 use Rattle.std.proofs.Common.{◌≡◌, ℕ, true, List, [], ◌∷◌, refl, sym, ap, ◌∙◌}
 use Rattle.pb_text.specs.Automaton.{Next, Go, End, Refuse, Reads}
 use Rattle.pb_text.specs.Spelling.{Letter}
+use Rattle.pb_text.proofs.Walking.{same_first}
 use Rattle.pb_sums.specs.State.{SumState, sums}
 use Rattle.pb_sums.specs.declared.SumEvent.{SumEvent}
 use Rattle.pb_opb.specs.Machine.{plan}
@@ -9,7 +10,6 @@ use Rattle.pb_opb.specs.State.{OpbState, opb, act, over, giving, after, statemen
 use Rattle.pb_opb.specs.declared.phase.Phase.{Phase}
 use Rattle.pb_opb.specs.declared.phase.Phase as phase
 use Rattle.pb_opb.specs.declared.phase.Move.TheVariants.{Give}
-use Rattle.pb_opb.proofs.Walking.{same_first}
 
 -- what the machine does within such a phase
 pub record Gives (p : Phase) : Type 0 where

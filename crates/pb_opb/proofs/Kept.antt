@@ -7,6 +7,7 @@ use Rattle.pb_sums.specs.Canonical.{AreTerms}
 use Rattle.pb_sums.specs.declared.values.Term.{Term}
 use Rattle.pb_sums.specs.declared.values.Linear.{Linear}
 use Rattle.pb_sums.specs.declared.grammar.Spaces.TheVariants.{White}
+use Rattle.pb_sums.proofs.Within.{sum-within, linear-within}
 use Rattle.pb_opb.specs.Instances.{IsTail, SpellsHeader, SpellsObjective, IsEntry, IsBody, IsBegun}
 use Rattle.pb_opb.specs.Values.{last_or, variables_in, tails_in, objectives_in, constraints_in, comments_in, IsValueOf, IsInstanceValue, IsObjective, AreLinears, AreComments, is_one}
 use Rattle.pb_opb.specs.Statements.{InstanceValues, IsOneHeader}
@@ -14,7 +15,6 @@ use Rattle.pb_opb.specs.declared.event.OpbEvent.{OpbEvent}
 use Rattle.pb_opb.specs.declared.event.OpbEvent.TheVariants.{Header, Comment, Objective, Constraint}
 use Rattle.pb_opb.specs.declared.instance.Comment as comment
 use Rattle.pb_opb.specs.declared.instance.Instance.{Instance}
-use Rattle.pb_opb.proofs.Within.{sum-within, linear-within}
 
 objective-within : (limit : ℕ) (terms : List Term) (t : List Letter) → SpellsObjective limit terms t → AreTerms limit terms
 objective-within limit terms t (p4, l4, e4, (p3, l3, e3, (p2, l2, e2, h, s), w), b) = sum-within White limit terms l2 s

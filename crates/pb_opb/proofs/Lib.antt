@@ -9,8 +9,6 @@ mod HeaderWalk
 mod Inners
 mod Objectives
 mod Stands
-mod Walking
-mod Within
 pub mod Again
 pub mod Alive
 pub mod Back

@@ -5,11 +5,11 @@ use Rattle.std.specs.Prelude.{nat_eq}
 use Rattle.pb_text.specs.Automaton.{Go, End, Reads}
 use Rattle.pb_text.specs.Languages.{unmarked, Each, Many}
 use Rattle.pb_text.specs.Spelling.{plain}
+use Rattle.pb_text.proofs.Walking.{Walks, Leads, longer}
 use Rattle.pb_opb.specs.Instances.{IsInLine}
 use Rattle.pb_opb.specs.State.{OpbState, opb, phase_owing, linears}
 use Rattle.pb_opb.specs.declared.event.OpbEvent.{OpbEvent}
 use Rattle.pb_opb.specs.declared.phase.Phase.{Phase}
-use Rattle.pb_opb.proofs.Walking.{Walks, Leads, longer}
 
 -- with the machine of sums before a linear text
 abbrev pub stands : ℕ → ℕ → ℕ → ℕ → Phase → List ℕ → OpbState

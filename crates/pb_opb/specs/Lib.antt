@@ -10,4 +10,3 @@ pub mod Order
 pub mod State
 pub mod Statements
 pub mod Values
-pub mod Whole

@@ -3,10 +3,10 @@ use Rattle.std.specs.Prelude.{◌≡◌, ℕ, ◌^◌, ◌<◌, ◌≤◌, List,
 use Rattle.pb_text.specs.Spelling.{Item, bytes_of}
 use Rattle.pb_text.specs.Whole.{events_of}
 use Rattle.pb_text.specs.declared.Spanned.{Spanned}
+use Rattle.pb_text.specs.ValueRead.{IsRead}
 use Rattle.pb_opb.specs.Instances.{IsInstance}
 use Rattle.pb_opb.specs.Values.{IsValueOf, IsInstanceValue, objectives_in, variables_in}
 use Rattle.pb_opb.specs.Canonical.{instance_bytes}
-use Rattle.pb_opb.specs.Whole.{IsRead}
 use Rattle.pb_opb.specs.declared.event.OpbEvent.{OpbEvent}
 use Rattle.pb_opb.specs.declared.event.OpbEvent.TheVariants.{Header}
 use Rattle.pb_opb.specs.declared.instance.Instance.{Instance}

@@ -5,11 +5,11 @@ ghost use Rattle.pb_text.specs.Asking.{AsksOnly};
 ghost use Rattle.pb_text.specs.Blank.{IsInReach};
 ghost use Rattle.pb_text.specs.Limits.{largest, top_of};
 ghost use Rattle.pb_text.specs.Pulling.{faults_after};
+ghost use Rattle.pb_text.specs.ValueRead.{ReadsValue, GivesValue, WantsMemory};
 ghost use Rattle.pb_opb.specs.Asking.{Asks};
 ghost use Rattle.pb_opb.specs.Building.{MayKeep};
 ghost use Rattle.pb_opb.specs.Instances.{IsInstance};
 ghost use Rattle.pb_opb.specs.Values.{IsValueOf};
-ghost use Rattle.pb_opb.specs.Whole.{ReadsValue, GivesValue, WantsMemory};
 
 use crate::building::Building;
 use crate::instance::Instance;

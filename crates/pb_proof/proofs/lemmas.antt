@@ -15,6 +15,4 @@ pub mod ReadsBack
 pub mod Results
 pub mod Rup
 pub mod Spaced
-pub mod Walking
-pub mod Within
 pub mod Written

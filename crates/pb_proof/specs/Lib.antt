@@ -12,4 +12,3 @@ pub mod Postfix
 pub mod Proofs
 pub mod ValueLaws
 pub mod Values
-pub mod Whole

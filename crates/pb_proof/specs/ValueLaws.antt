@@ -6,11 +6,11 @@ use Rattle.pb_text.specs.Whole.{events_of}
 use Rattle.pb_text.specs.declared.Place.{Place}
 use Rattle.pb_text.specs.declared.Spanned.{Spanned}
 use Rattle.pb_text.specs.declared.Stop.{Stop}
+use Rattle.pb_text.specs.ValueRead.{IsRead}
 use Rattle.pb_proof.specs.Lines.{SpellsStatement}
 use Rattle.pb_proof.specs.Proofs.{statements_of, IsProof, IsProofOf}
 use Rattle.pb_proof.specs.Values.{IsStatementValue, IsProofValue}
 use Rattle.pb_proof.specs.Canonical.{proof_bytes}
-use Rattle.pb_proof.specs.Whole.{IsRead}
 use Rattle.pb_proof.specs.declared.proof.Proof.{Proof}
 use Rattle.pb_proof.specs.declared.statement.Statement.{Statement}
 

@@ -7,10 +7,10 @@ ghost use Rattle.pb_text.specs.Blank.{IsInReach};
 ghost use Rattle.pb_text.specs.Limits.{largest, top_of};
 ghost use Rattle.pb_text.specs.Pulling.{faults_after};
 ghost use Rattle.pb_text.specs.Spelling.{Item};
+ghost use Rattle.pb_text.specs.ValueRead.{ReadsValue, GivesValue, WantsMemory};
 ghost use Rattle.pb_proof.specs.Asking.{Asks};
 ghost use Rattle.pb_proof.specs.Gather.{MayKeep};
 ghost use Rattle.pb_proof.specs.Proofs.{IsProof, IsProofOf};
-ghost use Rattle.pb_proof.specs.Whole.{ReadsValue, GivesValue, WantsMemory};
 
 mod gather;
 

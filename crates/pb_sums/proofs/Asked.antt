@@ -5,7 +5,7 @@ use Rattle.std.specs.Prelude.{IsTrue, Option, Some, None, nat_le, nat_eq}
 use Rattle.pb_text.specs.Automaton.{Next, Go, End, Refuse}
 use Rattle.pb_text.specs.Classes.{is_digit, is_letter, is_name_byte}
 use Rattle.pb_text.specs.Spelling.{Letter, bytes}
-use Rattle.pb_text.proofs.Asked.{Walks}
+use Rattle.pb_text.proofs.Walking.{Walks}
 use Rattle.pb_text.proofs.Languages.{each-append}
 use Rattle.pb_sums.specs.Asking.{EndsIn, IsNameFront, InName, AsksLiteral}
 use Rattle.pb_sums.specs.Machine.{act, plan, digits, number, behind, kind, symbol, letter_at, is_numeric, flushed, adds, is_more}

@@ -20,3 +20,4 @@ mod Behind
 mod NameBytes
 mod Shorts
 mod WholeTerms
+pub mod Within

@@ -5,6 +5,7 @@ use Rattle.pb_text.specs.Automaton.{Automaton, Next, Go, End, Skips, Reads, Acce
 use Rattle.pb_text.specs.Asking.{IsWithin}
 use Rattle.pb_text.specs.Spelling.{Letter, Item, plain, bytes, letters_of, bytes_of}
 use Rattle.pb_text.proofs.Lists.{bytes-append, bytes-plain}
+use Rattle.pb_text.proofs.Walking.{Walks, walks_more}
 
 head : (b c : ℕ) (bs cs : List ℕ) → b ∷ bs ≡ c ∷ cs → b ≡ c
 head b c bs cs e = cc
@@ -25,17 +26,6 @@ item_bytes i rest =
     ∙ ap₂ (λ (x y : List ℕ). x ++ y) (bytes-plain i.gap) (bytes-append i.text (letters_of rest))
 
 module _ {S E : Type 0} (m : Automaton S E) where
-  -- the letters lead from old to new, and none of them ends a statement
-  abbrev pub Walks : S → List Letter → S → Type 0
-  Walks old [] new = new ≡ old
-  Walks old (l ∷ text) new =
-      (mid : S) × (m.step old l.byte ≡ Go mid) × (m.begun mid ≡ true) × (l.numeral ≡ m.in_number mid) × Walks mid text new
-
-  walks_more : (front : List Letter) (l : Letter) (at cur mid : S) → Walks at front cur → m.step cur l.byte ≡ Go mid → m.begun mid ≡ true → l.numeral ≡ m.in_number mid
-      → Walks at (front ++ l ∷ []) mid
-  walks_more [] l at cur mid w g o n = (mid, subst (λ (x : S). m.step x l.byte ≡ Go mid) w g, o, n, refl)
-  walks_more (k ∷ front) l at cur mid (next, h, p, q, w) g o n = (next, h, p, q, walks_more front l next cur mid w g o n)
-
   taken : (x : Next S E) (mid new : S) → behind m x ≡ Some mid → x ≡ Go new → mid ≡ new
   taken x mid new e f = let k : behind m (Go new) ≡ Some mid = subst (λ (y : Next S E). behind m y ≡ Some mid) f e in cc
 
@@ -47,7 +37,7 @@ module _ {S E : Type 0} (m : Automaton S E) where
     pub record IsAsked : Type 0 where
       pub gaps : (s next : S) (b : ℕ) → Idle s → m.step s b ≡ Go next → m.begun next ≡ false → Idle next × (m.asks s b ≡ false)
       pub ends : (s next : S) (t : List Letter) (e : E) → Idle s → Reads m s t e next → Idle next
-      pub texts : (at s next : S) (front rest : List Letter) (l : Letter) (e : E) → Idle at → Walks at front s → Reads m s (l ∷ rest) e next
+      pub texts : (at s next : S) (front rest : List Letter) (l : Letter) (e : E) → Idle at → Walks m at front s → Reads m s (l ∷ rest) e next
           → IsTrue (m.asks s l.byte) → Asks e (bytes front) l.byte
 
     module _ (known : IsAsked) (state : S) (b : ℕ) (more : List ℕ) (asks : IsTrue (m.asks state b)) where
@@ -70,7 +60,7 @@ module _ {S E : Type 0} (m : Automaton S E) where
           ((later : List ℕ) × (bytes t ≡ used ++ b ∷ later) × Asks e (before ++ used) b)
           ⊎ ((left : List ℕ) × (used ≡ bytes t ++ left) × Leads m after left state × (behind_it ≡ left ++ b ∷ more))
 
-      here : (at cur after : S) (front rest : List Letter) (l : Letter) (e : E) → Idle at → Walks at front cur → Reads m cur (l ∷ rest) e after → state ≡ cur → l.byte ≡ b
+      here : (at cur after : S) (front rest : List Letter) (l : Letter) (e : E) → Idle at → Walks m at front cur → Reads m cur (l ∷ rest) e after → state ≡ cur → l.byte ≡ b
           → Asks e (bytes front ++ []) b
       here at cur after front rest l e i w r same byte =
           let a : IsTrue (m.asks cur l.byte) = subst (λ (x : ℕ). m.asks cur x ≡ true) (sym byte) (subst (λ (x : S). m.asks x b ≡ true) same asks) in
@@ -84,7 +74,7 @@ module _ {S E : Type 0} (m : Automaton S E) where
           inl (later, put l.byte d (bytes t) (used ++ b ∷ later) (sym same) h, subst (λ (x : List ℕ). Asks e x b) front_is a)
       moved t front l d used e after behind_it same (inr (left, h, k, j)) = inr (left, put d l.byte used (bytes t ++ left) same h, k, j)
 
-      in_text : (t front : List Letter) (at cur after : S) (e : E) (behind_it used : List ℕ) → Idle at → Walks at front cur → Reads m cur t e after → Leads m cur used state
+      in_text : (t front : List Letter) (at cur after : S) (e : E) (behind_it used : List ℕ) → Idle at → Walks m at front cur → Reads m cur t e after → Leads m cur used state
           → bytes t ++ behind_it ≡ used ++ b ∷ more → InText t (bytes front) used e after behind_it
       in_text [] front at cur after e behind_it used i w r l q = absurd r
       in_text (l ∷ []) front at cur after e behind_it [] i w r lead q =
@@ -101,7 +91,7 @@ module _ {S E : Type 0} (m : Automaton S E) where
           let same : d ≡ l.byte = sym (head l.byte d (bytes (k ∷ t) ++ behind_it) (used ++ b ∷ more) q) in
           let one : next ≡ mid = taken (m.step cur d) next mid f (ap (m.step cur) same ∙ g) in
           moved (k ∷ t) front l d used e after behind_it same
-          (in_text (k ∷ t) (front ++ l ∷ []) at mid after e behind_it used i (walks_more front l at cur mid w g o n) r (subst (λ (x : S). Leads m x used state) one lead)
+          (in_text (k ∷ t) (front ++ l ∷ []) at mid after e behind_it used i (walks_more m front l at cur mid w g o n) r (subst (λ (x : S). Leads m x used state) one lead)
           (tail l.byte d (bytes (k ∷ t) ++ behind_it) (used ++ b ∷ more) q))
 
       first_item : (i : Item E) (rest : List (Item E)) (used left : List ℕ) (after : S) → used ≡ i.gap ++ left → InText i.text [] left i.event after (bytes_of rest)

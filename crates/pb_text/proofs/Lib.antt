@@ -29,5 +29,6 @@ pub mod Told
 pub mod NothingRead
 pub mod Toys
 pub mod Unkept
+pub mod Walking
 pub mod Wholes
 pub mod Writing

@@ -20,6 +20,7 @@ pub mod Source
 pub mod Spelling
 pub mod Standing
 pub mod Toy
+pub mod ValueRead
 pub mod NothingRead
 pub mod Whole
 pub mod Writing

@@ -12,14 +12,13 @@ use Rattle.pb_text.specs.declared.Limits.{Limits}
 use Rattle.pb_text.specs.declared.Place.{Place}
 use Rattle.pb_text.specs.declared.Spanned.{Spanned}
 use Rattle.pb_text.specs.declared.Stop.{Stop}
+use Rattle.pb_text.specs.ValueRead.{ReadsValue, Reading}
 use Rattle.pb_text.proofs.Writing.{writes_nothing}
 use Rattle.pb_opb.specs.Canonical.{event_bytes}
 use Rattle.pb_opb.specs.Values.{IsValueOf}
-use Rattle.pb_opb.specs.Whole as opb
 use Rattle.pb_opb.specs.declared.Instance.{Instance}
 use Rattle.pb_proof.specs.Canonical.{statement_bytes}
 use Rattle.pb_proof.specs.Proofs.{IsProof, IsProofOf}
-use Rattle.pb_proof.specs.Whole as veri
 use Rattle.pb_proof.specs.declared.Proof.{Proof}
 use Rattle.pb_tool.specs.Files.{MayBeProof, MayBeInstance, IsVeri, IsNoProofFile, ShowsFile, TidiesFile, TidiesProof}
 use Rattle.pb_tool.specs.Showing.{IsSpelling, IsRefusedAfter, InText, InRest, Shows}
@@ -104,19 +103,19 @@ module _ (before mid : Option (List ℕ)) (k : Keeps before mid) where
     no_file_before Reads to after s (in_rest m next r b) = in_rest m next (to (Ok m) next r) b
 
   module _ (limits : Limits) (longest : ℕ) where
-    opb_before : (result : Result (Spanned Instance) Stop) (after : Option (List ℕ)) → opb.ReadsValue (IsOpb limits) longest IsValueOf mid result after → opb.ReadsValue (IsOpb limits) longest IsValueOf before result after
+    opb_before : (result : Result (Spanned Instance) Stop) (after : Option (List ℕ)) → ReadsValue (IsOpb limits) longest IsValueOf mid result after → ReadsValue (IsOpb limits) longest IsValueOf before result after
     opb_before (Ok m) after (used, seen, took, r) = (used, seen, took_before before mid after used seen k took, r)
     opb_before (Err s) after (used, seen, took, r) = (used, seen, took_before before mid after used seen k took, r)
 
-    veri_before : (result : Result (Spanned Proof) Stop) (after : Option (List ℕ)) → veri.ReadsValue (IsVeri limits) longest IsProofOf mid result after → veri.ReadsValue (IsVeri limits) longest IsProofOf before result after
+    veri_before : (result : Result (Spanned Proof) Stop) (after : Option (List ℕ)) → ReadsValue (IsVeri limits) longest IsProofOf mid result after → ReadsValue (IsVeri limits) longest IsProofOf before result after
     veri_before (Ok m) after (used, seen, took, r) = (used, seen, took_before before mid after used seen k took, r)
     veri_before (Err s) after (used, seen, took, r) = (used, seen, took_before before mid after used seen k took, r)
 
     no_instance : ReadsNothing (IsOpb limits) longest → IsNoOpbFile limits longest before mid first_fault
-    no_instance reads = let t = took_nothing before mid k in in_text ([], t.0, t.1, opb.Reading [] (reads t.0))
+    no_instance reads = let t = took_nothing before mid k in in_text ([], t.0, t.1, Reading [] (reads t.0))
 
     no_proof_file : ReadsNothing (IsVeri limits) longest → IsNoProofFile limits longest before mid first_fault
-    no_proof_file reads = let t = took_nothing before mid k in in_text ([], t.0, t.1, veri.Reading [] (reads t.0))
+    no_proof_file reads = let t = took_nothing before mid k in in_text ([], t.0, t.1, Reading [] (reads t.0))
 
     module _ {W : Type 0} (contents : W → Option (List ℕ)) (faults : W → ℕ) where
       pub tidies_proof_before : (old : W) (result : Result Unit ToolFault) (after : Option (List ℕ)) (new : W) → TidiesProof limits longest contents faults mid old result after new → TidiesProof limits longest contents faults before old result after new

@@ -6,12 +6,12 @@ use Rattle.pb_text.specs.declared.Spanned.{Spanned}
 use Rattle.pb_text.specs.declared.Stop.{Stop}
 use Rattle.pb_text.specs.declared.Why.{Why}
 use Rattle.pb_text.specs.declared.place.Why.TheVariants.{Memory}
+use Rattle.pb_text.specs.ValueRead.{IsRead, StopsIn, ReadsValue, WantsMemory, WantsIn, Reading, Keeping, Asking, Ending}
 use Rattle.pb_text.proofs.Formats as formats
 use Rattle.pb_text.proofs.Unkept.{unkept_viable, unkept_place}
 use Rattle.pb_opb.specs.Building.{MayKeep}
 use Rattle.pb_opb.specs.Instances.{IsEntry, IsBody, IsBegun, IsInstance}
 use Rattle.pb_opb.specs.Values.{IsValueOf, last_or}
-use Rattle.pb_opb.specs.Whole.{IsRead, StopsIn, ReadsValue, WantsMemory, WantsIn, Reading, Keeping, Asking, Ending}
 use Rattle.pb_opb.specs.declared.Instance.{Instance}
 use Rattle.pb_opb.specs.declared.OpbEvent.{OpbEvent}
 use Rattle.pb_opb.specs.declared.OpbEvent.TheVariants.{Header, Comment, Objective, Constraint}

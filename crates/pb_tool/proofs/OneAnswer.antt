@@ -12,11 +12,11 @@ use Rattle.pb_text.specs.declared.Limits.{Limits}
 use Rattle.pb_text.specs.declared.Place.{Place}
 use Rattle.pb_text.specs.declared.Spanned.{Spanned}
 use Rattle.pb_text.specs.declared.Stop.{Stop}
+use Rattle.pb_text.specs.ValueRead.{Reading, Keeping}
 use Rattle.pb_sums.specs.declared.Linear.{Linear}
 use Rattle.pb_sums.specs.declared.Term.{Term}
 use Rattle.pb_opb.specs.Formats as opb_laws
 use Rattle.pb_opb.specs.Values.{IsValueOf}
-use Rattle.pb_opb.specs.Whole as opb
 use Rattle.pb_opb.specs.declared.Comment.{Comment}
 use Rattle.pb_opb.specs.declared.Instance.{Instance}
 use Rattle.pb_opb.specs.declared.OpbEvent.{OpbEvent}
@@ -88,8 +88,8 @@ module _ (one : opb_laws.OneInstance) (front : opb_laws.NoFront) (limits : Limit
       record { used = f.used; rest = f.rest; marks = f.spelled.marks; input_is = all_taken i (f.used ++ f.rest) f.took.0; spelled = f.spelled.spelled; blank = f.blank; within = f.within }
 
   instance_refusal : (i' : Option (List ℕ)) (s : Stop) → IsNoOpbFile limits longest (Some i) i' s → IsOfText s.why → Refusal (IsOpb limits) longest i s
-  instance_refusal i' s (InText (used, seen, took, opb.Reading marks r)) d = AtStop used r.left marks (took.0 ∙ r.input_is) r.answer.0 r.place_is r.answer.2
-  instance_refusal i' s (InText (used, seen, took, opb.Keeping viable is)) d = absurd (subst (λ (x : Stop). IsOfText x.why) is d)
+  instance_refusal i' s (InText (used, seen, took, Reading marks r)) d = AtStop used r.left marks (took.0 ∙ r.input_is) r.answer.0 r.place_is r.answer.2
+  instance_refusal i' s (InText (used, seen, took, Keeping viable is)) d = absurd (subst (λ (x : Stop). IsOfText x.why) is d)
   instance_refusal i' s (InRest m mid (used, seen, took, read) (rest, more, t, blank, place, stray)) d =
       let t' : Took (Some seen) rest more i' = subst (λ (z : Option (List ℕ)). Took z rest more i') took.1 t in
       AtRest used seen read.marks took.0 read.spelled rest more t'.0 blank (place ∙ ap (λ (x : Place). place_from x rest) read.past) (subst (λ (x : Place). IsStray x rest more s.why) read.past stray)

@@ -7,12 +7,12 @@ use Rattle.pb_text.specs.declared.Spanned.{Spanned}
 use Rattle.pb_text.specs.declared.Stop.{Stop}
 use Rattle.pb_text.specs.declared.Why.{Why}
 use Rattle.pb_text.specs.declared.place.Why.TheVariants.{Memory}
+use Rattle.pb_text.specs.ValueRead.{IsRead, StopsIn, ReadsValue, WantsMemory, WantsIn, Reading, Keeping, Asking, Ending}
 use Rattle.pb_text.proofs.Formats as formats
 use Rattle.pb_text.proofs.Unkept.{unkept_viable, unkept_place}
 use Rattle.pb_proof.specs.Gather.{asks, MayKeep}
 use Rattle.pb_proof.specs.Canonical.{statement_bytes, lines}
 use Rattle.pb_proof.specs.Proofs.{IsStep, statements_of, IsProof, IsProofOf}
-use Rattle.pb_proof.specs.Whole.{IsRead, StopsIn, ReadsValue, WantsMemory, WantsIn, Reading, Keeping, Asking, Ending}
 use Rattle.pb_proof.specs.declared.Proof.{Proof}
 use Rattle.pb_proof.specs.declared.Statement.{Statement}
 use Rattle.pb_proof.specs.declared.Statement.TheVariants.{Header, F, Pol, Rup, Soli, Solx, Delete, Output, Conclude, End}

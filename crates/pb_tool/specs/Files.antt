@@ -5,10 +5,10 @@ use Rattle.pb_text.specs.Spelling.{Item}
 use Rattle.pb_text.specs.Writing.{Wrote, Broke}
 use Rattle.pb_text.specs.declared.Limits.{Limits}
 use Rattle.pb_text.specs.declared.Stop.{Stop}
+use Rattle.pb_text.specs.ValueRead.{IsRead, ReadsValue}
 use Rattle.pb_opb.specs.Canonical.{event_bytes}
 use Rattle.pb_proof.specs.Canonical.{proof_bytes, statement_bytes}
 use Rattle.pb_proof.specs.Proofs.{IsProof, IsProofOf}
-use Rattle.pb_proof.specs.Whole.{IsRead, ReadsValue}
 use Rattle.pb_proof.specs.declared.Proof.{Proof}
 use Rattle.pb_proof.specs.declared.Statement.{Statement}
 use Rattle.pb_tool.specs.Showing.{Shows}

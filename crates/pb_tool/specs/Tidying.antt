@@ -9,12 +9,12 @@ use Rattle.pb_text.specs.Writing.{Wrote, Broke}
 use Rattle.pb_text.specs.declared.Limits.{Limits}
 use Rattle.pb_text.specs.declared.Spanned.{Spanned}
 use Rattle.pb_text.specs.declared.Stop.{Stop}
+use Rattle.pb_text.specs.ValueRead.{IsRead, ReadsValue}
 use Rattle.pb_sums.specs.declared.Term.{Term}
 use Rattle.pb_sums.specs.declared.Linear.{Linear}
 use Rattle.pb_opb.specs.Canonical.{instance_bytes}
 use Rattle.pb_opb.specs.Instances.{IsInstance}
 use Rattle.pb_opb.specs.Values.{IsValueOf}
-use Rattle.pb_opb.specs.Whole.{IsRead, ReadsValue}
 use Rattle.pb_opb.specs.declared.Instance.{Instance}
 use Rattle.pb_opb.specs.declared.OpbEvent.{OpbEvent}
 use Rattle.pb_tool.specs.Normalised.{IsNormalised, Overflows}

@@ -9,13 +9,12 @@ use Rattle.pb_text.specs.declared.Limits.{Limits}
 use Rattle.pb_text.specs.declared.Spanned.{Spanned}
 use Rattle.pb_text.specs.declared.Stop.{Stop}
 use Rattle.pb_text.specs.declared.place.Why.TheVariants.{Memory}
+use Rattle.pb_text.specs.ValueRead.{WantsMemory}
 use Rattle.pb_opb.specs.Asking as opb_bytes
 use Rattle.pb_opb.specs.Building as opb_keeping
-use Rattle.pb_opb.specs.Whole as opb
 use Rattle.pb_opb.specs.declared.Instance.{Instance}
 use Rattle.pb_proof.specs.Asking as veri_bytes
 use Rattle.pb_proof.specs.Gather as veri_keeping
-use Rattle.pb_proof.specs.Whole as veri
 use Rattle.pb_proof.specs.declared.Proof.{Proof}
 use Rattle.pb_tool.specs.Files.{MayBeProof, MayBeInstance, IsVeri}
 use Rattle.pb_tool.specs.Tidying.{IsOpb}
@@ -72,10 +71,10 @@ module _ (limits : Limits) (longest : ℕ) where
   -- Where an instance or a proof is read whole, memory ran out at a byte that may ask for it, or behind a statement
   -- that was to be kept.
   abbrev pub WantsInstance : Option (List ℕ) → Option (List ℕ) → Stop → Type 0
-  WantsInstance before after s = opb.WantsMemory (IsOpb limits) longest (AsksOpb limits) opb_keeping.MayKeep {V = Instance} before (Err s) after
+  WantsInstance before after s = WantsMemory (IsOpb limits) longest (AsksOpb limits) opb_keeping.MayKeep {V = Instance} before (Err s) after
 
   abbrev pub WantsProof : Option (List ℕ) → Option (List ℕ) → Stop → Type 0
-  WantsProof before after s = veri.WantsMemory (IsVeri limits) longest (AsksVeri limits) veri_keeping.MayKeep {V = Proof} before (Err s) after
+  WantsProof before after s = WantsMemory (IsVeri limits) longest (AsksVeri limits) veri_keeping.MayKeep {V = Proof} before (Err s) after
 
   -- With `normal` the source is read as an instance, whatever its text begins with.
   abbrev pub WantsTidying : Bool → Option (List ℕ) → Option (List ℕ) → Stop → Type 0

@@ -2,8 +2,8 @@
 use Rattle.std.proofs.Common.{◌≡◌, ℕ, true, List, [], ◌∷◌, refl, sym, ap, subst, ◌∙◌, map, ◌++◌}
 use Rattle.pb_text.specs.Automaton.{Automaton, Next, Go, End, Refuse, Skips, Reads, Runs, Accepts, Admits, IsState}
 use Rattle.pb_text.specs.Spelling.{Letter, Item, letters_of, bytes, plain}
+use Rattle.pb_text.proofs.Walking.{Walks}
 use Rattle.pb_proof.specs.Line.Machine.{carried}
-use Rattle.pb_proof.proofs.lemmas.Walking.{Walks}
 
 module _ {S E R F : Type 0} (m : Automaton S E) (n : Automaton R F) (into : S → R) (event : E → F) where
   -- What the one does in a state the other does in the state that stands for it.

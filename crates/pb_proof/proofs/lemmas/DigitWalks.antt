@@ -4,7 +4,7 @@ use Rattle.std.proofs.Math.Nat.{pow-succ', le-mul_of_pos_right}
 use Rattle.pb_text.specs.Automaton.{Automaton, Go}
 use Rattle.pb_text.specs.Languages.{digit, Each}
 use Rattle.pb_text.specs.Numbers.{value, Digits}
-use Rattle.pb_proof.proofs.lemmas.Walking.{Walks, Leads}
+use Rattle.pb_text.proofs.Walking.{Walks, Leads}
 
 ten_pos : (k : ℕ) → 0 < 10 ^ k
 ten_pos zero = omega arith

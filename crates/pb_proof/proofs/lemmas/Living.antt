@@ -3,8 +3,8 @@ use Rattle.std.proofs.Common.{◌≡◌, ℕ, true, false, List, [], ◌∷◌, 
 use Rattle.pb_text.specs.Automaton.{Automaton, Next, Go, End, Skips, Reads, Accepts, Admits, IsState}
 use Rattle.pb_text.specs.Spelling.{Letter, Item, bytes_of}
 use Rattle.pb_text.proofs.Residual.{First, Nothing, InGap, InText, AtLast, first_of}
+use Rattle.pb_text.proofs.Walking.{longer}
 use Rattle.pb_proof.proofs.lemmas.Choices.{never}
-use Rattle.pb_proof.proofs.lemmas.Walking.{longer}
 
 module _ {S E : Type 0} (m : Automaton S E) where
   abbrev pub ReadsOn : S → Type 0

@@ -6,6 +6,7 @@ use Rattle.pb_text.specs.Automaton.{Next, Go, End, Refuse, Reads}
 use Rattle.pb_text.specs.Classes.{is_blank, is_digit}
 use Rattle.pb_text.specs.Spelling.{Letter, bytes}
 use Rattle.pb_text.proofs.Lists.{bytes-append}
+use Rattle.pb_text.proofs.Walking.{Walks, fronts}
 use Rattle.pb_sums.specs.declared.Literal.{Literal}
 use Rattle.pb_proof.specs.Asking.{AsksShown, AsksClaim}
 use Rattle.pb_proof.specs.Line.Claim.{word_of, behind_word, behind_bound, spell, first_word, digits, begin_bound, colon, behind, between, after_bound, id_digits, after_id, plan}
@@ -29,7 +30,6 @@ use Rattle.pb_proof.specs.declared.line.claim.phase.Move.{Move}
 use Rattle.pb_proof.proofs.lemmas.Choices.{chosen}
 use Rattle.pb_proof.proofs.lemmas.Claim.Front as claims
 use Rattle.pb_proof.proofs.lemmas.Line.Asks.{literals_asked}
-use Rattle.pb_proof.proofs.lemmas.Walking.{Walks, fronts}
 
 module _ (s : ClaimState) (b : ℕ) where
   abbrev Quiet : Move → Type 0

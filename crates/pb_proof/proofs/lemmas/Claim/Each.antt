@@ -8,6 +8,7 @@ use Rattle.pb_text.specs.Languages.{unmarked, Language, ◌⋅◌, Empty, Byte, 
 use Rattle.pb_text.specs.Numbers.{signed}
 use Rattle.pb_text.specs.Spelling.{Letter}
 use Rattle.pb_text.proofs.Languages.{inside, regroup, behind_it}
+use Rattle.pb_text.proofs.Walking.{Walks, longer, reads_behind}
 use Rattle.pb_sums.specs.declared.Literal.{Literal}
 use Rattle.pb_proof.specs.Lines.{none_word, unsat_word, bounds_word, LineEnd, SpellsId, SpellsBound, SpellsShown, Shown, IdShown, SpellsClaim}
 use Rattle.pb_proof.specs.Line.Claim.{word_of, behind_word}
@@ -32,7 +33,6 @@ use Rattle.pb_proof.proofs.lemmas.Claim.Texts.{Body, line_shown}
 use Rattle.pb_proof.proofs.lemmas.Claim.Walk.{at, Carries, carries_then, Is, leads_carry, word_leads, start_blanks, bounded_blanks, id_blanks, Follows, follows_blanks, behind_blanks_of, between_blanks, may_end, id_steps, id_follows}
 use Rattle.pb_proof.proofs.lemmas.Line.Ends.{TakesBlanks, blanks1_lead, blanks0_lead, behind_blanks, line_reads}
 use Rattle.pb_proof.proofs.lemmas.Literals.Theorems.{literals_reads}
-use Rattle.pb_proof.proofs.lemmas.Walking.{Walks, longer, reads_behind}
 
 module _ (limit top : ℕ) where
   abbrev here : Phase → ClaimState

@@ -10,6 +10,7 @@ use Rattle.pb_text.specs.Numbers.{Digits, Sign, signed}
 use Rattle.pb_text.specs.Spelling.{Letter, plain}
 use Rattle.pb_text.proofs.Languages.{grown, next, none_yet, inside, behind_it, regroup, some-grown, some-one, some-many, many-grown}
 use Rattle.pb_text.proofs.Numbers.{digits-grown, digits-one}
+use Rattle.pb_text.proofs.Walking.{Walks, walks_more, ends_walk, On, Keeps, told}
 use Rattle.pb_sums.specs.declared.Literal.{Literal}
 use Rattle.pb_proof.specs.Lines.{unsat_word, bounds_word, inf_word, Minus, SpellsId, SpellsBound, IdShown, SpellsClaim}
 use Rattle.pb_proof.specs.Line.Claim.{word_of, behind_word, behind_bound, spell, first_word, digits, begin_bound, colon, behind, between, after_bound, id_digits, after_id, plan, PhaseFits}
@@ -37,7 +38,6 @@ use Rattle.pb_proof.proofs.lemmas.Claim.Steps.{goes}
 use Rattle.pb_proof.proofs.lemmas.Claim.Texts.{word_grown, word_whole, Claimed, LowerRead, Lead, IdLead, Colon, BeforeIdRead, id_shown, bounds_body, claim_line, showing_line}
 use Rattle.pb_proof.proofs.lemmas.Line.Ends.{Gapped, Closing, blank_more, blank_closing, semicolon_behind_blanks, line_behind_blanks, line_closing}
 use Rattle.pb_proof.proofs.lemmas.Literals.Theorems.{literals_reads, literals_of_one}
-use Rattle.pb_proof.proofs.lemmas.Walking.{Walks, walks_more, ends_walk, On, Keeps, told}
 
 abbrev IsBlank : ℕ → Type 0
 IsBlank b = IsTrue (is_blank b)

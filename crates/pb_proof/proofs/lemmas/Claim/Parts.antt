@@ -8,6 +8,7 @@ use Rattle.pb_text.specs.Classes.{is_blank, is_digit}
 use Rattle.pb_text.specs.Languages.{unmarked}
 use Rattle.pb_text.specs.Numbers.{Digits, Number, signed}
 use Rattle.pb_text.specs.Spelling.{Letter, plain}
+use Rattle.pb_text.proofs.Walking.{Walks, Leads}
 use Rattle.pb_proof.specs.Lines.{inf_word, SpellsId, SpellsBound}
 use Rattle.pb_proof.specs.Line.Claim.{behind_bound, digits, after_bound, id_digits, after_id, is_within}
 use Rattle.pb_proof.specs.Line.ClaimState.{ClaimState, claim_automaton, act, is_in_number}
@@ -22,7 +23,6 @@ use Rattle.pb_proof.specs.declared.line.claim.phase.Move.TheVariants.{To, Stop}
 use Rattle.pb_proof.proofs.lemmas.Claim.Bytes.{digit-byte, digit-blank}
 use Rattle.pb_proof.proofs.lemmas.Claim.Walk.{at, Carries, Is, Follows, number_follows, Spelled, left_walk}
 use Rattle.pb_proof.proofs.lemmas.DigitWalks.{TakesDigits, digits_lead}
-use Rattle.pb_proof.proofs.lemmas.Walking.{Walks, Leads}
 
 abbrev IsBlank : ℕ → Type 0
 IsBlank b = IsTrue (is_blank b)

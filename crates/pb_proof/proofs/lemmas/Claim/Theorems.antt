@@ -6,6 +6,7 @@ use Rattle.pb_text.specs.Automaton.{Go, Reads, IsState}
 use Rattle.pb_text.specs.Languages.{unmarked}
 use Rattle.pb_text.specs.Numbers.{signed}
 use Rattle.pb_text.specs.Spelling.{Letter, plain}
+use Rattle.pb_text.proofs.Walking.{Walks, reads_behind}
 use Rattle.pb_proof.specs.Lines.{none_word, inf_word, SpellsClaim}
 use Rattle.pb_proof.specs.Line.Claim.{word_of, behind_word, behind_bound, is_within, is_done, PhaseFits}
 use Rattle.pb_proof.specs.Line.ClaimState.{ClaimState, claim_automaton, claim_at, claim_first, claim_last, claim_value, showing_value, kept, spent, act, Holds, IsClaimInOrder}
@@ -32,7 +33,6 @@ use Rattle.pb_proof.proofs.lemmas.Claim.Steps.{goes, ends, not_done, done_stops,
 use Rattle.pb_proof.proofs.lemmas.Claim.Walk.{at, word_left, word_leads, id_steps}
 use Rattle.pb_proof.proofs.lemmas.Literals.Theorems.{literals_of_one}
 use Rattle.pb_proof.proofs.lemmas.Line.One.{IsOfOne, ReadsSome, reads_last, is_state}
-use Rattle.pb_proof.proofs.lemmas.Walking.{Walks, reads_behind}
 
 abbrev last : ClaimState → ClaimState
 last s = claim_last s.limit s.top

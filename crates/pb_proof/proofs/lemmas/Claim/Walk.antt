@@ -9,6 +9,7 @@ use Rattle.pb_text.specs.Classes.{is_blank, is_digit}
 use Rattle.pb_text.specs.Languages.{Language, ◌⋅◌, Bytes}
 use Rattle.pb_text.specs.Numbers.{signed}
 use Rattle.pb_text.specs.Spelling.{Letter, plain}
+use Rattle.pb_text.proofs.Walking.{Walks, Leads, walks_then}
 use Rattle.pb_proof.specs.Line.Claim.{word_of, behind_word, behind_bound, spell, digits, colon, behind, between, after_bound, after_id, plan, is_within}
 use Rattle.pb_proof.specs.Line.ClaimState.{ClaimState, claim_automaton, claim_at, claim_last, claim_value, act}
 use Rattle.pb_proof.specs.declared.conclusion.Bound.{Bound}
@@ -28,7 +29,6 @@ use Rattle.pb_proof.specs.declared.line.claim.phase.Move.{Move}
 use Rattle.pb_proof.specs.declared.line.claim.phase.Move.TheVariants.{To}
 use Rattle.pb_proof.proofs.lemmas.Claim.Bytes.{blank-digit}
 use Rattle.pb_proof.proofs.lemmas.Line.Ends.{TakesBlanks, MayEnd}
-use Rattle.pb_proof.proofs.lemmas.Walking.{Walks, Leads, walks_then}
 
 nat-same : (b : ℕ) → nat_eq b b ≡ true
 nat-same b = grind (arith, nat_tests)

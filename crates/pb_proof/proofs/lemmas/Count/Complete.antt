@@ -7,6 +7,7 @@ use Rattle.pb_text.specs.Classes.{is_blank}
 use Rattle.pb_text.specs.Languages.{Blanks1}
 use Rattle.pb_text.specs.Numbers.{Count}
 use Rattle.pb_text.specs.Spelling.{Letter}
+use Rattle.pb_text.proofs.Walking.{Leads, leads_then, reads_behind}
 use Rattle.pb_proof.specs.Lines.{SpellsCount}
 use Rattle.pb_proof.specs.Line.Count.{at, count_automaton, counting, count_last, act, plan, digits}
 use Rattle.pb_proof.specs.declared.line.byte_kind.NumberMark.TheVariants.{Blank, Digit}
@@ -15,7 +16,6 @@ use Rattle.pb_proof.specs.declared.line.count.phase.CountPhase.TheVariants.{Star
 use Rattle.pb_proof.proofs.lemmas.DigitWalks.{TakesDigits, digits_lead}
 use Rattle.pb_proof.proofs.lemmas.Line.ByteKinds.{number_blank, number_digit}
 use Rattle.pb_proof.proofs.lemmas.Line.Ends.{TakesBlanks, Feeds, MayEnd, blanks1_lead, line_reads}
-use Rattle.pb_proof.proofs.lemmas.Walking.{Leads, leads_then, reads_behind}
 
 module _ (limit top : ℕ) where
   by_blank : (ph : CountPhase) (b : ℕ) → IsTrue (is_blank b) → count_automaton.step (at top ph) b ≡ act top (plan top ph Blank)

@@ -9,6 +9,7 @@ use Rattle.pb_text.specs.Classes.{is_blank}
 use Rattle.pb_text.specs.Languages.{Language, ◌⋅◌, Empty, Blanks0, Blanks1}
 use Rattle.pb_text.specs.Numbers.{Digits as DigitsOf, Count}
 use Rattle.pb_text.specs.Spelling.{Letter}
+use Rattle.pb_text.proofs.Walking.{On, Keeps}
 use Rattle.pb_proof.specs.Lines.{LineEnd, SpellsCount}
 use Rattle.pb_proof.specs.Line.Count.{CountState, count_automaton, act, plan, digits, behind, is_in_number}
 use Rattle.pb_proof.specs.Line.ByteKind.{number_mark}
@@ -20,7 +21,6 @@ use Rattle.pb_proof.specs.declared.line.count.phase.CountMove.{CountMove}
 use Rattle.pb_proof.specs.declared.line.count.phase.CountMove.TheVariants.{To, Stop}
 use Rattle.pb_proof.proofs.lemmas.Line.ByteKinds.{NumberMeans, number_means, as_digit}
 use Rattle.pb_proof.proofs.lemmas.Line.Ends as ends
-use Rattle.pb_proof.proofs.lemmas.Walking.{On, Keeps}
 
 module _ (top : ℕ) where
   -- what stands before the end of the line

@@ -5,6 +5,7 @@ use Rattle.std.specs.Prelude.{nat_le, Option, Some, None}
 use Rattle.pb_text.specs.Automaton.{Next, Go, End, Refuse, Reads, IsState}
 use Rattle.pb_text.specs.Languages.{unmarked}
 use Rattle.pb_text.specs.Spelling.{Letter}
+use Rattle.pb_text.proofs.Walking.{told}
 use Rattle.pb_proof.specs.Lines.{SpellsCount}
 use Rattle.pb_proof.specs.Line.Count.{CountState, at, count_automaton, counting, count_last, act, plan, digits, behind, is_midway, is_done, PhaseFits, MoveFits, IsCountInOrder}
 use Rattle.pb_proof.specs.Line.ByteKind.{number_mark}
@@ -17,7 +18,6 @@ use Rattle.pb_proof.specs.declared.line.count.phase.CountMove as move
 use Rattle.pb_proof.proofs.lemmas.Count.Complete.{reads_each}
 use Rattle.pb_proof.proofs.lemmas.Count.Sound.{Front, Whole, keeps_front}
 use Rattle.pb_proof.proofs.lemmas.Line.One.{IsOfOne, ReadsSome, reads_last, is_state}
-use Rattle.pb_proof.proofs.lemmas.Walking.{told}
 
 abbrev N : Type 0
 N = Next CountState (Option ℕ)

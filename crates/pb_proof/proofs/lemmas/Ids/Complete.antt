@@ -8,6 +8,7 @@ use Rattle.pb_text.specs.Classes.{is_blank}
 use Rattle.pb_text.specs.Languages.{◌⋅◌, Blanks1}
 use Rattle.pb_text.specs.Numbers.{signed, Digits as DigitsOf}
 use Rattle.pb_text.specs.Spelling.{Letter}
+use Rattle.pb_text.proofs.Walking.{Walks, walks_then, reads_behind}
 use Rattle.pb_proof.specs.Lines.{LineEnd, Listed, SpellsId, SpellsIds, Minus as Sign}
 use Rattle.pb_proof.specs.Line.Ids.{IdsState, ids_automaton, ids_at, ids_first, ids_last, step, act, digits, behind}
 use Rattle.pb_proof.specs.Line.ByteKind.{number_mark}
@@ -20,7 +21,6 @@ use Rattle.pb_proof.specs.declared.line.ids.phase.IdsMove.TheVariants as move
 use Rattle.pb_proof.proofs.lemmas.DigitWalks.{TakesDigits, digits_lead}
 use Rattle.pb_proof.proofs.lemmas.Line.ByteKinds.{number_blank, number_digit}
 use Rattle.pb_proof.proofs.lemmas.Line.Ends.{TakesBlanks, MayEnd, blanks1_lead, line_reads, listed_walks}
-use Rattle.pb_proof.proofs.lemmas.Walking.{Walks, walks_then, reads_behind}
 
 module _ (limit top : ℕ) where
   abbrev S : Type 0

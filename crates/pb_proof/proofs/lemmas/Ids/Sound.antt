@@ -11,6 +11,7 @@ use Rattle.pb_text.specs.Classes.{is_blank}
 use Rattle.pb_text.specs.Languages.{Language, ◌⋅◌, Empty, Blanks0, Blanks1}
 use Rattle.pb_text.specs.Numbers.{signed, Digits as DigitsOf}
 use Rattle.pb_text.specs.Spelling.{Letter}
+use Rattle.pb_text.proofs.Walking.{On, Keeps}
 use Rattle.pb_proof.specs.Lines.{Listed, SpellsId, SpellsIds, Minus as Sign}
 use Rattle.pb_proof.specs.Line.Ids.{IdsState, ids_automaton, act, plan, digits, before, behind}
 use Rattle.pb_proof.specs.Line.ByteKind.{number_mark}
@@ -22,7 +23,6 @@ use Rattle.pb_proof.specs.declared.line.ids.phase.IdsMove.{IdsMove}
 use Rattle.pb_proof.specs.declared.line.ids.phase.IdsMove.TheVariants as move
 use Rattle.pb_proof.proofs.lemmas.Line.ByteKinds.{NumberMeans, number_means, as_digit}
 use Rattle.pb_proof.proofs.lemmas.Line.Ends as ends
-use Rattle.pb_proof.proofs.lemmas.Walking.{On, Keeps}
 
 module _ (top : ℕ) where
   -- ids, and blanks before a further one

@@ -8,6 +8,7 @@ use Rattle.pb_text.specs.Automaton.{Next, Go, End, Refuse, Reads, IsState}
 use Rattle.pb_text.specs.Languages.{unmarked, digit}
 use Rattle.pb_text.specs.Numbers.{signed}
 use Rattle.pb_text.specs.Spelling.{Letter}
+use Rattle.pb_text.proofs.Walking.{told}
 use Rattle.pb_proof.specs.Lines.{SpellsIds}
 use Rattle.pb_proof.specs.Line.Ids.{IdsState, ids_automaton, ids_at, ids_first, ids_last, act, plan, digits, before, behind, is_midway, is_done, is_in_number, MoveFits, PhaseFits, IsIdsInOrder}
 use Rattle.pb_proof.specs.Line.ByteKind.{number_mark}
@@ -20,7 +21,6 @@ use Rattle.pb_proof.specs.declared.line.ids.phase.IdsMove.TheVariants as move
 use Rattle.pb_proof.proofs.lemmas.Ids.Complete.{digits_behind, reads_each}
 use Rattle.pb_proof.proofs.lemmas.Ids.Sound.{Front, Whole, keeps_front}
 use Rattle.pb_proof.proofs.lemmas.Line.One.{IsOfOne, ReadsSome, reads_last, is_state}
-use Rattle.pb_proof.proofs.lemmas.Walking.{told}
 
 abbrev N : Type 0
 N = Next IdsState (List ℤ)

@@ -9,6 +9,7 @@ use Rattle.pb_text.specs.Numbers.{Digits as DigitsOf}
 use Rattle.pb_text.specs.Spelling.{Letter, bytes}
 use Rattle.pb_text.proofs.Languages.{bytes-plain}
 use Rattle.pb_text.proofs.Lists.{bytes-append}
+use Rattle.pb_text.proofs.Walking.{Walks, fronts}
 use Rattle.pb_sums.specs.Asking.{EndsIn, IsNameFront, AsksLiteral}
 use Rattle.pb_sums.specs.State.{SumState, sums}
 use Rattle.pb_sums.specs.Sums.{literal_bytes}
@@ -38,7 +39,6 @@ use Rattle.pb_proof.proofs.lemmas.Ids.Sound as ids
 use Rattle.pb_proof.proofs.lemmas.Literals.Names.{IsFirst}
 use Rattle.pb_proof.proofs.lemmas.Literals.Sound as sound
 use Rattle.pb_proof.proofs.lemmas.Line.ByteKinds.{NameMeans, name_means}
-use Rattle.pb_proof.proofs.lemmas.Walking.{Walks, fronts, walks_into}
 
 -- ---- what a text ends in
 pub joined_end : (a c t : List Letter) (end : List ℕ) → t ≡ a ++ c → EndsIn (bytes c) end → EndsIn (bytes t) end
@@ -224,7 +224,7 @@ module _ (limit top : ℕ) where
       (λ _ k. absurd (false≢true (sym (ap (λ (x : SumState). sums.asks x b) inner ∙ first_asks_nothing BlankSpaces part.TheVariants.AtLeast limit b) ∙ k)))
   goal_at s goal.Inside t b (linear, (a, c, e, h, w)) = λ k.
       subst (λ (x : List ℕ). AsksLiteral x b) (sym (ap bytes e ∙ bytes-append a c))
-      (asks_behind (bytes a) (bytes c) b (sums_asked BlankSpaces part.TheVariants.AtLeast limit c s.inner b (walks_into sums c (goals limit) s.inner w) k))
+      (asks_behind (bytes a) (bytes c) b (sums_asked BlankSpaces part.TheVariants.AtLeast limit c s.inner b w k))
   goal_at s goal.Tail t b h =
       chosen (λ m. goal_asks s b m ≡ true → AsksLiteral (bytes t) b) (is_blank b) _ _ (λ _ k. absurd (false≢true k))
       (λ _. chosen (λ m. goal_asks s b m ≡ true → AsksLiteral (bytes t) b) (nat_eq b 10) _ _ (λ _ k. absurd (false≢true k)) (λ _ k. absurd (false≢true k)))

@@ -7,8 +7,8 @@ use Rattle.pb_text.specs.Automaton.{Automaton, Go, End, Reads}
 use Rattle.pb_text.specs.Classes.{is_blank}
 use Rattle.pb_text.specs.Languages.{unmarked, Language, ◌⋅◌, Empty, Byte, Bytes, Each, Blanks0, Blanks1}
 use Rattle.pb_text.specs.Spelling.{Letter}
+use Rattle.pb_text.proofs.Walking.{Walks, Leads, walks_then, reads_behind, longer}
 use Rattle.pb_proof.specs.Lines.{Feed, LineEnd, Listed}
-use Rattle.pb_proof.proofs.lemmas.Walking.{Walks, Leads, walks_then, reads_behind, longer}
 
 -- a letter that is no digit of a number
 pub as_unmarked : (l : Letter) (b : ℕ) → l.byte ≡ b → l.numeral ≡ false → l ≡ unmarked b

@@ -6,6 +6,7 @@ use Rattle.pb_text.specs.Automaton.{Go, End, Reads}
 use Rattle.pb_text.specs.Classes.{is_blank, is_letter, is_name_byte}
 use Rattle.pb_text.specs.Languages.{unmarked, ◌⋅◌, Each, Blanks0, Blanks1}
 use Rattle.pb_text.specs.Spelling.{Letter}
+use Rattle.pb_text.proofs.Walking.{Walks, walks_then, reads_behind}
 use Rattle.pb_sums.specs.Sums.{SpellsLiteral}
 use Rattle.pb_sums.specs.declared.Literal.{Literal}
 use Rattle.pb_proof.specs.Lines.{LineEnd, Listed}
@@ -16,7 +17,6 @@ use Rattle.pb_proof.specs.declared.line.byte_kind.NameMark.TheVariants as mark
 use Rattle.pb_proof.specs.declared.line.literals.phase.LiteralsPhase.TheVariants.{Gap, Negation, First, More, Closing}
 use Rattle.pb_proof.proofs.lemmas.Line.ByteKinds.{name_blank, name_letter, name_inner}
 use Rattle.pb_proof.proofs.lemmas.Line.Ends.{TakesBlanks, MayEnd, blanks1_lead, line_reads, listed_walks}
-use Rattle.pb_proof.proofs.lemmas.Walking.{Walks, walks_then, reads_behind}
 
 module _ (joined : Bool) where
   abbrev S : Type 0

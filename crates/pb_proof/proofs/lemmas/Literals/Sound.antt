@@ -6,6 +6,7 @@ use Rattle.pb_text.specs.Automaton.{Next}
 use Rattle.pb_text.specs.Classes.{is_blank}
 use Rattle.pb_text.specs.Languages.{unmarked, Language, ◌⋅◌, Empty, Byte, Blanks0, Blanks1}
 use Rattle.pb_text.specs.Spelling.{Letter}
+use Rattle.pb_text.proofs.Walking.{On, Keeps}
 use Rattle.pb_sums.specs.Sums.{SpellsLiteral}
 use Rattle.pb_sums.specs.declared.Literal.{Literal}
 use Rattle.pb_proof.specs.Lines.{LineEnd, Listed}
@@ -18,7 +19,6 @@ use Rattle.pb_proof.specs.declared.line.literals.phase.LiteralsPhase.TheVariants
 use Rattle.pb_proof.proofs.lemmas.Line.ByteKinds.{NameMeans, name_means, letter_is_name_byte}
 use Rattle.pb_proof.proofs.lemmas.Literals.Names.{FirstOf, LiteralOf, first_grown, more_grown}
 use Rattle.pb_proof.proofs.lemmas.Line.Ends as ends
-use Rattle.pb_proof.proofs.lemmas.Walking.{On, Keeps}
 
 -- what stands before the end of the line
 abbrev pub Row : Bool → List Literal → Language

@@ -5,6 +5,7 @@ use Rattle.std.proofs.lemmas.List.{length-append}
 use Rattle.pb_text.specs.Automaton.{Next, Go, End, Refuse, Reads, IsState}
 use Rattle.pb_text.specs.Languages.{unmarked}
 use Rattle.pb_text.specs.Spelling.{Letter}
+use Rattle.pb_text.proofs.Walking.{told}
 use Rattle.pb_sums.specs.declared.Literal.{Literal}
 use Rattle.pb_proof.specs.Line.Literals.{LiteralsState, SpellsJoined, literals_automaton, literals_at, literals_first, literals_last, literal, flushed, act, plan, behind, before, is_midway, is_begun, is_done, units, in_hand, ready, all_units, IsLiteralsInOrder}
 use Rattle.pb_proof.specs.Line.ByteKind.{name_mark}
@@ -17,7 +18,6 @@ use Rattle.pb_proof.specs.declared.line.literals.phase.LiteralsMove as move
 use Rattle.pb_proof.proofs.lemmas.Literals.Complete.{reads_each}
 use Rattle.pb_proof.proofs.lemmas.Literals.Sound.{Front, Whole, keeps_front}
 use Rattle.pb_proof.proofs.lemmas.Line.One.{IsOfOne, ReadsSome, reads_last, is_state}
-use Rattle.pb_proof.proofs.lemmas.Walking.{told}
 
 abbrev N : Type 0
 N = Next LiteralsState (List Literal)

@@ -7,6 +7,7 @@ use Rattle.pb_text.specs.Automaton.{Next, Go, End, Refuse, Reads, MayAsk}
 use Rattle.pb_text.specs.Spelling.{Letter, bytes}
 use Rattle.pb_text.proofs.Asked as asked
 use Rattle.pb_text.proofs.Lists.{bytes-append}
+use Rattle.pb_text.proofs.Walking.{Walks, reads_behind, fronts}
 use Rattle.pb_proof.specs.Asking.{AsksBehind, FirstWord, Asks}
 use Rattle.pb_proof.specs.Line.ClaimState.{claim_first}
 use Rattle.pb_proof.specs.Line.Count.{counting}
@@ -39,7 +40,6 @@ use Rattle.pb_proof.proofs.lemmas.Line.Asks.{ids_asked, literals_asked, goal_ask
 use Rattle.pb_proof.proofs.lemmas.Pol.Asks.{pol_asked}
 use Rattle.pb_proof.proofs.lemmas.Machine.Exact.{reads_proofs}
 use Rattle.pb_proof.proofs.lemmas.Machine.Sound as sound
-use Rattle.pb_proof.proofs.lemmas.Walking.{Walks, reads_behind, fronts, walks_from}
 
 module _ (limit top : ℕ) where
   -- behind the first word
@@ -195,10 +195,10 @@ module _ (limit top : ℕ) where
         let spelled : SpellsRest limit top x e (c ++ l ∷ more) = inner_only limit top x (c ++ l ∷ more) e last (reads_behind inners c (l ∷ more) (inner_first limit top x) i last e w v) in
         (word, bytes c, first_word x e (c ++ l ∷ more) word (bytes c) l.byte spelled before b, ap bytes is ∙ bytes-append word c, b)
 
-  texts : (start s next : ProofState) (front more : List Letter) (l : Letter) (e : Statement) → Idle start → asked.Walks proofs start front s → Reads proofs s (l ∷ more) e next
+  texts : (start s next : ProofState) (front more : List Letter) (l : Letter) (e : Statement) → Idle start → Walks proofs start front s → Reads proofs s (l ∷ more) e next
       → IsTrue (proofs.asks s l.byte) → Asks e (bytes front) l.byte
   texts start s next front more l e (p, same, i) w r a =
-      let walk : Walks proofs (at limit top p) front s = walks_from proofs front (at limit top p) s (subst (λ x. asked.Walks proofs x front s) same w) in
+      let walk : Walks proofs (at limit top p) front s = subst (λ x. Walks proofs x front s) same w in
       from_idle (Asks e (bytes front) l.byte) p (front ++ l ∷ more) e next i (reads_behind proofs front (l ∷ more) (at limit top p) s next e walk r)
       (λ st is.
       let k : sound.Read limit top st s front = fronts proofs (sound.Read limit top st) (sound.IsStatement limit top st) (sound.keeps limit top st) front (idle limit top st) [] s

@@ -9,6 +9,7 @@ use Rattle.pb_text.specs.Automaton.{Go, Reads}
 use Rattle.pb_text.specs.Classes.{is_blank}
 use Rattle.pb_text.specs.Languages.{unmarked, Language, ◌⋅◌, Byte, Each, Blanks1}
 use Rattle.pb_text.specs.Spelling.{Letter, plain}
+use Rattle.pb_text.proofs.Walking.{Walks, walks_then, walks_more, ends_walk, reads_behind, same_first, longer}
 use Rattle.pb_proof.specs.Line.Machine.{inners, inner_first, SpellsRest}
 use Rattle.pb_proof.specs.Lines.{Feed, LineEnd, SpellsStatement}
 use Rattle.pb_proof.specs.Machine.Transition.{words_of, sol_word, behind, meets, spell, plan}
@@ -30,7 +31,6 @@ use Rattle.pb_proof.proofs.lemmas.Line.Laws.{inner_each, inner_fresh}
 use Rattle.pb_proof.proofs.lemmas.Line.Ends.{Feeds, feed_reads, MayEnd, line_reads}
 use Rattle.pb_proof.proofs.lemmas.Machine.Sound.{stage_front, Before}
 use Rattle.pb_proof.proofs.lemmas.Spaced.{Spaced, One, chooses, FrontWords, front_each}
-use Rattle.pb_proof.proofs.lemmas.Walking.{Walks, walks_then, walks_more, ends_walk, reads_behind, same_first, longer}
 
 -- Behind a space of the words stands a byte that is no blank.
 abbrev dark_first : List ℕ → Bool

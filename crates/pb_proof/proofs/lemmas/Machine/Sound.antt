@@ -10,6 +10,7 @@ use Rattle.pb_text.specs.Classes.{is_blank, is_white}
 use Rattle.pb_text.specs.Languages.{Language, ◌⋅◌, Bytes, Blanks0}
 use Rattle.pb_text.specs.Spelling.{Letter, plain}
 use Rattle.pb_text.proofs.Languages.{grown, none_yet}
+use Rattle.pb_text.proofs.Walking.{Walks, walks_more, ends_walk, On, Keeps, told}
 use Rattle.pb_proof.specs.Line.Machine.{inners, inner_first, SpellsRest}
 use Rattle.pb_proof.specs.Lines.{f_word, pol_word, rup_word, soli_word, solx_word, conclusion_word, SpellsStatement}
 use Rattle.pb_proof.specs.Machine.Transition.{words_of, sol_word, behind, meets, spell, step_front, enter, pass, between, plan}
@@ -32,7 +33,6 @@ use Rattle.pb_proof.proofs.lemmas.Choices.{never, chosen, both}
 use Rattle.pb_proof.proofs.lemmas.Line.Laws.{inner_only, inner_begins, inner_fresh}
 use Rattle.pb_proof.proofs.lemmas.Line.Ends.{as_unmarked, Gapped, Closing as Closed, blank_more, semicolon_behind_blanks, blank_closing, line_behind_blanks, line_closing, feed_behind_blanks}
 use Rattle.pb_proof.proofs.lemmas.Spaced.{Spaced, one_met, spaced_more, spaced_blank, FrontWords, front_only}
-use Rattle.pb_proof.proofs.lemmas.Walking.{Walks, walks_more, ends_walk, On, Keeps, told}
 
 -- the stage of the words that a statement begins with, and of what stands behind them
 abbrev pub stage_front : Front → Stage

@@ -6,6 +6,7 @@ use Rattle.std.proofs.lemmas.Bool.Decides.{nat_tests}
 use Rattle.std.specs.Prelude.{pos, neg_ℤ, nat_eq, nat_le, Some}
 use Rattle.pb_text.specs.Automaton.{Go, End, Reads}
 use Rattle.pb_text.specs.Spelling.{Letter}
+use Rattle.pb_text.proofs.Walking.{longer}
 use Rattle.pb_proof.specs.Line.Pol.{act, close, held_number, held_name, changed, counted, bound, is_done}
 use Rattle.pb_proof.specs.Line.PolState.{PolState, pol_automaton, over}
 use Rattle.pb_proof.specs.declared.word.PolWord.{PolWord}
@@ -19,7 +20,6 @@ use Rattle.pb_proof.specs.declared.line.pol.phase.Phase.TheVariants as phase
 use Rattle.pb_proof.specs.declared.line.pol.phase.Change.{Change}
 use Rattle.pb_proof.specs.declared.line.pol.phase.Change.TheVariants as change
 use Rattle.pb_proof.specs.declared.line.pol.phase.Move.TheVariants as move
-use Rattle.pb_proof.proofs.lemmas.Walking.{longer}
 use Rattle.pb_proof.proofs.lemmas.Pol.Covers.{state, as_gap}
 use Rattle.pb_proof.proofs.lemmas.Pol.Fronts.{NotLarge}
 use Rattle.pb_proof.proofs.lemmas.Pol.Walks.{takes_blanks}

@@ -6,6 +6,7 @@ use Rattle.std.specs.Prelude.{IsTrue, nat_eq, nat_le}
 use Rattle.pb_text.specs.Classes.{is_blank, is_digit, is_letter, is_name_byte}
 use Rattle.pb_text.specs.Languages.{Language, ◌⋅◌, Blanks1}
 use Rattle.pb_text.specs.Spelling.{Letter, bytes}
+use Rattle.pb_text.proofs.Walking.{Walks, fronts}
 use Rattle.pb_sums.specs.Asking.{EndsIn, IsNameFront}
 use Rattle.pb_sums.proofs.Asked.{ends_nothing, at_name, name_further}
 use Rattle.pb_proof.specs.Asking.{AsksWord}
@@ -28,7 +29,6 @@ use Rattle.pb_proof.proofs.lemmas.Line.Asks.{number_end, literal_end}
 use Rattle.pb_proof.proofs.lemmas.Pol.Fronts.{IsFirst, FirstOf, LiteralOf, Settled, Before, front, Front, Whole}
 use Rattle.pb_proof.proofs.lemmas.Pol.Kinds.{Says, kind_says, letter_kind, name_kind}
 use Rattle.pb_proof.proofs.lemmas.Pol.Sound as sound
-use Rattle.pb_proof.proofs.lemmas.Walking.{Walks, fronts}
 
 blank_dark : (b : ℕ) → is_blank b ≡ true → (is_digit b ≡ false) × (is_name_byte b ≡ false)
 blank_dark b e = (grind (arith, nat_tests), grind (arith, nat_tests))

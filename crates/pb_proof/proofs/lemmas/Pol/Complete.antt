@@ -8,6 +8,7 @@ use Rattle.pb_text.specs.Automaton.{Go, Reads}
 use Rattle.pb_text.specs.Languages.{unmarked, ◌⋅◌, Byte, Bytes, Blanks1}
 use Rattle.pb_text.specs.Numbers.{Digits}
 use Rattle.pb_text.specs.Spelling.{Letter, plain}
+use Rattle.pb_text.proofs.Walking.{Walks, walks_then, reads_behind, longer}
 use Rattle.pb_sums.specs.Sums.{IsName, SpellsLiteral}
 use Rattle.pb_proof.specs.Lines.{LineEnd, Listed, Factor, SpellsId, SpellsWord, SpellsWords}
 use Rattle.pb_proof.specs.Line.Pol.{act, close, held_number, held_name, changed, counted, turned, with_last, bound}
@@ -23,7 +24,6 @@ use Rattle.pb_proof.specs.declared.line.pol.phase.Phase.TheVariants as phase
 use Rattle.pb_proof.specs.declared.line.pol.phase.Change.{Change}
 use Rattle.pb_proof.specs.declared.line.pol.phase.Change.TheVariants as change
 use Rattle.pb_proof.specs.declared.line.pol.phase.Move.TheVariants as move
-use Rattle.pb_proof.proofs.lemmas.Walking.{Walks, walks_then, reads_behind, longer}
 use Rattle.pb_proof.proofs.lemmas.Line.Ends.{MayEnd, blanks1_lead, line_reads}
 use Rattle.pb_proof.proofs.lemmas.Pol.Covers.{state, as_after}
 use Rattle.pb_proof.proofs.lemmas.Pol.Fronts.{NotLarge, with_last_append}

@@ -10,6 +10,7 @@ use Rattle.pb_text.specs.Numbers.{Digits}
 use Rattle.pb_text.specs.Spelling.{Letter, plain}
 use Rattle.pb_text.proofs.Languages.{grown, next as next_part, none_yet, regroup, regroup3, inside, behind_it, some-grown, some-one, some-many, map-append}
 use Rattle.pb_text.proofs.Numbers.{digits-grown, digits-one}
+use Rattle.pb_text.proofs.Walking.{On, Keeps, told}
 use Rattle.pb_sums.specs.Sums.{literal_bytes}
 use Rattle.pb_proof.specs.Lines.{LineEnd, SpellsWord, SpellsWords}
 use Rattle.pb_proof.specs.Line.Pol.{Work, work, act, plan, read, next, next_word, next_large, star, late, blank, semicolon, feed, close, close_number, held_number, close_lone, held_name, number, signed, role_of, bound, kind_of, is_letter_kind, is_name_kind, may_be_name, changed, counted, turned, with_last, finished}
@@ -28,7 +29,6 @@ use Rattle.pb_proof.specs.declared.line.pol.phase.Phase.TheVariants as phase
 use Rattle.pb_proof.specs.declared.line.pol.phase.Change.TheVariants as change
 use Rattle.pb_proof.specs.declared.line.pol.phase.Move.{Move}
 use Rattle.pb_proof.specs.declared.line.pol.phase.Move.TheVariants as move
-use Rattle.pb_proof.proofs.lemmas.Walking.{On, Keeps, told}
 use Rattle.pb_proof.proofs.lemmas.Line.Ends.{as_unmarked, semicolon_behind_blanks, blank_closing, line_behind_blanks, line_closing}
 use Rattle.pb_proof.proofs.lemmas.Pol.Kinds.{Says, kind_says, letter_kind, name_kind}
 use Rattle.pb_proof.proofs.lemmas.Pol.Trees.{Counts, counts_postfix}

@@ -8,6 +8,7 @@ use Rattle.pb_text.specs.Classes.{is_name_byte}
 use Rattle.pb_text.specs.Languages.{digit, Each}
 use Rattle.pb_text.specs.Numbers.{value, Digits}
 use Rattle.pb_text.specs.Spelling.{Letter, plain}
+use Rattle.pb_text.proofs.Walking.{Walks}
 use Rattle.pb_sums.specs.Sums.{IsName}
 use Rattle.pb_proof.specs.Line.Pol.{act, plan, close, blank, changed, counted, bound, may_be_name, is_letter_kind, is_name_kind, role_of, kind_of}
 use Rattle.pb_proof.specs.Line.PolState.{PolState, pol_automaton, over}
@@ -23,7 +24,6 @@ use Rattle.pb_proof.specs.declared.line.pol.phase.Phase.TheVariants as phase
 use Rattle.pb_proof.specs.declared.line.pol.phase.Change.{Change}
 use Rattle.pb_proof.specs.declared.line.pol.phase.Move.{Move}
 use Rattle.pb_proof.specs.declared.line.pol.phase.Move.TheVariants as move
-use Rattle.pb_proof.proofs.lemmas.Walking.{Walks}
 use Rattle.pb_proof.proofs.lemmas.Line.Ends.{TakesBlanks}
 use Rattle.pb_proof.proofs.lemmas.Pol.Covers.{state}
 use Rattle.pb_proof.proofs.lemmas.Pol.Kinds.{of_digit, of_blank, of_letter, of_name}

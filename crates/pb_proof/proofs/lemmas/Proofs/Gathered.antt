@@ -8,10 +8,10 @@ use Rattle.pb_text.specs.Spelling.{Item}
 use Rattle.pb_text.specs.Whole.{gathered, events_of, IsWhole, StopsAfter, IsAsking, Reading as reading, Keeping as keeping}
 use Rattle.pb_text.specs.declared.Spanned.{Spanned}
 use Rattle.pb_text.specs.declared.Stop.{Stop}
+use Rattle.pb_text.specs.ValueRead.{IsRead, StopsIn, Reading, Keeping, WantsIn, Asking, Ending}
 use Rattle.pb_text.proofs.Formats as formats
 use Rattle.pb_proof.specs.Gather.{with, asks, MayKeep, nothing}
 use Rattle.pb_proof.specs.Proofs.{IsStep, statements_of, IsProof, IsProofOf}
-use Rattle.pb_proof.specs.Whole.{IsRead, StopsIn, Reading, Keeping, WantsIn, Asking, Ending}
 use Rattle.pb_proof.specs.declared.read.gather.Building.{Building}
 use Rattle.pb_proof.specs.declared.proof.Proof.{Proof}
 use Rattle.pb_proof.specs.declared.statement.Statement.{Statement}

@@ -10,6 +10,7 @@ use Rattle.pb_text.specs.Whole.{events_of}
 use Rattle.pb_sums.specs.Sums.{IsName, SpellsLiteral}
 use Rattle.pb_sums.specs.declared.values.Literal.{Literal}
 use Rattle.pb_sums.specs.declared.grammar.Spaces.TheVariants.{Blank}
+use Rattle.pb_sums.proofs.Within.{number-within, linear-within}
 use Rattle.pb_proof.specs.Lines.{Listed, SpellsId, Factor, SpellsBound, Shown, IdShown, SpellsWord, SpellsConclusion, SpellsStatement}
 use Rattle.pb_proof.specs.Proofs.{IsGap, IsStep, statements_of}
 use Rattle.pb_proof.specs.Values.{IfGiven, IsId, IsFactor, AreLiterals, IsBound, IsWord, IsConclusion, IsStatementValue, IsProofValue}
@@ -23,7 +24,6 @@ use Rattle.pb_proof.specs.declared.conclusion.Conclusion.TheVariants.{NoClaim, U
 use Rattle.pb_proof.specs.declared.proof.Proof.{Proof}
 use Rattle.pb_proof.specs.declared.statement.Statement.{Statement}
 use Rattle.pb_proof.specs.declared.statement.Statement.TheVariants.{Header, F, Pol, Rup, Soli, Solx, Delete, Output, Conclude, End}
-use Rattle.pb_proof.proofs.lemmas.Within.{number-within, linear-within}
 
 listed_values : {A : Type 0} (P : A → Language) (R : A → Type 0) → ((x : A) (t : List Letter) → P x t → R x) → (xs : List A) (t : List Letter) → Listed P xs t → All R xs
 listed_values P R f [] t h = All-nil R

@@ -7,6 +7,7 @@ use Rattle.pb_text.specs.Classes.{is_blank}
 use Rattle.pb_text.specs.Languages.{Language, ◌⋅◌, Byte, Blanks0, Blanks1}
 use Rattle.pb_text.specs.Spelling.{Letter}
 use Rattle.pb_text.proofs.Languages.{grown, next, none_yet, regroup, many-grown, some-grown, some-one}
+use Rattle.pb_text.proofs.Walking.{Walks, walks_then, walks_more, ends_walk, reads_behind, On, Keeps, told}
 use Rattle.pb_sums.specs.State.{SumState, sums}
 use Rattle.pb_sums.specs.Sums.{SpellsLinear, Spells, allows}
 use Rattle.pb_sums.specs.declared.Linear.{Linear}
@@ -26,7 +27,6 @@ use Rattle.pb_proof.specs.declared.line.rup.phase.GoalMove.{GoalMove}
 use Rattle.pb_proof.specs.declared.line.rup.phase.GoalMove.TheVariants.{Give}
 use Rattle.pb_proof.proofs.lemmas.Choices.{never, chosen, blank_each, fails}
 use Rattle.pb_proof.proofs.lemmas.Line.Ends.{as_unmarked, TakesBlanks, blanks1_lead, Feeds, feed_reads}
-use Rattle.pb_proof.proofs.lemmas.Walking.{Walks, walks_then, walks_more, ends_walk, reads_behind, On, Keeps, told}
 
 abbrev IsBlank : ℕ → Type 0
 IsBlank b = IsTrue (is_blank b)

@@ -6,6 +6,7 @@ use Rattle.pb_text.specs.Automaton.{Next, Go, End, Refuse, Reads, Accepts, Admit
 use Rattle.pb_text.specs.Classes.{is_blank, is_digit}
 use Rattle.pb_text.specs.Spelling.{Letter, Item}
 use Rattle.pb_text.proofs.Residual.{refuses}
+use Rattle.pb_text.proofs.Walking.{Walks, reads_behind}
 use Rattle.pb_sums.specs.Machine.{Work, Outcome, act, flushed, term, plan, kind, letter_at, is_numeric}
 use Rattle.pb_sums.specs.State.{SumState, sums, over, units, in_hand}
 use Rattle.pb_sums.specs.declared.Linear.{Linear}
@@ -24,7 +25,6 @@ use Rattle.pb_proof.specs.declared.line.rup.phase.GoalMove.{GoalMove}
 use Rattle.pb_proof.specs.declared.line.rup.phase.GoalMove.TheVariants.{To, Give, Finish, Stop}
 use Rattle.pb_proof.proofs.lemmas.Choices.{never, chosen}
 use Rattle.pb_proof.proofs.lemmas.Living.{IsAlive, ReadsOn, before, final, accepted, reads_on, admits_before}
-use Rattle.pb_proof.proofs.lemmas.Walking.{Walks, reads_behind}
 
 -- The constraint that the machine of sums gives has no more units than that machine had.
 units-append : (xs : List Term) (x : Term) → units (xs ++ x ∷ []) ≡ units xs + (1 + length x.literal.name)

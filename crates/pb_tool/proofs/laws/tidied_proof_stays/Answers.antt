@@ -4,8 +4,8 @@ use Rattle.pb_text.specs.Limits.{largest, top_of}
 use Rattle.pb_text.specs.declared.Limits.{Limits}
 use Rattle.pb_proof.specs.Canonical.{proof_bytes}
 use Rattle.pb_proof.specs.Proofs.{IsProofOf}
-use Rattle.pb_proof.specs.Whole.{IsRead}
-use Rattle.pb_proof.specs.Whole.StopsIn.{Reading, Keeping}
+use Rattle.pb_text.specs.ValueRead.{IsRead}
+use Rattle.pb_text.specs.ValueRead.StopsIn.{Reading, Keeping}
 use Rattle.pb_tool.specs.Files.{tidied_proof, IsNoProofFile, IsVeri}
 use Rattle.pb_tool.specs.Staying.{IsOutside}
 use Rattle.pb_tool.specs.Tidying.IsRefused.{InText, InRest}

@@ -4,8 +4,8 @@ use Rattle.pb_text.specs.Limits.{largest, top_of}
 use Rattle.pb_text.specs.declared.Limits.{Limits}
 use Rattle.pb_opb.specs.Canonical.{instance_bytes}
 use Rattle.pb_opb.specs.Values.{IsValueOf}
-use Rattle.pb_opb.specs.Whole.{IsRead}
-use Rattle.pb_opb.specs.Whole.StopsIn.{Reading, Keeping}
+use Rattle.pb_text.specs.ValueRead.{IsRead}
+use Rattle.pb_text.specs.ValueRead.StopsIn.{Reading, Keeping}
 use Rattle.pb_opb.specs.declared.Instance.{Instance}
 use Rattle.pb_tool.specs.Staying.{IsOutside}
 use Rattle.pb_tool.specs.Tidying.{tidied, IsNoOpbFile, IsOpb}

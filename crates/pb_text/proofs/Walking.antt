@@ -1,9 +1,8 @@
--- A machine on the way through a statement, and what it reads behind that.
+-- A machine on the way through a statement, and what it reads behind that. Offered to other crates.
 use Rattle.std.proofs.Common.{◌≡◌, List, [], ◌∷◌, ◌++◌, true, false, refl, sym, subst, ◌∙◌, append_assoc}
 use Rattle.pb_text.specs.Automaton.{Automaton, Next, Go, End, Refuse, Reads}
 use Rattle.pb_text.specs.Languages.{Language, ◌⋅◌}
 use Rattle.pb_text.specs.Spelling.{Letter}
-use Rattle.pb_text.proofs.Asked as asked
 use Rattle.std.proofs.lemmas.List.{append-nil}
 
 module _ {S E : Type 0} (m : Automaton S E) where
@@ -12,15 +11,6 @@ module _ {S E : Type 0} (m : Automaton S E) where
   Walks old [] new = new ≡ old
   Walks old (l ∷ text) new =
       (mid : S) × (m.step old l.byte ≡ Go mid) × (m.begun mid ≡ true) × (l.numeral ≡ m.in_number mid) × Walks mid text new
-
-  -- the walks of one definition are those of the other
-  pub walks_from : (t : List Letter) (s new : S) → asked.Walks m s t new → Walks s t new
-  walks_from [] s new w = w
-  walks_from (l ∷ t) s new (mid, g, i, n, w) = (mid, g, i, n, walks_from t mid new w)
-
-  pub walks_into : (t : List Letter) (s new : S) → Walks s t new → asked.Walks m s t new
-  walks_into [] s new w = w
-  walks_into (l ∷ t) s new (mid, g, i, n, w) = (mid, g, i, n, walks_into t mid new w)
 
   pub walks_then : (a b : List Letter) (s mid new : S) → Walks s a mid → Walks mid b new → Walks s (a ++ b) new
   walks_then [] b s mid new e h = subst (λ x. Walks x b new) e h

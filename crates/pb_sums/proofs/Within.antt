@@ -1,4 +1,4 @@
--- What is spelled within a limit is within it.
+-- What is spelled within a limit is within it. Offered to other crates.
 use Rattle.std.proofs.Common.{ℕ, zero, suc, ◌≤◌, List, [], ◌∷◌, Bool, true, false, subst, sym}
 use Rattle.std.specs.Prelude.{ℤ, nat_abs}
 use Rattle.pb_text.specs.Spelling.{Letter}
@@ -14,7 +14,7 @@ signed-within limit false n h = h
 signed-within limit true zero h = h
 signed-within limit true (suc n) h = h
 
-number-within : (limit : ℕ) (z : ℤ) (t : List Letter) → Number limit z t → nat_abs z ≤ limit
+pub number-within : (limit : ℕ) (z : ℤ) (t : List Letter) → Number limit z t → nat_abs z ≤ limit
 number-within limit z t (negative, n, h, e, k) = subst (λ (y : ℤ). nat_abs y ≤ limit) (sym e) (signed-within limit negative n h)
 
 module _ (spaces : Spaces) (limit : ℕ) where
