@@ -8,6 +8,7 @@ use crate::event::OpbEvent;
 use crate::phase::{Field, Move, Phase};
 use crate::plan::{is_done, is_within, plan};
 use pb_sums::{Part, Spaces, SumEvent, SumMachine};
+use pb_text::bytes::is_digit;
 use pb_text::{Bytes, Limits, Machine, Push};
 use std::alloc::Global;
 use std::marker::Model;
@@ -153,7 +154,7 @@ impl OpbMachine {
             }
             Move::Give(phase) => self.give(phase, byte),
             Move::Stop => {
-                if matches!(self.phase, Phase::Count(_, _)) && byte.is_ascii_digit() {
+                if matches!(self.phase, Phase::Count(_, _)) && is_digit(byte) {
                     Push::Large
                 } else {
                     Push::No

@@ -1,26 +1,13 @@
 //! What a machine does with a byte, by what it has read last.
 
 ghost use Rattle.std.specs.Prelude.{◌≡◌, ℕ, ◌+◌, ◌*◌, ◌-◌, ◌<◌, ◌≤◌, ◌^◌, length};
-ghost use Rattle.pb_text.specs.Classes.{is_blank, is_white};
 ghost use Rattle.pb_opb.specs.Machine.{word_of, spell, count, behind_count, plan};
 ghost use Rattle.pb_opb.specs.State.{is_within, is_done};
 ghost use Rattle.pb_opb.specs.Order.{PhaseFits, MoveFits};
 
 use crate::phase::{Field, Move, Phase};
-
-/// Space, tab or carriage return.
-pub fn is_blank(byte: u8) -> bool
-    ensures { result ≡ is_blank byte }
-{
-    byte == b' ' || byte == b'\t' || byte == b'\r'
-}
-
-/// A blank or a line feed.
-fn is_white(byte: u8) -> bool
-    ensures { result ≡ is_white byte }
-{
-    is_blank(byte) || byte == b'\n'
-}
+use pb_text::bytes::{is_blank, is_digit, is_white};
+use pb_text::decimal::next_digit_u64;
 
 /// The bytes that announce a count.
 fn word_of(field: Field) -> &'static [u8]
@@ -50,14 +37,13 @@ fn count(top: u64, field: Field, value: u64, byte: u8) -> Move
     ensures plan { result ≡ count top field value byte }
     ensures fits { MoveFits top result }
 {
-    if !byte.is_ascii_digit() {
+    if !is_digit(byte) {
         return Move::Stop;
     }
-    let next = 10 * value as u128 + (byte - b'0') as u128;
-    if next > top as u128 {
-        return Move::Stop;
+    match next_digit_u64(top, value, byte - b'0') {
+        None => Move::Stop,
+        Some(next) => Move::To(Phase::Count(field, next)),
     }
-    Move::To(Phase::Count(field, next as u64))
 }
 
 /// What may stand behind the digits of a count.
@@ -94,7 +80,7 @@ pub fn plan(top: u64, phase: Phase, byte: u8) -> Move
         }
         Phase::BeforeCount(_) if is_blank(byte) => Move::To(phase),
         Phase::BeforeCount(field) => count(top, field, 0, byte),
-        Phase::Count(field, value) if byte.is_ascii_digit() => count(top, field, value, byte),
+        Phase::Count(field, value) if is_digit(byte) => count(top, field, value, byte),
         Phase::Count(field, value) => behind_count(top, field, value, byte),
         Phase::Tail if byte == b'\n' => Move::EndTail,
         Phase::Tail => Move::Keep(byte),

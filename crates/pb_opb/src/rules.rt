@@ -6,8 +6,8 @@ ghost use Rattle.pb_opb.specs.Instances.{IsTail, IsInLine};
 ghost use Rattle.pb_opb.specs.Values.{IsObjective, AreLinears, AreComments, IsInstanceValue};
 
 use crate::instance::{Comment, Instance};
-use crate::plan::is_blank;
 use pb_sums::{Linear, Term, linear_is_value, sum_is_value};
+use pb_text::bytes::is_blank;
 use pb_text::{Limits, Sequence};
 
 /// Whether there is no line feed.

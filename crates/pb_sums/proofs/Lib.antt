@@ -17,7 +17,6 @@ pub mod Spans
 mod Digits
 mod Names
 mod Behind
-mod NameBytes
 mod Shorts
 mod WholeTerms
 pub mod Within

@@ -6,7 +6,7 @@ use Rattle.std.proofs.lemmas.List.{get_or_past, take_more_set}
 use Rattle.std.proofs.lemmas.Str.{IsUtf8-nil, IsUtf8-append, IsUtf8-from_ascii}
 use Rattle.pb_text.specs.Classes.{is_name_byte}
 use Rattle.pb_text.specs.Languages.{Each}
-use Rattle.pb_sums.proofs.NameBytes.{name_ascii}
+use Rattle.pb_text.proofs.NameBytes.{name_ascii}
 
 pub none_utf8 : IsUtf8 []
 none_utf8 = IsUtf8-nil

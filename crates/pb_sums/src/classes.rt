@@ -1,23 +1,12 @@
 //! The kinds of bytes.
 
-ghost use Rattle.std.specs.Prelude.{◌≡◌, ◌<◌, Bool, IsTrue, ◌&&◌};
-ghost use Rattle.pb_text.specs.Classes.{is_digit, is_letter, is_name_byte};
+ghost use Rattle.std.specs.Prelude.{◌≡◌};
 ghost use Rattle.pb_sums.specs.Sums.{takes_line_feeds, is_space};
 ghost use Rattle.pb_sums.specs.Machine.{symbol, kind_of_plain, kind, letter_at, KindFits};
 
 use crate::grammar::Spaces;
 use crate::phase::Kind;
-
-/// Each byte of a name at its own place, and a comma at every other place.
-static NAME_BYTES: [u8; 256] = *b"\
-    ,,,,,,,,,,,,,,,,,,,,,,,,,,,,,,,,\
-    ,,,,,,,,,,,,,,,,0123456789,,,,,,\
-    ,ABCDEFGHIJKLMNOPQRSTUVWXYZ[,]^_\
-    ,abcdefghijklmnopqrstuvwxyz{,},,\
-    ,,,,,,,,,,,,,,,,,,,,,,,,,,,,,,,,\
-    ,,,,,,,,,,,,,,,,,,,,,,,,,,,,,,,,\
-    ,,,,,,,,,,,,,,,,,,,,,,,,,,,,,,,,\
-    ,,,,,,,,,,,,,,,,,,,,,,,,,,,,,,,,";
+use pb_text::bytes::{is_blank, is_digit, is_letter, is_name_byte};
 
 fn takes_line_feeds(spaces: Spaces) -> bool
     ensures { result ≡ takes_line_feeds spaces }
@@ -31,30 +20,7 @@ fn takes_line_feeds(spaces: Spaces) -> bool
 fn is_space(spaces: Spaces, byte: u8) -> bool
     ensures { result ≡ is_space spaces byte }
 {
-    byte == b' ' || byte == b'\t' || byte == b'\r' || (byte == b'\n' && takes_line_feeds(spaces))
-}
-
-/// Whether the byte is an ASCII digit.
-pub fn is_digit(byte: u8) -> bool
-    ensures { result ≡ is_digit byte }
-{
-    b'0' <= byte && byte <= b'9'
-}
-
-/// Whether the byte is an ASCII letter.
-pub fn is_letter(byte: u8) -> bool
-    ensures { result ≡ is_letter byte }
-{
-    (b'A' <= byte && byte <= b'Z') || (b'a' <= byte && byte <= b'z')
-}
-
-/// Whether a name may hold the byte.
-#[inline(always)]
-pub fn is_name_byte(byte: u8) -> bool
-    ensures byte { result ≡ is_name_byte byte }
-    ensures ascii { IsTrue result → byte < 128 }
-{
-    NAME_BYTES[byte as usize] != b','
+    is_blank(byte) || (byte == b'\n' && takes_line_feeds(spaces))
 }
 
 #[inline(always)]

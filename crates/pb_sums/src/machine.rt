@@ -8,7 +8,7 @@ ghost use Rattle.pb_text.specs.Classes.{is_digit};
 ghost use Rattle.pb_sums.specs.Machine.{flushed, is_more, is_in_number};
 ghost use Rattle.pb_sums.specs.State.{units};
 
-use crate::classes::{is_digit, is_letter, is_name_byte, kind};
+use crate::classes::kind;
 use crate::grammar::{Part, Spaces};
 use crate::name::Name;
 use crate::phase::{Move, Phase};
@@ -19,6 +19,7 @@ use crate::plans::{
 use crate::prefix::{name_prefix, number_prefix, sign_prefix};
 use crate::values::{Linear, Literal, SumEvent, Term};
 use crate::wholes::{begins_term, coefficient_prefix, literal_prefix};
+use pb_text::bytes::{is_digit, is_letter, is_name_byte};
 use pb_text::{Limits, Machine, Push, Sequence};
 use std::alloc::{AllocError, Global};
 use std::marker::Model;

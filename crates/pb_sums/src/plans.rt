@@ -1,7 +1,6 @@
 //! What a machine does with a kind of byte.
 
 ghost use Rattle.std.specs.Prelude.{◌≡◌, ℕ, ◌-◌, ◌<◌, ◌≤◌, ◌^◌, Bool, None};
-ghost use Rattle.pb_text.specs.Numbers.{signed};
 ghost use Rattle.pb_sums.specs.Sums.{reads_sums, allows};
 ghost use Rattle.pb_sums.specs.Machine.{digits, number, behind, plan, KindFits, PhaseFits, MoveFits, is_numeric, is_in_number, is_more, is_done};
 ghost use Rattle.pb_sums.specs.Prefix.{begins_number, role, behind_name, behind_space};
@@ -10,6 +9,7 @@ ghost use Rattle.pb_sums.specs.State.{in_hand};
 use crate::grammar::Part;
 use crate::phase::{Kind, Move, Phase};
 use crate::values::Relation;
+use pb_text::decimal::{next_digit, signed};
 
 /// Whether digits are those of a number.
 pub fn is_numeric(phase: Phase) -> bool
@@ -131,18 +131,6 @@ fn allows(part: Part, relation: Relation) -> bool
 }
 
 #[inline(always)]
-pub fn signed(negative: bool, magnitude: u128) -> i128
-    requires { magnitude < 2 ^ 127 }
-    ensures { result ≡ signed negative magnitude }
-{
-    let value = magnitude as i128;
-    if negative { -value } else { value }
-}
-
-/// Numbers that may be continued with no division.
-const SMALL: u128 = 1 << 60;
-
-#[inline(always)]
 fn digits(limit: u128, role: Option<Relation>, negative: bool, magnitude: u128, digit: u8) -> Move
     requires room { limit < 2 ^ 127 }
     requires fits { magnitude ≤ limit }
@@ -150,18 +138,10 @@ fn digits(limit: u128, role: Option<Relation>, negative: bool, magnitude: u128, 
     ensures plan { result ≡ digits limit role negative magnitude digit }
     ensures fits { MoveFits limit result }
 {
-    let digit = digit as u128;
-    if magnitude < SMALL {
-        let next = 10 * magnitude + digit;
-        if next > limit {
-            return Move::Stop;
-        }
-        return Move::To(Phase::Digits(role, negative, next));
+    match next_digit(limit, magnitude, digit) {
+        None => Move::Stop,
+        Some(next) => Move::To(Phase::Digits(role, negative, next)),
     }
-    if digit > limit || magnitude > (limit - digit) / 10 {
-        return Move::Stop;
-    }
-    Move::To(Phase::Digits(role, negative, 10 * magnitude + digit))
 }
 
 #[inline(always)]

@@ -5,7 +5,7 @@ ghost use Rattle.pb_text.specs.Classes.{is_digit, is_name_byte};
 ghost use Rattle.pb_text.specs.Languages.{Each};
 ghost use Rattle.pb_sums.specs.Prefix.{IsSign, value_from};
 
-use crate::classes::{is_digit, is_name_byte};
+use pb_text::bytes::{is_digit, is_name_byte};
 
 /// Numbers below it leave room for a digit more.
 const SMALL: u64 = 1 << 60;

@@ -7,9 +7,9 @@ ghost use Rattle.pb_text.specs.Limits.{largest};
 ghost use Rattle.pb_sums.specs.Canonical.{IsTerm, AreTerms, IsLinear};
 ghost use Rattle.pb_sums.specs.Sums.{IsName};
 
-use crate::classes::{is_letter, is_name_byte};
 use crate::values::{Linear, Term};
 use pb_text::Limits;
+use pb_text::bytes::{is_letter, is_name_byte};
 
 fn are_name_bytes(bytes: &[u8]) -> bool
     ensures { IsTrue result ↔ Each (λ b. IsTrue (is_name_byte b)) bytes.now }

@@ -3,12 +3,12 @@
 ghost use Rattle.std.specs.Prelude.{◌≡◌, ◌≤◌, ◌<◌, ◌^◌, IfSome, length, take};
 ghost use Rattle.pb_sums.specs.WholeTerms.{begins_term, IsTilde, IsCoefficient, IsLiteral};
 
-use crate::classes::is_letter;
 use crate::name::Name;
 use crate::phase::Phase;
-use crate::plans::signed;
 use crate::prefix::{name_prefix, number_prefix, sign_prefix};
 use crate::values::Literal;
+use pb_text::bytes::is_letter;
+use pb_text::decimal::signed;
 use std::alloc::Global;
 
 /// Whether a term may begin.

@@ -14,6 +14,7 @@ pub mod HexDigits
 pub mod ItemsPulled
 pub mod Languages
 pub mod Lists
+pub mod NameBytes
 pub mod Numbers
 pub mod Overs
 pub mod Parts

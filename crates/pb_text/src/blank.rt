@@ -5,6 +5,7 @@ ghost use Rattle.pb_text.specs.Blank.{ReadsBlank, GivesBlank};
 ghost use Rattle.pb_text.specs.Classes.{is_white};
 ghost use Rattle.pb_text.specs.Pulling.{faults_after};
 
+use crate::bytes::is_white;
 use crate::feeder::BYTE_LIMIT;
 use crate::place::{Place, Stop, Why};
 use crate::source::{Failed, Source};
@@ -65,10 +66,4 @@ fn stays_in_comment(in_comment: bool, byte: u8) -> bool
     ensures { result ≡ (not (nat_eq byte 10) && (nat_eq byte 42 || in_comment)) }
 {
     byte != b'\n' && (byte == b'*' || in_comment)
-}
-
-fn is_white(byte: u8) -> bool
-    ensures { result ≡ is_white byte }
-{
-    byte == b' ' || byte == b'\t' || byte == b'\r' || byte == b'\n'
 }

@@ -2,6 +2,8 @@
 #![tactic(auto)]
 
 mod blank;
+pub mod bytes;
+pub mod decimal;
 pub mod doubles;
 mod events;
 mod failing;

@@ -12,6 +12,7 @@ use crate::line::claim::phase::{Claim, Move, Phase, Showing};
 use crate::line::claim::transition::{is_done, is_in_digits, is_within, plan};
 use crate::line::literals::LiteralsMachine;
 use pb_sums::Literal;
+use pb_text::bytes::is_digit;
 use pb_text::{Limits, Machine, Push, Sequence};
 use std::alloc::Global;
 use std::marker::Model;
@@ -109,7 +110,7 @@ impl ClaimMachine {
             }
             Move::Give(showing) => self.give(showing, byte),
             Move::Stop => {
-                if is_in_digits(self.phase) && byte.is_ascii_digit() {
+                if is_in_digits(self.phase) && is_digit(byte) {
                     Push::Large
                 } else {
                     Push::No

@@ -1,38 +1,10 @@
-//! The classes of bytes.
+//! What a byte is to a line of numbers, and to a line of names.
 
 ghost use Rattle.std.specs.Prelude.{◌≡◌};
-ghost use Rattle.pb_text.specs.Classes.{is_blank, is_letter, is_name_byte};
 ghost use Rattle.pb_proof.specs.Line.ByteKind.{symbol, number_mark, name_mark, NumberMarkFits, NameMarkFits};
 
 use crate::line::byte_kind::{NameMark, NumberMark};
-
-/// Space, tab or carriage return.
-pub fn is_blank(byte: u8) -> bool
-    ensures { result ≡ is_blank byte }
-{
-    byte == b' ' || byte == b'\t' || byte == b'\r'
-}
-
-/// Whether the byte is an ASCII letter.
-fn is_letter(byte: u8) -> bool
-    ensures { result ≡ is_letter byte }
-{
-    (b'A' <= byte && byte <= b'Z') || (b'a' <= byte && byte <= b'z')
-}
-
-/// Whether a name may hold the byte.
-fn is_name_byte(byte: u8) -> bool
-    ensures { result ≡ is_name_byte byte }
-{
-    is_letter(byte)
-        || byte.is_ascii_digit()
-        || byte == b'_'
-        || byte == b'['
-        || byte == b']'
-        || byte == b'{'
-        || byte == b'}'
-        || byte == b'^'
-}
+use pb_text::bytes::{is_blank, is_digit, is_letter, is_name_byte};
 
 /// What the byte is to a line of numbers.
 pub fn number_mark(byte: u8) -> NumberMark
@@ -42,7 +14,7 @@ pub fn number_mark(byte: u8) -> NumberMark
     if is_blank(byte) {
         return NumberMark::Blank;
     }
-    if byte.is_ascii_digit() {
+    if is_digit(byte) {
         return NumberMark::Digit(byte - b'0');
     }
     if byte == b'-' {

@@ -10,6 +10,8 @@ mod phase;
 use crate::line::byte_kind::NumberMark;
 use crate::line::classes::number_mark;
 use crate::line::count::phase::{CountMove, CountPhase};
+use pb_text::bytes::is_digit;
+use pb_text::decimal::next_digit_u64;
 use pb_text::{Limits, Machine, Push};
 use std::marker::Model;
 
@@ -38,11 +40,10 @@ fn digits(top: u64, value: u64, digit: u8) -> CountMove
     ensures plan { result ≡ digits top value digit }
     ensures fits { MoveFits top result }
 {
-    let next = 10 * value as u128 + digit as u128;
-    if next > top as u128 {
-        return CountMove::Stop;
+    match next_digit_u64(top, value, digit) {
+        None => CountMove::Stop,
+        Some(next) => CountMove::To(CountPhase::Digits(next)),
     }
-    CountMove::To(CountPhase::Digits(next as u64))
 }
 
 /// What a machine does where the line may end, with a count or none.
@@ -116,7 +117,7 @@ impl Machine for CountMachine {
                 Push::Event(count)
             }
             CountMove::Stop => {
-                if matches!(self.phase, CountPhase::Digits(_)) && byte.is_ascii_digit() {
+                if matches!(self.phase, CountPhase::Digits(_)) && is_digit(byte) {
                     Push::Large
                 } else {
                     Push::No

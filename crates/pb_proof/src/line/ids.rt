@@ -2,7 +2,6 @@
 
 ghost use Rattle.std.specs.Prelude.{◌≡◌, ◌<◌, ◌≤◌, ◌^◌, ℕ};
 ghost use Rattle.pb_text.specs.Limits.{top_of};
-ghost use Rattle.pb_text.specs.Numbers.{signed};
 ghost use Rattle.pb_proof.specs.Line.ByteKind.{NumberMarkFits};
 ghost use Rattle.pb_proof.specs.Line.Ids.{digits, before, behind, plan, ids_first, is_done, PhaseFits, MoveFits};
 
@@ -11,6 +10,8 @@ mod phase;
 use crate::line::byte_kind::NumberMark;
 use crate::line::classes::number_mark;
 use crate::line::ids::phase::{IdsMove, IdsPhase};
+use pb_text::bytes::is_digit;
+use pb_text::decimal::{next_digit_u64, signed_i64};
 use pb_text::{Limits, Machine, Push, Sequence};
 use std::alloc::Global;
 use std::marker::Model;
@@ -35,14 +36,6 @@ impl Model for IdsMachine {
     ghost invariant = { λ m. IsIdsInOrder (record { top = m.top; ids = m.ids; phase = m.phase }) };
 }
 
-fn signed(negative: bool, magnitude: u64) -> i64
-    requires { magnitude < 2 ^ 63 }
-    ensures { result ≡ signed negative magnitude }
-{
-    let value = magnitude as i64;
-    if negative { -value } else { value }
-}
-
 /// The next digit of an id.
 fn digits(top: u64, negative: bool, value: u64, digit: u8) -> IdsMove
     requires top { top < 2 ^ 63 }
@@ -51,11 +44,10 @@ fn digits(top: u64, negative: bool, value: u64, digit: u8) -> IdsMove
     ensures plan { result ≡ digits top negative value digit }
     ensures fits { MoveFits top result }
 {
-    let next = 10 * value as u128 + digit as u128;
-    if next > top as u128 {
-        return IdsMove::Stop;
+    match next_digit_u64(top, value, digit) {
+        None => IdsMove::Stop,
+        Some(next) => IdsMove::To(IdsPhase::Digits(negative, next)),
     }
-    IdsMove::To(IdsPhase::Digits(negative, next as u64))
 }
 
 /// What a machine does where an id may begin.
@@ -105,7 +97,7 @@ fn plan(top: u64, phase: IdsPhase, mark: NumberMark) -> IdsMove
             digits(top, negative, value, digit)
         }
         (IdsPhase::Digits(_, 0), _) => IdsMove::Stop,
-        (IdsPhase::Digits(negative, value), _) => behind(signed(negative, value), mark),
+        (IdsPhase::Digits(negative, value), _) => behind(signed_i64(negative, value), mark),
         (IdsPhase::Closing, NumberMark::Blank) => IdsMove::To(phase),
         (IdsPhase::Closing, NumberMark::Feed) => IdsMove::End,
         _ => IdsMove::Stop,
@@ -183,7 +175,7 @@ impl Machine for IdsMachine {
                 Push::Event(mem::replace(&mut self.ids, Sequence::new(self.alloc)))
             }
             IdsMove::Stop => {
-                if matches!(self.phase, IdsPhase::Digits(_, _)) && byte.is_ascii_digit() {
+                if matches!(self.phase, IdsPhase::Digits(_, _)) && is_digit(byte) {
                     Push::Large
                 } else {
                     Push::No

@@ -18,6 +18,7 @@ use crate::line::pol::transition::{in_hand, is_done, is_in_number, plan};
 use crate::line::pol::words::{count_units, finish, turn};
 use crate::word::PolWord;
 use pb_sums::Name;
+use pb_text::bytes::is_digit;
 use pb_text::{Limits, Machine, Push, Sequence};
 use std::alloc::Global;
 use std::marker::Model;
@@ -58,7 +59,7 @@ impl Model for PolMachine {
 fn refusal(phase: Phase, byte: u8) -> Push<Sequence<PolWord>>
     ensures { result ≡ (if is_in_number phase && is_digit byte then Push.Large else Push.No) }
 {
-    if is_in_number(phase) && byte.is_ascii_digit() {
+    if is_in_number(phase) && is_digit(byte) {
         Push::Large
     } else {
         Push::No

@@ -7,9 +7,9 @@ ghost use Rattle.pb_proof.specs.Line.Rup.{goal_plan, goal_done, linear_of, units
 
 mod phase;
 
-use crate::line::classes::is_blank;
 use crate::line::rup::phase::{GoalMove, GoalPhase};
 use pb_sums::{Linear, Part, Relation, Spaces, SumEvent, SumMachine, Term};
+use pb_text::bytes::is_blank;
 use pb_text::{Limits, Machine, Push};
 use std::alloc::Global;
 use std::marker::Model;

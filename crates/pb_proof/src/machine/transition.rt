@@ -1,19 +1,11 @@
 //! What a machine of proofs does with a byte, by what it has read last.
 
 ghost use Rattle.std.specs.Prelude.{◌≡◌, ◌<◌, length};
-ghost use Rattle.pb_text.specs.Classes.{is_white};
 ghost use Rattle.pb_proof.specs.Machine.Transition.{words_of, behind, meets, spell, step_front, enter, pass, between, plan};
 ghost use Rattle.pb_proof.specs.Machine.State.{is_within, is_complete, is_done, stage_behind, PhaseFits};
 
-use crate::line::classes::is_blank;
 use crate::machine::phase::{Front, Move, Phase, Rest, Stage};
-
-/// A blank or a line feed.
-fn is_white(byte: u8) -> bool
-    ensures { result ≡ is_white byte }
-{
-    is_blank(byte) || byte == b'\n'
-}
+use pb_text::bytes::{is_blank, is_white};
 
 /// The words that a statement begins with, where a space stands for one or more blanks.
 fn words_of(front: Front) -> &'static [u8]

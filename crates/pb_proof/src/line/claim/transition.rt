@@ -1,12 +1,12 @@
 //! What a machine of claims does with a byte, by what it has read last.
 
 ghost use Rattle.std.specs.Prelude.{◌≡◌, ℕ, ◌<◌, ◌≤◌, ◌^◌, length, Bool};
-ghost use Rattle.pb_text.specs.Numbers.{signed};
 ghost use Rattle.pb_proof.specs.Line.Claim.{word_of, behind_word, spell, first_word, digits, begin_bound, behind_bound, colon, behind, between, after_bound, id_digits, after_id, plan, is_within, is_done, is_in_digits, PhaseFits, MoveFits};
 
 use crate::conclusion::Bound;
 use crate::line::claim::phase::{Claim, Move, Owner, Phase, Showing, Side, Word};
-use crate::line::classes::is_blank;
+use pb_text::bytes::{is_blank, is_digit};
+use pb_text::decimal::{next_digit, next_digit_u64, signed, signed_i64};
 
 /// The bytes of a first word.
 fn word_of(word: Word) -> &'static [u8]
@@ -57,22 +57,6 @@ fn first_word(byte: u8) -> Move
     }
 }
 
-fn signed(negative: bool, magnitude: u128) -> i128
-    requires { magnitude < 2 ^ 127 }
-    ensures { result ≡ signed negative magnitude }
-{
-    let value = magnitude as i128;
-    if negative { -value } else { value }
-}
-
-fn signed_id(negative: bool, magnitude: u64) -> i64
-    requires { magnitude < 2 ^ 63 }
-    ensures { result ≡ signed negative magnitude }
-{
-    let value = magnitude as i64;
-    if negative { -value } else { value }
-}
-
 /// The next digit of a bound.
 fn digits(limit: u128, side: Side, negative: bool, magnitude: u128, byte: u8) -> Move
     requires room { limit < 2 ^ 127 }
@@ -80,14 +64,13 @@ fn digits(limit: u128, side: Side, negative: bool, magnitude: u128, byte: u8) ->
     ensures plan { result ≡ digits limit side negative magnitude byte }
     ensures fits { (top : ℕ) → MoveFits limit top result }
 {
-    if !byte.is_ascii_digit() {
+    if !is_digit(byte) {
         return Move::Stop;
     }
-    let digit = (byte - b'0') as u128;
-    if digit > limit || magnitude > (limit - digit) / 10 {
-        return Move::Stop;
+    match next_digit(limit, magnitude, byte - b'0') {
+        None => Move::Stop,
+        Some(next) => Move::To(Phase::Digits(side, negative, next)),
     }
-    Move::To(Phase::Digits(side, negative, 10 * magnitude + digit))
 }
 
 /// The first byte of a bound.
@@ -174,14 +157,13 @@ fn id_digits(top: u64, owner: Owner, negative: bool, magnitude: u64, byte: u8) -
     ensures plan { result ≡ id_digits top owner negative magnitude byte }
     ensures fits { (limit : ℕ) → MoveFits limit top result }
 {
-    if !byte.is_ascii_digit() {
+    if !is_digit(byte) {
         return Move::Stop;
     }
-    let next = 10 * magnitude as u128 + (byte - b'0') as u128;
-    if next > top as u128 {
-        return Move::Stop;
+    match next_digit_u64(top, magnitude, byte - b'0') {
+        None => Move::Stop,
+        Some(next) => Move::To(Phase::IdDigits(owner, negative, next)),
     }
-    Move::To(Phase::IdDigits(owner, negative, next as u64))
 }
 
 /// What may stand behind an id.
@@ -229,7 +211,7 @@ fn number(limit: u128, side: Side, negative: bool, magnitude: u128, byte: u8) ->
     ensures plan { result ≡ plan limit 0 (Phase.Digits side negative magnitude) byte }
     ensures fits { (top : ℕ) → MoveFits limit top result }
 {
-    if byte.is_ascii_digit() {
+    if is_digit(byte) {
         return digits(limit, side, negative, magnitude, byte);
     }
     let bound = Bound::Finite(signed(negative, magnitude));
@@ -289,13 +271,13 @@ fn id_number(top: u64, owner: Owner, negative: bool, magnitude: u64, byte: u8) -
     ensures plan { result ≡ plan 0 top (Phase.IdDigits owner negative magnitude) byte }
     ensures fits { (limit : ℕ) → MoveFits limit top result }
 {
-    if byte.is_ascii_digit() {
+    if is_digit(byte) {
         return id_digits(top, owner, negative, magnitude, byte);
     }
     if magnitude == 0 {
         return Move::Stop;
     }
-    after_id(owner, signed_id(negative, magnitude), byte)
+    after_id(owner, signed_i64(negative, magnitude), byte)
 }
 
 /// What a machine does with a byte.

@@ -7,6 +7,7 @@ ghost use Rattle.pb_proof.specs.Line.PolState.{in_hand};
 use crate::line::pol::close::{close, counted};
 use crate::line::pol::kind::{is_letter_kind, is_name_kind};
 use crate::line::pol::phase::{Change, Held, Kind, Move, Phase, Role};
+use pb_text::decimal::next_digit;
 
 /// Whether the byte before is a digit of a number.
 pub fn is_in_number(phase: Phase) -> bool
@@ -49,24 +50,15 @@ fn bound(limit: u128, top: u64, depth: usize) -> u128
     limit
 }
 
-/// Whether a number with one digit more is within a bound.
-fn fits(most: u128, number: u128, digit: u8) -> bool
-    requires digit { digit < 10 }
-    ensures { result ≡ nat_le (10 * number + digit) most }
-{
-    let digit = digit as u128;
-    digit <= most && number <= (most - digit) / 10
-}
-
 fn signed(top: u64, magnitude: u128, digit: u8) -> Move
     requires digit { digit < 10 }
     ensures plan { result ≡ signed top magnitude digit }
     ensures fits { (limit depth : ℕ) (kind : Kind) → MoveFits limit top depth kind result }
 {
-    if !fits(top as u128, magnitude, digit) {
-        return Move::Stop;
+    match next_digit(top as u128, magnitude, digit) {
+        None => Move::Stop,
+        Some(next) => Move::To(Phase::Signed(next)),
     }
-    Move::To(Phase::Signed(10 * magnitude + digit as u128))
 }
 
 fn number(limit: u128, top: u64, depth: usize, magnitude: u128, digit: u8) -> Move
@@ -74,10 +66,10 @@ fn number(limit: u128, top: u64, depth: usize, magnitude: u128, digit: u8) -> Mo
     ensures plan { result ≡ number limit top depth magnitude digit }
     ensures fits { (kind : Kind) → MoveFits limit top depth kind result }
 {
-    if !fits(bound(limit, top, depth), magnitude, digit) {
-        return Move::Stop;
+    match next_digit(bound(limit, top, depth), magnitude, digit) {
+        None => Move::Stop,
+        Some(next) => Move::To(Phase::Number(next)),
     }
-    Move::To(Phase::Number(10 * magnitude + digit as u128))
 }
 
 fn blank(closing: Option<(Change, Held)>) -> Move

@@ -1,6 +1,6 @@
 use Rattle.std.proofs.Common.{sym, ◌∙◌}
-use Rattle.pb_sums.proofs.NameBytes.{in_table, name_ascii}
-use Rattle.pb_sums.proofs.classes.is_name_byte.Goals as goal
+use Rattle.pb_text.proofs.NameBytes.{in_table, name_ascii}
+use Rattle.pb_text.proofs.bytes.is_name_byte.Goals as goal
 
 pub returns-clause-byte : goal.returns-clause-byte
 returns-clause-byte c = in_table c.args.byte c.ranges.byte.fits

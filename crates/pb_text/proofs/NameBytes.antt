@@ -1,10 +1,10 @@
--- The table of the bytes of names, held against the definition at each byte by computing.
+-- The table of the bytes of names, held against the definition at each byte by computing. Offered to other crates.
 use Rattle.std.proofs.Common.{◌≡◌, ℕ, zero, suc, ◌<◌, Bool, true, false, ◌&&◌, not, nat_eq, get_or, List, refl, arith, inl, inr}
 use Rattle.std.specs.Bool.{beq}
 use Rattle.std.proofs.lemmas.Bool.{cases_eq}
 use Rattle.std.proofs.lemmas.Bool.Decides.{nat_tests}
 use Rattle.pb_text.specs.Classes.{is_name_byte}
-use Rattle.pb_sums.specs.declared.classes.TheConstants.{NAME_BYTES}
+use Rattle.pb_text.specs.declared.bytes.TheConstants.{NAME_BYTES}
 
 -- the two tests agree below n
 agree_below : (ℕ → Bool) → (ℕ → Bool) → ℕ → Bool
