@@ -17,6 +17,18 @@ pub struct Fed<E> {
     pub event: Option<Spanned<E>>,
 }
 
+impl<E> Fed<E> {
+    /// What was taken where the last of `used` bytes ends an event.
+    fn with_event(used: usize, event: Spanned<E>) -> Self
+        ensures { result ≡ record { used = used; event = Some event } }
+    {
+        Fed {
+            used,
+            event: Some(event),
+        }
+    }
+}
+
 /// Feeds a machine with a text, in whatever pieces it comes, and keeps no byte of it.
 #[derive(Drop)]
 pub struct Feeder<M: Machine> {
@@ -157,12 +169,7 @@ impl<M: Machine> Feeder<M> {
         while used < piece.len() {
             match self.take(piece[used]) {
                 Ok(None) => used += 1,
-                Ok(Some(event)) => {
-                    return Ok(Fed {
-                        used: used + 1,
-                        event: Some(event),
-                    });
-                }
+                Ok(Some(event)) => return Ok(Fed::with_event(used + 1, event)),
                 Err(stop) => return Err(stop),
             }
             used += self.run(&piece[used..]);

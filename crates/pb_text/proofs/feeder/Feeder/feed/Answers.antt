@@ -58,7 +58,7 @@ returns-in-Err-clause-memory g c running =
     )
 
 pub returns-in-Ok-Some-clause-feeds : goal.returns-in-Ok-Some-clause-feeds
-returns-in-Ok-Some-clause-feeds g c = (
+returns-in-Ok-Some-clause-feeds g c = rw c.with_event.ensures (
   λ longest start input marks counts s.
       let t = rw (c.in-Ok-Some.is, c.in-Ok-Some.field-0-is) at c.take.ensures in
       let n = c.take.new.self in
