@@ -112,15 +112,22 @@ impl Call {
 pub fn call_of(line: &str) -> Result<Call, Broken> {
     let mut call = Call::new(verb_of(line)?);
     for word in line.split_whitespace().skip(1) {
-        let set = match word.split_once('=') {
-            Some((key, value)) => set(&mut call, key, value),
-            None => set_word(&mut call, word),
-        };
-        if !is_left(call.verb, word) {
-            set?;
-        }
+        take_word(&mut call, word)?;
     }
     Ok(call)
+}
+
+/// Sets what a word behind the verb says. What a row's verb has left to it may say nothing to the call.
+fn take_word(call: &mut Call, word: &str) -> Result<(), Broken> {
+    let set = match word.split_once('=') {
+        Some((key, value)) => set(call, key, value),
+        None => set_word(call, word),
+    };
+    if is_left(call.verb, word) {
+        Ok(())
+    } else {
+        set
+    }
 }
 
 /// Whether a word is left to the rows of its verb.
@@ -136,17 +143,23 @@ fn is_left(verb: Verb, word: &str) -> bool {
 /// What the first word of a line calls.
 fn verb_of(line: &str) -> Result<Verb, Broken> {
     match line.split_whitespace().next() {
-        Some("show") => Ok(Verb::Show),
-        Some("tidy") => Ok(Verb::Tidy),
-        Some("feed") => Ok(Verb::Feed),
-        Some("stop") => Ok(Verb::Stop),
-        Some("read") => Ok(Verb::Read),
-        Some("fronts") => Ok(Verb::Fronts),
-        Some("zeros") => Ok(Verb::Zeros),
-        Some("judge") => Ok(Verb::Judge),
-        Some("forms") => Ok(Verb::Forms),
-        Some(word) => other_verb(word),
+        Some(word) => verb(word),
         None => Err(Broken::Call),
+    }
+}
+
+fn verb(word: &str) -> Result<Verb, Broken> {
+    match word {
+        "show" => Ok(Verb::Show),
+        "tidy" => Ok(Verb::Tidy),
+        "feed" => Ok(Verb::Feed),
+        "stop" => Ok(Verb::Stop),
+        "read" => Ok(Verb::Read),
+        "fronts" => Ok(Verb::Fronts),
+        "zeros" => Ok(Verb::Zeros),
+        "judge" => Ok(Verb::Judge),
+        "forms" => Ok(Verb::Forms),
+        _ => other_verb(word),
     }
 }
 

@@ -10,6 +10,7 @@ use pb_opb::read_instance;
 use pb_proof::Bound;
 use pb_replay::{Replay, Verdict};
 use pb_sums::write_number;
+use pb_text::doubles::{FaultyReader, FaultyWriter};
 use pb_text::{Failed, Over, Sink, write_bytes};
 use pb_tool::{CheckFault, Checker, Input, ToolFault, check};
 use std::alloc::Global;
@@ -34,20 +35,13 @@ pub fn inputs_of(text: &[u8]) -> Result<(&[u8], &[u8]), Broken> {
 
 /// Checks a proof over two readers and a writer as the call says.
 pub fn run_check(alloc: Global, call: &Call, text: &[u8]) -> Result<Run, Broken> {
-    let limits = call.limits()?;
     let (instance, proof) = inputs_of(text)?;
     let (mut first, mut second) = (reader_of(call, instance), reader_of(call, proof));
     first.fails_at = call.reader_fails;
     second.fails_at = call.proof_fails;
     let (mut first, mut second) = (Over::new(first), Over::new(second));
     let mut out = Over::new(writer_of(alloc, call));
-    let longest = Some(call.longest.max(1));
-    let answer = check(alloc, &mut first, &mut second, &mut out, longest, limits);
-    let mut told = page(alloc);
-    match &answer {
-        Ok(_) => write_bytes(b"ok\n", &mut told)?,
-        Err(fault) => tell_fault(fault, &mut told)?,
-    }
+    let told = check_both(alloc, call, &mut first, &mut second, &mut out)?;
     let writer = out.into_inner();
     let calls = match call.each {
         Each::Write => Calls::of_writer(&writer),
@@ -55,6 +49,24 @@ pub fn run_check(alloc: Global, call: &Call, text: &[u8]) -> Result<Run, Broken>
         _ => Calls::of_reader(instance, &first.into_inner()),
     };
     Ok(Run::new(writer, told, calls))
+}
+
+/// Checks a proof, and tells `ok` or the line of the fault.
+fn check_both(
+    alloc: Global,
+    call: &Call,
+    instance: &mut Over<FaultyReader<'_>>,
+    proof: &mut Over<FaultyReader<'_>>,
+    out: &mut Over<FaultyWriter>,
+) -> Result<Page, Broken> {
+    let limits = call.limits()?;
+    let longest = Some(call.longest.max(1));
+    let mut told = page(alloc);
+    match check(alloc, instance, proof, out, longest, limits) {
+        Ok(_) => write_bytes(b"ok\n", &mut told)?,
+        Err(fault) => tell_fault(&fault, &mut told)?,
+    }
+    Ok(told)
 }
 
 /// Feeds a proof to a checker in one piece and, where the call does not say `once`, in pieces of 1, 2 and 37 bytes, and in
