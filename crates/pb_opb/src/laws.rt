@@ -1,5 +1,6 @@
 //! The laws of instances and their texts.
 
+ghost use Rattle.pb_opb.specs.Fields.{KeepsItsState};
 ghost use Rattle.pb_opb.specs.Formats.{ReadsInstances, OneInstance, FixedMarks, NoFront, LargerLimits};
 ghost use Rattle.pb_opb.specs.Statements.{CanonicalInstance, InstanceValues, ReadsBack};
 
@@ -42,4 +43,9 @@ pub fn written_instance_reads_back()
 /// What is read of an instance meets the rules, and its header declares as many constraints as there are.
 pub fn instances_are_values()
     ensures { InstanceValues }
+{}
+
+/// A machine keeps nothing beside its state, its limits and its allocator.
+pub fn keeps_its_state()
+    ensures { KeepsItsState }
 {}

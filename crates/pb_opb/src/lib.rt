@@ -3,9 +3,8 @@
 
 mod building;
 mod event;
-mod fields;
 mod instance;
-mod laws;
+pub mod laws;
 mod machine;
 mod phase;
 mod plan;
@@ -14,12 +13,7 @@ mod rules;
 mod write;
 
 pub use event::OpbEvent;
-pub use fields::keeps_its_state;
 pub use instance::{Comment, Instance};
-pub use laws::{
-    canonical_instance_spells, fixed_marks, instances_are_exact, instances_are_values,
-    larger_limits, no_front, one_instance, written_instance_reads_back,
-};
 pub use machine::OpbMachine;
 pub use read::{read_instance, read_instance_within};
 pub use rules::instance_is_value;

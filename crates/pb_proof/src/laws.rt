@@ -1,8 +1,9 @@
 //! The laws of proofs and their texts.
 
+ghost use Rattle.pb_proof.specs.Fields.{CountKeeps, IdsKeeps, LiteralsKeeps, GoalKeeps, ClaimKeeps, PolKeeps, ProofKeeps};
 ghost use Rattle.pb_proof.specs.Formats.{ReadsProofs, OneProof, FixedMarks, NoFront, LargerLimits};
 
-pub(crate) mod values;
+pub mod values;
 
 /// A new machine accepts exactly the proofs.
 pub fn proofs_are_exact()
@@ -28,4 +29,15 @@ pub fn no_front()
 /// A proof under limits is the same proof under larger ones.
 pub fn larger_limits()
     ensures { LargerLimits }
+{}
+
+/// A machine keeps nothing beside its state, its limits and its allocator.
+pub fn keeps_its_state()
+    ensures count { CountKeeps }
+    ensures ids { IdsKeeps }
+    ensures literals { LiteralsKeeps }
+    ensures goal { GoalKeeps }
+    ensures claim { ClaimKeeps }
+    ensures pol { PolKeeps }
+    ensures proof { ProofKeeps }
 {}

@@ -2,8 +2,7 @@
 #![tactic(auto)]
 
 mod conclusion;
-mod fields;
-mod laws;
+pub mod laws;
 mod line;
 mod machine;
 mod proof;
@@ -14,12 +13,6 @@ mod word;
 mod write;
 
 pub use conclusion::{Bound, Conclusion};
-pub use fields::keeps_its_state;
-pub use laws::values::{
-    canonical_proof_spells, one_value, postfix_words, proofs_are_values, reads_are_of_proofs,
-    written_proof_reads_back,
-};
-pub use laws::{fixed_marks, larger_limits, no_front, one_proof, proofs_are_exact};
 pub use machine::ProofMachine;
 pub use machine::phase::Stage;
 pub use proof::Proof;

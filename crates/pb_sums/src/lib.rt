@@ -3,7 +3,7 @@
 
 mod classes;
 mod grammar;
-mod laws;
+pub mod laws;
 mod machine;
 mod name;
 mod phase;
@@ -17,7 +17,6 @@ mod wholes;
 mod writing;
 
 pub use grammar::{Part, Spaces};
-pub use laws::{canonical_spells, larger_limits, no_front, one_value, sums_are_exact};
 pub use machine::SumMachine;
 pub use name::Name;
 pub use rules::{is_name, linear_is_value, sum_is_value};

@@ -8,7 +8,7 @@ ghost use Rattle.pb_tool.specs.Headline.{UnsatIsExact, UnsatIsTrue, VerdictsAreT
 ghost use Rattle.pb_tool.specs.Pieces.{AnyCutting};
 
 use crate::checker::texts_are_read;
-use pb_proof::{one_value, proofs_are_values};
+use pb_proof::laws::values::{one_value, proofs_are_values};
 use pb_replay::laws::{outcomes_are_single, verdicts_are_true};
 use pb_text::Sink;
 
@@ -70,8 +70,8 @@ fn instances_are_single()
     ensures one { OneInstance }
     ensures front { NoInstanceFront }
 {
-    pb_opb::one_instance();
-    pb_opb::no_front();
+    pb_opb::laws::one_instance();
+    pb_opb::laws::no_front();
 }
 
 /// A text spells one proof, none is a front of another, and the statements of a front are the same in each.
@@ -80,7 +80,7 @@ fn proofs_are_single()
     ensures front { NoProofFront }
     ensures fixed { FixedMarks }
 {
-    pb_proof::one_proof();
-    pb_proof::no_front();
-    pb_proof::fixed_marks();
+    pb_proof::laws::one_proof();
+    pb_proof::laws::no_front();
+    pb_proof::laws::fixed_marks();
 }

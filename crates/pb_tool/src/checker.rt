@@ -9,7 +9,9 @@ ghost use Rattle.pb_replay.specs.Meaning.{IsFront};
 ghost use Rattle.pb_tool.specs.Checker.{IsAt, StepsFrom, TextsAreRead};
 ghost use Rattle.pb_tool.specs.Faults.{check_fault_text};
 
-use pb_proof::{ProofMachine, Statement, no_front, proofs_are_exact, reads_are_of_proofs};
+use pb_proof::laws::values::reads_are_of_proofs;
+use pb_proof::laws::{no_front, proofs_are_exact};
+use pb_proof::{ProofMachine, Statement};
 use pb_replay::laws::{replays_have_states, whole_proofs_conclude};
 use pb_replay::{Fault, Replay, Verdict};
 use pb_text::laws::standing_is_reading;

@@ -30,9 +30,9 @@ pub fn tidied_text_stays()
     ensures same { StaysAsIs }
     ensures faultless { HasNoFault }
 {
-    pb_opb::canonical_instance_spells();
-    pb_opb::no_front();
-    pb_opb::written_instance_reads_back();
+    pb_opb::laws::canonical_instance_spells();
+    pb_opb::laws::no_front();
+    pb_opb::laws::written_instance_reads_back();
 }
 
 /// What `tidy` writes of a proof stays as it is, as what it writes of an instance does.
@@ -41,7 +41,7 @@ pub fn tidied_proof_stays()
     ensures same { ProofStaysAsIs }
     ensures faultless { ProofHasNoFault }
 {
-    pb_proof::canonical_proof_spells();
-    pb_proof::no_front();
-    pb_proof::written_proof_reads_back();
+    pb_proof::laws::values::canonical_proof_spells();
+    pb_proof::laws::no_front();
+    pb_proof::laws::values::written_proof_reads_back();
 }
