@@ -1,5 +1,7 @@
 //! Rows of feeders: a text in pieces.
 
+ghost use Rattle.std.specs.Prelude.{false, ◌≡◌};
+
 use crate::broken::Broken;
 use crate::call::{Call, Grammar, Verb};
 use crate::page::{Done, Page, finished, is_same, page, tell_count, tell_end};
@@ -121,26 +123,22 @@ pub fn feed_all(
     out: &mut Page,
 ) -> Result<End, Broken> {
     let limits = call.limits()?;
-    let longest = call.longest.max(1);
-    let shape = Shape::of(call);
     match call.grammar {
         Grammar::Opb => {
-            let mut feeder = Feeder::within(OpbMachine::new(alloc, limits), longest);
-            Ok(feed_over(&mut feeder, text, cut, shape, out))
+            let machine = OpbMachine::new(alloc, limits);
+            Ok(feed_machine(machine, call, b"", text, cut, out))
         }
         Grammar::Proof => {
-            let mut feeder = Feeder::within(ProofMachine::new(alloc, limits), longest);
-            Ok(feed_over(&mut feeder, text, cut, shape, out))
+            let machine = ProofMachine::new(alloc, limits);
+            Ok(feed_machine(machine, call, b"", text, cut, out))
         }
         Grammar::Lines => {
-            let mut feeder = Feeder::within(ProofMachine::new(alloc, limits), longest);
-            let _ = feed_piece(&mut feeder, HEAD, shape, &mut page(alloc));
-            Ok(feed_over(&mut feeder, text, cut, shape, out))
+            let machine = ProofMachine::new(alloc, limits);
+            Ok(feed_machine(machine, call, HEAD, text, cut, out))
         }
         Grammar::Sum(part) => {
             let machine = SumMachine::new(alloc, spaces_of(call), part, limits);
-            let mut feeder = Feeder::within(machine, longest);
-            Ok(feed_over(&mut feeder, text, cut, shape, out))
+            Ok(feed_machine(machine, call, b"", text, cut, out))
         }
         Grammar::Statement => Err(Broken::Word),
     }
@@ -155,18 +153,35 @@ fn spaces_of(call: &Call) -> Spaces {
     }
 }
 
-fn feed_over<E: Shown + Drop, M: Machine<Event = E>>(
-    feeder: &mut Feeder<M>,
+/// Feeds a text to a machine behind a front whose events are not shown.
+fn feed_machine<E: Shown + Drop, M: Machine<Event = E>>(
+    machine: M,
+    call: &Call,
+    front: &[u8],
     text: &[u8],
     cut: Cut,
-    shape: Shape,
     out: &mut Page,
-) -> End {
-    let fed = feed_pieces(feeder, text, cut, shape, out);
+) -> End
+    requires between { M.automaton.begun machine ≡ false }
+{
+    let mut feeder = Feeder::within(machine, call.longest.max(1));
+    take_front(&mut feeder, front);
+    let fed = feed_pieces(&mut feeder, text, cut, Shape::of(call), out);
     End {
-        end: end_of(feeder, fed, text),
+        end: end_of(&mut feeder, fed, text),
         place: feeder.place(),
         held: feeder.held(),
+    }
+}
+
+/// Feeds a front, and shows no event of it.
+fn take_front<E: Drop, M: Machine<Event = E>>(feeder: &mut Feeder<M>, front: &[u8]) {
+    let mut rest = front;
+    for _ in 0..front.len() {
+        let Ok(fed) = feeder.feed(rest) else {
+            return;
+        };
+        rest = &rest[fed.used.min(rest.len())..];
     }
 }
 
