@@ -5,14 +5,12 @@ ghost use Rattle.std.specs.Prelude.{false, ◌≡◌};
 use crate::broken::Broken;
 use crate::call::{Call, Grammar, Verb};
 use crate::page::{Done, Page, finished, is_same, page, tell_count, tell_end};
+use crate::steps::BEFORE_STEPS;
 use pb_opb::{OpbEvent, OpbMachine, write_event};
 use pb_proof::{ProofMachine, Statement, write_statement};
 use pb_sums::{Spaces, SumEvent, SumMachine, write_linear, write_place, write_sum};
 use pb_text::{Failed, Feeder, Machine, Place, Sink, Spanned, Stop, write_bytes};
 use std::alloc::Global;
-
-/// The lines before the ones of a row of lines.
-const HEAD: &[u8] = b"pseudo-Boolean proof version 2.0\nf\n";
 
 /// An event that has a text.
 pub trait Shown {
@@ -134,7 +132,7 @@ pub fn feed_all(
         }
         Grammar::Lines => {
             let machine = ProofMachine::new(alloc, limits);
-            Ok(feed_machine(machine, call, HEAD, text, cut, out))
+            Ok(feed_machine(machine, call, BEFORE_STEPS, text, cut, out))
         }
         Grammar::Sum(part) => {
             let machine = SumMachine::new(alloc, spaces_of(call), part, limits);

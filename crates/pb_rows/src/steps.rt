@@ -15,10 +15,10 @@ use pb_tool::ToolFault;
 use std::alloc::Global;
 use std::str::FromStr;
 
-/// What a proof has at least before its `f`, its steps and its output, its conclusion, and its closing words.
+/// What a proof has at least before its `f`, before its steps and its output, its conclusion, and its closing words.
 const HEADER: &[u8] = b"pseudo-Boolean proof version 2.0\n";
 
-const BEFORE_STEPS: &[u8] = b"pseudo-Boolean proof version 2.0\nf\n";
+pub const BEFORE_STEPS: &[u8] = b"pseudo-Boolean proof version 2.0\nf\n";
 
 const BEFORE_CONCLUSION: &[u8] = b"pseudo-Boolean proof version 2.0\nf\noutput NONE\n";
 
