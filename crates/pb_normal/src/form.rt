@@ -1,6 +1,6 @@
 //! Normal forms.
 
-ghost use Rattle.std.specs.Prelude.{◌≡◌, ◌<◌, ◌^◌, ◌↔◌, pos, IfOk, IfErr, length, IsTrue, All};
+ghost use Rattle.std.specs.Prelude.{◌≡◌, ◌<◌, ◌^◌, ◌↔◌, [], pos, IfOk, IfErr, length, IsTrue, All};
 ghost use Rattle.pb_normal.specs.Form.{IsNormal, ReadsTerm, total, each, size, Holds};
 ghost use Rattle.pb_normal.specs.Rules.{IsContradiction, assignment};
 
@@ -35,6 +35,13 @@ impl Normal {
         ensures normal { IsNormal self.now }
     {
         self.terms.len()
+    }
+
+    /// Whether it has no term.
+    pub fn is_empty(&self) -> bool
+        ensures { IsTrue result ↔ (self.now.terms ≡ []) }
+    {
+        self.terms.is_empty()
     }
 
     /// A term: its variable, whether it is negated, and its coefficient.

@@ -1,6 +1,6 @@
 //! Numbers for names.
 
-ghost use Rattle.std.specs.Prelude.{◌≡◌, ◌<◌, [], length, slice_get, Some, None, true, if◌then◌else◌, IfOk, IfSome, OnOk, OnErr};
+ghost use Rattle.std.specs.Prelude.{◌≡◌, ◌↔◌, ◌<◌, [], length, IsTrue, slice_get, Some, None, true, if◌then◌else◌, IfOk, IfSome, OnOk, OnErr};
 ghost use Rattle.std.specs.Option.{option_copied};
 ghost use Rattle.pb_normal.specs.Names.{AreDistinct, has_name, number_in, with_name};
 
@@ -53,6 +53,13 @@ impl Names {
         ensures distinct { AreDistinct self.now }
     {
         self.set.len()
+    }
+
+    /// Whether no name has a number.
+    pub fn is_empty(&self) -> bool
+        ensures { IsTrue result ↔ (self.now ≡ []) }
+    {
+        self.set.is_empty()
     }
 
     // Tells a proof that no name stands twice.
