@@ -11,7 +11,7 @@ use pb_proof::Bound;
 use pb_replay::{Replay, Verdict};
 use pb_sums::write_number;
 use pb_text::doubles::{FaultyReader, FaultyWriter};
-use pb_text::{Failed, Over, Sink, write_bytes};
+use pb_text::{Failed, Limits, Over, Sink, write_bytes};
 use pb_tool::{CheckFault, Checker, Input, ToolFault, check};
 use std::alloc::Global;
 use std::str::FromStr;
@@ -70,47 +70,68 @@ fn check_both(
 }
 
 /// Feeds a proof to a checker in one piece and, where the call does not say `once`, in pieces of 1, 2 and 37 bytes, and in
-/// two pieces with each cut. Answers the first that is not as wanted, or else the last.
+/// two pieces with each cut. Answers the first that is not as wanted, or else the one of one piece.
 pub fn run_checker(alloc: Global, call: &Call, text: &[u8], wanted: &Done) -> Result<Done, Broken> {
-    let (instance, proof) = inputs_of(text)?;
     let (first, size) = (usize::MAX, 1);
-    let found = check_cut(alloc, call, instance, proof, Cut { first, size })?;
-    if call.is_once || !is_same(&found, wanted) {
-        return Ok(found);
+    let whole = check_cut(alloc, call, text, Cut { first, size })?;
+    if call.is_once || !is_same(&whole, wanted) {
+        return Ok(whole);
     }
-    for size in [1, 2, 37] {
-        let found = check_cut(alloc, call, instance, proof, Cut { first: size, size })?;
-        if !is_same(&found, wanted) {
-            return Ok(found);
-        }
+    match first_odd(alloc, call, text, wanted)? {
+        Some(odd) => Ok(odd),
+        None => Ok(whole),
     }
-    for first in 0..proof.len() {
-        let size = usize::MAX;
-        let found = check_cut(alloc, call, instance, proof, Cut { first, size })?;
-        if !is_same(&found, wanted) {
-            return Ok(found);
-        }
-    }
-    Ok(found)
 }
 
-fn check_cut(
+/// The first answer to a proof in pieces that is not as wanted.
+fn first_odd(
     alloc: Global,
     call: &Call,
-    instance: &[u8],
+    text: &[u8],
+    wanted: &Done,
+) -> Result<Option<Done>, Broken> {
+    for size in [1, 2, 37] {
+        let found = check_cut(alloc, call, text, Cut { first: size, size })?;
+        if !is_same(&found, wanted) {
+            return Ok(Some(found));
+        }
+    }
+    let (_, proof) = inputs_of(text)?;
+    for first in 0..proof.len() {
+        let size = usize::MAX;
+        let found = check_cut(alloc, call, text, Cut { first, size })?;
+        if !is_same(&found, wanted) {
+            return Ok(Some(found));
+        }
+    }
+    Ok(None)
+}
+
+fn check_cut(alloc: Global, call: &Call, text: &[u8], cut: Cut) -> Result<Done, Broken> {
+    let (instance, proof) = inputs_of(text)?;
+    let mut told = page(alloc);
+    match opened(alloc, call, instance)? {
+        Ok(replay) => {
+            let mut checker = Checker::new(alloc, replay, Some(call.longest.max(1)));
+            tell_checker(alloc, &mut checker, proof, cut, &mut told)?;
+        }
+        Err(_) => write_bytes(b"no replay\n", &mut told)?,
+    }
+    Ok(answered(alloc, told))
+}
+
+/// Feeds a proof to a checker, and tells its answer.
+fn tell_checker(
+    alloc: Global,
+    checker: &mut Checker,
     proof: &[u8],
     cut: Cut,
-) -> Result<Done, Broken> {
-    let mut told = page(alloc);
-    let Ok(replay) = opened(alloc, call, instance)? else {
-        write_bytes(b"no replay\n", &mut told)?;
-        return Ok(answered(alloc, told));
-    };
-    let mut checker = Checker::new(alloc, replay, Some(call.longest.max(1)));
-    let end = feed_to_end(&mut checker, proof, cut);
-    tell_end(alloc, &checker, end, &mut told)?;
-    tell_again(&mut checker, end, &mut told)?;
-    Ok(answered(alloc, told))
+    told: &mut Page,
+) -> Result<(), Broken> {
+    let end = feed_to_end(checker, proof, cut);
+    tell_end(alloc, checker, end, told)?;
+    tell_again(checker, end, told)?;
+    Ok(())
 }
 
 /// Feeds a proof piece by piece up to the first fault, and ends it where there was none.
@@ -153,7 +174,15 @@ pub fn opened(
     call: &Call,
     instance: &[u8],
 ) -> Result<Result<Replay, pb_replay::Fault>, Broken> {
-    let limits = call.limits()?;
+    replay_of(alloc, instance, call.limits()?)
+}
+
+/// A replay over an instance under limits, where it opens.
+pub fn replay_of(
+    alloc: Global,
+    instance: &[u8],
+    limits: Limits,
+) -> Result<Result<Replay, pb_replay::Fault>, Broken> {
     match read_instance(alloc, &mut Over::new(instance), limits) {
         Ok(read) => Ok(Replay::new(alloc, &read.event, limits)),
         Err(_) => Err(Broken::Value),

@@ -83,25 +83,14 @@ pub fn run_forms(alloc: Global, call: &Call, line: &str, text: &[u8]) -> Result<
     let Ok(read) = read_instance(alloc, &mut Over::new(text), Limits::full()) else {
         return Err(Broken::Value);
     };
+    let (mut out, mut told) = (page(alloc), page(alloc));
     let mut forms = Forms {
         alloc,
         instance: &read.event,
         names: Names::new(alloc),
         limits,
     };
-    let mut out = page(alloc);
-    let mut told = page(alloc);
-    match forms.last(line, &mut told) {
-        Ok(form) => {
-            write_form(&form, &forms.names, &mut out)?;
-            write_bytes(word_of(&form), &mut told)?;
-        }
-        Err(NoForm::Overflow) => {
-            write_bytes(b"overflow\n", &mut told)?;
-            tell_count(forms.names.len() as u64, b" names\n", &mut told)?;
-        }
-        Err(NoForm::Broken(broken)) => return Err(broken),
-    }
+    forms.tell_last(line, &mut out, &mut told)?;
     Ok(finished(out, told))
 }
 
@@ -119,15 +108,36 @@ fn parted(word: &str) -> (&str, &str) {
 }
 
 impl Forms<'_> {
+    /// Writes the form that the rules of a line make, or tells that it overflows.
+    fn tell_last(&mut self, line: &str, out: &mut Page, told: &mut Page) -> Result<(), Broken> {
+        match self.last(line, told) {
+            Ok(form) => {
+                write_form(&form, &self.names, out)?;
+                write_bytes(word_of(&form), told)?;
+            }
+            Err(NoForm::Overflow) => {
+                write_bytes(b"overflow\n", told)?;
+                tell_count(self.names.len() as u64, b" names\n", told)?;
+            }
+            Err(NoForm::Broken(broken)) => return Err(broken),
+        }
+        Ok(())
+    }
+
     /// The form that the rules of a line make.
     fn last(&mut self, line: &str, told: &mut Page) -> Result<Normal, NoForm> {
         let mut form = Normal::axiom(self.alloc, 0, false)?;
         for word in line.split_whitespace() {
-            let (rule, value) = parted(word);
-            self.answer(&form, rule, value, told)?;
-            form = self.next(form, rule, value)?;
+            form = self.behind(form, word, told)?;
         }
         Ok(form)
+    }
+
+    /// The form behind a word, which may be a question on the one before.
+    fn behind(&mut self, form: Normal, word: &str, told: &mut Page) -> Result<Normal, NoForm> {
+        let (rule, value) = parted(word);
+        self.answer(&form, rule, value, told)?;
+        self.next(form, rule, value)
     }
 
     /// Answers a question on a form.

@@ -1,12 +1,12 @@
 //! The looks of a proof's propagation, which a benchmark asks for: no row.
 
 use crate::broken::Broken;
+use crate::check::replay_of;
 use crate::steps::step_one;
-use pb_opb::read_instance;
 use pb_proof::{ProofMachine, Statement};
 use pb_replay::Replay;
 use pb_sums::write_count;
-use pb_text::{Feeder, Limits, Over, Sink, write_bytes};
+use pb_text::{Failed, Feeder, Limits, Sink, write_bytes};
 use std::alloc::Global;
 
 /// The statements that a replay was taken through, and the looks of all `rup`s among them.
@@ -24,39 +24,61 @@ pub fn write_looks<S: Sink>(
     proof: &[u8],
     out: &mut S,
 ) -> Result<(), Broken> {
-    let limits = Limits::full();
-    let Ok(read) = read_instance(alloc, &mut Over::new(instance), limits) else {
+    let Ok(mut replay) = replay_of(alloc, instance, Limits::full())? else {
         return Err(Broken::Value);
     };
-    let Ok(mut replay) = Replay::new(alloc, &read.event, limits) else {
-        return Err(Broken::Value);
-    };
-    let count = count_looks(alloc, &mut replay, proof)?;
-    write_count(count.statements, out)?;
-    write_bytes(b" statements, ", out)?;
-    write_count(count.looks, out)?;
-    write_bytes(b" looks\n", out)?;
+    count_looks(alloc, &mut replay, proof)?.write(out)?;
     Ok(())
 }
 
 /// Takes a replay through the statements of a proof.
 fn count_looks(alloc: Global, replay: &mut Replay, proof: &[u8]) -> Result<Looks, Broken> {
     let mut feeder = Feeder::new(ProofMachine::new(alloc, replay.limits()));
-    let (mut statements, mut looks): (u64, u64) = (0, 0);
+    let mut looks = Looks {
+        statements: 0,
+        looks: 0,
+    };
+    add_each(&mut feeder, replay, proof, &mut looks)?;
+    Ok(looks)
+}
+
+fn add_each(
+    feeder: &mut Feeder<ProofMachine>,
+    replay: &mut Replay,
+    proof: &[u8],
+    looks: &mut Looks,
+) -> Result<(), Broken> {
     let mut rest = proof;
     for _ in 0..proof.len() {
         let Ok(fed) = feeder.feed(rest) else {
             return Err(Broken::Value);
         };
         rest = &rest[fed.used.min(rest.len())..];
-        let Some(read) = fed.event else { break };
-        if step_one(replay, &read.event)?.is_err() {
-            return Err(Broken::Value);
-        }
-        statements = statements.saturating_add(1);
-        if let Statement::Rup(_) = &read.event {
-            looks = looks.saturating_add(replay.visits());
+        match fed.event {
+            Some(read) => looks.add(replay, &read.event)?,
+            None => return Ok(()),
         }
     }
-    Ok(Looks { statements, looks })
+    Ok(())
+}
+
+impl Looks {
+    fn write<S: Sink>(self, out: &mut S) -> Result<(), Failed> {
+        write_count(self.statements, out)?;
+        write_bytes(b" statements, ", out)?;
+        write_count(self.looks, out)?;
+        write_bytes(b" looks\n", out)
+    }
+
+    /// Takes a replay through a statement, and adds its looks where it is a `rup`.
+    fn add(&mut self, replay: &mut Replay, statement: &Statement) -> Result<(), Broken> {
+        if step_one(replay, statement)?.is_err() {
+            return Err(Broken::Value);
+        }
+        self.statements = self.statements.saturating_add(1);
+        if let Statement::Rup(_) = statement {
+            self.looks = self.looks.saturating_add(replay.visits());
+        }
+        Ok(())
+    }
 }

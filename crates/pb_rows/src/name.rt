@@ -19,18 +19,23 @@ pub fn run_names(alloc: Global, text: &[u8]) -> Result<Done, Broken> {
 /// Numbers names: a line `x1` finds the number of the name or gives it one, `? x1` finds it, and `# 0` finds the name
 /// of a number. Tells each answer, and last how many names there are.
 pub fn run_numbers(alloc: Global, text: &[u8]) -> Result<Done, Broken> {
-    let mut names = Names::new(alloc);
+    let lines = lines_of(text)?;
     let mut told = page(alloc);
-    for line in lines_of(text)?.lines() {
-        match line.split_once(' ') {
-            Some(("?", name)) => tell_number(names.number_of(name), &mut told)?,
-            Some(("#", number)) => tell_name(&names, number, &mut told)?,
-            Some(_) => return Err(Broken::Value),
-            None => tell_count(names.number(line)? as u64, b"\n", &mut told)?,
-        }
+    let mut names = Names::new(alloc);
+    for line in lines.lines() {
+        answer_line(&mut names, line, &mut told)?;
     }
     tell_count(names.len() as u64, b" names\n", &mut told)?;
     Ok(answered(alloc, told))
+}
+
+fn answer_line(names: &mut Names, line: &str, told: &mut Page) -> Result<(), Broken> {
+    match line.split_once(' ') {
+        Some(("?", name)) => tell_number(names.number_of(name), told),
+        Some(("#", number)) => tell_name(names, number, told),
+        Some(_) => Err(Broken::Value),
+        None => Ok(tell_count(names.number(line)? as u64, b"\n", told)?),
+    }
 }
 
 fn tell_number(number: Option<usize>, told: &mut Page) -> Result<(), Broken> {
