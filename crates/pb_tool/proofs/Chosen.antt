@@ -21,9 +21,9 @@ use Rattle.pb_proof.specs.Canonical.{statement_bytes}
 use Rattle.pb_proof.specs.Proofs.{IsProof, IsProofOf}
 use Rattle.pb_proof.specs.declared.Proof.{Proof}
 use Rattle.pb_tool.specs.Files.{MayBeProof, MayBeInstance, IsVeri, IsNoProofFile, ShowsFile, TidiesFile, TidiesProof}
-use Rattle.pb_tool.specs.Showing.{IsSpelling, IsRefusedAfter, InText, InRest, Shows}
-use Rattle.pb_tool.specs.Tidying.{IsFile, IsOpb, IsRefused, IsNoOpbFile, Tidies}
-use Rattle.pb_tool.specs.Tidying.IsRefused.{InText as in_text, InRest as in_rest}
+use Rattle.pb_tool.specs.Show.{IsSpelling, IsRefusedAfter, InText, InRest, Shows}
+use Rattle.pb_tool.specs.Tidy.{IsFile, IsOpb, IsRefused, IsNoOpbFile, Tidies}
+use Rattle.pb_tool.specs.Tidy.IsRefused.{InText as in_text, InRest as in_rest}
 use Rattle.pb_tool.specs.declared.fault.ToolFault.{ToolFault}
 use Rattle.pb_tool.specs.declared.fault.ToolFault.TheVariants.{Text, Open, Overflow, Memory, Write, Step}
 use Rattle.pb_tool.specs.declared.fault.Input.TheVariants.{File}

@@ -15,9 +15,9 @@ use Rattle.pb_tool.specs.Files.{IsVeri, TidiesProof}
 use Rattle.pb_tool.specs.Given.{OfGiven, ShowsGiven, TidiesGiven}
 use Rattle.pb_opb.specs.Canonical.{event_bytes}
 use Rattle.pb_proof.specs.Canonical.{statement_bytes}
-use Rattle.pb_tool.specs.Showing.{Shows}
-use Rattle.pb_tool.specs.Tidying.{IsFile, IsOpb, IsOpbFile, IsDenied, IsRefused, Tidies}
-use Rattle.pb_tool.specs.Tidying.IsRefused.{InRest}
+use Rattle.pb_tool.specs.Show.{Shows}
+use Rattle.pb_tool.specs.Tidy.{IsFile, IsOpb, IsOpbFile, IsDenied, IsRefused, Tidies}
+use Rattle.pb_tool.specs.Tidy.IsRefused.{InRest}
 use Rattle.pb_tool.specs.declared.fault.ToolFault.{ToolFault}
 use Rattle.pb_tool.specs.declared.fault.ToolFault.TheVariants.{Text, Open, Overflow, Memory, Write, Step}
 use Rattle.pb_tool.specs.declared.fault.Input.TheVariants.{File, Instance, Proof}

@@ -15,7 +15,7 @@ use Rattle.pb_text.specs.declared.Spanned.{Spanned}
 use Rattle.pb_text.specs.declared.Stop.{Stop}
 use Rattle.pb_text.proofs.Rows.{row}
 use Rattle.pb_tool.specs.Given.{OfGiven}
-use Rattle.pb_tool.specs.Showing.{shown, shown_line, EndsAt, InText, Shows}
+use Rattle.pb_tool.specs.Show.{shown, shown_line, EndsAt, InText, Shows}
 use Rattle.pb_tool.specs.declared.fault.ToolFault.{ToolFault}
 use Rattle.pb_tool.specs.declared.fault.ToolFault.TheVariants.{Text, Write}
 use Rattle.pb_tool.specs.declared.fault.Input.TheVariants.{File}

@@ -11,8 +11,8 @@ use Rattle.pb_opb.specs.declared.Instance as opb
 use Rattle.pb_opb.specs.declared.OpbEvent.{OpbEvent}
 use Rattle.pb_tool.specs.Gathered.{IsGathered, IsNotGathered, TidiesEach}
 use Rattle.pb_tool.specs.InstanceText.{with, asks, text_of}
-use Rattle.pb_tool.specs.Tidying.{tidied, IsOpb, IsOpbFile, IsNoOpbFile, Tidies}
-use Rattle.pb_tool.specs.Tidying.IsRefused.{InText, InRest}
+use Rattle.pb_tool.specs.Tidy.{tidied, IsOpb, IsOpbFile, IsNoOpbFile, Tidies}
+use Rattle.pb_tool.specs.Tidy.IsRefused.{InText, InRest}
 use Rattle.pb_tool.specs.Wants.{AsksOpb, IfStopped, WantsInstance}
 use Rattle.pb_tool.specs.declared.fault.ToolFault.{ToolFault}
 use Rattle.pb_tool.specs.declared.fault.ToolFault.TheVariants.{Text, Open, Overflow, Memory, Write, Step}

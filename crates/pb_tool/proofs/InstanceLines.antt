@@ -16,7 +16,7 @@ use Rattle.pb_opb.specs.declared.Instance.{Instance}
 use Rattle.pb_opb.specs.declared.OpbEvent.{OpbEvent}
 use Rattle.pb_opb.specs.declared.OpbEvent.TheVariants.{Header, Comment, Objective, Constraint}
 use Rattle.pb_tool.specs.InstanceText.{line, line_if, with, asks, text_of, IsTextOf}
-use Rattle.pb_tool.specs.Tidying.{tidied}
+use Rattle.pb_tool.specs.Tidy.{tidied}
 use Rattle.pb_tool.specs.declared.instance_text.InstanceText.{InstanceText}
 use Rattle.pb_tool.proofs.Ordered.{line_more, value_of, Follows, follows, text_behind}
 

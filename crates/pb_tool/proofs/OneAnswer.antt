@@ -33,10 +33,10 @@ use Rattle.pb_replay.specs.declared.fault.Fault.{Fault}
 use Rattle.pb_replay.specs.declared.fault.Fault.TheVariants.{Memory as no_memory, Overflow as over}
 use Rattle.pb_replay.specs.declared.verdict.Verdict.{Verdict}
 use Rattle.pb_tool.specs.Checks.{statements_at}
-use Rattle.pb_tool.specs.Deciding.{AnswersExactly, AreVerified, IsDecided, IsOfText, IsSame, OneAnswer}
+use Rattle.pb_tool.specs.Decided.{AnswersExactly, AreVerified, IsDecided, IsOfText, IsSame, OneAnswer}
 use Rattle.pb_tool.specs.Files.{IsProofFile, IsVeri}
-use Rattle.pb_tool.specs.Tidying.{IsOpb, IsOpbFile, IsNoOpbFile}
-use Rattle.pb_tool.specs.Tidying.IsRefused.{InText, InRest}
+use Rattle.pb_tool.specs.Tidy.{IsOpb, IsOpbFile, IsNoOpbFile}
+use Rattle.pb_tool.specs.Tidy.IsRefused.{InText, InRest}
 use Rattle.pb_tool.specs.Verified.{ChecksFiles, IsRefusedStep, IsRefusedText, IsVerified, InProof, BehindProof}
 use Rattle.pb_tool.specs.declared.fault.ToolFault.{ToolFault}
 use Rattle.pb_tool.specs.declared.fault.ToolFault.TheVariants.{Text, Open, Overflow, Memory, Write, Step}

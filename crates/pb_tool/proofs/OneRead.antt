@@ -11,7 +11,7 @@ use Rattle.pb_text.specs.declared.Why.{Why}
 use Rattle.pb_text.specs.declared.Why.TheVariants.{Byte, TooLarge, Ended, TooLong, Read, Memory}
 use Rattle.pb_text.proofs.Lists.{bytes-append, bytes-plain}
 use Rattle.pb_text.proofs.Short.{place_after-offset}
-use Rattle.pb_tool.specs.Deciding.{IsOfText}
+use Rattle.pb_tool.specs.Decided.{IsOfText}
 use Rattle.pb_tool.proofs.Fronts.{Compared, two_fronts, same_rest}
 
 -- ---- marks within fronts

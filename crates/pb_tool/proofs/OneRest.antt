@@ -6,7 +6,7 @@ use Rattle.pb_text.specs.Reading.{byte_limit}
 use Rattle.pb_text.specs.declared.Place.{Place}
 use Rattle.pb_text.specs.declared.Why.{Why}
 use Rattle.pb_text.specs.declared.Why.TheVariants.{Byte, TooLarge, Ended, TooLong, Read, Memory}
-use Rattle.pb_tool.specs.Deciding.{IsOfText}
+use Rattle.pb_tool.specs.Decided.{IsOfText}
 use Rattle.pb_tool.proofs.Fronts.{Compared, two_fronts, same_rest}
 
 -- a byte within a blank text passes

@@ -13,7 +13,7 @@ use Rattle.pb_proof.specs.Gather.{asks}
 use Rattle.pb_tool.specs.Files.{tidied_proof, IsNoProofFile, IsProofFile, IsVeri, TidiesProof}
 use Rattle.pb_tool.specs.Gathered.{IsGathered, IsNotGathered, TidiesEach}
 use Rattle.pb_tool.specs.ProofText.{with, text_of}
-use Rattle.pb_tool.specs.Tidying.IsRefused.{InText, InRest}
+use Rattle.pb_tool.specs.Tidy.IsRefused.{InText, InRest}
 use Rattle.pb_tool.specs.Wants.{AsksVeri, IfStopped, WantsProof}
 use Rattle.pb_tool.specs.declared.fault.ToolFault.{ToolFault}
 use Rattle.pb_tool.specs.declared.fault.ToolFault.TheVariants.{Text, Open, Overflow, Memory, Write, Step}

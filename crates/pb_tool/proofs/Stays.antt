@@ -11,8 +11,8 @@ use Rattle.pb_text.specs.declared.Why.{Why}
 use Rattle.pb_text.specs.declared.Why.TheVariants.{Byte, TooLarge, Ended, TooLong, Read, Memory}
 use Rattle.pb_opb.specs.Canonical.{instance_bytes}
 use Rattle.pb_opb.specs.declared.Instance.{Instance}
-use Rattle.pb_tool.specs.Staying.{IsOutside}
-use Rattle.pb_tool.specs.Tidying.{ends_in_feed, tidied}
+use Rattle.pb_tool.specs.Stays.{IsOutside}
+use Rattle.pb_tool.specs.Tidy.{ends_in_feed, tidied}
 use Rattle.pb_tool.proofs.Fronts.{Compared, same_rest, two_fronts}
 use Rattle.pb_tool.proofs.Shown.{after_offset}
 

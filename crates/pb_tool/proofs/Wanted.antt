@@ -20,8 +20,8 @@ use Rattle.pb_text.specs.declared.Why.{Why}
 use Rattle.pb_text.specs.declared.place.Why.TheVariants as why
 use Rattle.pb_text.proofs.Wholes.{lost_all, whole_stopped}
 use Rattle.pb_tool.specs.Files.{MayBeProof, MayBeInstance, IsVeri}
-use Rattle.pb_tool.specs.Showing.{EndsAt}
-use Rattle.pb_tool.specs.Tidying.{IsOpb}
+use Rattle.pb_tool.specs.Show.{EndsAt}
+use Rattle.pb_tool.specs.Tidy.{IsOpb}
 use Rattle.pb_tool.specs.Wants.{IfStopped, WantsEach, AsksOpb, AsksVeri, WantsInstance, WantsProof, WantsTidying, WantsShowing}
 use Rattle.pb_tool.specs.declared.fault.ToolFault.{ToolFault}
 use Rattle.pb_tool.specs.declared.fault.ToolFault.TheVariants.{Text, Open, Overflow, Memory, Write, Step}

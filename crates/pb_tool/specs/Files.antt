@@ -11,8 +11,8 @@ use Rattle.pb_proof.specs.Canonical.{proof_bytes, statement_bytes}
 use Rattle.pb_proof.specs.Proofs.{IsProof, IsProofOf}
 use Rattle.pb_proof.specs.declared.Proof.{Proof}
 use Rattle.pb_proof.specs.declared.Statement.{Statement}
-use Rattle.pb_tool.specs.Showing.{Shows}
-use Rattle.pb_tool.specs.Tidying.{IsFile, IsOpb, IsRefused, Tidies}
+use Rattle.pb_tool.specs.Show.{Shows}
+use Rattle.pb_tool.specs.Tidy.{IsFile, IsOpb, IsRefused, Tidies}
 use Rattle.pb_tool.specs.declared.fault.ToolFault.{ToolFault}
 use Rattle.pb_tool.specs.declared.fault.ToolFault.TheVariants.{Text, Open, Overflow, Memory, Write, Step}
 use Rattle.pb_tool.specs.declared.fault.Input.TheVariants.{File}

@@ -4,7 +4,7 @@ use Rattle.pb_text.specs.Spelling.{Item}
 use Rattle.pb_text.specs.Whole.{IsWhole, ReadsWhole}
 use Rattle.pb_text.specs.Writing.{Wrote, Broke}
 use Rattle.pb_text.specs.declared.Stop.{Stop}
-use Rattle.pb_tool.specs.Tidying.{IsFile, IsRefused}
+use Rattle.pb_tool.specs.Tidy.{IsFile, IsRefused}
 use Rattle.pb_tool.specs.declared.fault.ToolFault.{ToolFault}
 use Rattle.pb_tool.specs.declared.fault.ToolFault.TheVariants.{Text, Open, Overflow, Memory, Write, Step}
 use Rattle.pb_tool.specs.declared.fault.Input.TheVariants.{File}

@@ -4,9 +4,9 @@ use Rattle.pb_text.specs.declared.Limits.{Limits}
 use Rattle.pb_opb.specs.Canonical.{event_bytes}
 use Rattle.pb_proof.specs.Canonical.{statement_bytes}
 use Rattle.pb_tool.specs.Files.{IsVeri, TidiesProof}
-use Rattle.pb_tool.specs.Showing.{Shows}
+use Rattle.pb_tool.specs.Show.{Shows}
 use Rattle.pb_replay.specs.declared.verdict.Verdict.{Verdict}
-use Rattle.pb_tool.specs.Tidying.{IsOpb, Tidies}
+use Rattle.pb_tool.specs.Tidy.{IsOpb, Tidies}
 use Rattle.pb_tool.specs.Verified.{ChecksFiles}
 use Rattle.pb_tool.specs.declared.fault.ToolFault.{ToolFault}
 

@@ -7,9 +7,9 @@ use Rattle.pb_replay.specs.Problem.{Solves}
 use Rattle.pb_replay.specs.Meaning.{MeansWritten}
 use Rattle.pb_replay.specs.declared.verdict.Verdict.{Verdict}
 use Rattle.pb_replay.specs.declared.verdict.Verdict.TheVariants.{Unsat}
-use Rattle.pb_tool.specs.Deciding.{AreVerified, IsDecided}
+use Rattle.pb_tool.specs.Decided.{AreVerified, IsDecided}
 use Rattle.pb_tool.specs.Files.{IsProofFile}
-use Rattle.pb_tool.specs.Tidying.{IsOpbFile}
+use Rattle.pb_tool.specs.Tidy.{IsOpbFile}
 use Rattle.pb_tool.specs.Verified.{ChecksFiles, IsVerified}
 use Rattle.pb_tool.specs.declared.fault.ToolFault.{ToolFault}
 

@@ -5,7 +5,7 @@ use Rattle.pb_opb.specs.Values.{IsValueOf}
 use Rattle.pb_opb.specs.declared.Instance.{Instance}
 use Rattle.pb_opb.specs.declared.OpbEvent.{OpbEvent}
 use Rattle.pb_opb.specs.declared.OpbEvent.TheVariants.{Header, Objective}
-use Rattle.pb_tool.specs.Tidying.{tidied}
+use Rattle.pb_tool.specs.Tidy.{tidied}
 use Rattle.pb_tool.specs.declared.instance_text.InstanceText.{InstanceText}
 
 -- the line of a statement

@@ -1,6 +1,6 @@
 pub mod Checker
 pub mod Checks
-pub mod Deciding
+pub mod Decided
 pub mod Faults
 pub mod Files
 pub mod Gathered
@@ -13,9 +13,9 @@ pub mod Pieces
 pub mod ProofText
 pub mod Refusals
 pub mod Runs
-pub mod Showing
-pub mod Staying
-pub mod Tidying
+pub mod Show
+pub mod Stays
+pub mod Tidy
 pub mod Verified
 pub mod Wants
 pub mod Words

@@ -18,7 +18,7 @@ use Rattle.pb_replay.specs.declared.fault.Fault.TheVariants.{Memory as no_memory
 use Rattle.pb_replay.specs.declared.verdict.Verdict.{Verdict}
 use Rattle.pb_replay.specs.Kept.{StandsFor}
 use Rattle.pb_tool.specs.Files.{IsProofFile}
-use Rattle.pb_tool.specs.Tidying.{IsOpbFile, IsNoOpbFile}
+use Rattle.pb_tool.specs.Tidy.{IsOpbFile, IsNoOpbFile}
 use Rattle.pb_tool.specs.Verified.{ComesTo, IsAccepted, IsRefusedStep, IsRefusedText, IsTold}
 use Rattle.pb_tool.specs.declared.checker.CheckFault.{CheckFault}
 use Rattle.pb_tool.specs.declared.checker.CheckFault.TheVariants as check

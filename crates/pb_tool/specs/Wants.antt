@@ -17,7 +17,7 @@ use Rattle.pb_proof.specs.Asking as veri_bytes
 use Rattle.pb_proof.specs.Gather as veri_keeping
 use Rattle.pb_proof.specs.declared.Proof.{Proof}
 use Rattle.pb_tool.specs.Files.{MayBeProof, MayBeInstance, IsVeri}
-use Rattle.pb_tool.specs.Tidying.{IsOpb}
+use Rattle.pb_tool.specs.Tidy.{IsOpb}
 use Rattle.pb_tool.specs.declared.fault.ToolFault.{ToolFault}
 use Rattle.pb_tool.specs.declared.fault.ToolFault.TheVariants.{Text}
 use Rattle.pb_tool.specs.declared.fault.Input.TheVariants.{Instance as of_instance, Proof as of_proof}

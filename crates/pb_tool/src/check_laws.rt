@@ -3,7 +3,7 @@
 ghost use Rattle.pb_opb.specs.Formats.{OneInstance, NoFront as NoInstanceFront};
 ghost use Rattle.pb_proof.specs.Formats.{FixedMarks, OneProof, NoFront as NoProofFront};
 ghost use Rattle.pb_proof.specs.ValueLaws.{OneValue};
-ghost use Rattle.pb_tool.specs.Deciding.{AnswersExactly, OneAnswer};
+ghost use Rattle.pb_tool.specs.Decided.{AnswersExactly, OneAnswer};
 ghost use Rattle.pb_tool.specs.Headline.{UnsatIsExact, UnsatIsTrue, VerdictsAreTrue};
 ghost use Rattle.pb_tool.specs.Pieces.{AnyCutting};
 

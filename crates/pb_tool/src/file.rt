@@ -10,7 +10,7 @@ ghost use Rattle.pb_tool.specs.Files.{IsVeri};
 ghost use Rattle.pb_tool.specs.Gathered.{IsGathered, IsNotGathered};
 ghost use Rattle.pb_tool.specs.Given.{OfGiven};
 ghost use Rattle.pb_tool.specs.Opening.{IsReadAs};
-ghost use Rattle.pb_tool.specs.Tidying.{IsNoOpbFile, IsOpb, IsOpbFile};
+ghost use Rattle.pb_tool.specs.Tidy.{IsNoOpbFile, IsOpb, IsOpbFile};
 ghost use Rattle.pb_tool.specs.Wants.{WantsInstance};
 ghost use Rattle.pb_tool.specs.declared.fault.Input.TheVariants.{File};
 

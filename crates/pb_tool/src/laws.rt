@@ -4,8 +4,8 @@ ghost use Rattle.std.specs.Prelude.{◌≡◌, ◌↔◌, ℕ, Bool, List};
 ghost use Rattle.pb_opb.specs.declared.Instance.{Instance};
 ghost use Rattle.pb_replay.specs.Problem.{Solves};
 ghost use Rattle.pb_tool.specs.Normalised.{IsNormalised};
-ghost use Rattle.pb_tool.specs.Staying.{HasNoFault, IsTakenForInstance, StaysAsIs};
-ghost use Rattle.pb_tool.specs.Staying.{IsTakenForProof, ProofHasNoFault, ProofStaysAsIs};
+ghost use Rattle.pb_tool.specs.Stays.{HasNoFault, IsTakenForInstance, StaysAsIs};
+ghost use Rattle.pb_tool.specs.Stays.{IsTakenForProof, ProofHasNoFault, ProofStaysAsIs};
 
 /// The normal form of an instance has exactly its solutions.
 pub fn normal_forms_keep_solutions()

@@ -8,7 +8,7 @@ ghost use Rattle.pb_replay.specs.Replay.{State, first_state};
 ghost use Rattle.pb_opb.specs.declared.Instance.{Instance as AnInstance};
 ghost use Rattle.pb_replay.specs.Kept.{StandsFor};
 ghost use Rattle.pb_tool.specs.Given.{ChecksGiven, OfGiven};
-ghost use Rattle.pb_tool.specs.Tidying.{IsOpbFile};
+ghost use Rattle.pb_tool.specs.Tidy.{IsOpbFile};
 ghost use Rattle.pb_tool.specs.Runs.{IsNoReplay, IsReplayOf, IsToldAs, Replays, Runs, faults_of_instance, faults_of_proof, faults_of_text};
 ghost use Rattle.pb_tool.specs.Verified.{ChecksFiles, IsTold};
 ghost use Rattle.pb_tool.specs.Wants.{IfInstanceStopped, IfProofStopped, IfTextStopped, WantsInstance, WantsSteps};

@@ -1,8 +1,8 @@
 use Rattle.std.proofs.Common.{ℕ, refl, ap, ◌∙◌}
 use Rattle.pb_text.specs.Pulling.{faults_with}
 use Rattle.pb_text.specs.ValueRead.{IsRead, ReadsValue}
-use Rattle.pb_tool.specs.Tidying.{IsOpb}
-use Rattle.pb_tool.specs.Tidying.IsRefused.{InText, InRest}
+use Rattle.pb_tool.specs.Tidy.{IsOpb}
+use Rattle.pb_tool.specs.Tidy.IsRefused.{InText, InRest}
 use Rattle.pb_opb.specs.Values.{IsValueOf}
 use Rattle.pb_tool.proofs.Given.{file_behind, given_file, given_stray}
 use Rattle.pb_tool.proofs.file.read_instance_file.Goals as goal

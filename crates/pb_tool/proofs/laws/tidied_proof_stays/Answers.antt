@@ -7,8 +7,8 @@ use Rattle.pb_proof.specs.Proofs.{IsProofOf}
 use Rattle.pb_text.specs.ValueRead.{IsRead}
 use Rattle.pb_text.specs.ValueRead.StopsIn.{Reading, Keeping}
 use Rattle.pb_tool.specs.Files.{tidied_proof, IsNoProofFile, IsVeri}
-use Rattle.pb_tool.specs.Staying.{IsOutside}
-use Rattle.pb_tool.specs.Tidying.IsRefused.{InText, InRest}
+use Rattle.pb_tool.specs.Stays.{IsOutside}
+use Rattle.pb_tool.specs.Tidy.IsRefused.{InText, InRest}
 use Rattle.pb_tool.proofs.Stays.{same_used, in_text, in_rest}
 use Rattle.pb_tool.proofs.laws.tidied_proof_stays.Goals as goal
 

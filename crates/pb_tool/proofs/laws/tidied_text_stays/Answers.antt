@@ -7,9 +7,9 @@ use Rattle.pb_opb.specs.Values.{IsValueOf}
 use Rattle.pb_text.specs.ValueRead.{IsRead}
 use Rattle.pb_text.specs.ValueRead.StopsIn.{Reading, Keeping}
 use Rattle.pb_opb.specs.declared.Instance.{Instance}
-use Rattle.pb_tool.specs.Staying.{IsOutside}
-use Rattle.pb_tool.specs.Tidying.{tidied, IsNoOpbFile, IsOpb}
-use Rattle.pb_tool.specs.Tidying.IsRefused.{InText, InRest}
+use Rattle.pb_tool.specs.Stays.{IsOutside}
+use Rattle.pb_tool.specs.Tidy.{tidied, IsNoOpbFile, IsOpb}
+use Rattle.pb_tool.specs.Tidy.IsRefused.{InText, InRest}
 use Rattle.pb_tool.proofs.Stays.{written, same_used, in_text, in_rest}
 use Rattle.pb_tool.proofs.laws.tidied_text_stays.Goals as goal
 

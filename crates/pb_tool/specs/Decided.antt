@@ -1,0 +1,68 @@
+-- Which answers of a check the bytes alone decide.
+use Rattle.std.specs.Prelude.{◌≡◌, ◌≢◌, ◌↔◌, ℕ, List, [], Option, Some, String, string_bytes, Result, Ok, Err}
+use Rattle.std.specs.declared.alloc.Global.{Global}
+use Rattle.pb_text.specs.declared.Limits.{Limits}
+use Rattle.pb_text.specs.declared.place.Why.{Why}
+use Rattle.pb_text.specs.declared.place.Why.TheVariants as why
+use Rattle.pb_opb.specs.declared.Instance.{Instance}
+use Rattle.pb_proof.specs.declared.Proof.{Proof}
+use Rattle.pb_replay.specs.declared.fault.Fault.TheVariants.{Memory as no_memory}
+use Rattle.pb_replay.specs.declared.verdict.Verdict.{Verdict}
+use Rattle.pb_tool.specs.Files.{IsProofFile}
+use Rattle.pb_tool.specs.Tidy.{IsOpbFile}
+use Rattle.pb_tool.specs.Verified.{ChecksFiles, IsVerified}
+use Rattle.pb_tool.specs.declared.fault.ToolFault.{ToolFault}
+use Rattle.pb_tool.specs.declared.fault.ToolFault.TheVariants.{Text, Open, Overflow, Memory, Write, Step}
+
+-- The text decides the stop, and not its reader or the memory.
+abbrev pub IsOfText : Why → Type 0
+IsOfText (why.Byte b) = Unit {0}
+IsOfText why.TooLarge = Unit {0}
+IsOfText why.Ended = Unit {0}
+IsOfText why.TooLong = Unit {0}
+IsOfText why.Read = ⊥
+IsOfText why.Memory = ⊥
+
+-- The bytes decide the answer: nothing failed to be opened, read or written, and memory did not run out.
+abbrev pub IsDecided : Result Verdict ToolFault → Type 0
+IsDecided (Ok w) = Unit {0}
+IsDecided (Err (Text input s)) = IsOfText s.why
+IsDecided (Err (Overflow input)) = Unit {0}
+IsDecided (Err (Step place e name)) = e ≢ no_memory
+IsDecided (Err (Open input)) = ⊥
+IsDecided (Err (Memory input)) = ⊥
+IsDecided (Err Write) = ⊥
+
+-- The other answer is the same. A name that they tell has the same bytes.
+abbrev pub IsSame : Result Verdict ToolFault → Result Verdict ToolFault → Type 0
+IsSame (Err (Step place e name)) other = (text : String Global) × (other ≡ Err (Step place e text)) × (string_bytes name ≡ string_bytes text)
+IsSame (Ok w) other = other ≡ Ok w
+IsSame (Err (Text input s)) other = other ≡ Err (Text input s)
+IsSame (Err (Overflow input)) other = other ≡ Err (Overflow input)
+IsSame (Err (Open input)) other = other ≡ Err (Open input)
+IsSame (Err (Memory input)) other = other ≡ Err (Memory input)
+IsSame (Err Write) other = other ≡ Err Write
+
+module _ (limits : Limits) (longest : ℕ) where
+  -- The first bytes are an instance and a blank rest, the second a proof and a blank rest, and the rules accept its
+  -- statements with the verdict.
+  pub record AreVerified (i p : List ℕ) (w : Verdict) : Type 0 where
+    pub instance : Instance
+    pub first : IsOpbFile limits longest (Some i) (Some []) instance
+    pub proof : Proof
+    pub second : IsProofFile limits longest (Some p) (Some []) proof
+    pub verified : IsVerified limits instance proof w
+
+module _ {W : Type 0} (contents : W → Option (List ℕ)) (faults : W → ℕ) where
+  -- Of what the bytes decide, a check answers a verdict exactly where they are verified with it.
+  abbrev pub AnswersExactly : Type 0
+  AnswersExactly = (limits : Limits) (longest : ℕ) (i p : List ℕ) (i' p' : Option (List ℕ)) (old new : W) (result : Result Verdict ToolFault) (w : Verdict) →
+      ChecksFiles limits longest contents faults (Some i) (Some p) old result i' p' new → IsDecided result →
+      (result ≡ Ok w) ↔ AreVerified limits longest i p w
+
+  -- Two checks of the same bytes, which these decide, answer the same.
+  abbrev pub OneAnswer : Type 0
+  OneAnswer = (limits : Limits) (longest : ℕ) (i p : List ℕ) (i' p' i'' p'' : Option (List ℕ)) (old new old' new' : W) (one other : Result Verdict ToolFault) →
+      ChecksFiles limits longest contents faults (Some i) (Some p) old one i' p' new → IsDecided one →
+      ChecksFiles limits longest contents faults (Some i) (Some p) old' other i'' p'' new' → IsDecided other →
+      IsSame one other

@@ -1,0 +1,147 @@
+//! `pb show`: the statements of a text, each with its place.
+
+ghost use Rattle.std.specs.Prelude.{◌≡◌, ◌<◌, ◌^◌, false, unwrap_or, IfSome};
+ghost use Rattle.pb_text.specs.Automaton.{Accepts, MayAsk};
+ghost use Rattle.pb_text.specs.Blank.{IsInReach};
+ghost use Rattle.pb_text.specs.Writing.{Writes};
+ghost use Rattle.pb_opb.specs.Canonical.{event_bytes};
+ghost use Rattle.pb_proof.specs.Canonical.{statement_bytes};
+ghost use Rattle.pb_tool.specs.Faults.{faults_told};
+ghost use Rattle.pb_tool.specs.Files.{IsVeri, ShowsFile};
+ghost use Rattle.pb_tool.specs.Given.{OfGiven, ShowsGiven};
+ghost use Rattle.pb_tool.specs.Show.{shown_line, EndsAt, Shows};
+ghost use Rattle.pb_tool.specs.Tidy.{IsOpb};
+ghost use Rattle.pb_tool.specs.Wants.{AsksOpb, AsksVeri, IfStopped, WantsEach, WantsShowing};
+
+use crate::canonical::Canonical;
+use crate::fault::{ToolFault, refused};
+use crate::file::{Format, format_of, unread_file};
+use pb_opb::OpbMachine;
+use pb_proof::ProofMachine;
+use pb_sums::write_place;
+use pb_text::{
+    BYTE_LIMIT, Failed, Feeder, Limits, Machine, Place, Sink, Source, Spanned, pull, rest_is_blank,
+    write_bytes,
+};
+use std::alloc::Global;
+
+/// Writes a line for each statement as soon as it is complete: the line and the column of its first byte, and its
+/// canonical spelling, as in `2:1 +1 x1 >= 1 ;`. A file whose first byte is `p` is read as a proof, and any other as
+/// an instance. Behind these only white space and comments may stand. Where the text is refused, the lines of all
+/// statements before that place went out.
+///
+/// `longest` is the most bytes of a statement, where there is such a limit.
+pub fn show<S: Source, W: Sink>(
+    alloc: Global,
+    input: &mut S,
+    out: &mut W,
+    longest: Option<u64>,
+    limits: Limits,
+) -> Result<(), ToolFault>
+    requires { IfSome longest (λ n. 0 < n) }
+    ensures shows { ShowsFile limits (unwrap_or longest (2 ^ 40)) W.contents W.faults (S.left input.old) out.old result (S.left input.new) out.new }
+    // Of any source, a file too: the answer is right for the bytes that its calls have given.
+    ensures given { ShowsGiven limits (unwrap_or longest (2 ^ 40)) W.contents W.faults (S.history input.old) out.old result (S.history input.new) out.new }
+    // Memory runs out only at a byte that may ask for some.
+    ensures memory { IfStopped result (WantsShowing limits (unwrap_or longest (2 ^ 40)) (S.left input.old) (S.left input.new)) }
+    // `Read` comes only where the source failed.
+    ensures faults { S.faults input.new ≡ faults_told result (S.faults input.old) }
+{
+    let longest = longest.unwrap_or(BYTE_LIMIT);
+    match format_of(input) {
+        Ok(Format::Proof) => show_proof(alloc, input, out, longest, limits),
+        Ok(Format::Instance) => show_instance(alloc, input, out, longest, limits),
+        Err(Failed) => Err(unread_file(alloc, limits)),
+    }
+}
+
+/// The same for a proof.
+fn show_proof<S: Source, W: Sink>(
+    alloc: Global,
+    input: &mut S,
+    out: &mut W,
+    longest: u64,
+    limits: Limits,
+) -> Result<(), ToolFault>
+    requires { 0 < longest }
+    ensures shows { Shows (IsVeri limits) longest statement_bytes W.contents W.faults (S.left input.old) out.old result (S.left input.new) out.new }
+    ensures given { OfGiven (λ left rest. Shows (IsVeri limits) longest statement_bytes W.contents W.faults left out.old result rest out.new) (S.history input.old) (S.history input.new) }
+    ensures memory { IfStopped result (WantsEach (IsVeri limits) longest (AsksVeri limits) (S.left input.old) (S.left input.new)) }
+    ensures faults { S.faults input.new ≡ faults_told result (S.faults input.old) }
+{
+    show_each(ProofMachine::new(alloc, limits), longest, input, out)
+}
+
+/// The same for an instance.
+fn show_instance<S: Source, W: Sink>(
+    alloc: Global,
+    input: &mut S,
+    out: &mut W,
+    longest: u64,
+    limits: Limits,
+) -> Result<(), ToolFault>
+    requires { 0 < longest }
+    ensures shows { Shows (IsOpb limits) longest event_bytes W.contents W.faults (S.left input.old) out.old result (S.left input.new) out.new }
+    ensures given { OfGiven (λ left rest. Shows (IsOpb limits) longest event_bytes W.contents W.faults left out.old result rest out.new) (S.history input.old) (S.history input.new) }
+    ensures memory { IfStopped result (WantsEach (IsOpb limits) longest (AsksOpb limits) (S.left input.old) (S.left input.new)) }
+    ensures faults { S.faults input.new ≡ faults_told result (S.faults input.old) }
+{
+    show_each(OpbMachine::new(alloc, limits), longest, input, out)
+}
+
+/// The same for what a machine reads.
+fn show_each<S: Source, W: Sink, E: Canonical + Drop, M: Machine<Event = E> + Drop>(
+    machine: M,
+    longest: u64,
+    input: &mut S,
+    out: &mut W,
+) -> Result<(), ToolFault>
+    requires between { M.automaton.begun machine ≡ false }
+    requires some { 0 < longest }
+    ensures shows { Shows (Accepts M.automaton machine) longest E.text W.contents W.faults (S.left input.old) out.old result (S.left input.new) out.new }
+    ensures given { OfGiven (λ left rest. Shows (Accepts M.automaton machine) longest E.text W.contents W.faults left out.old result rest out.new) (S.history input.old) (S.history input.new) }
+    ensures memory { IfStopped result (WantsEach (Accepts M.automaton machine) longest (MayAsk M.automaton machine) (S.left input.old) (S.left input.new)) }
+    ensures faults { S.faults input.new ≡ faults_told result (S.faults input.old) }
+{
+    let mut feeder = Feeder::within(machine, longest);
+    loop {
+        match pull(input, &mut feeder) {
+            Ok(Some(read)) => match show_one(read, out) {
+                Ok(()) => {}
+                Err(Failed) => return Err(ToolFault::Write),
+            },
+            Ok(None) => break,
+            Err(stop) => return Err(refused(stop)),
+        }
+    }
+    end_of(input, feeder.place())
+}
+
+/// Reads the rest of an input, in which only white space and comments may stand.
+fn end_of<S: Source>(input: &mut S, place: Place) -> Result<(), ToolFault>
+    requires { IsInReach place }
+    ensures ends { EndsAt place (S.left input.old) result (S.left input.new) }
+    ensures given { OfGiven (λ left rest. EndsAt place left result rest) (S.history input.old) (S.history input.new) }
+    ensures faults { S.faults input.new ≡ faults_told result (S.faults input.old) }
+{
+    match rest_is_blank(input, place) {
+        Ok(()) => Ok(()),
+        Err(stop) => Err(refused(stop)),
+    }
+}
+
+/// Writes the line of a statement, which nothing wants any more.
+fn show_one<W: Sink, E: Canonical + Drop>(read: Spanned<E>, out: &mut W) -> Result<(), Failed>
+    ensures { Writes W.contents W.faults out.old (shown_line E.text read) result out.new }
+{
+    write_shown(&read, out)
+}
+
+/// Writes the line of a statement.
+fn write_shown<W: Sink, E: Canonical>(read: &Spanned<E>, out: &mut W) -> Result<(), Failed>
+    ensures { Writes W.contents W.faults out.old (shown_line E.text read.now) result out.new }
+{
+    write_place(read.first, out)?;
+    read.event.write_text(out)?;
+    write_bytes(b"\n", out)
+}
