@@ -269,8 +269,15 @@ fn step_by(replay: &mut Replay, read: &Spanned<Statement>) -> Result<(), CheckFa
 {
     match replay.step(&read.event) {
         Ok(()) => Ok(()),
-        Err(fault) => Err(CheckFault::Step(read.first, fault)),
+        Err(fault) => Err(refused_at(read, fault)),
     }
+}
+
+/// The fault of a statement that was refused, at its first byte.
+fn refused_at(read: &Spanned<Statement>, fault: Fault) -> CheckFault
+    ensures { result ≡ CheckFault.Step read.now.first fault }
+{
+    CheckFault::Step(read.first, fault)
 }
 
 /// A feeder that stands to the text of a proof has read it.

@@ -38,7 +38,7 @@ fn write_refusal<S: Sink>(fault: Fault, name: &str, out: &mut S) -> Result<(), F
         Fault::NoSuchId(id) => write_no_such_id(id, out),
         Fault::NotImplied => write_bytes(b"not implied", out),
         Fault::Conflict => write_bytes(b"conflict", out),
-        Fault::NotTotal(_) => write_parts(&[b"no value for ", name.as_bytes()], out),
+        Fault::NotTotal(_) => write_no_value(name, out),
         Fault::Violates(id) => write_violates(id, out),
         Fault::NoObjective => write_bytes(b"no objective", out),
         Fault::NotContradiction => write_bytes(b"not a contradiction", out),
@@ -72,6 +72,13 @@ fn write_no_such_id<S: Sink>(id: i64, out: &mut S) -> Result<(), Failed>
 {
     let mut buffer = Buffer::new();
     write_parts(&[b"no such id ", buffer.format(id).as_bytes()], out)
+}
+
+/// The name that has no value.
+fn write_no_value<S: Sink>(name: &str, out: &mut S) -> Result<(), Failed>
+    ensures { Writes S.contents S.faults out.old (codes "no value for " ++ name.now) result out.new }
+{
+    write_parts(&[b"no value for ", name.as_bytes()], out)
 }
 
 /// The id of the constraint that fails.

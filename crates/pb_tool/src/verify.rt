@@ -164,10 +164,8 @@ fn replayed<S: Source>(
 fn in_proof(stop: Stop) -> ToolFault
     ensures { result ≡ ToolFault.Text (Input.Proof) stop }
 {
-    ToolFault::Text {
-        input: Input::Proof,
-        stop,
-    }
+    let input = Input::Proof;
+    ToolFault::Text { input, stop }
 }
 
 /// The fault of a statement that was refused, with a copy of the name that it tells by its number. Where there is no
