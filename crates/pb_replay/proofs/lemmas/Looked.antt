@@ -1,6 +1,6 @@
 -- The looks of a `rup`
 use Rattle.std.specs.Prelude.{Result, Ok, Err, Option, sum_by}
-use Rattle.std.proofs.Common.{◌≡◌, ◌⊎◌, ℕ, ◌+◌, ◌*◌, ◌≤◌, List, [], length, refl, sym, ◌∙◌, ap, arith, inl, inr, subst}
+use Rattle.std.proofs.Common.{◌≡◌, ◌⊎◌, ℕ, Bool, true, false, ◌+◌, ◌*◌, ◌≤◌, List, [], length, refl, sym, ◌∙◌, ap, arith, inl, inr, subst}
 use Rattle.pb_text.specs.Limits.{top_of}
 use Rattle.pb_sums.specs.declared.Linear.{Linear}
 use Rattle.pb_normal.specs.declared.Side.TheVariants.{AtLeast as least}
@@ -99,3 +99,24 @@ module _ (linear : Linear) (mid live : List (Option Form)) (names new : List (Li
     where
       other : (e : Fault) → result ≡ Err e → (e ≡ Order) ⊎ ((e ≡ Overflow) ⊎ (e ≡ NotImplied)) → ⊥
       other e h = neither e (inl (err-same (sym h ∙ memory)))
+
+  pub looks-judged : (old after : Running) (result : Result Unit Fault) (implied : Bool) → (implied ≡ true → (form.degree ≡ 0) ⊎ ((m : MeetsConflict (With (Live mid) (negation_of form)) []) × (length m.list ≤ count)))
+      → (implied ≡ false → (list : List NumberedLiteral) × IsCompletion (With (Live mid) (negation_of form)) [] list × (length list ≤ count)) → (implied ≡ true → Adding old form result after) → (implied ≡ false → result ≡ Err NotImplied)
+      → Looks live (with_names names (names_of linear.terms)) linear result visits
+  looks-judged old after result true met done adding refused = looks-implied old after result (met refl) (adding refl)
+  looks-judged old after result false met done adding refused =
+      subst (λ (r : Result Unit Fault). Looks live (with_names names (names_of linear.terms)) linear r visits) (sym (refused refl)) (looks-not (done refl))
+
+-- no form was made
+pub looks-none : (linear : Linear) (live : List (Option Form)) (names : List (List ℕ)) {P : Type 0} (e : Fault) (result : Result Unit Fault) (visits : ℕ) → result ≡ Err e → visits ≡ 0 → (e ≡ Memory) ⊎ ((e ≡ Overflow) × P) → Looks live names linear result visits
+looks-none linear live names e result visits same none bad = record {
+  few = λ goal h. omega (arith, none);
+  conflict = λ h goal k. ok-err (sym h ∙ same);
+  completion = λ h goal k. absurd (other (err-same (sym same ∙ h)) bad);
+  unasked = λ goal h zero. none;
+  refused = λ h. none;
+}
+  where
+    other : {P : Type 0} → e ≡ NotImplied → (e ≡ Memory) ⊎ ((e ≡ Overflow) × P) → ⊥
+    other h (inl k) = let bad = sym h ∙ k in cc
+    other h (inr k) = let bad = sym h ∙ k.0 in cc

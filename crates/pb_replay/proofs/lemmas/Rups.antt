@@ -1,6 +1,6 @@
 -- `rup`, and what stays
 use Rattle.std.specs.Prelude.{Result, Ok, Err, OnErr, ◌↔◌, take}
-use Rattle.std.proofs.Common.{◌≡◌, ℕ, ◌<◌, ◌≤◌, List, refl, sym, ◌∙◌, ap, inl, inr, ◌++◌, append_assoc, Bool, true, false, rules, IsTrue}
+use Rattle.std.proofs.Common.{◌≡◌, ◌⊎◌, ℕ, ◌<◌, ◌≤◌, List, refl, sym, ◌∙◌, ap, inl, inr, ◌++◌, append_assoc, Bool, true, false, rules, IsTrue}
 use Rattle.std.proofs.lemmas.Bool.{cases_lt}
 use Rattle.pb_text.specs.Limits.{largest, top_of}
 use Rattle.pb_sums.specs.declared.Linear.{Linear}
@@ -17,7 +17,7 @@ use Rattle.pb_normal.specs.Names.{AfterFront, with_names}
 use Rattle.pb_normal.specs.Written.{names_of, IsSideOf}
 use Rattle.pb_normal.proofs.Appearing.{front}
 use Rattle.pb_replay.specs.declared.fault.Fault.{Fault}
-use Rattle.pb_replay.specs.declared.fault.Fault.TheVariants.{NotImplied, Order}
+use Rattle.pb_replay.specs.declared.fault.Fault.TheVariants.{Memory, NotImplied, Order, Overflow}
 use Rattle.std.specs.Prelude.{Option, Some}
 use Rattle.std.proofs.Common.{subst, map, length}
 use Rattle.pb_text.specs.declared.Limits.{Limits}
@@ -78,6 +78,21 @@ module _ (old : Running) (linear : Linear) (names : List (List ℕ)) (form : For
 
   pub rup_refused : (new : Running) → (IsRup (Live old.engine.forms) form → ⊥) → Goes old (Rup linear) (Err NotImplied) new
   rup_refused new none = goes-err old new (Rup linear) NotImplied (λ logged. inl (fits, (form, over, inr (none, refl))))
+
+  pub rup_judged : (middle : Running) (result : Result Unit Fault) (new : Running) → middle.names ≡ names → middle.engine.forms ≡ old.engine.forms → middle.limits ≡ old.limits → middle.next ≡ old.next → middle.concluded ≡ old.concluded → new.best ≡ old.best
+      → (implied : Bool) → (implied ≡ true → IsRup (Live old.engine.forms) form) → (implied ≡ false → IsRup (Live old.engine.forms) form → ⊥)
+      → (implied ≡ true → Adding middle form result new) → (implied ≡ false → result ≡ Err NotImplied) → Goes old (Rup linear) result new
+  rup_judged middle result new e f l n c b true is none adding refused = rup_added middle result new e f l n c b (is refl) (adding refl)
+  rup_judged middle result new e f l n c b false is none adding refused =
+      subst (λ (r : Result Unit Fault). Goes old (Rup linear) r new) (sym (refused refl)) (rup_refused new (none refl))
+
+-- no form was made
+pub rup_unmade : (old : Running) (linear : Linear) (e : Fault) (new : Running) (result : Result Unit Fault) → result ≡ Err e → (e ≡ Memory) ⊎ ((e ≡ Overflow) × (Fits (largest old.limits) linear → ⊥)) → Goes old (Rup linear) result new
+rup_unmade old linear e new (Ok u) same bad = absurd cc
+rup_unmade old linear e new (Err d) same (inl memory) = let is : d ≡ Memory = cc in inl is
+rup_unmade old linear e new (Err d) same (inr (is, none)) =
+    let over : d ≡ Overflow = cc in
+    goes-err old new (Rup linear) d (λ logged. inr (none, let to : Fault → Result State Fault = λ x. Err x in ap to over))
 
 -- names that appeared stand behind the others
 pub front_after : (old new others : List (List ℕ)) → new ≡ with_names old others → IsFront old new

@@ -1,10 +1,16 @@
 //! `rup`.
 
-ghost use Rattle.std.specs.Prelude.{◌≡◌, OnOk};
+ghost use Rattle.std.specs.Prelude.{◌≡◌, ◌≤◌, ◌⊎◌, List, [], length, true, false, OnOk, IfOk, IfErr, Err};
+ghost use Rattle.pb_text.specs.Limits.{largest};
+ghost use Rattle.pb_normal.specs.Constraints.{Fits};
 ghost use Rattle.pb_normal.specs.Names.{with_names};
-ghost use Rattle.pb_normal.specs.Written.{names_of};
-ghost use Rattle.pb_replay.specs.Kept.{Keeps, Goes, IsLinked, IsReady};
-ghost use Rattle.pb_replay.specs.Visits.{Looks};
+ghost use Rattle.pb_normal.specs.Rules.{negation_of};
+ghost use Rattle.pb_normal.specs.Written.{names_of, IsSideOf};
+ghost use Rattle.pb_replay.specs.declared.numbered.NumberedLiteral.{NumberedLiteral};
+ghost use Rattle.pb_replay.specs.Engine.Live.{Live};
+ghost use Rattle.pb_replay.specs.Propagation.{IsCompletion, IsRup, MeetsConflict, With};
+ghost use Rattle.pb_replay.specs.Kept.{Adding, Keeps, Goes, HasNamed, IsInside, IsLinked, IsReady};
+ghost use Rattle.pb_replay.specs.Visits.{IsFew, Looks};
 
 use crate::fault::Fault;
 use crate::state::Running;
@@ -14,14 +20,17 @@ use pb_proof::Statement;
 use pb_sums::Linear;
 use std::alloc::AllocError;
 
-/// `rup`: a constraint that propagation implies is added.
-pub(crate) fn rup(running: &mut Running, linear: &Linear) -> Result<(), Fault>
-    requires ready { IsReady running.old }
-    requires visits { running.old.visits ≡ 0 }
-    ensures goes { Goes running.old (Statement.Rup linear.now) result running.new }
+/// The form of a written constraint, once its names have numbers.
+fn entered(running: &mut Running, linear: &Linear) -> Result<Normal, Fault>
+    requires { IsLinked running.old }
+    ensures fits { OnOk result (Fits (largest running.old.limits) linear.now) }
+    ensures form { IfOk result (λ r. IsSideOf running.new.names Side.AtLeast linear.now r) }
+    ensures inside { IfOk result (λ r. IsInside (length running.new.names) r) }
+    ensures err { IfErr result (λ e. (e ≡ Fault.Memory) ⊎ ((e ≡ Fault.Overflow) × (Fits (largest running.old.limits) linear.now → ⊥))) }
+    ensures named { OnOk result (HasNamed (names_of linear.now.terms) running.old running.new) }
     ensures linked { OnOk result (IsLinked running.new) }
     ensures kept { Keeps running.old running.new }
-    ensures looks { Looks running.old.engine.forms (with_names running.old.names (names_of linear.now.terms)) linear.now result running.new.visits }
+    ensures visits { running.new.visits ≡ running.old.visits }
 {
     let before = running.names.len();
     let form = Normal::from_linear(
@@ -32,12 +41,58 @@ pub(crate) fn rup(running: &mut Running, linear: &Linear) -> Result<(), Fault>
         running.limits,
     )?;
     widen(&mut running.engine, before, running.names.len())?;
-    let found = running.engine.rup(&form);
+    Ok(form)
+}
+
+/// Whether propagation implies the form. Its looks are counted.
+fn is_implied(running: &mut Running, form: &Normal) -> Result<bool, Fault>
+    requires linked { IsLinked running.old }
+    requires inside { IsInside (length running.old.names) form.now }
+    ensures implied { IfOk result (λ found. found ≡ true → IsRup (Live running.old.engine.forms) form.now) }
+    ensures not_implied { IfOk result (λ found. found ≡ false → IsRup (Live running.old.engine.forms) form.now → ⊥) }
+    ensures few { IsFew running.old.engine.forms form.now running.new.visits }
+    ensures unasked { form.now.degree ≡ 0 → running.new.visits ≡ 0 }
+    ensures conflict { IfOk result (λ found. found ≡ true → (form.now.degree ≡ 0) ⊎ ((m : MeetsConflict (With (Live running.old.engine.forms) (negation_of form.now)) []) × (length m.list ≤ running.new.visits))) }
+    ensures completion { IfOk result (λ found. found ≡ false → (list : List NumberedLiteral) × IsCompletion (With (Live running.old.engine.forms) (negation_of form.now)) [] list × (length list ≤ running.new.visits)) }
+    ensures err { IfErr result (λ e. e ≡ Fault.Memory) }
+    ensures same { OnOk result (HasNamed [] running.old running.new) }
+    ensures linked { OnOk result (IsLinked running.new) }
+    ensures kept { Keeps running.old running.new }
+{
+    let found = running.engine.rup(form);
     running.visits = running.engine.visits();
     let implied = found?;
+    Ok(implied)
+}
+
+/// A form that is implied is added, and any other refused.
+fn judge(running: &mut Running, form: Normal, implied: bool) -> Result<(), Fault>
+    requires linked { IsLinked running.old }
+    requires inside { IsInside (length running.old.names) form }
+    ensures added { implied ≡ true → Adding running.old form result running.new }
+    ensures refused { implied ≡ false → result ≡ Err Fault.NotImplied }
+    ensures best { running.new.best ≡ running.old.best }
+    ensures linked { OnOk result (IsLinked running.new) }
+    ensures kept { Keeps running.old running.new }
+    ensures visits { running.new.visits ≡ running.old.visits }
+{
     if implied {
         add(running, form)
     } else {
         Err(Fault::NotImplied)
     }
+}
+
+/// `rup`: a constraint that propagation implies is added.
+pub(crate) fn rup(running: &mut Running, linear: &Linear) -> Result<(), Fault>
+    requires ready { IsReady running.old }
+    requires visits { running.old.visits ≡ 0 }
+    ensures goes { Goes running.old (Statement.Rup linear.now) result running.new }
+    ensures linked { OnOk result (IsLinked running.new) }
+    ensures kept { Keeps running.old running.new }
+    ensures looks { Looks running.old.engine.forms (with_names running.old.names (names_of linear.now.terms)) linear.now result running.new.visits }
+{
+    let form = entered(running, linear)?;
+    let implied = is_implied(running, &form)?;
+    judge(running, form, implied)
 }
