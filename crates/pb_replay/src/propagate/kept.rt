@@ -28,3 +28,11 @@ pub struct Kept {
     pub ghost busy: { eager ≡ true → 0 < degree + length (terms_of terms) },
     pub ghost alike: { even ≡ true → (i : ℕ) (d : Term) → i < length (terms_of terms) → (slice_index_or (terms_of terms) i d).coefficient + degree ≡ bound },
 }
+
+/// Whether an open sum is below what is asked of it.
+pub fn is_below(opened: u128, asked: u128) -> bool
+    ensures below { result ≡ true → opened < asked }
+    ensures above { result ≡ false → asked ≤ opened }
+{
+    opened < asked
+}

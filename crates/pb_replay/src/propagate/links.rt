@@ -13,7 +13,7 @@ ghost use Rattle.pb_replay.specs.Engine.Links.{IsLinked, Moved, cut, terms_at};
 
 use crate::numbered::NumberedLiteral;
 use crate::propagate::falling::Falling;
-use crate::propagate::kept::Kept;
+use crate::propagate::kept::{Kept, is_below};
 use crate::propagate::run::{Run, place_of};
 use crate::propagate::store::Store;
 use crate::propagate::term::Occurrence;
@@ -48,14 +48,6 @@ fn is_even(terms: &Falling) -> bool
     let largest = terms.term(0);
     let least = terms.term(last);
     largest.coefficient == least.coefficient
-}
-
-// Whether an open sum is below a form's bound.
-fn is_below(total: u128, bound: u128) -> bool
-    ensures below { result ≡ true → total < bound }
-    ensures above { result ≡ false → bound ≤ total }
-{
-    total < bound
 }
 
 // A form as the engine keeps it.

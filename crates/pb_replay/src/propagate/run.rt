@@ -12,7 +12,7 @@ ghost use Rattle.pb_replay.specs.Engine.Terms.{terms_of};
 
 use crate::numbered::NumberedLiteral;
 use crate::propagate::assignment::Assignment;
-use crate::propagate::kept::Kept;
+use crate::propagate::kept::{Kept, is_below};
 use crate::propagate::store::{Store, visit, visit_term};
 use crate::propagate::term::Occurrence;
 use std::alloc::AllocError;
@@ -192,7 +192,8 @@ fn look(store: &Store, run: &mut Run, form: usize, waiting: &[usize]) -> Result<
     let kept = &store.kept[form];
     'terms: loop {
         let opened = run.opens[form];
-        if opened < kept.degree {
+        let falsified = is_below(opened, kept.degree);
+        if falsified {
             return Ok(true);
         }
         let candidate = run.candidates[form];
@@ -200,7 +201,8 @@ fn look(store: &Store, run: &mut Run, form: usize, waiting: &[usize]) -> Result<
             return Ok(false);
         }
         let term = visit_term(&kept.terms, candidate, &mut run.visits);
-        if kept.degree + term.coefficient <= opened {
+        let demands = is_below(opened, kept.degree + term.coefficient);
+        if !demands {
             return Ok(false);
         }
         try_put(store, run, term.literal)?;

@@ -21,15 +21,15 @@ terms-init c =
           (c.requires.opens ∙ sym (length-map store.kept.items kept_shape)) (c.requires.candidates ∙ sym (length-map store.kept.items kept_shape)) c.requires.next;
     }
 
-pub returns-then-opened-kept-clause-conflict : goal.returns-then-opened-kept-clause-conflict
-returns-then-opened-kept-clause-conflict c = λ found.
+pub returns-then-falsified-clause-conflict : goal.returns-then-falsified-clause-conflict
+returns-then-falsified-clause-conflict c = λ found.
     let store = c.args.store.now in
     let run = c.terms.run in
     let sizes = length-map store.kept.items kept_shape in
     let inside : c.args.form < length (shapes_of store.kept.items) = omega (arith, sizes, c.requires.form) in
     let room : c.args.form < length run.opens.items = omega (arith, c.terms.invariant.looking.open_sizes, inside) in
     let read = get_or_read run.opens.items c.args.form c.index-opened.result.now room c.index-opened.ensures 0 in
-    let low : get_or run.opens.items c.args.form 0 < c.index-kept.result.now.degree = omega (arith, read, c.if-opened-kept.true) in
+    let low : get_or run.opens.items c.args.form 0 < c.index-kept.result.now.degree = omega (arith, read, c.is_below-falsified.ensures.below c.if-falsified.true) in
     Looking-conflict (shapes_of store.kept.items) run.opens.items run.assignment.list.items c.args.form (kept_shape c.index-kept.result.now) inside
     (shape-at store.kept.items c.args.form c.index-kept.result.now c.requires.form c.index-kept.ensures) c.terms.invariant.looking.counted low
 
@@ -41,21 +41,21 @@ returns-then-candidate-len-clause-tidy c = λ found.
     let sizes = length-map store.kept.items kept_shape in
     let room : c.args.form < length run.opens.items = omega (arith, c.terms.invariant.looking.open_sizes, sizes, c.requires.form) in
     let roomc : c.args.form < length run.candidates.items = omega (arith, c.terms.invariant.looking.candidate_sizes, sizes, c.requires.form) in
-    let calm = calm-by c.index-kept.result.now run.opens.items run.candidates.items c.args.form c.index-opened.result.now c.index-candidate.result.now room roomc c.index-opened.ensures c.index-candidate.ensures c.if-opened-kept.false
+    let calm = calm-by c.index-kept.result.now run.opens.items run.candidates.items c.args.form c.index-opened.result.now c.index-candidate.result.now room roomc c.index-opened.ensures c.index-candidate.ensures (c.is_below-falsified.ensures.above c.if-falsified.false)
     (λ d less. absurd (omega (arith, less, c.len.ensures, c.if-candidate-len.true))) in
     Looking-settled_by (filter (waits store.kept.items) c.args.waiting.now) (shapes_of store.kept.items) (entries_of (shapes_of store.kept.items) store.occurrences.items) c.args.form start.assignment.list.items start.candidates.items start.work.items start.visits run.opens.items run.candidates.items run.assignment.list.items run.work.items run.trail.items run.next run.visits (kept_shape c.index-kept.result.now) (length store.kept.items) sizes
     (shape-at store.kept.items c.args.form c.index-kept.result.now c.requires.form c.index-kept.ensures) calm c.terms.invariant.looking
 
-pub returns-then-kept-term-clause-tidy : goal.returns-then-kept-term-clause-tidy
-returns-then-kept-term-clause-tidy c = λ found.
+pub returns-then-not-demands-clause-tidy : goal.returns-then-not-demands-clause-tidy
+returns-then-not-demands-clause-tidy c = λ found.
     let store = c.args.store.now in
     let run = c.terms.run in
     let start = c.args.run.now in
     let sizes = length-map store.kept.items kept_shape in
     let room : c.args.form < length run.opens.items = omega (arith, c.terms.invariant.looking.open_sizes, sizes, c.requires.form) in
     let roomc : c.args.form < length run.candidates.items = omega (arith, c.terms.invariant.looking.candidate_sizes, sizes, c.requires.form) in
-    let calm = calm-by c.index-kept.result.now run.opens.items run.candidates.items c.args.form c.index-opened.result.now c.index-candidate.result.now room roomc c.index-opened.ensures c.index-candidate.ensures c.if-opened-kept.false
-    (waiting-by c.index-kept.result.now (terms_of c.index-kept.result.now.terms) c.index-opened.result.now c.index-candidate.result.now c.visit_term-term.result refl (c.visit_term-term.ensures.item c.visit_term-term.result) c.if-kept-term.true) in
+    let calm = calm-by c.index-kept.result.now run.opens.items run.candidates.items c.args.form c.index-opened.result.now c.index-candidate.result.now room roomc c.index-opened.ensures c.index-candidate.ensures (c.is_below-falsified.ensures.above c.if-falsified.false)
+    (waiting-by c.index-kept.result.now (terms_of c.index-kept.result.now.terms) c.index-opened.result.now c.index-candidate.result.now c.visit_term-term.result refl (c.visit_term-term.ensures.item c.visit_term-term.result) (c.is_below-demands.ensures.above c.if-not-demands.true)) in
     Looking-settled_by (filter (waits store.kept.items) c.args.waiting.now) (shapes_of store.kept.items) (entries_of (shapes_of store.kept.items) store.occurrences.items) c.args.form start.assignment.list.items start.candidates.items start.work.items start.visits run.opens.items run.candidates.items run.assignment.list.items run.work.items run.trail.items run.next run.visits (kept_shape c.index-kept.result.now) (length store.kept.items) sizes
     (shape-at store.kept.items c.args.form c.index-kept.result.now c.requires.form c.index-kept.ensures) calm c.terms.invariant.looking
 
@@ -80,18 +80,18 @@ terms-preserved c =
           done.opens.items done.candidates.items (set done.candidates.items c.args.form (c.index-candidate.result.now + 1)) done.assignment.list.items done.work.items done.trail.items done.next done.visits
           c.index-kept.result.now (terms_of c.index-kept.result.now.terms) c.index-opened.result.now c.index-candidate.result.now c.visit_term-term.result
           c.requires.form c.index-kept.ensures c.index-opened.ensures c.index-candidate.ensures refl (omega (arith, c.if-candidate-len.false, c.len.ensures)) (c.visit_term-term.ensures.item c.visit_term-term.result)
-          c.visit_term-term.ensures.count c.visit_term-term.ensures.rising c.if-kept-term.false
+          c.visit_term-term.ensures.count c.visit_term-term.ensures.rising (c.is_below-demands.ensures.below c.if-not-demands.false)
           (ap (λ (v : Vec ℕ Global). v.items) told.candidates) told.next told.adopted told.counted (told.tidy (filter (waits store.kept.items) c.args.waiting.now)) told.paid told.kept_work told.longer_work told.opens refl c.terms.invariant.looking;
     }
 
-pub returns-then-opened-kept-clause-bounded : goal.returns-then-opened-kept-clause-bounded
-returns-then-opened-kept-clause-bounded c = sum-bounded (shapes_of c.args.store.now.kept.items) c.terms.run.candidates.items c.terms.invariant.looking.candidate_sizes c.terms.invariant.looking.tidy.bounded
+pub returns-then-falsified-clause-bounded : goal.returns-then-falsified-clause-bounded
+returns-then-falsified-clause-bounded c = sum-bounded (shapes_of c.args.store.now.kept.items) c.terms.run.candidates.items c.terms.invariant.looking.candidate_sizes c.terms.invariant.looking.tidy.bounded
 
 pub returns-then-candidate-len-clause-bounded : goal.returns-then-candidate-len-clause-bounded
 returns-then-candidate-len-clause-bounded c = sum-bounded (shapes_of c.args.store.now.kept.items) c.terms.run.candidates.items c.terms.invariant.looking.candidate_sizes c.terms.invariant.looking.tidy.bounded
 
-pub returns-then-kept-term-clause-bounded : goal.returns-then-kept-term-clause-bounded
-returns-then-kept-term-clause-bounded c = sum-bounded (shapes_of c.args.store.now.kept.items) c.terms.run.candidates.items c.terms.invariant.looking.candidate_sizes c.terms.invariant.looking.tidy.bounded
+pub returns-then-not-demands-clause-bounded : goal.returns-then-not-demands-clause-bounded
+returns-then-not-demands-clause-bounded c = sum-bounded (shapes_of c.args.store.now.kept.items) c.terms.run.candidates.items c.terms.invariant.looking.candidate_sizes c.terms.invariant.looking.tidy.bounded
 
 pub try_put-requires-clause-inside : goal.try_put-requires-clause-inside
 try_put-requires-clause-inside c =
@@ -99,14 +99,14 @@ try_put-requires-clause-inside c =
     term-inside store.kept.items store.variables c.args.form c.index-kept.result.now (terms_of c.index-kept.result.now.terms) c.index-candidate.result.now c.visit_term-term.result c.requires.form c.index-kept.ensures refl
     (omega (arith, c.if-candidate-len.false, c.len.ensures)) (c.visit_term-term.ensures.item c.visit_term-term.result) c.requires.store.inside
 
-pub returns-then-opened-kept-clause-single : goal.returns-then-opened-kept-clause-single
-returns-then-opened-kept-clause-single c = λ s. derivation-single (shapes_of c.args.store.now.kept.items) _ _ s c.terms.invariant.looking.derived
+pub returns-then-falsified-clause-single : goal.returns-then-falsified-clause-single
+returns-then-falsified-clause-single c = λ s. derivation-single (shapes_of c.args.store.now.kept.items) _ _ s c.terms.invariant.looking.derived
 
 pub returns-then-candidate-len-clause-single : goal.returns-then-candidate-len-clause-single
 returns-then-candidate-len-clause-single c = λ s. derivation-single (shapes_of c.args.store.now.kept.items) _ _ s c.terms.invariant.looking.derived
 
-pub returns-then-kept-term-clause-single : goal.returns-then-kept-term-clause-single
-returns-then-kept-term-clause-single c = λ s. derivation-single (shapes_of c.args.store.now.kept.items) _ _ s c.terms.invariant.looking.derived
+pub returns-then-not-demands-clause-single : goal.returns-then-not-demands-clause-single
+returns-then-not-demands-clause-single c = λ s. derivation-single (shapes_of c.args.store.now.kept.items) _ _ s c.terms.invariant.looking.derived
 
 pub returns-in_err-try_put-clause-single : goal.returns-in_err-try_put-clause-single
 returns-in_err-try_put-clause-single c = λ s. c.try_put.ensures.single (derivation-single (shapes_of c.args.store.now.kept.items) _ _ s c.terms.invariant.looking.derived)
