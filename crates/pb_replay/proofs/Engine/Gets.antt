@@ -1,5 +1,5 @@
 -- What stands at a place of a list.
-use Rattle.std.specs.Prelude.{Some, None, slice_get}
+use Rattle.std.specs.Prelude.{Option, Some, None, slice_get, map}
 use Rattle.std.proofs.Common.{◌≡◌, ℕ, zero, suc, ◌+◌, ◌<◌, ◌≤◌, ◌++◌, ◌∷◌, [], List, refl, sym, ◌∙◌, ap, arith, inl, inr, length, get_or, take, set}
 use Rattle.std.proofs.lemmas.Bool.{cases_lt}
 
@@ -83,3 +83,8 @@ not_last (x ∷ xs) y z d (suc k) n = not_last xs y z d k (λ e. n (up k (length
   where
     up : (a b : ℕ) → a ≡ b → suc a ≡ suc b
     up a b e = ap suc e
+
+pub get-map : {X Y : Type 0} (f : X → Y) (xs : List X) (i : ℕ) (x : X) → i < length xs → x ≡ get_or xs i x → slice_get (map f xs) i ≡ Some (f x)
+get-map f [] i x h e = absurd (omega (arith, h))
+get-map {Y = Y} f (y ∷ xs) zero x h e = ap (λ v. let o : Option Y = Some (f v) in o) (sym e)
+get-map f (y ∷ xs) (suc i) x h e = get-map f xs i x (omega (arith, h)) e

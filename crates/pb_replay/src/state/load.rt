@@ -103,6 +103,21 @@ pub(crate) fn open(
     if !fits_all(instance, limits) {
         return Err(Fault::Overflow);
     }
+    begun(alloc, keys, instance, limits)
+}
+
+/// The same, where the numbers are tested as they are loaded.
+fn begun(
+    alloc: Global,
+    keys: HashKeys,
+    instance: &Instance,
+    limits: Limits,
+) -> Result<Running, Fault>
+    ensures ok { IfOk result (λ r. Opened (largest limits) instance.now (Ok (problem_of r))) }
+    ensures first { IfOk result (λ r. IsFirst limits r) }
+    ensures fits { IfOk result (λ r. magnitude (objective_of (problem_of r).objective) ≤ largest limits) }
+    ensures err { IfErr result (λ e. (e ≡ Fault.Memory) ⊎ Opened (largest limits) instance.now (Err e)) }
+{
     let mut names = Names::with_hasher(alloc, keys);
     let objective = match kept_objective(alloc, &mut names, &instance.objective, limits) {
         Ok(objective) => objective,
