@@ -103,13 +103,24 @@ fn run_files<R: Env + Files + AllocGlobal, E: Write>(
         return Err(Broken::Memory);
     };
     for word in words.skip(1) {
-        if word.as_str() == EACH {
-            told = Told::Each;
-        } else {
-            run_file(rt, word.as_str(), told, &mut count, errors)?;
-        }
+        take_word(rt, word.as_str(), &mut told, &mut count, errors)?;
     }
     Ok(count)
+}
+
+/// Runs the rows of the file that a word names, or notes that each row is to be told.
+fn take_word<R: Files + AllocGlobal, E: Write>(
+    rt: &R,
+    word: &str,
+    told: &mut Told,
+    count: &mut Count,
+    errors: &mut E,
+) -> Result<(), Broken> {
+    if word == EACH {
+        *told = Told::Each;
+        return Ok(());
+    }
+    run_file(rt, word, *told, count, errors)
 }
 
 fn run_file<R: Files + AllocGlobal, E: Write>(

@@ -109,17 +109,28 @@ fn each_alone(alloc: Global, call: &Call, lines: &str) -> Result<Vec<Spanned<Sta
 /// The statement of a line, read behind the least that a proof has before it.
 fn alone(alloc: Global, call: &Call, line: &str) -> Result<Spanned<Statement>, Broken> {
     let front = front_of(line);
+    let text = ended(alloc, line)?;
+    let statements = read_behind(alloc, call, front, text.as_slice())?;
+    last_of(statements, front.len() as u64)
+}
+
+/// A line with its line feed.
+fn ended(alloc: Global, line: &str) -> Result<Vec<u8>, Broken> {
     let mut text = Vec::new(alloc);
     text.extend_from_slice(line.as_bytes())?;
     text.push(b'\n')?;
-    let mut statements = read_behind(alloc, call, front, text.as_slice())?;
-    let Some(read) = statements.pop() else {
-        return Err(Broken::Value);
-    };
-    if read.first.offset < front.len() as u64 {
-        return Err(Broken::Value);
+    Ok(text)
+}
+
+/// The last of the statements, which has to begin behind the bytes of a front.
+fn last_of(
+    mut statements: Vec<Spanned<Statement>>,
+    front: u64,
+) -> Result<Spanned<Statement>, Broken> {
+    match statements.pop() {
+        Some(read) if read.first.offset >= front => Ok(read),
+        _ => Err(Broken::Value),
     }
-    Ok(read)
 }
 
 /// The least that a proof has before a statement with the first word of the line.
