@@ -151,7 +151,7 @@ impl ProofMachine {
 }
 
 impl ProofMachine {
-    ghost use Rattle.std.specs.Prelude.{◌≤◌, ◌<◌, take, length};
+    ghost use Rattle.std.specs.Prelude.{◌≤◌, take, length};
     ghost use Rattle.pb_text.specs.Automaton.{IsState, Runs};
     ghost use Rattle.pb_proof.specs.Machine.State.{proofs};
 
@@ -167,20 +167,6 @@ impl ProofMachine {
         };
         let _ = self.is_done();
         taken
-    }
-
-    /// Takes bytes at the front of a text, or else its first byte, if that is soon taken.
-    fn take_front(&mut self, text: &[u8]) -> usize
-        requires { 0 < length text.now }
-        ensures bound { result ≤ length text.now }
-        ensures runs { Runs proofs self.old (take result text.now) self.new }
-        ensures state { IsState proofs self.new }
-    {
-        let length = self.give_front(text);
-        if length > 0 {
-            return length;
-        }
-        if self.goes(text[0]) { 1 } else { 0 }
     }
 }
 
@@ -209,17 +195,12 @@ impl Machine for ProofMachine {
         gone
     }
 
-    fn run(&mut self, piece: &[u8]) -> usize {
-        let _ = self.is_done();
-        let mut taken: usize = 0;
-        while taken < piece.len() {
-            let more = self.take_front(&piece[taken..]);
-            if more == 0 {
-                return taken;
-            }
-            taken += more;
+    fn take_front(&mut self, piece: &[u8]) -> usize {
+        let length = self.give_front(piece);
+        if length > 0 {
+            return length;
         }
-        taken
+        if self.goes(piece[0]) { 1 } else { 0 }
     }
 
     fn push(&mut self, byte: u8) -> Push<Statement> {

@@ -1,4 +1,4 @@
--- What is kept grows by one unit a byte at most.
+-- What is kept grows by one unit a byte at most. Offered to other crates.
 use Rattle.std.proofs.Common.{◌≡◌, ℕ, ◌+◌, ◌-◌, ◌^◌, ◌<◌, ◌≤◌, min, take, get_or, List, [], ◌∷◌, ◌++◌, length, sym, ap, subst, arith, ◌∙◌}
 use Rattle.std.proofs.lemmas.List.{length-append, take_more}
 use Rattle.pb_text.specs.Automaton.{Go}
@@ -25,7 +25,7 @@ potential w = all_units w + ready w.phase
 abbrev count : List Term → List ℕ → Phase → ℕ
 count xs name ph = units xs + in_hand ph + length name + ready ph
 
-flushed-units : (ph : Phase) (xs : List Term) (name : List ℕ) → units (flushed ph xs name) ≤ units xs + in_hand ph + length name
+pub flushed-units : (ph : Phase) (xs : List Term) (name : List ℕ) → units (flushed ph xs name) ≤ units xs + in_hand ph + length name
 flushed-units (phase.TheVariants.More z negated) xs name = omega (arith, units-append xs (term z negated name))
 flushed-units phase.TheVariants.Start xs name = omega arith
 flushed-units (phase.TheVariants.Signed role negative) xs name = omega arith

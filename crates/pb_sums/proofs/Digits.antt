@@ -20,7 +20,7 @@ use Rattle.pb_sums.specs.declared.phase.Move.TheVariants.{To}
 use Rattle.pb_sums.specs.declared.phase.Phase.{Phase}
 use Rattle.pb_sums.specs.declared.phase.Phase as phase
 use Rattle.pb_sums.proofs.Pushes.{goes_to}
-use Rattle.pb_sums.proofs.Spans.{front_parts}
+use Rattle.pb_text.proofs.Spans.{front_parts}
 use Rattle.pb_sums.proofs.States.{midway_state}
 
 abbrev AreDigits : List ℕ → Type 0

@@ -6,14 +6,13 @@ mod Complete
 pub mod Theorems
 mod Flags
 pub mod Links
-mod Counts
+pub mod Counts
 pub mod States
 mod Pushes
 pub mod CanonicalLaws
 pub mod Larger
 mod Elements
 mod Written
-pub mod Spans
 mod Digits
 mod Names
 mod Behind

@@ -18,7 +18,7 @@ use Rattle.pb_sums.specs.declared.phase.Phase.{Phase}
 use Rattle.pb_sums.specs.declared.phase.Phase as phase
 use Rattle.pb_sums.proofs.Digits.{number_runs}
 use Rattle.pb_sums.proofs.Names.{name_runs}
-use Rattle.pb_sums.proofs.Spans.{runs_further}
+use Rattle.pb_text.proofs.Spans.{runs_further}
 use Rattle.pb_sums.proofs.States.{midway_state}
 
 pub grown : {A T E : Type 0} (r : Result T E) (new more old : List A) → new ≡ (if is_ok r then more else old) → is_err r ≡ false → new ≡ more

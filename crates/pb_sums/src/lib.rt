@@ -17,7 +17,7 @@ mod wholes;
 mod writing;
 
 pub use grammar::{Part, Spaces};
-pub use machine::SumMachine;
+pub use machine::{SumMachine, count_units};
 pub use name::Name;
 pub use rules::{is_name, linear_is_value, sum_is_value};
 pub use values::{Linear, Literal, Relation, SumEvent, Term};

@@ -1,6 +1,6 @@
 //! The machine of sums.
 
-ghost use Rattle.std.specs.Prelude.{true, false, ◌≡◌, ℕ, ◌+◌, ◌-◌, ◌<◌, ◌≤◌, ◌^◌, ◌↔◌, ◌&&◌, if◌then◌else◌, Bool, List, [], ◌∷◌, IfOk, OnOk, OnErr, min};
+ghost use Rattle.std.specs.Prelude.{true, false, ◌≡◌, ℕ, ◌+◌, ◌-◌, ◌≤◌, ◌^◌, ◌↔◌, ◌&&◌, if◌then◌else◌, Bool, List, [], ◌∷◌, IfOk, OnOk, OnErr, min};
 ghost use Rattle.pb_text.specs.Automaton.{Accepts, IsState};
 ghost use Rattle.pb_text.specs.Limits.{largest};
 ghost use Rattle.pb_text.specs.Spelling.{Item};
@@ -108,8 +108,8 @@ fn refusal(phase: Phase, byte: u8) -> Push<SumEvent>
     }
 }
 
-/// How many literals are kept, and bytes of their names. The count stays at its largest.
-fn count_units(terms: &[Term]) -> usize
+/// How many literals there are, and bytes of their names. The count stays at its largest.
+pub fn count_units(terms: &[Term]) -> usize
     ensures { result ≡ min (units terms.now) (2 ^ 64 - 1) }
 {
     let mut count: usize = 0;
@@ -302,24 +302,6 @@ impl SumMachine {
             _ => 0,
         }
     }
-
-    /// Takes the word at the front, or else its first byte, if that is soon taken.
-    #[inline(always)]
-    fn take_front(&mut self, text: &[u8]) -> usize
-        requires { 0 < length text.now }
-        ensures bound { result ≤ length text.now }
-        ensures runs { Runs sums self.old (take result text.now) self.new }
-        ensures state { IsState sums self.new }
-    {
-        if text[0] == b' ' {
-            return if self.take_space() { 1 } else { 0 };
-        }
-        let length = self.take_word(text);
-        if length > 0 {
-            return length;
-        }
-        if self.goes(text[0]) { 1 } else { 0 }
-    }
 }
 
 impl Machine for SumMachine {
@@ -366,17 +348,16 @@ impl Machine for SumMachine {
         }
     }
 
-    fn run(&mut self, piece: &[u8]) -> usize {
-        let _ = self.is_done();
-        let mut taken: usize = 0;
-        while taken < piece.len() {
-            let more = self.take_front(&piece[taken..]);
-            if more == 0 {
-                return taken;
-            }
-            taken += more;
+    #[inline(always)]
+    fn take_front(&mut self, piece: &[u8]) -> usize {
+        if piece[0] == b' ' {
+            return if self.take_space() { 1 } else { 0 };
         }
-        taken
+        let length = self.take_word(piece);
+        if length > 0 {
+            return length;
+        }
+        if self.goes(piece[0]) { 1 } else { 0 }
     }
 
     fn push(&mut self, byte: u8) -> Push<SumEvent> {

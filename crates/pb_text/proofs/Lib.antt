@@ -25,6 +25,7 @@ pub mod Rows
 pub mod Running
 pub mod Runs
 pub mod Short
+pub mod Spans
 pub mod Steps
 pub mod Told
 pub mod NothingRead

@@ -1,6 +1,6 @@
 //! A machine that takes a text byte by byte.
 
-ghost use Rattle.std.specs.Prelude.{◌≡◌, ◌≤◌, take, length};
+ghost use Rattle.std.specs.Prelude.{◌≡◌, ◌<◌, ◌≤◌, take, length};
 ghost use Rattle.pb_text.specs.Automaton.{Automaton, IsState, Pushes, Goes, Runs, begins};
 
 /// What a machine answers to a byte.
@@ -43,6 +43,17 @@ pub trait Machine {
         false
     }
 
+    /// Takes the first byte of a piece as `goes` does, or more bytes at its front that are sooner taken together, as whole
+    /// names and numbers, and answers how many.
+    fn take_front(&mut self, piece: &[u8]) -> usize
+        requires { 0 < length piece.now }
+        ensures bound { result ≤ length piece.now }
+        ensures runs { Runs automaton self.old (take result piece.now) self.new }
+        ensures state { IsState automaton self.new }
+    {
+        if self.goes(piece[0]) { 1 } else { 0 }
+    }
+
     /// Takes bytes at the front of a piece as `goes` does, and answers how many. It may leave some that `goes` would
     /// take.
     fn run(&mut self, piece: &[u8]) -> usize
@@ -51,12 +62,15 @@ pub trait Machine {
         ensures state { IsState automaton self.new }
     {
         let _ = self.is_done();
-        for (i, byte) in piece.iter().enumerate() {
-            if !self.goes(*byte) {
-                return i;
+        let mut taken: usize = 0;
+        while taken < piece.len() {
+            let more = self.take_front(&piece[taken..]);
+            if more == 0 {
+                return taken;
             }
+            taken += more;
         }
-        piece.len()
+        taken
     }
 
     /// Whether the text is complete.

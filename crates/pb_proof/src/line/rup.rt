@@ -2,13 +2,12 @@
 
 ghost use Rattle.std.specs.Prelude.{◌≡◌, ◌-◌, ◌^◌, min};
 ghost use Rattle.pb_text.specs.Limits.{largest};
-ghost use Rattle.pb_sums.specs.State.{units};
 ghost use Rattle.pb_proof.specs.Line.Rup.{goal_plan, goal_done, linear_of, units_in};
 
 mod phase;
 
 use crate::line::rup::phase::{GoalMove, GoalPhase};
-use pb_sums::{Linear, Part, Relation, Spaces, SumEvent, SumMachine, Term};
+use pb_sums::{Linear, Part, Relation, Spaces, SumEvent, SumMachine, count_units};
 use pb_text::bytes::is_blank;
 use pb_text::{Limits, Machine, Push};
 use std::alloc::Global;
@@ -66,18 +65,6 @@ fn linear_of(event: SumEvent) -> Linear
             degree: 0,
         },
     }
-}
-
-/// How many literals there are, and bytes of their names. The count stays at its largest.
-fn count_units(terms: &[Term]) -> usize
-    ensures { result ≡ min (units terms.now) (2 ^ 64 - 1) }
-{
-    let mut count: usize = 0;
-    for term in terms {
-        let more = term.literal.name.as_str().len().saturating_add(1);
-        count = count.saturating_add(more);
-    }
-    count
 }
 
 /// How much is kept of a constraint.
@@ -157,7 +144,7 @@ impl GoalMachine {
 }
 
 impl GoalMachine {
-    ghost use Rattle.std.specs.Prelude.{◌≤◌, ◌<◌, take, length};
+    ghost use Rattle.std.specs.Prelude.{◌≤◌, take, length};
     ghost use Rattle.pb_text.specs.Automaton.{Goes, IsState, Runs};
     ghost use Rattle.pb_proof.specs.Line.Rup.{goal_automaton, goal_plan};
 
@@ -185,20 +172,6 @@ impl GoalMachine {
         let _ = self.is_done();
         taken
     }
-
-    /// Takes bytes at the front of a text, or else its first byte, if that is soon taken.
-    fn take_front(&mut self, text: &[u8]) -> usize
-        requires { 0 < length text.now }
-        ensures bound { result ≤ length text.now }
-        ensures runs { Runs goal_automaton self.old (take result text.now) self.new }
-        ensures state { IsState goal_automaton self.new }
-    {
-        let length = self.give_front(text);
-        if length > 0 {
-            return length;
-        }
-        if self.goes(text[0]) { 1 } else { 0 }
-    }
 }
 
 impl Machine for GoalMachine {
@@ -221,17 +194,12 @@ impl Machine for GoalMachine {
         gone
     }
 
-    fn run(&mut self, piece: &[u8]) -> usize {
-        let _ = self.is_done();
-        let mut taken: usize = 0;
-        while taken < piece.len() {
-            let more = self.take_front(&piece[taken..]);
-            if more == 0 {
-                return taken;
-            }
-            taken += more;
+    fn take_front(&mut self, piece: &[u8]) -> usize {
+        let length = self.give_front(piece);
+        if length > 0 {
+            return length;
         }
-        taken
+        if self.goes(piece[0]) { 1 } else { 0 }
     }
 
     fn push(&mut self, byte: u8) -> Push<Linear> {

@@ -1,14 +1,13 @@
 -- What holds of each state that a machine of goals can be in.
-use Rattle.std.proofs.Common.{◌≡◌, ℕ, ◌+◌, ◌-◌, ◌^◌, ◌≤◌, ◌<◌, min, take, get_or, Bool, true, false, cond, List, [], ◌∷◌, ◌++◌, length, refl, sym, ap, subst, ◌∙◌, arith, ◌&&◌}
-use Rattle.std.proofs.lemmas.List.{take_more}
+use Rattle.std.proofs.Common.{◌≡◌, ℕ, ◌+◌, ◌≤◌, ◌<◌, Bool, true, false, cond, List, [], ◌∷◌, ◌++◌, refl, sym, ap, subst, ◌∙◌, arith, ◌&&◌}
 use Rattle.std.specs.Prelude.{IsTrue, nat_eq, Option, Some, None}
 use Rattle.pb_text.specs.Automaton.{Next, Go, End, Refuse, Reads, Accepts, Admits, IsState, is_large}
 use Rattle.pb_text.specs.Classes.{is_blank, is_digit}
 use Rattle.pb_text.specs.Spelling.{Letter, Item}
 use Rattle.pb_text.proofs.Residual.{refuses}
 use Rattle.pb_text.proofs.Walking.{Walks, reads_behind}
-use Rattle.pb_sums.specs.Machine.{Work, Outcome, act, flushed, term, plan, kind, letter_at, is_numeric}
-use Rattle.pb_sums.specs.State.{SumState, sums, over, units, in_hand}
+use Rattle.pb_sums.specs.Machine.{Work, Outcome, act, flushed, plan, kind, letter_at, is_numeric}
+use Rattle.pb_sums.specs.State.{SumState, sums, over, units}
 use Rattle.pb_sums.specs.declared.Linear.{Linear}
 use Rattle.pb_sums.specs.declared.values.Term.{Term}
 use Rattle.pb_sums.specs.declared.phase.Phase as sum_phase
@@ -16,6 +15,7 @@ use Rattle.pb_sums.specs.declared.phase.Move.{Move}
 use Rattle.pb_sums.specs.declared.phase.Move.TheVariants as move
 use Rattle.pb_sums.specs.declared.SumEvent.{SumEvent}
 use Rattle.pb_sums.specs.declared.SumEvent as sum
+use Rattle.pb_sums.proofs.Counts.{flushed-units}
 use Rattle.pb_sums.proofs.Links.{reads_something, midway-not-done}
 use Rattle.pb_sums.proofs.States.{goes-midway, ended-last}
 use Rattle.pb_proof.specs.Line.Rup.{GoalState, goal_automaton, goal_first, goals, goal_plan, goal_act, goal_over, goal_finish, goal_midway, goal_done, goal_in_number, goal_asks, linear_of, GoalHolds, IsGoalInOrder}
@@ -27,15 +27,6 @@ use Rattle.pb_proof.proofs.lemmas.Choices.{never, chosen}
 use Rattle.pb_proof.proofs.lemmas.Living.{IsAlive, ReadsOn, before, final, accepted, reads_on, admits_before}
 
 -- The constraint that the machine of sums gives has no more units than that machine had.
-units-append : (xs : List Term) (x : Term) → units (xs ++ x ∷ []) ≡ units xs + (1 + length x.literal.name)
-units-append [] x = omega arith
-units-append (y ∷ xs) x = omega (arith, units-append xs x)
-
-flushed-units : (ph : sum_phase.Phase) (xs : List Term) (name : List ℕ) → units (flushed ph xs name) ≤ units xs + in_hand ph + length name
-flushed-units (sum_phase.TheVariants.More z negated) xs name = omega (arith, units-append xs (term z negated name))
-flushed-units (sum_phase.TheVariants.First z negated) xs name = omega arith
-flushed-units _ xs name = omega arith
-
 acted-terms : (ys xs : List Term) (name : List ℕ) (m : Move) (e : SumEvent) (w : Work) → act ys xs name m ≡ End e w → (linear_of e).terms ≡ ys
 acted-terms ys xs name (move.To p) e w h = absurd (let f : ⊥ = cc in f)
 acted-terms ys xs name (move.Begin p b) e w h = absurd (let f : ⊥ = cc in f)
@@ -328,16 +319,6 @@ module _ (s : GoalState) (h : IsGoalInOrder s) (b : ℕ) (planned : goal_plan s.
 
   pub give_admits : IsTrue (sums.asks s.inner b) → Admits sums s.inner b → IsTrue (goal_automaton.asks s b) × Admits goal_automaton s b
   give_admits asking a = (subst (λ (m : GoalMove). IsTrue (goal_asks s b m)) (sym planned) asking, by_step (sums.step s.inner b) refl a)
-
--- the count of one more literal
-pub count_more : (xs : List Term) (i : ℕ) (d : Term) (c m r : ℕ) → i < length xs → c ≡ min (units (take i xs)) (2 ^ 64 - 1) → m ≡ min (length (get_or xs i d).literal.name + 1) (2 ^ 64 - 1)
-    → r ≡ min (c + m) (2 ^ 64 - 1) → r ≡ min (units (take (i + 1) xs)) (2 ^ 64 - 1)
-count_more xs i d c m r h e f g =
-    counted (units (take i xs)) (length (get_or xs i d).literal.name) c m r e f g
-    ∙ ap (λ n. min n (2 ^ 64 - 1)) (sym (ap units (take_more xs i d h) ∙ units-append (take i xs) (get_or xs i d)))
-  where
-    counted : (u n c m r : ℕ) → c ≡ min u (2 ^ 64 - 1) → m ≡ min (n + 1) (2 ^ 64 - 1) → r ≡ min (c + m) (2 ^ 64 - 1) → r ≡ min (u + (1 + n)) (2 ^ 64 - 1)
-    counted u n c m r e f g = omega arith
 
 -- Each state in order that has not ended reads some text.
 pub goal_goes_on : (s : GoalState) → IsGoalInOrder s → goal_automaton.done s ≡ false → ReadsOn goal_automaton s
