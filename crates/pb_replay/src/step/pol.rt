@@ -5,7 +5,7 @@ ghost use Rattle.pb_text.specs.Limits.{largest, top_of};
 ghost use Rattle.pb_proof.specs.Postfix.{IsPostfix, words as words_of};
 ghost use Rattle.pb_proof.specs.Values.{IsStatementValue, IsWord};
 ghost use Rattle.pb_normal.specs.Names.{HasNames, with_names};
-ghost use Rattle.pb_normal.specs.Rules.{IsSum, multiplied};
+ghost use Rattle.pb_normal.specs.Rules.{IsSum, divided, multiplied, saturated, weakened};
 ghost use Rattle.pb_replay.specs.Answer.{some};
 ghost use Rattle.pb_replay.specs.Meaning.{IsFront};
 ghost use Rattle.pb_replay.specs.Replay.{TreeForm, limited};
@@ -57,6 +57,34 @@ fn product_of(form: &Normal, factor: i128, limits: Limits) -> Result<Normal, Fau
     }
 }
 
+/// A form divided by a divisor.
+fn quotient_of(form: &Normal, divisor: i128) -> Result<Normal, Fault>
+    requires { pos 1 ≤ℤ divisor }
+    ensures ok { IfOk result (λ r. r ≡ divided (unsigned_abs divisor) form.now) }
+    ensures err { IfErr result (λ e. e ≡ Fault.Memory) }
+{
+    let quotient = form.divide(divisor)?;
+    Ok(quotient)
+}
+
+/// A form saturated.
+fn saturation_of(form: &Normal) -> Result<Normal, Fault>
+    ensures ok { IfOk result (λ r. r ≡ saturated form.now) }
+    ensures err { IfErr result (λ e. e ≡ Fault.Memory) }
+{
+    let saturation = form.saturate()?;
+    Ok(saturation)
+}
+
+/// A form weakened on a variable.
+fn weakening_of(form: &Normal, variable: usize) -> Result<Normal, Fault>
+    ensures ok { IfOk result (λ r. r ≡ weakened variable form.now) }
+    ensures err { IfErr result (λ e. e ≡ Fault.Memory) }
+{
+    let weakening = form.weaken(variable)?;
+    Ok(weakening)
+}
+
 /// Puts a form on the stack.
 fn push(stack: &mut Vec<Normal>, form: Normal) -> Result<(), Fault>
     ensures ok { OnOk result (stack.new.items ≡ stack.old.items ++ form ∷ []) }
@@ -104,15 +132,15 @@ fn made(
         }
         PolWord::Divide(divisor) => {
             let form = pop(stack);
-            Ok(form.divide(*divisor)?)
+            quotient_of(&form, *divisor)
         }
         PolWord::Saturate => {
             let form = pop(stack);
-            Ok(form.saturate()?)
+            saturation_of(&form)
         }
         PolWord::Weaken(name) => {
             let form = pop(stack);
-            Ok(form.weaken(number_of(names, name.as_str()))?)
+            weakening_of(&form, number_of(names, name.as_str()))
         }
     }
 }

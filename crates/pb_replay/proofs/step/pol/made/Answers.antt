@@ -1,4 +1,4 @@
-use Rattle.pb_replay.proofs.lemmas.Made.{axiom_made, weaken_made, add_fails}
+use Rattle.pb_replay.proofs.lemmas.Made.{axiom_made, weaken_made, saturate_made, add_fails}
 use Rattle.pb_replay.proofs.step.pol.made.Goals as goal
 
 pub returns-in_ok-axiom-in-Axiom-clause-ok : goal.returns-in_ok-axiom-in-Axiom-clause-ok
@@ -9,6 +9,10 @@ pub returns-in-Add-clause-err : goal.returns-in-Add-clause-err
 returns-in-Add-clause-err c =
     add_fails _ _ _ c.sum_of.result _ _ _ _ _ _ c.in-Add.is c.pop-right.ensures c.pop-left.ensures c.sum_of.ensures.err
 
-pub returns-in_ok-weaken-in-Weaken-clause-ok : goal.returns-in_ok-weaken-in-Weaken-clause-ok
-returns-in_ok-weaken-in-Weaken-clause-ok c =
-    weaken_made _ _ _ _ _ _ _ _ _ _ _ c.in-Weaken.is c.pop-form-in-Weaken.ensures c.as_str-in-Weaken.ensures c.number_of.ensures c.in_ok-weaken-in-Weaken.ensures.weakened
+pub returns-in-Weaken-clause-ok : goal.returns-in-Weaken-clause-ok
+returns-in-Weaken-clause-ok c =
+    weaken_made _ _ _ _ _ _ _ _ _ _ _ c.in-Weaken.is c.pop-form-in-Weaken.ensures c.as_str-in-Weaken.ensures c.number_of.ensures c.weakening_of.ensures.ok
+
+pub returns-in-Saturate-clause-ok : goal.returns-in-Saturate-clause-ok
+returns-in-Saturate-clause-ok c =
+    saturate_made _ _ _ _ _ _ _ _ c.in-Saturate.is c.pop-form-in-Saturate.ensures c.saturation_of.ensures.ok
