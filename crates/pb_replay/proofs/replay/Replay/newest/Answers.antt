@@ -1,0 +1,6 @@
+use Rattle.std.proofs.Common.{ap, length, ◌∙◌}
+use Rattle.pb_replay.specs.Kept.{Replaying}
+use Rattle.pb_replay.proofs.replay.Replay.newest.Goals as goal
+
+pub returns : goal.returns
+returns c = c.len.ensures ∙ ap (λ (v : Replaying). length v.live) c.self.view_is
