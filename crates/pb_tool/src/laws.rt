@@ -7,6 +7,8 @@ ghost use Rattle.pb_tool.specs.Normalised.{IsNormalised};
 ghost use Rattle.pb_tool.specs.Stays.{HasNoFault, IsTakenForInstance, StaysAsIs};
 ghost use Rattle.pb_tool.specs.Stays.{IsTakenForProof, ProofHasNoFault, ProofStaysAsIs};
 
+pub mod check;
+
 /// The normal form of an instance has exactly its solutions.
 pub fn normal_forms_keep_solutions()
     ensures { (v w : Instance) → IsNormalised v w → (a : List ℕ → Bool) → Solves v a ↔ Solves w a }

@@ -1,5 +1,5 @@
 use Rattle.pb_tool.proofs.OneAnswer as answer
-use Rattle.pb_tool.proofs.check_laws.answers_are_exact.Goals as goal
+use Rattle.pb_tool.proofs.laws.check.one_answer.Goals as goal
 
 pub returns : goal.returns
 returns g c =
@@ -14,4 +14,4 @@ returns g c =
       openings = c.outcomes_are_single.ensures.openings;
       outcomes = c.outcomes_are_single.ensures.outcomes;
     } in
-    answer.answers_exactly g.W.Sink.contents g.W.Sink.faults laws
+    answer.one_answer g.W.Sink.contents g.W.Sink.faults laws

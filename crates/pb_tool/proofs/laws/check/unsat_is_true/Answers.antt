@@ -1,5 +1,5 @@
 use Rattle.pb_tool.proofs.Headline as headline
-use Rattle.pb_tool.proofs.check_laws.unsat_is_true.Goals as goal
+use Rattle.pb_tool.proofs.laws.check.unsat_is_true.Goals as goal
 
 pub returns : goal.returns
 returns g c = headline.unsat g.W.Sink.contents g.W.Sink.faults c.verdicts_are_true.ensures.verdicts c.proofs_are_values.ensures.statements

@@ -1,6 +1,6 @@
 use Rattle.std.specs.Prelude.{Some, []}
 use Rattle.pb_replay.specs.declared.verdict.Verdict.TheVariants.{Unsat}
-use Rattle.pb_tool.proofs.check_laws.unsat_is_exact.Goals as goal
+use Rattle.pb_tool.proofs.laws.check.unsat_is_exact.Goals as goal
 
 pub returns : goal.returns
 returns g c limits longest i p i' p' old new result checks decided = (

@@ -1,5 +1,5 @@
 use Rattle.pb_tool.proofs.Checked as checked
-use Rattle.pb_tool.proofs.check_laws.any_cut_of_a_proof.Goals as goal
+use Rattle.pb_tool.proofs.laws.check.any_cut_of_a_proof.Goals as goal
 
 pub returns : goal.returns
 returns c = checked.any_cutting c.texts_are_read.ensures
