@@ -1,10 +1,10 @@
 //! Forms enter and leave.
 
-ghost use Rattle.std.specs.Prelude.{◌≡◌, ℕ, List, All, Some, None, ◌+◌, ◌-◌, ◌*◌, ◌<◌, ◌≤◌, ◌^◌, ◌++◌, ◌∷◌, [], false, true, length, map, take, sum_by, IfOk, OnOk, OnErr, IsPermutation, slice_get, slice_index, slice_index_or, slice_set, swap_remove};
+ghost use Rattle.std.specs.Prelude.{◌≡◌, ℕ, List, All, Some, None, ◌+◌, ◌-◌, ◌*◌, ◌<◌, ◌≤◌, ◌^◌, ◌++◌, ◌∷◌, [], true, length, take, sum_by, IfOk, OnOk, OnErr, slice_get, slice_index_or, slice_set, swap_remove};
 ghost use Rattle.pb_replay.specs.declared.propagate.term.Term.{Term};
 ghost use Rattle.pb_replay.specs.declared.propagate.term.Occurrence.{Occurrence};
 ghost use Rattle.pb_replay.specs.declared.propagate.kept.Kept.{Kept};
-ghost use Rattle.pb_replay.specs.Engine.Lists.{Shape, AreInside};
+ghost use Rattle.pb_replay.specs.Engine.Lists.{Shape};
 ghost use Rattle.pb_replay.specs.Engine.Counts.{AreFalling, IsCalm, place};
 ghost use Rattle.pb_replay.specs.Engine.Forms.{IsKeptAs};
 ghost use Rattle.pb_replay.specs.Engine.Terms.{terms_of};

@@ -1,6 +1,6 @@
 //! Literals are put, and the constraints that they touch are looked at.
 
-ghost use Rattle.std.specs.Prelude.{◌≡◌, ℕ, ◌≤◌, ◌+◌, ◌-◌, ◌*◌, ◌^◌, ◌<◌, ◌++◌, ◌∷◌, [], true, false, List, All, filter, length, map, OnOk, IfOk, slice_index, slice_index_or, slice_set, sum, sum_by, Contains};
+ghost use Rattle.std.specs.Prelude.{◌≡◌, ℕ, ◌≤◌, ◌+◌, ◌-◌, ◌*◌, ◌^◌, ◌<◌, ◌++◌, ◌∷◌, [], true, false, List, All, filter, length, OnOk, IfOk, slice_index, slice_index_or, slice_set, sum, sum_by, Contains};
 ghost use Rattle.pb_replay.specs.declared.numbered.NumberedLiteral.{NumberedLiteral};
 ghost use Rattle.pb_replay.specs.declared.propagate.term.Term.{Term};
 ghost use Rattle.pb_replay.specs.Engine.Lists.{negation, has, size, Derives, Conflicts, Shape, IsSettled};
