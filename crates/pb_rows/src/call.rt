@@ -143,12 +143,12 @@ fn is_left(verb: Verb, word: &str) -> bool {
 /// What the first word of a line calls.
 fn verb_of(line: &str) -> Result<Verb, Broken> {
     match line.split_whitespace().next() {
-        Some(word) => verb(word),
+        Some(word) => common_verb(word),
         None => Err(Broken::Call),
     }
 }
 
-fn verb(word: &str) -> Result<Verb, Broken> {
+fn common_verb(word: &str) -> Result<Verb, Broken> {
     match word {
         "show" => Ok(Verb::Show),
         "tidy" => Ok(Verb::Tidy),

@@ -152,7 +152,7 @@ fn spaces_of(call: &Call) -> Spaces {
 }
 
 /// Feeds a text to a machine behind a front whose events are not shown.
-fn feed_machine<E: Shown + Drop, M: Machine<Event = E>>(
+fn feed_machine<E: Shown + Drop, M: Machine<Event = E> + Drop>(
     machine: M,
     call: &Call,
     front: &[u8],
