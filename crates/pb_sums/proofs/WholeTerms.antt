@@ -6,7 +6,7 @@ use Rattle.pb_text.specs.Classes.{is_digit, is_letter, is_name_byte}
 use Rattle.pb_text.specs.Languages.{Each}
 use Rattle.pb_text.specs.Numbers.{signed}
 use Rattle.pb_text.proofs.Running.{runs_on}
-use Rattle.pb_sums.specs.Prefix.{IsSign, value_from, begins_number, role, behind_name}
+use Rattle.pb_sums.specs.Prefix.{IsSign, value_from, begins_number, role, behind_name, behind}
 use Rattle.pb_sums.specs.State.{SumState, sums}
 use Rattle.pb_sums.specs.WholeTerms.{begins_term, IsTilde, standing, IsCoefficient, IsLiteral}
 use Rattle.pb_sums.specs.declared.values.Literal.{Literal}
@@ -34,10 +34,6 @@ no-role : (p : Phase) → begins_term p ≡ true → None ≡ role p
 no-role phase.TheVariants.Start e = refl
 no-role phase.TheVariants.Between e = refl
 no-role _ e = cc e
-
--- the rest of a text, as a slice of it
-abbrev pub behind : ℕ → List ℕ → List ℕ
-behind i text = take (length text - i) (drop i text)
 
 pub coefficient_runs : (limit : ℕ) (text : List ℕ) (i j v : ℕ) (negative : Bool) → IsSign negative (take i text) → Each (λ b. IsTrue (is_digit b)) (take j (behind i text))
     → v ≡ value_from 0 (take j (behind i text)) → j ≤ length (behind i text) → (j ≡ 0 → ⊥) → v ≤ limit → i + j < length text → get_or text (i + j) 0 ≡ 32

@@ -1,5 +1,7 @@
 -- Names and numbers at the front of a text.
-use Rattle.std.specs.Prelude.{◌≡◌, ℕ, ◌+◌, ◌-◌, ◌*◌, Bool, true, false, List, [], ◌∷◌, Option, Some, None}
+use Rattle.std.specs.Prelude.{◌≡◌, ◌≢◌, ◌⊎◌, ◌<◌, ◌≤◌, ◌^◌, ℕ, ◌+◌, ◌-◌, ◌*◌, Bool, IsTrue, true, false, List, [], ◌∷◌, Option, Some, None, length, take, drop, get_or}
+use Rattle.pb_text.specs.Classes.{is_digit, is_letter, is_name_byte}
+use Rattle.pb_text.specs.Languages.{Each}
 use Rattle.pb_text.specs.Numbers.{signed}
 use Rattle.pb_sums.specs.declared.values.Relation.{Relation}
 use Rattle.pb_sums.specs.declared.phase.Phase.{Phase}
@@ -41,3 +43,28 @@ behind_space (phase.TheVariants.Digits (Some r) negative n) = Some (phase.TheVar
 behind_space (phase.TheVariants.More z negated) = Some phase.TheVariants.Between
 behind_space (phase.TheVariants.Operator r) = Some (phase.TheVariants.Operator r)
 behind_space _ = None
+
+-- the rest of a text, as a slice of it
+abbrev pub behind : ℕ → List ℕ → List ℕ
+behind i text = take (length text - i) (drop i text)
+
+-- So many digits stand at the front, as far as their value is small.
+abbrev pub HasDigits : List ℕ → ℕ → ℕ → Type 0
+HasDigits text n value = (n ≤ length text) × Each (λ b. IsTrue (is_digit b)) (take n text) × (value ≡ value_from 0 (take n text))
+    × (n < length text → value < 2 ^ 60 → is_digit (get_or text n 0) ≡ false)
+
+-- No coefficient with a space behind it stands at the front, or a large one.
+abbrev pub LacksCoefficient : ℕ → List ℕ → Type 0
+LacksCoefficient limit text = (i : ℕ) × (negative : Bool) × IsSign negative (take i text)
+    × (i ≡ 0 → 0 < length text → (get_or text 0 0 ≢ 43) × (get_or text 0 0 ≢ 45))
+    × (n : ℕ) × (value : ℕ) × HasDigits (behind i text) n value
+    × ((n ≡ 0) ⊎ (limit < value) ⊎ (length text ≤ i + n) ⊎ (get_or text (i + n) 0 ≢ 32))
+
+-- So many bytes of a name stand at the front, and no more.
+abbrev pub HasNameBytes : List ℕ → ℕ → Type 0
+HasNameBytes text n = (n ≤ length text) × Each (λ b. IsTrue (is_name_byte b)) (take n text) × (n < length text → is_name_byte (get_or text n 0) ≡ false)
+
+-- No literal of two bytes or more stands at the front, or one with a long name.
+abbrev pub LacksLiteral : List ℕ → Type 0
+LacksLiteral text = (i : ℕ) × (i ≤ 1) × (i ≡ 0 → 0 < length text → get_or text 0 0 ≢ 126) × (i ≡ 1 → get_or text 0 0 ≡ 126)
+    × (n : ℕ) × HasNameBytes (behind i text) n × ((n < 2) ⊎ (is_letter (get_or (behind i text) 0 0) ≡ false) ⊎ (22 < n))

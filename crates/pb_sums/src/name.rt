@@ -1,6 +1,6 @@
 //! Names.
 
-ghost use Rattle.std.specs.Prelude.{◌≡◌, ◌<◌, ◌≤◌, ◌∷◌, ◌++◌, [], List, ℕ, eqb, if◌then◌else◌, is_ok, IfOk, string_bytes, length, take};
+ghost use Rattle.std.specs.Prelude.{◌≡◌, ◌<◌, ◌≤◌, ◌∷◌, ◌++◌, [], List, ℕ, true, eqb, if◌then◌else◌, is_ok, IfOk, string_bytes, length, take};
 ghost use Rattle.std.specs.Cmp.Lexicographic.{pointwise, nat_list_eq_equiv};
 ghost use Rattle.std.specs.Cmp.{partial_equiv_from_equiv};
 ghost use Rattle.std.specs.Str.{IsUtf8};
@@ -54,7 +54,9 @@ impl Name {
 
     /// The name that a text spells.
     pub fn from_text(alloc: Global, text: &str) -> Result<Name, AllocError>
-        ensures { IfOk result (λ name. name ≡ text.now) }
+        ensures text { IfOk result (λ name. name ≡ text.now) }
+        // A short name takes no memory.
+        ensures short { length text.now ≤ 22 → is_ok result ≡ true }
     {
         if text.len() <= SHORT {
             return Ok(Name {
@@ -72,7 +74,8 @@ impl Name {
     pub(crate) fn from_front(alloc: Global, text: &[u8], len: usize) -> Result<Name, AllocError>
         requires within { len ≤ length text.now }
         requires text { IsUtf8 (take len text.now) }
-        ensures { IfOk result (λ name. name ≡ take len text.now) }
+        ensures name { IfOk result (λ name. name ≡ take len text.now) }
+        ensures short { len ≤ 22 → is_ok result ≡ true }
     {
         if len <= SHORT
             && let Some(block) = text.first_chunk::<SHORT>()

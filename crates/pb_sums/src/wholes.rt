@@ -1,6 +1,7 @@
 //! Parts of a term at the front of a text.
 
-ghost use Rattle.std.specs.Prelude.{◌≡◌, ◌≤◌, ◌<◌, ◌^◌, IfSome, length, take};
+ghost use Rattle.std.specs.Prelude.{◌≡◌, ◌≢◌, ◌≤◌, ◌<◌, ◌^◌, IfSome, None, get_or, length, take};
+ghost use Rattle.pb_sums.specs.Prefix.{LacksCoefficient, LacksLiteral};
 ghost use Rattle.pb_sums.specs.WholeTerms.{begins_term, IsTilde, IsCoefficient, IsLiteral};
 
 use crate::name::Name;
@@ -27,6 +28,9 @@ pub fn begins_term(phase: Phase) -> bool
 pub fn tilde_prefix(text: &[u8]) -> (usize, bool)
     ensures bound { result.0 ≤ length text.now }
     ensures tilde { IsTilde result.1 (take result.0 text.now) }
+    ensures one { result.0 ≤ 1 }
+    ensures none { result.0 ≡ 0 → 0 < length text.now → get_or text.now 0 0 ≢ 126 }
+    ensures some { result.0 ≡ 1 → get_or text.now 0 0 ≡ 126 }
 {
     if text.is_empty() {
         return (0, false);
@@ -43,6 +47,7 @@ pub fn coefficient_prefix(limit: u128, text: &[u8]) -> Option<(usize, i128)>
     requires { limit < 2 ^ 127 }
     ensures bound { IfSome result (λ r. r.0 ≤ length text.now) }
     ensures runs { IfSome result (λ r. IsCoefficient limit (take r.0 text.now) r.1) }
+    ensures none { result ≡ None → LacksCoefficient limit text.now }
 {
     let (sign, negative) = sign_prefix(text);
     let (count, value) = number_prefix(&text[sign..]);
@@ -62,6 +67,7 @@ pub fn coefficient_prefix(limit: u128, text: &[u8]) -> Option<(usize, i128)>
 pub fn literal_prefix(alloc: Global, text: &[u8]) -> Option<(usize, Literal)>
     ensures bound { IfSome result (λ r. r.0 ≤ length text.now) }
     ensures runs { IfSome result (λ r. IsLiteral (take r.0 text.now) r.1) }
+    ensures none { result ≡ None → LacksLiteral text.now }
 {
     let (tilde, negated) = tilde_prefix(text);
     let rest = &text[tilde..];

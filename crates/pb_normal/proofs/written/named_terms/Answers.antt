@@ -15,4 +15,4 @@ loop-t-preserved c =
     let t = get_or c.args.terms.now c.loop-t.t-index no_entry in
     let one = total-read c.args.terms.now c.loop-t.t-index no_entry t (omega arith) refl in
     let cast : to_z w128 t.coefficient ≡ pos t.coefficient = to_z_pos w128 _ (omega (arith, c.requires.small)) in
-    rw (c.in_ok-push.ensures.items, cast, c.in_ok-name.ensures) (terms_push c.args.names.now c.args.terms.now c.loop-t.t-index no_entry c.loop-t.out.items c.text_of.result.now (omega arith) c.text_of.ensures c.loop-t.invariant)
+    rw (c.in_ok-push.ensures.items, cast, c.in_ok-name.ensures.text) (terms_push c.args.names.now c.args.terms.now c.loop-t.t-index no_entry c.loop-t.out.items c.text_of.result.now (omega arith) c.text_of.ensures c.loop-t.invariant)

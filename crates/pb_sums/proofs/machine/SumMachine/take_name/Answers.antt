@@ -15,7 +15,7 @@ returns-clause-runs c = rw (← c.self.view_is) (
     let front : get_or (take c.name_prefix-length.result c.args.text.now) 0 0 ≡ get_or c.args.text.now 0 0 = get_or-take c.name_prefix-length.result c.args.text.now 0 0 (omega arith) in
     name_runs c.self.inside.spaces c.self.inside.part c.self.inside.limit c.self.inside.terms c.self.inside.name c.in-Ok.name c.self.inside.phase c.in-Some.phase
     (take c.name_prefix-length.result c.args.text.now) c.in-Some.ensures long (ap is_letter front ∙ (sym c.is_letter.ensures ∙ c.if-not-is_letter.false))
-    c.name_prefix-length.ensures.name c.in-Ok.ensures
+    c.name_prefix-length.ensures.name c.in-Ok.ensures.name
     )
 
 pub returns-clause-state : goal.returns-clause-state

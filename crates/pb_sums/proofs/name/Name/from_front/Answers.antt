@@ -8,6 +8,6 @@ from_block-requires-clause-text c =
     ap (take c.args.len) c.in-Some.ensures.cases.same ∙ take-take c.args.len 22 c.args.text.now (omega arith) in
     subst IsUtf8 (sym front) c.requires.text
 
-pub returns : goal.returns
-returns c =
+pub returns-clause-name : goal.returns-clause-name
+returns-clause-name c =
     c.from_block.ensures ∙ (ap (take c.args.len) c.in-Some.ensures.cases.same ∙ take-take c.args.len 22 c.args.text.now (omega arith))
