@@ -1,5 +1,5 @@
 -- Whole terms that are taken in one go, and the run that they are.
-use Rattle.std.proofs.Common.{◌≡◌, ℕ, ℤ, ◌+◌, ◌-◌, ◌<◌, ◌≤◌, Bool, true, false, List, [], ◌∷◌, ◌++◌, take, drop, get_or, length, Option, Some, None, refl, sym, subst, ap, arith, ◌∙◌}
+use Rattle.std.proofs.Common.{◌≡◌, ℕ, ℤ, ◌+◌, ◌<◌, ◌≤◌, Bool, true, false, List, [], ◌∷◌, ◌++◌, take, get_or, length, Some, None, refl, sym, subst, arith}
 use Rattle.std.specs.Prelude.{IsTrue, Result, Ok, Err, is_ok, is_err, if◌then◌else◌}
 use Rattle.pb_text.specs.Automaton.{Go, Runs}
 use Rattle.pb_text.specs.Classes.{is_digit, is_letter, is_name_byte}
@@ -10,7 +10,6 @@ use Rattle.pb_sums.specs.Prefix.{IsSign, value_from, begins_number, role, behind
 use Rattle.pb_sums.specs.State.{SumState, sums}
 use Rattle.pb_sums.specs.WholeTerms.{begins_term, IsTilde, standing, IsCoefficient, IsLiteral}
 use Rattle.pb_sums.specs.declared.values.Literal.{Literal}
-use Rattle.pb_sums.specs.declared.values.Relation.{Relation}
 use Rattle.pb_sums.specs.declared.values.Term.{Term}
 use Rattle.pb_sums.specs.declared.grammar.Spaces.{Spaces}
 use Rattle.pb_sums.specs.declared.grammar.Part.{Part}
