@@ -117,7 +117,7 @@ pub fn call_of(line: &str) -> Result<Call, Broken> {
     Ok(call)
 }
 
-/// Sets what a word behind the verb says. What a row's verb has left to it may say nothing to the call.
+/// Sets what a word behind the verb says. A word that is left to the rows of the verb may set nothing.
 fn take_word(call: &mut Call, word: &str) -> Result<(), Broken> {
     let set = match word.split_once('=') {
         Some((key, value)) => set(call, key, value),

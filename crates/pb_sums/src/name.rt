@@ -52,7 +52,7 @@ impl Name {
         }
     }
 
-    /// The name that a text spells.
+    /// The name that a text spells. Memory is wanted for more than 22 bytes alone.
     pub fn from_text(alloc: Global, text: &str) -> Result<Name, AllocError>
         ensures text { IfOk result (λ name. name ≡ text.now) }
         // A short name takes no memory.
