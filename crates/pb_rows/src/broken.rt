@@ -30,7 +30,7 @@ pub enum Broken {
 
 impl Broken {
     /// The reason, in words.
-    pub fn reason(self) -> &'static str {
+    pub(crate) fn reason(self) -> &'static str {
         match self {
             Broken::Call => "no such call",
             Broken::Word => "a word of the call is not known",

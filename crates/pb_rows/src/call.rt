@@ -100,7 +100,7 @@ impl Call {
     }
 
     /// The limits that the call names.
-    pub fn limits(&self) -> Result<Limits, Broken> {
+    pub(crate) fn limits(&self) -> Result<Limits, Broken> {
         match Limits::new(self.bits, self.top) {
             Some(limits) => Ok(limits),
             None => Err(Broken::Limits),
@@ -109,7 +109,7 @@ impl Call {
 }
 
 /// The call that a line spells.
-pub fn call_of(line: &str) -> Result<Call, Broken> {
+pub(crate) fn call_of(line: &str) -> Result<Call, Broken> {
     let mut call = Call::new(verb_of(line)?);
     for word in line.split_whitespace().skip(1) {
         take_word(&mut call, word)?;

@@ -23,7 +23,7 @@ const BETWEEN: &[u8] = b"&\n";
 const BEHIND: &[u8] = b"nonsense\n";
 
 /// The two inputs of a row.
-pub fn inputs_of(text: &[u8]) -> Result<(&[u8], &[u8]), Broken> {
+pub(crate) fn inputs_of(text: &[u8]) -> Result<(&[u8], &[u8]), Broken> {
     for at in 0..text.len() {
         let (front, rest) = text.split_at(at);
         if let Some(proof) = rest.strip_prefix(BETWEEN) {
@@ -34,7 +34,7 @@ pub fn inputs_of(text: &[u8]) -> Result<(&[u8], &[u8]), Broken> {
 }
 
 /// Checks a proof over two readers and a writer as the call says.
-pub fn run_check(alloc: Global, call: &Call, text: &[u8]) -> Result<Run, Broken> {
+pub(crate) fn run_check(alloc: Global, call: &Call, text: &[u8]) -> Result<Run, Broken> {
     let (instance, proof) = inputs_of(text)?;
     let (mut first, mut second) = (reader_of(call, instance), reader_of(call, proof));
     first.fails_at = call.reader_fails;
@@ -71,7 +71,12 @@ fn check_both(
 
 /// Feeds a proof to a checker in one piece and, where the call does not say `once`, in pieces of 1, 2 and 37 bytes, and in
 /// two pieces with each cut. Answers the first that is not as wanted, or else the one of one piece.
-pub fn run_checker(alloc: Global, call: &Call, text: &[u8], wanted: &Done) -> Result<Done, Broken> {
+pub(crate) fn run_checker(
+    alloc: Global,
+    call: &Call,
+    text: &[u8],
+    wanted: &Done,
+) -> Result<Done, Broken> {
     let (first, size) = (usize::MAX, 1);
     let whole = check_cut(alloc, call, text, Cut { first, size })?;
     if call.is_once || !is_same(&whole, wanted) {
@@ -169,7 +174,7 @@ fn tell_again(
 }
 
 /// A replay over the instance of a row, where it opens.
-pub fn opened(
+pub(crate) fn opened(
     alloc: Global,
     call: &Call,
     instance: &[u8],
@@ -178,7 +183,7 @@ pub fn opened(
 }
 
 /// A replay over an instance under limits, where it opens.
-pub fn replay_of(
+pub(crate) fn replay_of(
     alloc: Global,
     instance: &[u8],
     limits: Limits,
@@ -217,7 +222,7 @@ fn tell_end(
 }
 
 /// Writes the verdict in the words of its line.
-pub fn tell_verdict<S: Sink>(verdict: Verdict, out: &mut S) -> Result<(), Failed> {
+pub(crate) fn tell_verdict<S: Sink>(verdict: Verdict, out: &mut S) -> Result<(), Failed> {
     match verdict {
         Verdict::NoClaim => write_bytes(b"verified NONE\n", out),
         Verdict::Unsat => write_bytes(b"verified UNSAT\n", out),

@@ -11,7 +11,7 @@ use pb_tool::{ToolFault, show, status, tidy, write_fault};
 use std::alloc::Global;
 
 /// Runs a command over a reader and a writer as the call says.
-pub fn run_command(alloc: Global, call: &Call, text: &[u8]) -> Result<Run, Broken> {
+pub(crate) fn run_command(alloc: Global, call: &Call, text: &[u8]) -> Result<Run, Broken> {
     let limits = call.limits()?;
     let mut reader = reader_of(call, text);
     reader.fails_at = call.reader_fails;
@@ -51,7 +51,7 @@ fn tell<S: Sink>(answer: &Result<(), ToolFault>, out: &mut S) -> Result<(), Fail
     }
 }
 
-pub fn tell_fault<S: Sink>(fault: &ToolFault, out: &mut S) -> Result<(), Failed> {
+pub(crate) fn tell_fault<S: Sink>(fault: &ToolFault, out: &mut S) -> Result<(), Failed> {
     write_fault(fault, out)?;
     write_bytes(b"status ", out)?;
     write_count(status(fault) as u64, out)?;

@@ -55,7 +55,7 @@ struct Forms<'a> {
 }
 
 /// Whether a word is a rule or a question of `forms`.
-pub fn is_rule(word: &str) -> bool {
+pub(crate) fn is_rule(word: &str) -> bool {
     let (rule, _) = parted(word);
     matches!(
         rule,
@@ -78,7 +78,12 @@ pub fn is_rule(word: &str) -> bool {
 
 /// Goes through the words of the call: a constraint of the instance, and rules from form to form. Writes the last, and
 /// answers the questions on the way.
-pub fn run_forms(alloc: Global, call: &Call, line: &str, text: &[u8]) -> Result<Done, Broken> {
+pub(crate) fn run_forms(
+    alloc: Global,
+    call: &Call,
+    line: &str,
+    text: &[u8],
+) -> Result<Done, Broken> {
     let limits = call.limits()?;
     let Ok(read) = read_instance(alloc, &mut Over::new(text), Limits::full()) else {
         return Err(Broken::Value);
@@ -275,7 +280,11 @@ impl Named for Names {
 }
 
 /// Writes a form as a line.
-pub fn write_form<S: Sink, N: Named>(form: &Normal, names: &N, out: &mut S) -> Result<(), Failed> {
+pub(crate) fn write_form<S: Sink, N: Named>(
+    form: &Normal,
+    names: &N,
+    out: &mut S,
+) -> Result<(), Failed> {
     for index in 0..form.len() {
         let (variable, negated, coefficient) = form.term(index);
         let name = names.text_of(variable).unwrap_or("?");

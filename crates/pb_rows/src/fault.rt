@@ -16,7 +16,7 @@ struct Parts {
 }
 
 /// Tells the line and the status of the fault that the words of the call name, as `fault byte=103 line=2 column=14`.
-pub fn run_fault(alloc: Global, line: &str) -> Result<Done, Broken> {
+pub(crate) fn run_fault(alloc: Global, line: &str) -> Result<Done, Broken> {
     let mut parts = Parts {
         input: Input::File,
         place: Place::START,

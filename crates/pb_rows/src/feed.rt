@@ -74,7 +74,12 @@ impl Shape {
 
 /// Feeds a text in one piece, in pieces of 1, 2 and 37 bytes, and in two pieces with each cut. Answers what the
 /// first gave that is not as wanted, or else the last.
-pub fn run_feed(alloc: Global, call: &Call, text: &[u8], wanted: &Done) -> Result<Done, Broken> {
+pub(crate) fn run_feed(
+    alloc: Global,
+    call: &Call,
+    text: &[u8],
+    wanted: &Done,
+) -> Result<Done, Broken> {
     for size in [1, 2, 37] {
         let found = feed_cut(alloc, call, text, Cut { first: size, size })?;
         if !is_same(&found, wanted) {
@@ -113,7 +118,7 @@ fn tell<S: Sink>(end: End, is_held: bool, out: &mut S) -> Result<(), Failed> {
 }
 
 /// Feeds a text to the machine of its grammar.
-pub fn feed_all(
+pub(crate) fn feed_all(
     alloc: Global,
     call: &Call,
     text: &[u8],

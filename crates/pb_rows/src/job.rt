@@ -10,7 +10,7 @@ use std::alloc::Global;
 
 /// Reads the lines of the input as the words of a command line. Tells the job that they ask for; or else the kind of
 /// the answer and the exit status, and whether its text has the word that `shows=` asks for.
-pub fn run_words(alloc: Global, line: &str, text: &[u8]) -> Result<Done, Broken> {
+pub(crate) fn run_words(alloc: Global, line: &str, text: &[u8]) -> Result<Done, Broken> {
     let words: Vec<&str> = lines_of(text)?.lines().collect(alloc)?;
     let mut told = page(alloc);
     match read_words(alloc, words.as_slice()) {

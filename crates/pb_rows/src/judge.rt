@@ -12,7 +12,7 @@ use pb_text::{Limits, write_bytes};
 use std::alloc::Global;
 
 /// Makes a value of the lines of the input and tells whether it meets the rules; of `judge statement`, of each line.
-pub fn run_judge(alloc: Global, call: &Call, text: &[u8]) -> Result<Done, Broken> {
+pub(crate) fn run_judge(alloc: Global, call: &Call, text: &[u8]) -> Result<Done, Broken> {
     let limits = call.limits()?;
     let lines = lines_of(text)?;
     let mut told = page(alloc);
@@ -45,7 +45,7 @@ fn tell(is_value: bool, told: &mut Page) -> Result<(), Broken> {
 }
 
 /// Tells the limits that a call names, or that there are none.
-pub fn run_limits(alloc: Global, call: &Call) -> Result<Done, Broken> {
+pub(crate) fn run_limits(alloc: Global, call: &Call) -> Result<Done, Broken> {
     let mut told = page(alloc);
     match Limits::new(call.bits, call.top) {
         Some(limits) => {

@@ -18,7 +18,7 @@ struct Looks {
 
 /// Takes a replay of an instance through the statements of a proof, each of which it has to accept, and writes how many
 /// these are and how many looks their `rup`s took.
-pub fn write_looks<S: Sink>(
+pub(crate) fn write_looks<S: Sink>(
     alloc: Global,
     instance: &[u8],
     proof: &[u8],

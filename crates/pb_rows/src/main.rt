@@ -103,13 +103,13 @@ fn run_files<R: Env + Files + AllocGlobal, E: Write>(
         return Err(Broken::Memory);
     };
     for word in words.skip(1) {
-        take_word(rt, word.as_str(), &mut told, &mut count, errors)?;
+        run_word(rt, word.as_str(), &mut told, &mut count, errors)?;
     }
     Ok(count)
 }
 
 /// Runs the rows of the file that a word names, or notes that each row is to be told.
-fn take_word<R: Files + AllocGlobal, E: Write>(
+fn run_word<R: Files + AllocGlobal, E: Write>(
     rt: &R,
     word: &str,
     told: &mut Told,

@@ -8,7 +8,7 @@ use pb_text::write_bytes;
 use std::alloc::Global;
 
 /// Tells of each line whether it is a name.
-pub fn run_names(alloc: Global, text: &[u8]) -> Result<Done, Broken> {
+pub(crate) fn run_names(alloc: Global, text: &[u8]) -> Result<Done, Broken> {
     let mut told = page(alloc);
     for line in lines_of(text)?.lines() {
         tell_either(is_name(line), b"name\n", b"no name\n", &mut told)?;
@@ -18,7 +18,7 @@ pub fn run_names(alloc: Global, text: &[u8]) -> Result<Done, Broken> {
 
 /// Numbers names: a line `x1` finds the number of the name or gives it one, `? x1` finds it, and `# 0` finds the name
 /// of a number. Tells each answer, and last how many names there are.
-pub fn run_numbers(alloc: Global, text: &[u8]) -> Result<Done, Broken> {
+pub(crate) fn run_numbers(alloc: Global, text: &[u8]) -> Result<Done, Broken> {
     let lines = lines_of(text)?;
     let mut told = page(alloc);
     let mut names = Names::new(alloc);
@@ -56,7 +56,7 @@ fn tell_name(names: &Names, number: &str, told: &mut Page) -> Result<(), Broken>
 }
 
 /// An input that is text.
-pub fn lines_of(text: &[u8]) -> Result<&str, Broken> {
+pub(crate) fn lines_of(text: &[u8]) -> Result<&str, Broken> {
     match str::from_utf8(text) {
         Ok(lines) => Ok(lines),
         Err(_) => Err(Broken::Value),

@@ -9,7 +9,7 @@ use std::alloc::Global;
 /// A sink over memory.
 pub type Page = Over<FaultyWriter>;
 
-pub fn page(alloc: Global) -> Page {
+pub(crate) fn page(alloc: Global) -> Page {
     Over::new(FaultyWriter::new(Vec::new(alloc)))
 }
 
@@ -20,7 +20,7 @@ pub struct Done {
     pub answer: Vec<u8>,
 }
 
-pub fn finished(written: Page, answer: Page) -> Done {
+pub(crate) fn finished(written: Page, answer: Page) -> Done {
     Done {
         written: written.into_inner().taken,
         answer: answer.into_inner().taken,
@@ -28,18 +28,18 @@ pub fn finished(written: Page, answer: Page) -> Done {
 }
 
 /// What a call answered that writes nothing.
-pub fn answered(alloc: Global, answer: Page) -> Done {
+pub(crate) fn answered(alloc: Global, answer: Page) -> Done {
     finished(page(alloc), answer)
 }
 
 /// Whether two calls wrote and answered the same.
-pub fn is_same(found: &Done, wanted: &Done) -> bool {
+pub(crate) fn is_same(found: &Done, wanted: &Done) -> bool {
     found.written.as_slice() == wanted.written.as_slice()
         && found.answer.as_slice() == wanted.answer.as_slice()
 }
 
 /// Writes the line of an end: `ok`, or the line of the stop.
-pub fn tell_end<S: Sink>(end: Result<(), Stop>, out: &mut S) -> Result<(), Failed> {
+pub(crate) fn tell_end<S: Sink>(end: Result<(), Stop>, out: &mut S) -> Result<(), Failed> {
     match end {
         Ok(()) => write_bytes(b"ok\n", out),
         Err(stop) => tell_stop(stop, out),
@@ -52,13 +52,13 @@ fn tell_stop<S: Sink>(stop: Stop, out: &mut S) -> Result<(), Failed> {
 }
 
 /// Writes a count and a word behind it.
-pub fn tell_count<S: Sink>(count: u64, word: &[u8], out: &mut S) -> Result<(), Failed> {
+pub(crate) fn tell_count<S: Sink>(count: u64, word: &[u8], out: &mut S) -> Result<(), Failed> {
     write_count(count, out)?;
     write_bytes(word, out)
 }
 
 /// Writes one of two lines.
-pub fn tell_either<S: Sink>(
+pub(crate) fn tell_either<S: Sink>(
     is_so: bool,
     so: &[u8],
     not_so: &[u8],

@@ -18,7 +18,7 @@ struct Left {
 }
 
 /// Reads a value, writes its canonical text, and tells how many bytes were taken and left.
-pub fn run_read(alloc: Global, call: &Call, text: &[u8]) -> Result<Done, Broken> {
+pub(crate) fn run_read(alloc: Global, call: &Call, text: &[u8]) -> Result<Done, Broken> {
     let limits = call.limits()?;
     let mut out = page(alloc);
     let left = match call.grammar {

@@ -8,7 +8,7 @@ use crate::page::{Done, answered, page, tell_either};
 use std::alloc::Global;
 
 /// Tells whether a proof shows that an instance has no solution, or the line of the fault.
-pub fn run_refuted(alloc: Global, text: &[u8]) -> Result<Done, Broken> {
+pub(crate) fn run_refuted(alloc: Global, text: &[u8]) -> Result<Done, Broken> {
     let (instance, proof) = inputs_of(text)?;
     let mut told = page(alloc);
     match is_refuted(alloc, instance, proof) {

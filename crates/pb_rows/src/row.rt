@@ -34,7 +34,7 @@ pub struct Row<'a> {
 
 impl<'a> Row<'a> {
     /// No row.
-    pub fn new(alloc: Global, file: &'a str) -> Row<'a> {
+    pub(crate) fn new(alloc: Global, file: &'a str) -> Row<'a> {
         Row {
             file,
             number: 0,
@@ -50,7 +50,7 @@ impl<'a> Row<'a> {
     }
 
     /// Why the row cannot be run, if it cannot.
-    pub fn fault(&self) -> Result<(), Broken> {
+    pub(crate) fn fault(&self) -> Result<(), Broken> {
         match (self.broken, self.source) {
             (Some(broken), _) => Err(broken),
             (None, Input::Missing) => Err(Broken::NoInput),
@@ -59,7 +59,7 @@ impl<'a> Row<'a> {
     }
 
     /// Notes whether a line was added.
-    pub fn note(&mut self, added: Result<(), Broken>) {
+    pub(crate) fn note(&mut self, added: Result<(), Broken>) {
         if let Err(broken) = added {
             self.broken = Some(broken);
         }
@@ -80,7 +80,7 @@ impl<'a> Row<'a> {
     }
 
     /// Begins a row by a line: its call alone, or its call, its input and the lines of its answer with ` | ` between.
-    pub fn begin_line(&mut self, number: u64, line: &'a str) -> Result<(), Broken> {
+    pub(crate) fn begin_line(&mut self, number: u64, line: &'a str) -> Result<(), Broken> {
         let mut parts = line.split(" | ");
         self.begin(number, parts.next().unwrap_or(""));
         if let Some(input) = parts.next() {
@@ -94,7 +94,7 @@ impl<'a> Row<'a> {
     }
 
     /// Adds a line of input.
-    pub fn add_input(&mut self, line: &str) -> Result<(), Broken> {
+    pub(crate) fn add_input(&mut self, line: &str) -> Result<(), Broken> {
         self.own_input()?;
         add_line(&mut self.input, line)
     }

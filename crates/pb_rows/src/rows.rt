@@ -38,7 +38,7 @@ pub enum Told {
 }
 
 /// Writes how many rows there were, and how many of them differ.
-pub fn write_counts<S: Sink>(count: Count, out: &mut S) -> Result<(), Failed> {
+pub(crate) fn write_counts<S: Sink>(count: Count, out: &mut S) -> Result<(), Failed> {
     write_count(count.rows, out)?;
     write_bytes(b" rows, ", out)?;
     write_count(count.differ, out)?;
@@ -46,7 +46,7 @@ pub fn write_counts<S: Sink>(count: Count, out: &mut S) -> Result<(), Failed> {
 }
 
 /// Runs each row of a file, counts them, and writes a line for each that differs.
-pub fn run_rows<S: Sink>(
+pub(crate) fn run_rows<S: Sink>(
     alloc: Global,
     name: &str,
     text: &str,

@@ -4,7 +4,7 @@ use crate::broken::Broken;
 use itoa::Buffer;
 
 /// Adds what a line spells, and a line feed unless it ends in a `\`. A blank before it does not count.
-pub fn add_line(bytes: &mut Vec<u8>, line: &str) -> Result<(), Broken> {
+pub(crate) fn add_line(bytes: &mut Vec<u8>, line: &str) -> Result<(), Broken> {
     let line = line.strip_prefix(' ').unwrap_or(line);
     match line.strip_suffix('\\') {
         Some(front) => add_text(bytes, front),
@@ -17,7 +17,7 @@ pub fn add_line(bytes: &mut Vec<u8>, line: &str) -> Result<(), Broken> {
 }
 
 /// Adds what a text spells: what stands between `\[COUNT:` and `\]` is added so often.
-pub fn add_text(bytes: &mut Vec<u8>, text: &str) -> Result<(), Broken> {
+pub(crate) fn add_text(bytes: &mut Vec<u8>, text: &str) -> Result<(), Broken> {
     let mut parts = text.split("\\[");
     if let Some(front) = parts.next() {
         add_turn(bytes, front, 0)?;

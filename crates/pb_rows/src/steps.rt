@@ -34,7 +34,7 @@ impl Named for Replay {
 /// `alone` through those of the lines, each read by itself. Writes the constraints that are live then, each behind its id,
 /// and tells the verdict if there is one, or the first refusal; with `looks-least` and `looks-most` whether the looks of
 /// the last `rup` lie between these.
-pub fn run_steps(alloc: Global, call: &Call, text: &[u8]) -> Result<Done, Broken> {
+pub(crate) fn run_steps(alloc: Global, call: &Call, text: &[u8]) -> Result<Done, Broken> {
     let (instance, lines) = inputs_of(text)?;
     let mut told = page(alloc);
     let Ok(mut replay) = opened(alloc, call, instance)? else {
@@ -158,7 +158,10 @@ fn step_all(
 }
 
 /// Steps through one statement.
-pub fn step_one(replay: &mut Replay, statement: &Statement) -> Result<Result<(), Fault>, Broken> {
+pub(crate) fn step_one(
+    replay: &mut Replay,
+    statement: &Statement,
+) -> Result<Result<(), Fault>, Broken> {
     if !statement_is_value(statement, replay.limits()) {
         return Err(Broken::Value);
     }

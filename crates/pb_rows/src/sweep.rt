@@ -9,7 +9,7 @@ use std::alloc::Global;
 
 /// Feeds every proper front of a text, or the text with a byte 0 at each place. Answers the first that did not stop
 /// at its end, or at that byte.
-pub fn run_sweep(alloc: Global, call: &Call, text: &[u8]) -> Result<Done, Broken> {
+pub(crate) fn run_sweep(alloc: Global, call: &Call, text: &[u8]) -> Result<Done, Broken> {
     for at in 0..text.len() {
         let end = feed_changed(alloc, call, text, at)?;
         if !stops_at(end, at as u64, why_of(call)) {

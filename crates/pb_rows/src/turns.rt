@@ -24,7 +24,7 @@ pub struct Calls {
 
 impl Calls {
     /// The calls of a reader of a text.
-    pub fn of_reader(text: &[u8], reader: &FaultyReader<'_>) -> Calls {
+    pub(crate) fn of_reader(text: &[u8], reader: &FaultyReader<'_>) -> Calls {
         let given = text.len().saturating_sub(reader.left.len());
         Calls {
             count: reader.calls,
@@ -33,7 +33,7 @@ impl Calls {
     }
 
     /// The calls of a writer.
-    pub fn of_writer(writer: &FaultyWriter) -> Calls {
+    pub(crate) fn of_writer(writer: &FaultyWriter) -> Calls {
         Calls {
             count: writer.calls,
             place: Place::START,
@@ -64,7 +64,7 @@ pub struct Run {
 }
 
 impl Run {
-    pub fn new(writer: FaultyWriter, answer: Page, calls: Calls) -> Run {
+    pub(crate) fn new(writer: FaultyWriter, answer: Page, calls: Calls) -> Run {
         Run {
             done: Done {
                 written: writer.taken,
@@ -76,14 +76,14 @@ impl Run {
 }
 
 /// A reader as the call says, but for the call that fails.
-pub fn reader_of<'a>(call: &Call, text: &'a [u8]) -> FaultyReader<'a> {
+pub(crate) fn reader_of<'a>(call: &Call, text: &'a [u8]) -> FaultyReader<'a> {
     let mut reader = FaultyReader::new(text);
     reader.most = call.reader_most;
     reader
 }
 
 /// A writer as the call says.
-pub fn writer_of(alloc: Global, call: &Call) -> FaultyWriter {
+pub(crate) fn writer_of(alloc: Global, call: &Call) -> FaultyWriter {
     let mut writer = FaultyWriter::new(Vec::new(alloc));
     writer.most = call.writer_most;
     writer.fails_at = call.writer_fails;
@@ -93,7 +93,12 @@ pub fn writer_of(alloc: Global, call: &Call) -> FaultyWriter {
 /// Runs a call, or runs it with each call of a reader or the writer failing, up to the first run that makes no such call.
 /// That one is to give what is wanted, and the others the fault, behind a front of what is wanted; it answers the first
 /// that does not.
-pub fn run_turns(alloc: Global, call: &Call, text: &[u8], wanted: &Done) -> Result<Done, Broken> {
+pub(crate) fn run_turns(
+    alloc: Global,
+    call: &Call,
+    text: &[u8],
+    wanted: &Done,
+) -> Result<Done, Broken> {
     match call.each {
         Each::Neither => Ok(run_once(alloc, call, text)?.done),
         _ => run_each(alloc, call, text, wanted),

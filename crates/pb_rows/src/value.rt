@@ -10,7 +10,7 @@ use std::str::FromStr;
 
 /// The instance of lines `variables N`, `tail BYTES`, `objective`, `comment BEFORE BYTES` and `constraint COEFFICIENT
 /// DEGREE` on the name `x1`. Bytes are given by their hexadecimal digits.
-pub fn instance_of(alloc: Global, lines: &str) -> Result<Instance, Broken> {
+pub(crate) fn instance_of(alloc: Global, lines: &str) -> Result<Instance, Broken> {
     let mut instance = Instance {
         variables: 0,
         tail: Bytes::from_vec(Vec::new(alloc)),
@@ -62,7 +62,7 @@ fn add_constraint(alloc: Global, instance: &mut Instance, value: &str) -> Result
 }
 
 /// The proof of lines: `f`, steps and other statements, and a conclusion.
-pub fn proof_of(alloc: Global, lines: &str) -> Result<Proof, Broken> {
+pub(crate) fn proof_of(alloc: Global, lines: &str) -> Result<Proof, Broken> {
     let mut proof = Proof {
         count: None,
         steps: Sequence::new(alloc),
@@ -81,7 +81,7 @@ pub fn proof_of(alloc: Global, lines: &str) -> Result<Proof, Broken> {
 /// The statement of a line: as in a proof, but that any words, ids and names may stand anywhere, a factor is spelled
 /// `*3` or `d3`, a weakening `w:x1`, a `rup` has an empty sum, and conclusions are `unsat`, `sat` and `bounds LOWER ID
 /// UPPER`, with `-` for no id.
-pub fn statement_of(alloc: Global, line: &str) -> Result<Statement, Broken> {
+pub(crate) fn statement_of(alloc: Global, line: &str) -> Result<Statement, Broken> {
     let (key, value) = parted(line);
     match key {
         "header" => Ok(Statement::Header),
