@@ -1,7 +1,9 @@
 -- The machines of what stands behind the first word of a statement, as one automaton.
-use Rattle.std.specs.Prelude.{ℕ, false}
+use Rattle.std.specs.Prelude.{◌≡◌, ℕ, false}
 use Rattle.pb_text.specs.Automaton.{Automaton, Next, Go, End, Refuse}
 use Rattle.pb_text.specs.Languages.{Language}
+use Rattle.pb_text.specs.declared.machine.Push.{Push}
+use Rattle.pb_text.specs.declared.machine.Push.TheVariants as push
 use Rattle.pb_proof.specs.Line.Count.{count_automaton, counting}
 use Rattle.pb_proof.specs.Line.PolState.{pol_automaton, pol_first}
 use Rattle.pb_proof.specs.Line.Rup.{goal_automaton, goal_first}
@@ -21,6 +23,14 @@ abbrev pub carried : {S E R F : Type 0} → (S → R) → (E → F) → Next S E
 carried into event (Go s) = Go (into s)
 carried into event (End e s) = End (event e) (into s)
 carried into event Refuse = Refuse
+
+-- what a machine answers, within another one, where its events give these
+abbrev pub IsCarried : {E F : Type 0} → (E → F → Type 0) → Push E → Push F → Type 0
+IsCarried gives push.Go r = r ≡ push.Go
+IsCarried gives (push.Event e) r = (f : _) × gives e f × (r ≡ push.Event f)
+IsCarried gives push.No r = r ≡ push.No
+IsCarried gives push.Large r = r ≡ push.Large
+IsCarried gives push.Memory r = r ≡ push.Memory
 
 abbrev pub inner_step : Inner → ℕ → Next Inner Statement
 inner_step (inner.TheVariants.Count s) b = carried inner.TheVariants.Count statement.TheVariants.F (count_automaton.step s b)

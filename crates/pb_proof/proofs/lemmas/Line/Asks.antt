@@ -18,8 +18,8 @@ use Rattle.pb_sums.specs.declared.Part as part
 use Rattle.pb_sums.specs.declared.Spaces.TheVariants.{Blank as BlankSpaces}
 use Rattle.pb_sums.proofs.Asked.{ends_nothing, ends_behind, asks_behind, at_name, sums_asked, first_asks_nothing}
 use Rattle.pb_proof.specs.Asking.{EndsNumber}
-use Rattle.pb_proof.specs.Line.Rup.{GoalState, goal_automaton, goal_first, goals, goal_asks, goal_plan}
-use Rattle.pb_proof.specs.Line.Ids.{IdsState, ids_automaton, ids_first, plan, digits, before, behind, keeps}
+use Rattle.pb_proof.specs.Line.Rup.{GoalState, goal_automaton, goal_first, goal_asks, goal_plan}
+use Rattle.pb_proof.specs.Line.Ids.{IdsState, ids_automaton, ids_first, plan, digits, before, keeps}
 use Rattle.pb_proof.specs.Line.Literals.{LiteralsState, literals_automaton, literals_first, adds, is_more}
 use Rattle.pb_proof.specs.Line.Literals as literals
 use Rattle.pb_proof.specs.Line.ByteKind.{number_mark, name_mark}

@@ -1,5 +1,5 @@
 -- Postfix words tell their expression, and leave one.
-use Rattle.std.proofs.Common.{◌≡◌, ℕ, zero, suc, ◌+◌, ◌-◌, List, [], ◌∷◌, ◌++◌, refl, sym, ap, ◌∙◌, subst, arith}
+use Rattle.std.proofs.Common.{◌≡◌, ℕ, zero, suc, List, [], ◌∷◌, ◌++◌, refl, sym, ap, ◌∙◌, subst, arith}
 use Rattle.pb_proof.specs.Leaving.{Leaves, WordsTell, WordsLeaveOne}
 use Rattle.pb_proof.specs.Postfix.{Tree, Constraint, True, Sum, Times, Divided, Saturated, Weakened, words}
 use Rattle.pb_proof.specs.declared.word.PolWord.{PolWord}
