@@ -4,14 +4,14 @@ use Rattle.pb_text.specs.Limits.{largest, top_of}
 use Rattle.pb_proof.specs.Line.Count.{CountState}
 use Rattle.pb_proof.specs.Line.Ids.{IdsState}
 use Rattle.pb_proof.specs.Line.Literals.{LiteralsState}
-use Rattle.pb_proof.specs.Line.Rup.{GoalState}
+use Rattle.pb_proof.specs.Line.Rup.{RupState}
 use Rattle.pb_proof.specs.Line.ClaimState.{ClaimState}
 use Rattle.pb_proof.specs.Line.PolState.{PolState}
 use Rattle.pb_proof.specs.Machine.State.{ProofState}
 use Rattle.pb_proof.specs.declared.line.count.CountMachine.TheInside.{Inside as CountFields}
 use Rattle.pb_proof.specs.declared.line.ids.IdsMachine.TheInside.{Inside as IdsFields}
 use Rattle.pb_proof.specs.declared.line.literals.LiteralsMachine.TheInside.{Inside as LiteralsFields}
-use Rattle.pb_proof.specs.declared.line.rup.GoalMachine.TheInside.{Inside as GoalFields}
+use Rattle.pb_proof.specs.declared.line.rup.RupMachine.TheInside.{Inside as RupFields}
 use Rattle.pb_proof.specs.declared.line.claim.ClaimMachine.TheInside.{Inside as ClaimFields}
 use Rattle.pb_proof.specs.declared.line.pol.PolMachine.TheInside.{Inside as PolFields}
 use Rattle.pb_proof.specs.declared.machine.ProofMachine.TheInside.{Inside as ProofFields}
@@ -26,8 +26,8 @@ ids_state m = record { top = m.top; ids = m.ids; phase = m.phase }
 abbrev pub literals_state : LiteralsFields → LiteralsState
 literals_state m = record { joined = m.joined; literals = m.literals; name = m.name; phase = m.phase }
 
-abbrev pub goal_state : GoalFields → GoalState
-goal_state m = record { phase = m.phase; inner = m.inner; linear = m.linear }
+abbrev pub rup_state : RupFields → RupState
+rup_state m = record { phase = m.phase; inner = m.inner; linear = m.linear }
 
 abbrev pub claim_state : ClaimFields → ClaimState
 claim_state m = record { limit = largest m.limits; top = top_of m.limits; phase = m.phase; inner = m.inner }
@@ -48,8 +48,8 @@ IdsKeeps = (a b : IdsFields) → a.alloc ≡ b.alloc → ids_state a ≡ ids_sta
 abbrev pub LiteralsKeeps : Type 0
 LiteralsKeeps = (a b : LiteralsFields) → a.alloc ≡ b.alloc → literals_state a ≡ literals_state b → a ≡ b
 
-abbrev pub GoalKeeps : Type 0
-GoalKeeps = (a b : GoalFields) → goal_state a ≡ goal_state b → a ≡ b
+abbrev pub RupKeeps : Type 0
+RupKeeps = (a b : RupFields) → rup_state a ≡ rup_state b → a ≡ b
 
 abbrev pub ClaimKeeps : Type 0
 ClaimKeeps = (a b : ClaimFields) → a.alloc ≡ b.alloc → a.limits ≡ b.limits → claim_state a ≡ claim_state b → a ≡ b

@@ -151,8 +151,8 @@ module _ (limit top : ℕ) where
   abbrev pub SpellsWords : List PolWord → Language
   SpellsWords ws = λ t. IsPostfix ws × (Listed SpellsWord ws ⋅ LineEnd) t
 
-  abbrev pub SpellsGoal : Linear → Language
-  SpellsGoal c = λ t. (c.relation ≡ AtLeast) × (Blanks1 ⋅ SpellsLinear Blank limit c ⋅ Feed) t
+  abbrev pub SpellsRup : Linear → Language
+  SpellsRup c = λ t. (c.relation ≡ AtLeast) × (Blanks1 ⋅ SpellsLinear Blank limit c ⋅ Feed) t
 
   abbrev pub SpellsLiterals : List Literal → Language
   SpellsLiterals ls = Listed SpellsLiteral ls ⋅ LineEnd
@@ -169,7 +169,7 @@ module _ (limit top : ℕ) where
       Bytes pseudo_word ⋅ Blanks1 ⋅ Bytes proof_word ⋅ Blanks1 ⋅ Bytes version_word ⋅ Blanks1 ⋅ Bytes two_word ⋅ Feed
   SpellsStatement (F count) = Bytes f_word ⋅ SpellsCount count
   SpellsStatement (Pol ws) = Bytes pol_word ⋅ SpellsWords ws
-  SpellsStatement (Rup c) = Bytes rup_word ⋅ SpellsGoal c
+  SpellsStatement (Rup c) = Bytes rup_word ⋅ SpellsRup c
   SpellsStatement (Soli ls) = Bytes soli_word ⋅ SpellsLiterals ls
   SpellsStatement (Solx ls) = Bytes solx_word ⋅ SpellsLiterals ls
   SpellsStatement (Delete ids) = Bytes del_word ⋅ Blanks1 ⋅ Bytes id_word ⋅ SpellsIds ids

@@ -1,6 +1,6 @@
 //! The laws of proofs and their texts.
 
-ghost use Rattle.pb_proof.specs.Fields.{CountKeeps, IdsKeeps, LiteralsKeeps, GoalKeeps, ClaimKeeps, PolKeeps, ProofKeeps};
+ghost use Rattle.pb_proof.specs.Fields.{CountKeeps, IdsKeeps, LiteralsKeeps, RupKeeps, ClaimKeeps, PolKeeps, ProofKeeps};
 ghost use Rattle.pb_proof.specs.Formats.{ReadsProofs, OneProof, FixedMarks, NoFront, LargerLimits};
 
 pub mod values;
@@ -36,7 +36,7 @@ pub fn keeps_its_state()
     ensures count { CountKeeps }
     ensures ids { IdsKeeps }
     ensures literals { LiteralsKeeps }
-    ensures goal { GoalKeeps }
+    ensures rup { RupKeeps }
     ensures claim { ClaimKeeps }
     ensures pol { PolKeeps }
     ensures proof { ProofKeeps }

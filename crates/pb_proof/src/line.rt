@@ -15,23 +15,23 @@ use crate::line::count::CountMachine;
 use crate::line::ids::IdsMachine;
 use crate::line::literals::LiteralsMachine;
 use crate::line::pol::PolMachine;
-use crate::line::rup::GoalMachine;
+use crate::line::rup::RupMachine;
 
 /// A machine that reads what stands behind the first word of a statement, through the line feed.
 #[derive(Drop)]
-pub enum Inner {
+pub enum LineMachine {
     /// Behind `f`.
     Count(CountMachine),
     /// Behind `pol`.
-    Words(PolMachine),
+    Pol(PolMachine),
     /// Behind `rup`.
-    Goal(GoalMachine),
+    Rup(RupMachine),
     /// Behind `soli`.
-    Improving(LiteralsMachine),
+    Soli(LiteralsMachine),
     /// Behind `solx`.
-    Excluded(LiteralsMachine),
+    Solx(LiteralsMachine),
     /// Behind `del id`.
-    Deleted(IdsMachine),
+    Delete(IdsMachine),
     /// Behind `conclusion`.
-    Claimed(ClaimMachine),
+    Conclusion(ClaimMachine),
 }

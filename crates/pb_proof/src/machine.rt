@@ -6,9 +6,9 @@ ghost use Rattle.pb_text.specs.Limits.{largest, top_of};
 pub(crate) mod phase;
 mod transition;
 
-use crate::line::Inner;
-use crate::line::push::inner_first;
-use crate::machine::phase::{Move, Phase, Rest, Stage};
+use crate::line::LineMachine;
+use crate::line::push::line_first;
+use crate::machine::phase::{LineKind, Move, Phase, Stage};
 use crate::machine::transition::{is_done, is_within, plan, stage_behind};
 use crate::statement::Statement;
 use pb_text::{Limits, Machine, Push};
@@ -21,7 +21,7 @@ pub struct ProofMachine {
     alloc: Global,
     limits: Limits,
     phase: Phase,
-    inner: Option<Inner>,
+    inner: Option<LineMachine>,
 }
 
 impl Model for ProofMachine {
@@ -46,7 +46,7 @@ impl Model for ProofMachine {
 }
 
 /// Puts a machine, or none, in the place of another.
-fn replace(inner: &mut Option<Inner>, next: Option<Inner>)
+fn replace(inner: &mut Option<LineMachine>, next: Option<LineMachine>)
     ensures { inner.new ≡ next }
 {
     *inner = next;
@@ -103,15 +103,15 @@ impl ProofMachine {
                 self.phase = phase;
                 Push::Go
             }
-            Move::Begin(rest) => {
+            Move::Begin(kind) => {
                 replace(
                     &mut self.inner,
-                    Some(inner_first(self.alloc, self.limits, rest)),
+                    Some(line_first(self.alloc, self.limits, kind)),
                 );
-                self.phase = Phase::Inside(rest);
+                self.phase = Phase::Inside(kind);
                 Push::Go
             }
-            Move::Give(rest) => self.give(rest, byte),
+            Move::Give(kind) => self.give(kind, byte),
             Move::EndHeader => {
                 self.phase = Phase::Between(Stage::Formula);
                 Push::Event(Statement::Header)
@@ -129,8 +129,8 @@ impl ProofMachine {
     }
 
     /// Gives a byte to the machine behind the first word.
-    fn give(&mut self, rest: Rest, byte: u8) -> Push<Statement>
-        requires { plan self.old.phase byte ≡ Move.Give rest }
+    fn give(&mut self, kind: LineKind, byte: u8) -> Push<Statement>
+        requires { plan self.old.phase byte ≡ Move.Give kind }
         ensures { Pushes proofs self.old byte result self.new }
     {
         let Some(inner) = &mut self.inner else {
@@ -140,7 +140,7 @@ impl ProofMachine {
             Push::Go => Push::Go,
             Push::Event(statement) => {
                 replace(&mut self.inner, None);
-                self.phase = Phase::Between(stage_behind(rest));
+                self.phase = Phase::Between(stage_behind(kind));
                 Push::Event(statement)
             }
             Push::No => Push::No,
@@ -183,10 +183,10 @@ impl Machine for ProofMachine {
                 self.phase = phase;
                 true
             }
-            Move::Begin(rest) => {
-                let inner = inner_first(self.alloc, self.limits, rest);
+            Move::Begin(kind) => {
+                let inner = line_first(self.alloc, self.limits, kind);
                 replace(&mut self.inner, Some(inner));
-                self.phase = Phase::Inside(rest);
+                self.phase = Phase::Inside(kind);
                 true
             }
             _ => false,

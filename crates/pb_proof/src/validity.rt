@@ -177,7 +177,7 @@ fn conclusion_is_value(conclusion: &Conclusion, limits: Limits) -> bool
 }
 
 /// Whether the constraint may stand behind `rup`: its relation is `>=`, and it is within the limits.
-fn goal_is_value(goal: &Linear, limits: Limits) -> bool
+fn rup_is_value(goal: &Linear, limits: Limits) -> bool
     ensures { IsTrue result ↔ IsStatementValue (largest limits) (top_of limits) (Statement.Rup goal.now) }
 {
     goal.relation == Relation::AtLeast && linear_is_value(goal, limits)
@@ -194,7 +194,7 @@ pub fn statement_is_value(statement: &Statement, limits: Limits) -> bool
         Statement::F(count) => count_is_value(*count, limits.top()),
         Statement::Pol(words) => is_postfix(words.as_slice())
             && are_words(words.as_slice(), limits),
-        Statement::Rup(goal) => goal_is_value(goal, limits),
+        Statement::Rup(goal) => rup_is_value(goal, limits),
         Statement::Soli(literals) | Statement::Solx(literals) => are_literals(literals.as_slice()),
         Statement::Delete(ids) => !ids.is_empty() && are_ids(ids.as_slice(), limits.top()),
         Statement::Conclude(conclusion) => conclusion_is_value(conclusion, limits),

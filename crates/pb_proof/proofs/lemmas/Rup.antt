@@ -1,3 +1,3 @@
--- Lemmas on the machine of goals.
+-- Lemmas on the machine of `rup`.
 pub mod Reads
 pub mod States

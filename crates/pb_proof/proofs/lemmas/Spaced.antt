@@ -10,8 +10,8 @@ use Rattle.pb_text.proofs.Languages.{grown, none_yet, regroup, regroup⁻¹, beh
 use Rattle.pb_proof.specs.Machine.Transition.{words_of, meets}
 use Rattle.pb_proof.specs.Lines.{pseudo_word, proof_word, version_word, two_word, f_word, pol_word, rup_word, del_word, id_word, output_word, none_word, conclusion_word, end_word}
 use Rattle.pb_proof.specs.Machine.Transition.{sol_word}
-use Rattle.pb_proof.specs.declared.machine.phase.Front.{Front}
-use Rattle.pb_proof.specs.declared.machine.phase.Front.TheVariants.{Header, Formula, Pol, Rup, Solution, Delete, Output, Conclusion, End}
+use Rattle.pb_proof.specs.declared.machine.phase.Keyword.{Keyword}
+use Rattle.pb_proof.specs.declared.machine.phase.Keyword.TheVariants.{Header, Formula, Pol, Rup, Solution, Delete, Output, Conclusion, End}
 use Rattle.pb_proof.proofs.lemmas.Choices.{both}
 use Rattle.pb_proof.proofs.lemmas.Line.Ends.{as_unmarked}
 
@@ -120,7 +120,7 @@ words_each : (w : List ℕ) (ws : List (List ℕ)) → is_plain w ≡ true → a
 words_each w ws h k t s = plain_each w (led ws) h t (led_each (Bytes w) ws k t s)
 
 -- The words that a statement begins with.
-abbrev pub first_word : Front → List ℕ
+abbrev pub first_word : Keyword → List ℕ
 first_word Header = pseudo_word
 first_word Formula = f_word
 first_word Pol = pol_word
@@ -131,17 +131,17 @@ first_word Output = output_word
 first_word Conclusion = conclusion_word
 first_word End = end_word
 
-abbrev pub more_words : Front → List (List ℕ)
+abbrev pub more_words : Keyword → List (List ℕ)
 more_words Header = proof_word ∷ version_word ∷ two_word ∷ []
 more_words Delete = id_word ∷ []
 more_words Output = none_word ∷ []
 more_words End = pseudo_word ∷ proof_word ∷ []
 more_words _ = []
 
-abbrev pub FrontWords : Front → Language
-FrontWords f = Words (Bytes (first_word f)) (more_words f)
+abbrev pub KeywordWords : Keyword → Language
+KeywordWords f = Words (Bytes (first_word f)) (more_words f)
 
-same_words : (f : Front) → (words_of f ≡ first_word f ++ led (more_words f)) × (is_plain (first_word f) ≡ true) × (are_plain (more_words f) ≡ true)
+same_words : (f : Keyword) → (words_of f ≡ first_word f ++ led (more_words f)) × (is_plain (first_word f) ≡ true) × (are_plain (more_words f) ≡ true)
 same_words Header = (refl, refl, refl)
 same_words Formula = (refl, refl, refl)
 same_words Pol = (refl, refl, refl)
@@ -152,10 +152,10 @@ same_words Output = (refl, refl, refl)
 same_words Conclusion = (refl, refl, refl)
 same_words End = (refl, refl, refl)
 
-pub front_only : (f : Front) (t : List Letter) → Spaced (words_of f) t → FrontWords f t
-front_only f t h =
+pub keyword_only : (f : Keyword) (t : List Letter) → Spaced (words_of f) t → KeywordWords f t
+keyword_only f t h =
     let g = same_words f in words_only (first_word f) (more_words f) g.1 g.2 t (subst (λ x. Spaced x t) g.0 h)
 
-pub front_each : (f : Front) (t : List Letter) → FrontWords f t → Spaced (words_of f) t
-front_each f t h =
+pub keyword_each : (f : Keyword) (t : List Letter) → KeywordWords f t → Spaced (words_of f) t
+keyword_each f t h =
     let g = same_words f in subst (λ x. Spaced x t) (sym g.0) (words_each (first_word f) (more_words f) g.1 g.2 t h)

@@ -1,9 +1,9 @@
 -- The machine of what stands behind `f`: a count or none, through the line feed.
 use Rattle.std.specs.Prelude.{◌≡◌, ℕ, ◌+◌, ◌*◌, ◌^◌, ◌≤◌, ◌<◌, Bool, true, false, cond, nat_le, Option, Some, None}
 use Rattle.pb_text.specs.Automaton.{Automaton, Next, Go, End, Refuse}
-use Rattle.pb_proof.specs.Line.ByteKind.{number_mark}
-use Rattle.pb_proof.specs.declared.line.byte_kind.NumberMark.{NumberMark}
-use Rattle.pb_proof.specs.declared.line.byte_kind.NumberMark.TheVariants.{Blank, Digit, Semicolon, Feed}
+use Rattle.pb_proof.specs.Line.ByteKind.{number_byte}
+use Rattle.pb_proof.specs.declared.line.byte_kind.NumberByte.{NumberByte}
+use Rattle.pb_proof.specs.declared.line.byte_kind.NumberByte.TheVariants.{Blank, Digit, Semicolon, Feed}
 use Rattle.pb_proof.specs.declared.line.count.phase.CountPhase.{CountPhase}
 use Rattle.pb_proof.specs.declared.line.count.phase.CountPhase.TheVariants.{Start, Gap, Digits, Tail, Closing, Done}
 use Rattle.pb_proof.specs.declared.line.count.phase.CountMove.{CountMove}
@@ -29,13 +29,13 @@ abbrev pub digits : ℕ → ℕ → ℕ → CountMove
 digits top n d = cond (nat_le (10 * n + d) top) (move.TheVariants.To (Digits (10 * n + d))) move.TheVariants.Stop
 
 -- where the line may end, with a count or none
-abbrev pub behind : Option ℕ → CountPhase → NumberMark → CountMove
+abbrev pub behind : Option ℕ → CountPhase → NumberByte → CountMove
 behind count gap Blank = move.TheVariants.To gap
 behind count gap Semicolon = move.TheVariants.To (Closing count)
 behind count gap Feed = move.TheVariants.End count
 behind count gap _ = move.TheVariants.Stop
 
-abbrev pub plan : ℕ → CountPhase → NumberMark → CountMove
+abbrev pub plan : ℕ → CountPhase → NumberByte → CountMove
 plan top Start k = behind None Gap k
 plan top Gap (Digit d) = digits top 0 d
 plan top Gap k = behind None Gap k
@@ -67,7 +67,7 @@ is_in_number _ = false
 -- the automaton: nothing is kept
 abbrev pub count_automaton : Automaton CountState (Option ℕ)
 count_automaton = record {
-  step = λ s b. act s.top (plan s.top s.phase (number_mark b));
+  step = λ s b. act s.top (plan s.top s.phase (number_byte b));
   done = λ s. is_done s.phase;
   begun = λ s. is_midway s.phase;
   in_number = λ s. is_in_number s.phase;

@@ -2,9 +2,9 @@
 use Rattle.std.specs.Prelude.{◌≡◌, ℕ, ◌+◌, ◌*◌, ◌-◌, ◌^◌, ◌≤◌, ◌<◌, min, ℤ, Bool, true, false, cond, nat_eq, nat_le, List, [], ◌∷◌, ◌++◌, length}
 use Rattle.pb_text.specs.Automaton.{Automaton, Next, Go, End, Refuse}
 use Rattle.pb_text.specs.Numbers.{signed}
-use Rattle.pb_proof.specs.Line.ByteKind.{number_mark}
-use Rattle.pb_proof.specs.declared.line.byte_kind.NumberMark.{NumberMark}
-use Rattle.pb_proof.specs.declared.line.byte_kind.NumberMark.TheVariants as mark
+use Rattle.pb_proof.specs.Line.ByteKind.{number_byte}
+use Rattle.pb_proof.specs.declared.line.byte_kind.NumberByte.{NumberByte}
+use Rattle.pb_proof.specs.declared.line.byte_kind.NumberByte.TheVariants as kind
 use Rattle.pb_proof.specs.declared.line.ids.phase.IdsPhase.{IdsPhase}
 use Rattle.pb_proof.specs.declared.line.ids.phase.IdsPhase.TheVariants.{Start, Gap, Between, Minus, Digits, Closing, Done}
 use Rattle.pb_proof.specs.declared.line.ids.phase.IdsMove.{IdsMove}
@@ -31,31 +31,31 @@ abbrev pub digits : ℕ → Bool → ℕ → ℕ → IdsMove
 digits top negative n d = cond (nat_le (10 * n + d) top) (move.To (Digits negative (10 * n + d))) move.Stop
 
 -- where an id may begin
-abbrev pub before : ℕ → NumberMark → IdsMove
-before top mark.Minus = move.To Minus
-before top (mark.Digit d) = digits top false 0 d
+abbrev pub before : ℕ → NumberByte → IdsMove
+before top kind.Minus = move.To Minus
+before top (kind.Digit d) = digits top false 0 d
 before top _ = move.Stop
 
 -- where an id may end
-abbrev pub behind : ℤ → NumberMark → IdsMove
-behind id mark.Blank = move.Keep Between id
-behind id mark.Semicolon = move.Keep Closing id
-behind id mark.Feed = move.EndWith id
+abbrev pub behind : ℤ → NumberByte → IdsMove
+behind id kind.Blank = move.Keep Between id
+behind id kind.Semicolon = move.Keep Closing id
+behind id kind.Feed = move.EndWith id
 behind id _ = move.Stop
 
-abbrev pub plan : ℕ → IdsPhase → NumberMark → IdsMove
-plan top Start mark.Blank = move.To Gap
-plan top Gap mark.Blank = move.To Gap
+abbrev pub plan : ℕ → IdsPhase → NumberByte → IdsMove
+plan top Start kind.Blank = move.To Gap
+plan top Gap kind.Blank = move.To Gap
 plan top Gap k = before top k
-plan top Between mark.Blank = move.To Between
-plan top Between mark.Semicolon = move.To Closing
-plan top Between mark.Feed = move.End
+plan top Between kind.Blank = move.To Between
+plan top Between kind.Semicolon = move.To Closing
+plan top Between kind.Feed = move.End
 plan top Between k = before top k
-plan top Minus (mark.Digit d) = digits top true 0 d
-plan top (Digits negative n) (mark.Digit d) = digits top negative n d
+plan top Minus (kind.Digit d) = digits top true 0 d
+plan top (Digits negative n) (kind.Digit d) = digits top negative n d
 plan top (Digits negative n) k = cond (nat_eq n 0) move.Stop (behind (signed negative n) k)
-plan top Closing mark.Blank = move.To Closing
-plan top Closing mark.Feed = move.End
+plan top Closing kind.Blank = move.To Closing
+plan top Closing kind.Feed = move.End
 plan _ _ _ = move.Stop
 
 abbrev pub act : ℕ → List ℤ → IdsMove → Next IdsState (List ℤ)
@@ -65,7 +65,7 @@ act top ids move.End = End ids (ids_last top)
 act top ids (move.EndWith id) = End (ids ++ id ∷ []) (ids_last top)
 act top ids move.Stop = Refuse
 
-abbrev pub step : IdsState → NumberMark → Next IdsState (List ℤ)
+abbrev pub step : IdsState → NumberByte → Next IdsState (List ℤ)
 step s k = act s.top s.ids (plan s.top s.phase k)
 
 abbrev pub is_midway : IdsPhase → Bool
@@ -90,11 +90,11 @@ keeps _ = false
 -- the automaton: ids are kept, and their count stays at its largest
 abbrev pub ids_automaton : Automaton IdsState (List ℤ)
 ids_automaton = record {
-  step = λ s b. step s (number_mark b);
+  step = λ s b. step s (number_byte b);
   done = λ s. is_done s.phase;
   begun = λ s. is_midway s.phase;
   in_number = λ s. is_in_number s.phase;
-  asks = λ s b. keeps (plan s.top s.phase (number_mark b));
+  asks = λ s b. keeps (plan s.top s.phase (number_byte b));
   kept = λ s. min (length s.ids) (2 ^ 64 - 1);
   spent = λ s. length s.ids;
 }

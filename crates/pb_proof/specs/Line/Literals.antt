@@ -5,9 +5,9 @@ use Rattle.pb_text.specs.Languages.{Language, ◌⋅◌, Blanks0}
 use Rattle.pb_sums.specs.Sums.{SpellsLiteral}
 use Rattle.pb_sums.specs.declared.Literal.{Literal}
 use Rattle.pb_proof.specs.Lines.{LineEnd, Listed}
-use Rattle.pb_proof.specs.Line.ByteKind.{name_mark}
-use Rattle.pb_proof.specs.declared.line.byte_kind.NameMark.{NameMark}
-use Rattle.pb_proof.specs.declared.line.byte_kind.NameMark.TheVariants.{Blank, Letter, Inner, Tilde, Semicolon, Feed}
+use Rattle.pb_proof.specs.Line.ByteKind.{name_byte}
+use Rattle.pb_proof.specs.declared.line.byte_kind.NameByte.{NameByte}
+use Rattle.pb_proof.specs.declared.line.byte_kind.NameByte.TheVariants.{Blank, Letter, Inner, Tilde, Semicolon, Feed}
 use Rattle.pb_proof.specs.declared.line.literals.phase.LiteralsPhase.{LiteralsPhase}
 use Rattle.pb_proof.specs.declared.line.literals.phase.LiteralsPhase.TheVariants.{Start, Gap, Negation, First, More, Closing, Done}
 use Rattle.pb_proof.specs.declared.line.literals.phase.LiteralsMove.{LiteralsMove}
@@ -40,18 +40,18 @@ abbrev pub literal : Bool → List ℕ → Literal
 literal negated name = record { negated = negated; name = name }
 
 -- The plan for a phase and what the byte is: where the line may end, and where a literal may begin or the line end.
-abbrev pub behind : NameMark → LiteralsMove
+abbrev pub behind : NameByte → LiteralsMove
 behind Blank = move.TheVariants.To Gap
 behind Semicolon = move.TheVariants.To Closing
 behind Feed = move.TheVariants.End
 behind _ = move.TheVariants.Stop
 
-abbrev pub before : NameMark → LiteralsMove
+abbrev pub before : NameByte → LiteralsMove
 before Tilde = move.TheVariants.To Negation
 before (Letter b) = move.TheVariants.Begin (First false) b
 before k = behind k
 
-abbrev pub plan : Bool → LiteralsPhase → NameMark → LiteralsMove
+abbrev pub plan : Bool → LiteralsPhase → NameByte → LiteralsMove
 plan joined Start k = cond joined (before k) (behind k)
 plan joined Gap k = before k
 plan joined Negation (Letter b) = move.TheVariants.Begin (First true) b
@@ -77,7 +77,7 @@ act joined ms ls name (move.TheVariants.Add p b) = Go (literals_at joined ls (na
 act joined ms ls name move.TheVariants.End = End ms (literals_last joined)
 act joined ms ls name move.TheVariants.Stop = Refuse
 
-abbrev pub step : LiteralsState → NameMark → Next LiteralsState (List Literal)
+abbrev pub step : LiteralsState → NameByte → Next LiteralsState (List Literal)
 step s k = act s.joined (flushed s.phase s.literals s.name) s.literals s.name (plan s.joined s.phase k)
 
 abbrev pub is_midway : LiteralsPhase → Bool
@@ -128,11 +128,11 @@ all_units s = units s.literals + in_hand s.phase + length s.name
 -- the automaton: the count of what is kept stays at its largest
 abbrev pub literals_automaton : Automaton LiteralsState (List Literal)
 literals_automaton = record {
-  step = λ s b. step s (name_mark b);
+  step = λ s b. step s (name_byte b);
   done = λ s. is_done s.phase;
   begun = λ s. is_begun s.joined s.phase;
   in_number = λ s. false;
-  asks = λ s b. adds (plan s.joined s.phase (name_mark b)) || is_more s.phase;
+  asks = λ s b. adds (plan s.joined s.phase (name_byte b)) || is_more s.phase;
   kept = λ s. min (all_units s) (2 ^ 64 - 1);
   spent = λ s. all_units s + ready s.joined s.phase;
 }

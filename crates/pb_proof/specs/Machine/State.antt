@@ -1,13 +1,13 @@
 -- The states of a machine of proofs, and its automaton.
 use Rattle.std.specs.Prelude.{◌≡◌, ℕ, ◌^◌, ◌<◌, Bool, true, false, Option, Some, None, length}
 use Rattle.pb_text.specs.Automaton.{Automaton, Next, Go, End, Refuse, IsState}
-use Rattle.pb_proof.specs.Line.Machine.{inners, inner_first}
+use Rattle.pb_proof.specs.Line.Machine.{line_automaton, line_first}
 use Rattle.pb_proof.specs.Machine.Transition.{plan, words_of}
-use Rattle.pb_proof.specs.declared.line.Inner.{Inner}
+use Rattle.pb_proof.specs.declared.line.LineMachine.{LineMachine}
 use Rattle.pb_proof.specs.declared.machine.phase.Stage.{Stage}
 use Rattle.pb_proof.specs.declared.machine.phase.Stage as stage
-use Rattle.pb_proof.specs.declared.machine.phase.Rest.{Rest}
-use Rattle.pb_proof.specs.declared.machine.phase.Rest as rest
+use Rattle.pb_proof.specs.declared.machine.phase.LineKind.{LineKind}
+use Rattle.pb_proof.specs.declared.machine.phase.LineKind as kind
 use Rattle.pb_proof.specs.declared.machine.phase.Phase.{Phase}
 use Rattle.pb_proof.specs.declared.machine.phase.Phase as phase
 use Rattle.pb_proof.specs.declared.machine.phase.Move.{Move}
@@ -20,7 +20,7 @@ pub record ProofState : Type 0 where
   pub limit : ℕ
   pub top : ℕ
   pub phase : Phase
-  pub inner : Option Inner
+  pub inner : Option LineMachine
 
 -- with no such machine
 abbrev pub at : ℕ → ℕ → Phase → ProofState
@@ -35,27 +35,27 @@ abbrev pub begin : ℕ → ℕ → ProofState
 begin limit top = idle limit top stage.TheVariants.Opening
 
 -- within what stands behind a first word
-abbrev pub giving : ℕ → ℕ → Rest → Inner → ProofState
+abbrev pub giving : ℕ → ℕ → LineKind → LineMachine → ProofState
 giving limit top r inner = record { limit = limit; top = top; phase = phase.TheVariants.Inside r; inner = Some inner }
 
 -- what may come behind a statement
-abbrev pub stage_behind : Rest → Stage
-stage_behind rest.TheVariants.Claimed = stage.TheVariants.Closing
+abbrev pub stage_behind : LineKind → Stage
+stage_behind kind.TheVariants.Conclusion = stage.TheVariants.Closing
 stage_behind _ = stage.TheVariants.Steps
 
-abbrev pub over : ProofState → Rest → Next Inner Statement → Next ProofState Statement
+abbrev pub over : ProofState → LineKind → Next LineMachine Statement → Next ProofState Statement
 over s r (Go inner) = Go (giving s.limit s.top r inner)
 over s r (End e inner) = End e (idle s.limit s.top (stage_behind r))
 over s r Refuse = Refuse
 
-abbrev pub step_inner : Option Inner → ℕ → Next Inner Statement
-step_inner None b = Refuse
-step_inner (Some inner) b = inners.step inner b
+abbrev pub step_line : Option LineMachine → ℕ → Next LineMachine Statement
+step_line None b = Refuse
+step_line (Some inner) b = line_automaton.step inner b
 
 abbrev pub act : ProofState → ℕ → Move → Next ProofState Statement
 act s b (To p) = Go (record s { phase = p })
-act s b (Begin r) = Go (giving s.limit s.top r (inner_first s.limit s.top r))
-act s b (Give r) = over s r (step_inner s.inner b)
+act s b (Begin r) = Go (giving s.limit s.top r (line_first s.limit s.top r))
+act s b (Give r) = over s r (step_line s.inner b)
 act s b EndHeader = End statement.TheVariants.Header (idle s.limit s.top stage.TheVariants.Formula)
 act s b EndOutput = End statement.TheVariants.Output (idle s.limit s.top stage.TheVariants.Claim)
 act s b EndProof = End statement.TheVariants.End (idle s.limit s.top stage.TheVariants.Complete)
@@ -76,13 +76,13 @@ is_done (phase.TheVariants.Between at) = is_complete at
 is_done _ = false
 
 -- what is asked of the machine behind a first word, where there is one
-abbrev pub asked : {A : Type 0} → A → (Inner → A) → Option Inner → A
+abbrev pub asked : {A : Type 0} → A → (LineMachine → A) → Option LineMachine → A
 asked none ask None = none
 asked none ask (Some inner) = ask inner
 
 -- memory is asked for by that machine alone
 abbrev pub asks : ProofState → ℕ → Move → Bool
-asks s b (Give r) = asked false (λ i. inners.asks i b) s.inner
+asks s b (Give r) = asked false (λ i. line_automaton.asks i b) s.inner
 asks s b _ = false
 
 abbrev pub proofs : Automaton ProofState Statement
@@ -90,10 +90,10 @@ proofs = record {
   step = λ s b. act s b (plan s.phase b);
   done = λ s. is_done s.phase;
   begun = λ s. is_within s.phase;
-  in_number = λ s. asked false inners.in_number s.inner;
+  in_number = λ s. asked false line_automaton.in_number s.inner;
   asks = λ s b. asks s b (plan s.phase b);
-  kept = λ s. asked 0 inners.kept s.inner;
-  spent = λ s. asked 0 inners.spent s.inner;
+  kept = λ s. asked 0 line_automaton.kept s.inner;
+  spent = λ s. asked 0 line_automaton.spent s.inner;
 }
 
 -- the stages with gaps before their statements
@@ -110,7 +110,7 @@ PhaseFits _ = Unit {0}
 
 -- What stands with what was read last.
 abbrev pub Holds : ProofState → Phase → Type 0
-Holds s (phase.TheVariants.Inside r) = (i : Inner) × (s.inner ≡ Some i) × (inners.done i ≡ false) × IsState inners i
+Holds s (phase.TheVariants.Inside r) = (i : LineMachine) × (s.inner ≡ Some i) × (line_automaton.done i ≡ false) × IsState line_automaton i
 Holds s _ = s.inner ≡ None
 
 pub record IsInOrder (s : ProofState) : Type 0 where

@@ -4,9 +4,9 @@ use Rattle.pb_text.specs.Classes.{is_blank, is_white}
 use Rattle.pb_proof.specs.Lines.{pseudo_word, proof_word, version_word, two_word, f_word, pol_word, rup_word, del_word, id_word, output_word, none_word, conclusion_word, end_word}
 use Rattle.pb_proof.specs.declared.machine.phase.Stage.{Stage}
 use Rattle.pb_proof.specs.declared.machine.phase.Stage as stage
-use Rattle.pb_proof.specs.declared.machine.phase.Front.{Front}
-use Rattle.pb_proof.specs.declared.machine.phase.Front.TheVariants as front
-use Rattle.pb_proof.specs.declared.machine.phase.Rest.TheVariants as rest
+use Rattle.pb_proof.specs.declared.machine.phase.Keyword.{Keyword}
+use Rattle.pb_proof.specs.declared.machine.phase.Keyword.TheVariants as keyword
+use Rattle.pb_proof.specs.declared.machine.phase.LineKind.TheVariants as kind
 use Rattle.pb_proof.specs.declared.machine.phase.Phase.{Phase}
 use Rattle.pb_proof.specs.declared.machine.phase.Phase as phase
 use Rattle.pb_proof.specs.declared.machine.phase.Move.{Move}
@@ -17,53 +17,53 @@ abbrev pub sol_word : List ℕ
 sol_word = 115 ∷ 111 ∷ 108 ∷ []
 
 -- the words that a statement begins with; a space stands for one or more blanks
-abbrev pub words_of : Front → List ℕ
-words_of front.Header = pseudo_word ++ 32 ∷ proof_word ++ 32 ∷ version_word ++ 32 ∷ two_word
-words_of front.Formula = f_word
-words_of front.Pol = pol_word
-words_of front.Rup = rup_word
-words_of front.Solution = sol_word
-words_of front.Delete = del_word ++ 32 ∷ id_word
-words_of front.Output = output_word ++ 32 ∷ none_word
-words_of front.Conclusion = conclusion_word
-words_of front.End = end_word ++ 32 ∷ pseudo_word ++ 32 ∷ proof_word
+abbrev pub words_of : Keyword → List ℕ
+words_of keyword.Header = pseudo_word ++ 32 ∷ proof_word ++ 32 ∷ version_word ++ 32 ∷ two_word
+words_of keyword.Formula = f_word
+words_of keyword.Pol = pol_word
+words_of keyword.Rup = rup_word
+words_of keyword.Solution = sol_word
+words_of keyword.Delete = del_word ++ 32 ∷ id_word
+words_of keyword.Output = output_word ++ 32 ∷ none_word
+words_of keyword.Conclusion = conclusion_word
+words_of keyword.End = end_word ++ 32 ∷ pseudo_word ++ 32 ∷ proof_word
 
 -- behind the words
-abbrev pub behind : Front → Move
-behind front.Header = To phase.TheVariants.HeaderEnd
-behind front.Formula = Begin rest.Count
-behind front.Pol = Begin rest.Words
-behind front.Rup = Begin rest.Goal
-behind front.Solution = To phase.TheVariants.Solution
-behind front.Delete = Begin rest.Deleted
-behind front.Output = To (phase.TheVariants.OutputEnd true)
-behind front.Conclusion = Begin rest.Claimed
-behind front.End = EndProof
+abbrev pub behind : Keyword → Move
+behind keyword.Header = To phase.TheVariants.HeaderEnd
+behind keyword.Formula = Begin kind.Count
+behind keyword.Pol = Begin kind.Pol
+behind keyword.Rup = Begin kind.Rup
+behind keyword.Solution = To phase.TheVariants.Solution
+behind keyword.Delete = Begin kind.Delete
+behind keyword.Output = To (phase.TheVariants.OutputEnd true)
+behind keyword.Conclusion = Begin kind.Conclusion
+behind keyword.End = EndProof
 
 -- the byte is this one of the words, or a blank where that is a space
 abbrev pub meets : ℕ → ℕ → Bool
 meets c b = cond (nat_eq c 32) (is_blank b) (nat_eq b c)
 
 -- the next byte of the words, of which k were read, or else
-abbrev pub spell : Front → ℕ → ℕ → Move → Move
+abbrev pub spell : Keyword → ℕ → ℕ → Move → Move
 spell f k b other =
     cond (meets (slice_index (words_of f) k) b) (cond (nat_eq (k + 1) (length (words_of f))) (behind f) (To (phase.TheVariants.Spelling f (k + 1)))) other
 
 -- the first byte of a step or the output
-abbrev pub step_front : ℕ → Front
-step_front b =
-    cond (nat_eq b 112) front.Pol
-    (cond (nat_eq b 114) front.Rup
-    (cond (nat_eq b 115) front.Solution
-    (cond (nat_eq b 100) front.Delete front.Output)))
+abbrev pub step_keyword : ℕ → Keyword
+step_keyword b =
+    cond (nat_eq b 112) keyword.Pol
+    (cond (nat_eq b 114) keyword.Rup
+    (cond (nat_eq b 115) keyword.Solution
+    (cond (nat_eq b 100) keyword.Delete keyword.Output)))
 
 -- the first byte of a statement
 abbrev pub enter : Stage → ℕ → Move
-enter stage.TheVariants.Opening b = spell front.Header 0 b Stop
-enter stage.TheVariants.Formula b = spell front.Formula 0 b Stop
-enter stage.TheVariants.Steps b = spell (step_front b) 0 b Stop
-enter stage.TheVariants.Claim b = spell front.Conclusion 0 b Stop
-enter stage.TheVariants.Closing b = spell front.End 0 b Stop
+enter stage.TheVariants.Opening b = spell keyword.Header 0 b Stop
+enter stage.TheVariants.Formula b = spell keyword.Formula 0 b Stop
+enter stage.TheVariants.Steps b = spell (step_keyword b) 0 b Stop
+enter stage.TheVariants.Claim b = spell keyword.Conclusion 0 b Stop
+enter stage.TheVariants.Closing b = spell keyword.End 0 b Stop
 enter stage.TheVariants.Complete b = Stop
 
 -- between two statements
@@ -83,7 +83,7 @@ plan (phase.TheVariants.Comment at) b = To (cond (nat_eq b 10) (phase.TheVariant
 plan (phase.TheVariants.Spelling f k) b =
     spell f k b (cond (is_blank b && nat_eq (slice_index (words_of f) (k - 1)) 32) (To (phase.TheVariants.Spelling f k)) Stop)
 plan phase.TheVariants.Solution b =
-    cond (nat_eq b 105) (Begin rest.Improving) (cond (nat_eq b 120) (Begin rest.Excluded) Stop)
+    cond (nat_eq b 105) (Begin kind.Soli) (cond (nat_eq b 120) (Begin kind.Solx) Stop)
 plan phase.TheVariants.HeaderEnd b = cond (is_blank b) (To phase.TheVariants.HeaderEnd) (cond (nat_eq b 10) EndHeader Stop)
 plan (phase.TheVariants.OutputEnd may) b =
     cond (is_blank b) (To (phase.TheVariants.OutputEnd may))

@@ -2,7 +2,7 @@
 
 /// What a byte is to a line of numbers.
 #[derive(Clone, Copy)]
-pub enum NumberMark {
+pub enum NumberByte {
     Blank,
     /// A digit, by its value.
     Digit(u8),
@@ -14,7 +14,7 @@ pub enum NumberMark {
 
 /// What a byte is to a line of names.
 #[derive(Clone, Copy)]
-pub enum NameMark {
+pub enum NameByte {
     Blank,
     /// A byte that may begin a name.
     Letter(u8),

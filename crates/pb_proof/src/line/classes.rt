@@ -1,62 +1,62 @@
 //! What a byte is to a line of numbers, and to a line of names.
 
 ghost use Rattle.std.specs.Prelude.{◌≡◌};
-ghost use Rattle.pb_proof.specs.Line.ByteKind.{symbol, number_mark, name_mark, NumberMarkFits, NameMarkFits};
+ghost use Rattle.pb_proof.specs.Line.ByteKind.{symbol, number_byte, name_byte, NumberByteFits, NameByteFits};
 
-use crate::line::byte_kind::{NameMark, NumberMark};
+use crate::line::byte_kind::{NameByte, NumberByte};
 use pb_text::bytes::{is_blank, is_digit, is_letter, is_name_byte};
 
 /// What the byte is to a line of numbers.
-pub fn number_mark(byte: u8) -> NumberMark
-    ensures mark { result ≡ number_mark byte }
-    ensures fits { NumberMarkFits result }
+pub fn number_byte(byte: u8) -> NumberByte
+    ensures kind { result ≡ number_byte byte }
+    ensures fits { NumberByteFits result }
 {
     if is_blank(byte) {
-        return NumberMark::Blank;
+        return NumberByte::Blank;
     }
     if is_digit(byte) {
-        return NumberMark::Digit(byte - b'0');
+        return NumberByte::Digit(byte - b'0');
     }
     if byte == b'-' {
-        return NumberMark::Minus;
+        return NumberByte::Minus;
     }
     if byte == b';' {
-        return NumberMark::Semicolon;
+        return NumberByte::Semicolon;
     }
     if byte == b'\n' {
-        return NumberMark::Feed;
+        return NumberByte::Feed;
     }
-    NumberMark::Other
+    NumberByte::Other
 }
 
-fn symbol(byte: u8) -> NameMark
+fn symbol(byte: u8) -> NameByte
     ensures { result ≡ symbol byte }
 {
     if byte == b'~' {
-        return NameMark::Tilde;
+        return NameByte::Tilde;
     }
     if byte == b';' {
-        return NameMark::Semicolon;
+        return NameByte::Semicolon;
     }
     if byte == b'\n' {
-        return NameMark::Feed;
+        return NameByte::Feed;
     }
-    NameMark::Other
+    NameByte::Other
 }
 
 /// What the byte is to a line of names.
-pub fn name_mark(byte: u8) -> NameMark
-    ensures mark { result ≡ name_mark byte }
-    ensures fits { NameMarkFits result }
+pub fn name_byte(byte: u8) -> NameByte
+    ensures kind { result ≡ name_byte byte }
+    ensures fits { NameByteFits result }
 {
     if is_blank(byte) {
-        return NameMark::Blank;
+        return NameByte::Blank;
     }
     if is_letter(byte) {
-        return NameMark::Letter(byte);
+        return NameByte::Letter(byte);
     }
     if is_name_byte(byte) {
-        return NameMark::Inner(byte);
+        return NameByte::Inner(byte);
     }
     symbol(byte)
 }

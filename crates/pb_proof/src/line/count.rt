@@ -2,13 +2,13 @@
 
 ghost use Rattle.std.specs.Prelude.{◌≡◌, ◌<◌, ◌≤◌, ◌^◌};
 ghost use Rattle.pb_text.specs.Limits.{top_of};
-ghost use Rattle.pb_proof.specs.Line.ByteKind.{NumberMarkFits};
+ghost use Rattle.pb_proof.specs.Line.ByteKind.{NumberByteFits};
 ghost use Rattle.pb_proof.specs.Line.Count.{digits, behind, plan, counting, is_done, PhaseFits, MoveFits};
 
 mod phase;
 
-use crate::line::byte_kind::NumberMark;
-use crate::line::classes::number_mark;
+use crate::line::byte_kind::NumberByte;
+use crate::line::classes::number_byte;
 use crate::line::count::phase::{CountMove, CountPhase};
 use pb_text::bytes::is_digit;
 use pb_text::decimal::next_digit_u64;
@@ -47,34 +47,34 @@ fn digits(top: u64, value: u64, digit: u8) -> CountMove
 }
 
 /// What a machine does where the line may end, with a count or none.
-fn behind(count: Option<u64>, gap: CountPhase, mark: NumberMark) -> CountMove
-    ensures { result ≡ behind count gap mark }
+fn behind(count: Option<u64>, gap: CountPhase, kind: NumberByte) -> CountMove
+    ensures { result ≡ behind count gap kind }
 {
-    match mark {
-        NumberMark::Blank => CountMove::To(gap),
-        NumberMark::Semicolon => CountMove::To(CountPhase::Closing(count)),
-        NumberMark::Feed => CountMove::End(count),
+    match kind {
+        NumberByte::Blank => CountMove::To(gap),
+        NumberByte::Semicolon => CountMove::To(CountPhase::Closing(count)),
+        NumberByte::Feed => CountMove::End(count),
         _ => CountMove::Stop,
     }
 }
 
 /// What a machine does with a byte.
-fn plan(top: u64, phase: CountPhase, mark: NumberMark) -> CountMove
+fn plan(top: u64, phase: CountPhase, kind: NumberByte) -> CountMove
     requires top { top < 2 ^ 63 }
     requires phase { PhaseFits top phase }
-    requires mark { NumberMarkFits mark }
-    ensures plan { result ≡ plan top phase mark }
+    requires kind { NumberByteFits kind }
+    ensures plan { result ≡ plan top phase kind }
     ensures fits { MoveFits top result }
 {
-    match (phase, mark) {
-        (CountPhase::Gap, NumberMark::Digit(digit)) => digits(top, 0, digit),
-        (CountPhase::Digits(value), NumberMark::Digit(digit)) => digits(top, value, digit),
-        (CountPhase::Start | CountPhase::Gap, _) => behind(None, CountPhase::Gap, mark),
+    match (phase, kind) {
+        (CountPhase::Gap, NumberByte::Digit(digit)) => digits(top, 0, digit),
+        (CountPhase::Digits(value), NumberByte::Digit(digit)) => digits(top, value, digit),
+        (CountPhase::Start | CountPhase::Gap, _) => behind(None, CountPhase::Gap, kind),
         (CountPhase::Digits(value) | CountPhase::Tail(value), _) => {
-            behind(Some(value), CountPhase::Tail(value), mark)
+            behind(Some(value), CountPhase::Tail(value), kind)
         }
-        (CountPhase::Closing(_), NumberMark::Blank) => CountMove::To(phase),
-        (CountPhase::Closing(count), NumberMark::Feed) => CountMove::End(count),
+        (CountPhase::Closing(_), NumberByte::Blank) => CountMove::To(phase),
+        (CountPhase::Closing(count), NumberByte::Feed) => CountMove::End(count),
         _ => CountMove::Stop,
     }
 }
@@ -107,7 +107,7 @@ impl Machine for CountMachine {
     ghost automaton = { count_automaton };
 
     fn push(&mut self, byte: u8) -> Push<Option<u64>> {
-        match plan(self.top, self.phase, number_mark(byte)) {
+        match plan(self.top, self.phase, number_byte(byte)) {
             CountMove::To(phase) => {
                 self.phase = phase;
                 Push::Go
@@ -135,7 +135,7 @@ impl Machine for CountMachine {
             return false;
         }
         !matches!(
-            plan(self.top, self.phase, number_mark(byte)),
+            plan(self.top, self.phase, number_byte(byte)),
             CountMove::Stop
         )
     }

@@ -2,13 +2,13 @@
 
 ghost use Rattle.std.specs.Prelude.{◌≡◌, ◌<◌, ◌≤◌, ◌^◌, ℕ};
 ghost use Rattle.pb_text.specs.Limits.{top_of};
-ghost use Rattle.pb_proof.specs.Line.ByteKind.{NumberMarkFits};
+ghost use Rattle.pb_proof.specs.Line.ByteKind.{NumberByteFits};
 ghost use Rattle.pb_proof.specs.Line.Ids.{digits, before, behind, plan, ids_first, is_done, PhaseFits, MoveFits};
 
 mod phase;
 
-use crate::line::byte_kind::NumberMark;
-use crate::line::classes::number_mark;
+use crate::line::byte_kind::NumberByte;
+use crate::line::classes::number_byte;
 use crate::line::ids::phase::{IdsMove, IdsPhase};
 use pb_text::bytes::is_digit;
 use pb_text::decimal::{next_digit_u64, signed_i64};
@@ -51,55 +51,55 @@ fn digits(top: u64, negative: bool, value: u64, digit: u8) -> IdsMove
 }
 
 /// What a machine does where an id may begin.
-fn before(top: u64, mark: NumberMark) -> IdsMove
+fn before(top: u64, kind: NumberByte) -> IdsMove
     requires top { top < 2 ^ 63 }
-    requires mark { NumberMarkFits mark }
-    ensures plan { result ≡ before top mark }
+    requires kind { NumberByteFits kind }
+    ensures plan { result ≡ before top kind }
     ensures fits { MoveFits top result }
 {
-    match mark {
-        NumberMark::Minus => IdsMove::To(IdsPhase::Minus),
-        NumberMark::Digit(digit) => digits(top, false, 0, digit),
+    match kind {
+        NumberByte::Minus => IdsMove::To(IdsPhase::Minus),
+        NumberByte::Digit(digit) => digits(top, false, 0, digit),
         _ => IdsMove::Stop,
     }
 }
 
 /// What a machine does where an id may end.
-fn behind(id: i64, mark: NumberMark) -> IdsMove
-    ensures plan { result ≡ behind id mark }
+fn behind(id: i64, kind: NumberByte) -> IdsMove
+    ensures plan { result ≡ behind id kind }
     ensures fits { (top : ℕ) → MoveFits top result }
 {
-    match mark {
-        NumberMark::Blank => IdsMove::Keep(IdsPhase::Between, id),
-        NumberMark::Semicolon => IdsMove::Keep(IdsPhase::Closing, id),
-        NumberMark::Feed => IdsMove::EndWith(id),
+    match kind {
+        NumberByte::Blank => IdsMove::Keep(IdsPhase::Between, id),
+        NumberByte::Semicolon => IdsMove::Keep(IdsPhase::Closing, id),
+        NumberByte::Feed => IdsMove::EndWith(id),
         _ => IdsMove::Stop,
     }
 }
 
 /// What a machine does with a byte. It asks for no memory.
 #[inline(always)]
-fn plan(top: u64, phase: IdsPhase, mark: NumberMark) -> IdsMove
+fn plan(top: u64, phase: IdsPhase, kind: NumberByte) -> IdsMove
     requires top { top < 2 ^ 63 }
     requires phase { PhaseFits top phase }
-    requires mark { NumberMarkFits mark }
-    ensures plan { result ≡ plan top phase mark }
+    requires kind { NumberByteFits kind }
+    ensures plan { result ≡ plan top phase kind }
     ensures fits { MoveFits top result }
 {
-    match (phase, mark) {
-        (IdsPhase::Start | IdsPhase::Gap, NumberMark::Blank) => IdsMove::To(IdsPhase::Gap),
-        (IdsPhase::Between, NumberMark::Blank) => IdsMove::To(IdsPhase::Between),
-        (IdsPhase::Between, NumberMark::Semicolon) => IdsMove::To(IdsPhase::Closing),
-        (IdsPhase::Between, NumberMark::Feed) => IdsMove::End,
-        (IdsPhase::Gap | IdsPhase::Between, _) => before(top, mark),
-        (IdsPhase::Minus, NumberMark::Digit(digit)) => digits(top, true, 0, digit),
-        (IdsPhase::Digits(negative, value), NumberMark::Digit(digit)) => {
+    match (phase, kind) {
+        (IdsPhase::Start | IdsPhase::Gap, NumberByte::Blank) => IdsMove::To(IdsPhase::Gap),
+        (IdsPhase::Between, NumberByte::Blank) => IdsMove::To(IdsPhase::Between),
+        (IdsPhase::Between, NumberByte::Semicolon) => IdsMove::To(IdsPhase::Closing),
+        (IdsPhase::Between, NumberByte::Feed) => IdsMove::End,
+        (IdsPhase::Gap | IdsPhase::Between, _) => before(top, kind),
+        (IdsPhase::Minus, NumberByte::Digit(digit)) => digits(top, true, 0, digit),
+        (IdsPhase::Digits(negative, value), NumberByte::Digit(digit)) => {
             digits(top, negative, value, digit)
         }
         (IdsPhase::Digits(_, 0), _) => IdsMove::Stop,
-        (IdsPhase::Digits(negative, value), _) => behind(signed_i64(negative, value), mark),
-        (IdsPhase::Closing, NumberMark::Blank) => IdsMove::To(phase),
-        (IdsPhase::Closing, NumberMark::Feed) => IdsMove::End,
+        (IdsPhase::Digits(negative, value), _) => behind(signed_i64(negative, value), kind),
+        (IdsPhase::Closing, NumberByte::Blank) => IdsMove::To(phase),
+        (IdsPhase::Closing, NumberByte::Feed) => IdsMove::End,
         _ => IdsMove::Stop,
     }
 }
@@ -134,7 +134,7 @@ impl Machine for IdsMachine {
     ghost automaton = { ids_automaton };
 
     fn goes(&mut self, byte: u8) -> bool {
-        match plan(self.top, self.phase, number_mark(byte)) {
+        match plan(self.top, self.phase, number_byte(byte)) {
             IdsMove::To(next) => {
                 self.phase = next;
                 true
@@ -151,7 +151,7 @@ impl Machine for IdsMachine {
     }
 
     fn push(&mut self, byte: u8) -> Push<Sequence<i64>> {
-        match plan(self.top, self.phase, number_mark(byte)) {
+        match plan(self.top, self.phase, number_byte(byte)) {
             IdsMove::To(phase) => {
                 self.phase = phase;
                 Push::Go
@@ -192,7 +192,7 @@ impl Machine for IdsMachine {
         if !matches!(self.phase, IdsPhase::Start) {
             return false;
         }
-        !matches!(plan(self.top, self.phase, number_mark(byte)), IdsMove::Stop)
+        !matches!(plan(self.top, self.phase, number_byte(byte)), IdsMove::Stop)
     }
 
     fn held(&self) -> usize {

@@ -1,13 +1,13 @@
 //! The machine of literals.
 
 ghost use Rattle.std.specs.Prelude.{true, ◌≡◌, ℕ, ◌-◌, ◌^◌, ◌<◌, List, [], IfOk, OnOk, OnErr, min};
-ghost use Rattle.pb_proof.specs.Line.ByteKind.{NameMarkFits};
+ghost use Rattle.pb_proof.specs.Line.ByteKind.{NameByteFits};
 ghost use Rattle.pb_proof.specs.Line.Literals.{behind, before, plan, flushed, is_more, is_done, in_hand, units, MoveFits};
 
 mod phase;
 
-use crate::line::byte_kind::NameMark;
-use crate::line::classes::name_mark;
+use crate::line::byte_kind::NameByte;
+use crate::line::classes::name_byte;
 use crate::line::literals::phase::{LiteralsMove, LiteralsPhase};
 use pb_sums::{Literal, Name};
 use pb_text::{Machine, Push, Sequence};
@@ -36,51 +36,51 @@ impl Model for LiteralsMachine {
 }
 
 /// What a machine does where the line may end.
-fn behind(mark: NameMark) -> LiteralsMove
-    ensures plan { result ≡ behind mark }
+fn behind(kind: NameByte) -> LiteralsMove
+    ensures plan { result ≡ behind kind }
     ensures fits { MoveFits result }
 {
-    match mark {
-        NameMark::Blank => LiteralsMove::To(LiteralsPhase::Gap),
-        NameMark::Semicolon => LiteralsMove::To(LiteralsPhase::Closing),
-        NameMark::Feed => LiteralsMove::End,
+    match kind {
+        NameByte::Blank => LiteralsMove::To(LiteralsPhase::Gap),
+        NameByte::Semicolon => LiteralsMove::To(LiteralsPhase::Closing),
+        NameByte::Feed => LiteralsMove::End,
         _ => LiteralsMove::Stop,
     }
 }
 
 /// What a machine does where a literal may begin, or the line end.
-fn before(mark: NameMark) -> LiteralsMove
-    requires { NameMarkFits mark }
-    ensures plan { result ≡ before mark }
+fn before(kind: NameByte) -> LiteralsMove
+    requires { NameByteFits kind }
+    ensures plan { result ≡ before kind }
     ensures fits { MoveFits result }
 {
-    match mark {
-        NameMark::Tilde => LiteralsMove::To(LiteralsPhase::Negation),
-        NameMark::Letter(byte) => LiteralsMove::Begin(LiteralsPhase::First(false), byte),
-        _ => behind(mark),
+    match kind {
+        NameByte::Tilde => LiteralsMove::To(LiteralsPhase::Negation),
+        NameByte::Letter(byte) => LiteralsMove::Begin(LiteralsPhase::First(false), byte),
+        _ => behind(kind),
     }
 }
 
 /// What a machine does with a byte. It asks for no memory.
 #[inline(always)]
-fn plan(joined: bool, phase: LiteralsPhase, mark: NameMark) -> LiteralsMove
-    requires { NameMarkFits mark }
-    ensures plan { result ≡ plan joined phase mark }
+fn plan(joined: bool, phase: LiteralsPhase, kind: NameByte) -> LiteralsMove
+    requires { NameByteFits kind }
+    ensures plan { result ≡ plan joined phase kind }
     ensures fits { MoveFits result }
 {
-    match (phase, mark) {
-        (LiteralsPhase::Start, _) => { if joined { before(mark) } else { behind(mark) } }
-        (LiteralsPhase::Gap, _) => before(mark),
-        (LiteralsPhase::Negation, NameMark::Letter(byte)) => {
+    match (phase, kind) {
+        (LiteralsPhase::Start, _) => { if joined { before(kind) } else { behind(kind) } }
+        (LiteralsPhase::Gap, _) => before(kind),
+        (LiteralsPhase::Negation, NameByte::Letter(byte)) => {
             LiteralsMove::Begin(LiteralsPhase::First(true), byte)
         }
         (
             LiteralsPhase::First(negated) | LiteralsPhase::More(negated),
-            NameMark::Letter(byte) | NameMark::Inner(byte),
+            NameByte::Letter(byte) | NameByte::Inner(byte),
         ) => LiteralsMove::Add(LiteralsPhase::More(negated), byte),
-        (LiteralsPhase::More(_), _) => behind(mark),
-        (LiteralsPhase::Closing, NameMark::Blank) => LiteralsMove::To(phase),
-        (LiteralsPhase::Closing, NameMark::Feed) => LiteralsMove::End,
+        (LiteralsPhase::More(_), _) => behind(kind),
+        (LiteralsPhase::Closing, NameByte::Blank) => LiteralsMove::To(phase),
+        (LiteralsPhase::Closing, NameByte::Feed) => LiteralsMove::End,
         _ => LiteralsMove::Stop,
     }
 }
@@ -179,7 +179,7 @@ impl Machine for LiteralsMachine {
     ghost automaton = { literals_automaton };
 
     fn goes(&mut self, byte: u8) -> bool {
-        match plan(self.joined, self.phase, name_mark(byte)) {
+        match plan(self.joined, self.phase, name_byte(byte)) {
             LiteralsMove::Begin(phase, first) => {
                 let mut name = Name::new(self.alloc);
                 if name.push(first).is_err() {
@@ -208,7 +208,7 @@ impl Machine for LiteralsMachine {
     }
 
     fn push(&mut self, byte: u8) -> Push<Sequence<Literal>> {
-        match plan(self.joined, self.phase, name_mark(byte)) {
+        match plan(self.joined, self.phase, name_byte(byte)) {
             LiteralsMove::Stop => Push::No,
             LiteralsMove::Begin(phase, first) => {
                 let mut name = Name::new(self.alloc);
@@ -256,7 +256,7 @@ impl Machine for LiteralsMachine {
             return false;
         }
         !matches!(
-            plan(self.joined, self.phase, name_mark(byte)),
+            plan(self.joined, self.phase, name_byte(byte)),
             LiteralsMove::Stop
         )
     }

@@ -2,16 +2,16 @@
 
 ghost use Rattle.std.specs.Prelude.{◌≡◌};
 ghost use Rattle.pb_text.specs.Limits.{largest, top_of};
-ghost use Rattle.pb_proof.specs.Line.Machine.{inner_first, IsCarried};
+ghost use Rattle.pb_proof.specs.Line.Machine.{line_first, IsCarried};
 
-use crate::line::Inner;
+use crate::line::LineMachine;
 use crate::line::claim::ClaimMachine;
 use crate::line::count::CountMachine;
 use crate::line::ids::IdsMachine;
 use crate::line::literals::LiteralsMachine;
 use crate::line::pol::PolMachine;
-use crate::line::rup::GoalMachine;
-use crate::machine::phase::Rest;
+use crate::line::rup::RupMachine;
+use crate::machine::phase::LineKind;
 use crate::statement::Statement;
 use pb_text::{Limits, Machine, Push};
 use std::alloc::Global;
@@ -20,13 +20,13 @@ use std::alloc::Global;
 macro_rules! whichever {
     ($line:expr, $machine:ident => $answer:expr) => {
         match $line {
-            Inner::Count($machine) => $answer,
-            Inner::Words($machine) => $answer,
-            Inner::Goal($machine) => $answer,
-            Inner::Improving($machine) => $answer,
-            Inner::Excluded($machine) => $answer,
-            Inner::Deleted($machine) => $answer,
-            Inner::Claimed($machine) => $answer,
+            LineMachine::Count($machine) => $answer,
+            LineMachine::Pol($machine) => $answer,
+            LineMachine::Rup($machine) => $answer,
+            LineMachine::Soli($machine) => $answer,
+            LineMachine::Solx($machine) => $answer,
+            LineMachine::Delete($machine) => $answer,
+            LineMachine::Conclusion($machine) => $answer,
         }
     };
 }
@@ -46,26 +46,26 @@ fn carried<E, F: FnOnce(E) -> Statement + Drop>(answer: Push<E>, statement: F) -
 }
 
 /// The machine of what stands behind a first word, before its text. It takes no memory.
-pub fn inner_first(alloc: Global, limits: Limits, rest: Rest) -> Inner
-    ensures { result ≡ inner_first (largest limits) (top_of limits) rest }
+pub fn line_first(alloc: Global, limits: Limits, kind: LineKind) -> LineMachine
+    ensures { result ≡ line_first (largest limits) (top_of limits) kind }
 {
-    match rest {
-        Rest::Count => Inner::Count(CountMachine::new(limits)),
-        Rest::Words => Inner::Words(PolMachine::new(alloc, limits)),
-        Rest::Goal => Inner::Goal(GoalMachine::new(alloc, limits)),
-        Rest::Improving => Inner::Improving(LiteralsMachine::new(alloc, false)),
-        Rest::Excluded => Inner::Excluded(LiteralsMachine::new(alloc, false)),
-        Rest::Deleted => Inner::Deleted(IdsMachine::new(alloc, limits)),
-        Rest::Claimed => Inner::Claimed(ClaimMachine::new(alloc, limits)),
+    match kind {
+        LineKind::Count => LineMachine::Count(CountMachine::new(limits)),
+        LineKind::Pol => LineMachine::Pol(PolMachine::new(alloc, limits)),
+        LineKind::Rup => LineMachine::Rup(RupMachine::new(alloc, limits)),
+        LineKind::Soli => LineMachine::Soli(LiteralsMachine::new(alloc, false)),
+        LineKind::Solx => LineMachine::Solx(LiteralsMachine::new(alloc, false)),
+        LineKind::Delete => LineMachine::Delete(IdsMachine::new(alloc, limits)),
+        LineKind::Conclusion => LineMachine::Conclusion(ClaimMachine::new(alloc, limits)),
     }
 }
 
-impl Machine for Inner {
-    ghost use Rattle.pb_proof.specs.Line.Machine.{inners};
+impl Machine for LineMachine {
+    ghost use Rattle.pb_proof.specs.Line.Machine.{line_automaton};
 
     type Event = Statement;
 
-    ghost automaton = { inners };
+    ghost automaton = { line_automaton };
 
     fn run(&mut self, piece: &[u8]) -> usize {
         whichever!(self, machine => machine.run(piece))
@@ -73,13 +73,13 @@ impl Machine for Inner {
 
     fn push(&mut self, byte: u8) -> Push<Statement> {
         match self {
-            Inner::Count(machine) => carried(machine.push(byte), Statement::F),
-            Inner::Words(machine) => carried(machine.push(byte), Statement::Pol),
-            Inner::Goal(machine) => carried(machine.push(byte), Statement::Rup),
-            Inner::Improving(machine) => carried(machine.push(byte), Statement::Soli),
-            Inner::Excluded(machine) => carried(machine.push(byte), Statement::Solx),
-            Inner::Deleted(machine) => carried(machine.push(byte), Statement::Delete),
-            Inner::Claimed(machine) => carried(machine.push(byte), Statement::Conclude),
+            LineMachine::Count(machine) => carried(machine.push(byte), Statement::F),
+            LineMachine::Pol(machine) => carried(machine.push(byte), Statement::Pol),
+            LineMachine::Rup(machine) => carried(machine.push(byte), Statement::Rup),
+            LineMachine::Soli(machine) => carried(machine.push(byte), Statement::Soli),
+            LineMachine::Solx(machine) => carried(machine.push(byte), Statement::Solx),
+            LineMachine::Delete(machine) => carried(machine.push(byte), Statement::Delete),
+            LineMachine::Conclusion(machine) => carried(machine.push(byte), Statement::Conclude),
         }
     }
 

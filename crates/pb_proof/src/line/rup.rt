@@ -1,12 +1,12 @@
-//! The machine of goals.
+//! The machine of `rup`.
 
 ghost use Rattle.std.specs.Prelude.{◌≡◌, ◌-◌, ◌^◌, min};
 ghost use Rattle.pb_text.specs.Limits.{largest};
-ghost use Rattle.pb_proof.specs.Line.Rup.{goal_plan, goal_done, linear_of, units_in};
+ghost use Rattle.pb_proof.specs.Line.Rup.{rup_plan, rup_done, linear_of, units_in};
 
 mod phase;
 
-use crate::line::rup::phase::{GoalMove, GoalPhase};
+use crate::line::rup::phase::{RupMove, RupPhase};
 use pb_sums::{Linear, Part, Relation, Spaces, SumEvent, SumMachine, count_units};
 use pb_text::bytes::is_blank;
 use pb_text::{Limits, Machine, Push};
@@ -16,41 +16,41 @@ use std::mem;
 
 /// A machine that reads what stands behind `rup`, through the line feed.
 #[derive(Drop)]
-pub(crate) struct GoalMachine {
-    phase: GoalPhase,
+pub(crate) struct RupMachine {
+    phase: RupPhase,
     inner: SumMachine,
     linear: Option<Linear>,
 }
 
-impl Model for GoalMachine {
-    ghost use Rattle.pb_proof.specs.Line.Rup.{GoalState, IsGoalInOrder};
+impl Model for RupMachine {
+    ghost use Rattle.pb_proof.specs.Line.Rup.{RupState, IsRupInOrder};
 
-    ghost Value = { GoalState };
+    ghost Value = { RupState };
 
     ghost view = { λ m. record { phase = m.phase; inner = m.inner; linear = m.linear } };
 
-    ghost invariant = { λ m. IsGoalInOrder (record { phase = m.phase; inner = m.inner; linear = m.linear }) };
+    ghost invariant = { λ m. IsRupInOrder (record { phase = m.phase; inner = m.inner; linear = m.linear }) };
 }
 
 /// What a machine does with a byte.
-fn goal_plan(phase: GoalPhase, byte: u8) -> GoalMove
-    ensures { result ≡ goal_plan phase byte }
+fn rup_plan(phase: RupPhase, byte: u8) -> RupMove
+    ensures { result ≡ rup_plan phase byte }
 {
     match phase {
-        GoalPhase::Start | GoalPhase::Gap if is_blank(byte) => GoalMove::To(GoalPhase::Gap),
-        GoalPhase::Start => GoalMove::Stop,
-        GoalPhase::Gap | GoalPhase::Inside => GoalMove::Give,
-        GoalPhase::Tail if is_blank(byte) => GoalMove::To(GoalPhase::Tail),
-        GoalPhase::Tail if byte == b'\n' => GoalMove::Finish,
-        GoalPhase::Tail | GoalPhase::Done => GoalMove::Stop,
+        RupPhase::Start | RupPhase::Gap if is_blank(byte) => RupMove::To(RupPhase::Gap),
+        RupPhase::Start => RupMove::Stop,
+        RupPhase::Gap | RupPhase::Inside => RupMove::Give,
+        RupPhase::Tail if is_blank(byte) => RupMove::To(RupPhase::Tail),
+        RupPhase::Tail if byte == b'\n' => RupMove::Finish,
+        RupPhase::Tail | RupPhase::Done => RupMove::Stop,
     }
 }
 
 /// Whether all has been read.
-fn is_done(phase: GoalPhase) -> bool
-    ensures { result ≡ goal_done phase }
+fn is_done(phase: RupPhase) -> bool
+    ensures { result ≡ rup_done phase }
 {
-    matches!(phase, GoalPhase::Done)
+    matches!(phase, RupPhase::Done)
 }
 
 /// The constraint that a machine of sums has read.
@@ -77,16 +77,16 @@ fn units_in(linear: &Option<Linear>) -> usize
     }
 }
 
-impl GoalMachine {
+impl RupMachine {
     ghost use Rattle.pb_text.specs.Automaton.{IsState, Pushes};
-    ghost use Rattle.pb_proof.specs.Line.Rup.{goal_automaton, goal_first, goal_plan};
+    ghost use Rattle.pb_proof.specs.Line.Rup.{rup_automaton, rup_first, rup_plan};
 
     /// A machine before its text. It takes no memory.
     pub(crate) fn new(alloc: Global, limits: Limits) -> Self
-        ensures begins { result ≡ goal_first (largest limits) }
+        ensures begins { result ≡ rup_first (largest limits) }
     {
-        GoalMachine {
-            phase: GoalPhase::Start,
+        RupMachine {
+            phase: RupPhase::Start,
             inner: SumMachine::new(alloc, Spaces::Blank, Part::AtLeast, limits),
             linear: None,
         }
@@ -94,32 +94,32 @@ impl GoalMachine {
 
     /// Takes a byte.
     fn take(&mut self, byte: u8) -> Push<Linear>
-        ensures { Pushes goal_automaton self.old byte result self.new }
+        ensures { Pushes rup_automaton self.old byte result self.new }
     {
-        match goal_plan(self.phase, byte) {
-            GoalMove::To(phase) => {
+        match rup_plan(self.phase, byte) {
+            RupMove::To(phase) => {
                 self.phase = phase;
                 Push::Go
             }
-            GoalMove::Give => self.give(byte),
-            GoalMove::Finish => self.finish(),
-            GoalMove::Stop => Push::No,
+            RupMove::Give => self.give(byte),
+            RupMove::Finish => self.finish(),
+            RupMove::Stop => Push::No,
         }
     }
 
     /// Gives a byte to the machine of sums.
     fn give(&mut self, byte: u8) -> Push<Linear>
-        requires { goal_plan self.old.phase byte ≡ GoalMove.Give }
-        ensures { Pushes goal_automaton self.old byte result self.new }
+        requires { rup_plan self.old.phase byte ≡ RupMove.Give }
+        ensures { Pushes rup_automaton self.old byte result self.new }
     {
         match self.inner.push(byte) {
             Push::Go => {
-                self.phase = GoalPhase::Inside;
+                self.phase = RupPhase::Inside;
                 Push::Go
             }
             Push::Event(event) => {
                 self.linear = Some(linear_of(event));
-                self.phase = GoalPhase::Tail;
+                self.phase = RupPhase::Tail;
                 Push::Go
             }
             Push::No => Push::No,
@@ -130,12 +130,12 @@ impl GoalMachine {
 
     /// Ends the line.
     fn finish(&mut self) -> Push<Linear>
-        requires { goal_plan self.old.phase 10 ≡ GoalMove.Finish }
-        ensures { Pushes goal_automaton self.old 10 result self.new }
+        requires { rup_plan self.old.phase 10 ≡ RupMove.Finish }
+        ensures { Pushes rup_automaton self.old 10 result self.new }
     {
         match mem::replace(&mut self.linear, None) {
             Some(linear) => {
-                self.phase = GoalPhase::Done;
+                self.phase = RupPhase::Done;
                 Push::Event(linear)
             }
             None => Push::No,
@@ -143,15 +143,15 @@ impl GoalMachine {
     }
 }
 
-impl GoalMachine {
+impl RupMachine {
     ghost use Rattle.std.specs.Prelude.{◌≤◌, take, length};
     ghost use Rattle.pb_text.specs.Automaton.{Goes, IsState, Runs};
-    ghost use Rattle.pb_proof.specs.Line.Rup.{goal_automaton, goal_plan};
+    ghost use Rattle.pb_proof.specs.Line.Rup.{rup_automaton, rup_plan};
 
     /// Gives a byte to the machine of sums, where that is done soon.
     fn gives(&mut self, byte: u8) -> bool
-        requires { goal_plan self.old.phase byte ≡ GoalMove.Give }
-        ensures { Goes goal_automaton self.old byte result self.new }
+        requires { rup_plan self.old.phase byte ≡ RupMove.Give }
+        ensures { Goes rup_automaton self.old byte result self.new }
     {
         match self.give(byte) {
             Push::Go => true,
@@ -162,11 +162,11 @@ impl GoalMachine {
     /// Gives bytes at the front of a text to the machine of sums, where it has begun.
     fn give_front(&mut self, text: &[u8]) -> usize
         ensures bound { result ≤ length text.now }
-        ensures runs { Runs goal_automaton self.old (take result text.now) self.new }
-        ensures state { IsState goal_automaton self.new }
+        ensures runs { Runs rup_automaton self.old (take result text.now) self.new }
+        ensures state { IsState rup_automaton self.new }
     {
         let taken = match self.phase {
-            GoalPhase::Inside => self.inner.run(text),
+            RupPhase::Inside => self.inner.run(text),
             _ => 0,
         };
         let _ = self.is_done();
@@ -174,20 +174,20 @@ impl GoalMachine {
     }
 }
 
-impl Machine for GoalMachine {
-    ghost use Rattle.pb_proof.specs.Line.Rup.{goal_automaton};
+impl Machine for RupMachine {
+    ghost use Rattle.pb_proof.specs.Line.Rup.{rup_automaton};
 
     type Event = Linear;
 
-    ghost automaton = { goal_automaton };
+    ghost automaton = { rup_automaton };
 
     fn goes(&mut self, byte: u8) -> bool {
-        let gone = match goal_plan(self.phase, byte) {
-            GoalMove::To(phase) => {
+        let gone = match rup_plan(self.phase, byte) {
+            RupMove::To(phase) => {
                 self.phase = phase;
                 true
             }
-            GoalMove::Give => self.gives(byte),
+            RupMove::Give => self.gives(byte),
             _ => false,
         };
         let _ = self.is_done();
@@ -213,7 +213,7 @@ impl Machine for GoalMachine {
     }
 
     fn starts(&self, byte: u8) -> bool {
-        matches!(self.phase, GoalPhase::Start) && is_blank(byte)
+        matches!(self.phase, RupPhase::Start) && is_blank(byte)
     }
 
     fn held(&self) -> usize {

@@ -19,7 +19,7 @@ pub enum Stage {
 
 /// The words that a statement begins with.
 #[derive(Clone, Copy, Drop)]
-pub enum Front {
+pub enum Keyword {
     Header,
     Formula,
     Pol,
@@ -34,21 +34,21 @@ pub enum Front {
 
 /// What stands behind the first word of a statement, and is given to a machine of its own.
 #[derive(Clone, Copy, Drop)]
-pub enum Rest {
+pub enum LineKind {
     /// Behind `f`.
     Count,
     /// Behind `pol`.
-    Words,
+    Pol,
     /// Behind `rup`.
-    Goal,
+    Rup,
     /// Behind `soli`.
-    Improving,
+    Soli,
     /// Behind `solx`.
-    Excluded,
+    Solx,
     /// Behind `del id`.
-    Deleted,
+    Delete,
     /// Behind `conclusion`.
-    Claimed,
+    Conclusion,
 }
 
 /// What a machine has read last.
@@ -59,7 +59,7 @@ pub enum Phase {
     /// The star of a comment, and bytes of it.
     Comment(Stage),
     /// So many bytes of a statement's words, and perhaps more blanks behind a blank.
-    Spelling(Front, usize),
+    Spelling(Keyword, usize),
     /// `sol`.
     Solution,
     /// The words of the header, and perhaps blanks.
@@ -67,7 +67,7 @@ pub enum Phase {
     /// The words of the output, and perhaps blanks. A `;` may come, or not.
     OutputEnd(bool),
     /// A part of what is given to a machine of its own.
-    Inside(Rest),
+    Inside(LineKind),
 }
 
 /// What a machine does with a byte.
@@ -76,9 +76,9 @@ pub enum Move {
     /// Goes on.
     To(Phase),
     /// Begins the machine of what stands behind the first word.
-    Begin(Rest),
+    Begin(LineKind),
     /// Gives the byte to that machine.
-    Give(Rest),
+    Give(LineKind),
     EndHeader,
     EndOutput,
     EndProof,

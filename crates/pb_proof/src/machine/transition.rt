@@ -1,43 +1,43 @@
 //! What a machine of proofs does with a byte, by what it has read last.
 
 ghost use Rattle.std.specs.Prelude.{◌≡◌, ◌<◌, length};
-ghost use Rattle.pb_proof.specs.Machine.Transition.{words_of, behind, meets, spell, step_front, enter, pass, between, plan};
+ghost use Rattle.pb_proof.specs.Machine.Transition.{words_of, behind, meets, spell, step_keyword, enter, pass, between, plan};
 ghost use Rattle.pb_proof.specs.Machine.State.{is_within, is_complete, is_done, stage_behind, PhaseFits};
 
-use crate::machine::phase::{Front, Move, Phase, Rest, Stage};
+use crate::machine::phase::{Keyword, LineKind, Move, Phase, Stage};
 use pb_text::bytes::{is_blank, is_white};
 
 /// The words that a statement begins with, where a space stands for one or more blanks.
-fn words_of(front: Front) -> &'static [u8]
-    ensures { result.now ≡ words_of front }
+fn words_of(keyword: Keyword) -> &'static [u8]
+    ensures { result.now ≡ words_of keyword }
 {
-    match front {
-        Front::Header => b"pseudo-Boolean proof version 2.0",
-        Front::Formula => b"f",
-        Front::Pol => b"pol",
-        Front::Rup => b"rup",
-        Front::Solution => b"sol",
-        Front::Delete => b"del id",
-        Front::Output => b"output NONE",
-        Front::Conclusion => b"conclusion",
-        Front::End => b"end pseudo-Boolean proof",
+    match keyword {
+        Keyword::Header => b"pseudo-Boolean proof version 2.0",
+        Keyword::Formula => b"f",
+        Keyword::Pol => b"pol",
+        Keyword::Rup => b"rup",
+        Keyword::Solution => b"sol",
+        Keyword::Delete => b"del id",
+        Keyword::Output => b"output NONE",
+        Keyword::Conclusion => b"conclusion",
+        Keyword::End => b"end pseudo-Boolean proof",
     }
 }
 
 /// What a machine does behind the words.
-fn behind(front: Front) -> Move
-    ensures { result ≡ behind front }
+fn behind(keyword: Keyword) -> Move
+    ensures { result ≡ behind keyword }
 {
-    match front {
-        Front::Header => Move::To(Phase::HeaderEnd),
-        Front::Formula => Move::Begin(Rest::Count),
-        Front::Pol => Move::Begin(Rest::Words),
-        Front::Rup => Move::Begin(Rest::Goal),
-        Front::Solution => Move::To(Phase::Solution),
-        Front::Delete => Move::Begin(Rest::Deleted),
-        Front::Output => Move::To(Phase::OutputEnd(true)),
-        Front::Conclusion => Move::Begin(Rest::Claimed),
-        Front::End => Move::EndProof,
+    match keyword {
+        Keyword::Header => Move::To(Phase::HeaderEnd),
+        Keyword::Formula => Move::Begin(LineKind::Count),
+        Keyword::Pol => Move::Begin(LineKind::Pol),
+        Keyword::Rup => Move::Begin(LineKind::Rup),
+        Keyword::Solution => Move::To(Phase::Solution),
+        Keyword::Delete => Move::Begin(LineKind::Delete),
+        Keyword::Output => Move::To(Phase::OutputEnd(true)),
+        Keyword::Conclusion => Move::Begin(LineKind::Conclusion),
+        Keyword::End => Move::EndProof,
     }
 }
 
@@ -53,31 +53,31 @@ fn meets(expected: u8, byte: u8) -> bool
 }
 
 /// The next byte of the words, of which some were read, or else another move.
-fn spell(front: Front, read: usize, byte: u8, other: Move) -> Move
-    requires { read < length (words_of front) }
-    ensures { result ≡ spell front read byte other }
+fn spell(keyword: Keyword, read: usize, byte: u8, other: Move) -> Move
+    requires { read < length (words_of keyword) }
+    ensures { result ≡ spell keyword read byte other }
 {
-    let words = words_of(front);
+    let words = words_of(keyword);
     if !meets(words[read], byte) {
         return other;
     }
     if read + 1 == words.len() {
-        behind(front)
+        behind(keyword)
     } else {
-        Move::To(Phase::Spelling(front, read + 1))
+        Move::To(Phase::Spelling(keyword, read + 1))
     }
 }
 
 /// The words that begin with this byte, of a step or the output.
-fn step_front(byte: u8) -> Front
-    ensures { result ≡ step_front byte }
+fn step_keyword(byte: u8) -> Keyword
+    ensures { result ≡ step_keyword byte }
 {
     match byte {
-        b'p' => Front::Pol,
-        b'r' => Front::Rup,
-        b's' => Front::Solution,
-        b'd' => Front::Delete,
-        _ => Front::Output,
+        b'p' => Keyword::Pol,
+        b'r' => Keyword::Rup,
+        b's' => Keyword::Solution,
+        b'd' => Keyword::Delete,
+        _ => Keyword::Output,
     }
 }
 
@@ -86,11 +86,11 @@ fn enter(stage: Stage, byte: u8) -> Move
     ensures { result ≡ enter stage byte }
 {
     match stage {
-        Stage::Opening => spell(Front::Header, 0, byte, Move::Stop),
-        Stage::Formula => spell(Front::Formula, 0, byte, Move::Stop),
-        Stage::Steps => spell(step_front(byte), 0, byte, Move::Stop),
-        Stage::Claim => spell(Front::Conclusion, 0, byte, Move::Stop),
-        Stage::Closing => spell(Front::End, 0, byte, Move::Stop),
+        Stage::Opening => spell(Keyword::Header, 0, byte, Move::Stop),
+        Stage::Formula => spell(Keyword::Formula, 0, byte, Move::Stop),
+        Stage::Steps => spell(step_keyword(byte), 0, byte, Move::Stop),
+        Stage::Claim => spell(Keyword::Conclusion, 0, byte, Move::Stop),
+        Stage::Closing => spell(Keyword::End, 0, byte, Move::Stop),
         Stage::Complete => Move::Stop,
     }
 }
@@ -120,16 +120,16 @@ fn between(stage: Stage, byte: u8) -> Move
 }
 
 /// What may stand within the words.
-fn within(front: Front, read: usize, byte: u8) -> Move
-    requires { PhaseFits (Phase.Spelling front read) }
-    ensures { result ≡ plan (Phase.Spelling front read) byte }
+fn within(keyword: Keyword, read: usize, byte: u8) -> Move
+    requires { PhaseFits (Phase.Spelling keyword read) }
+    ensures { result ≡ plan (Phase.Spelling keyword read) byte }
 {
-    let other = if is_blank(byte) && words_of(front)[read - 1] == b' ' {
-        Move::To(Phase::Spelling(front, read))
+    let other = if is_blank(byte) && words_of(keyword)[read - 1] == b' ' {
+        Move::To(Phase::Spelling(keyword, read))
     } else {
         Move::Stop
     };
-    spell(front, read, byte, other)
+    spell(keyword, read, byte, other)
 }
 
 /// What a machine does with a byte.
@@ -142,15 +142,15 @@ pub fn plan(phase: Phase, byte: u8) -> Move
         Phase::Between(stage) => between(stage, byte),
         Phase::Comment(stage) if byte == b'\n' => Move::To(Phase::Between(stage)),
         Phase::Comment(_) => Move::To(phase),
-        Phase::Spelling(front, read) => within(front, read, byte),
-        Phase::Solution if byte == b'i' => Move::Begin(Rest::Improving),
-        Phase::Solution if byte == b'x' => Move::Begin(Rest::Excluded),
+        Phase::Spelling(keyword, read) => within(keyword, read, byte),
+        Phase::Solution if byte == b'i' => Move::Begin(LineKind::Soli),
+        Phase::Solution if byte == b'x' => Move::Begin(LineKind::Solx),
         Phase::HeaderEnd | Phase::OutputEnd(_) if is_blank(byte) => Move::To(phase),
         Phase::HeaderEnd if byte == b'\n' => Move::EndHeader,
         Phase::OutputEnd(_) if byte == b'\n' => Move::EndOutput,
         Phase::OutputEnd(true) if byte == b';' => Move::To(Phase::OutputEnd(false)),
         Phase::Solution | Phase::HeaderEnd | Phase::OutputEnd(_) => Move::Stop,
-        Phase::Inside(rest) => Move::Give(rest),
+        Phase::Inside(kind) => Move::Give(kind),
     }
 }
 
@@ -169,11 +169,11 @@ pub fn is_done(phase: Phase) -> bool
 }
 
 /// What may come behind a statement.
-pub fn stage_behind(rest: Rest) -> Stage
-    ensures { result ≡ stage_behind rest }
+pub fn stage_behind(kind: LineKind) -> Stage
+    ensures { result ≡ stage_behind kind }
 {
-    match rest {
-        Rest::Claimed => Stage::Closing,
+    match kind {
+        LineKind::Conclusion => Stage::Closing,
         _ => Stage::Steps,
     }
 }

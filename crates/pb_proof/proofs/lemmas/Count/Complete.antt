@@ -10,7 +10,7 @@ use Rattle.pb_text.specs.Spelling.{Letter}
 use Rattle.pb_text.proofs.Walking.{Leads, leads_then, reads_behind}
 use Rattle.pb_proof.specs.Lines.{SpellsCount}
 use Rattle.pb_proof.specs.Line.Count.{at, count_automaton, counting, count_last, act, plan, digits}
-use Rattle.pb_proof.specs.declared.line.byte_kind.NumberMark.TheVariants.{Blank, Digit}
+use Rattle.pb_proof.specs.declared.line.byte_kind.NumberByte.TheVariants.{Blank, Digit}
 use Rattle.pb_proof.specs.declared.line.count.phase.CountPhase.{CountPhase}
 use Rattle.pb_proof.specs.declared.line.count.phase.CountPhase.TheVariants.{Start, Gap, Digits, Tail, Closing}
 use Rattle.pb_proof.proofs.lemmas.DigitWalks.{TakesDigits, digits_lead}

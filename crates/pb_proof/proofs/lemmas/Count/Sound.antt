@@ -12,9 +12,9 @@ use Rattle.pb_text.specs.Spelling.{Letter}
 use Rattle.pb_text.proofs.Walking.{On, Keeps}
 use Rattle.pb_proof.specs.Lines.{LineEnd, SpellsCount}
 use Rattle.pb_proof.specs.Line.Count.{CountState, count_automaton, act, plan, digits, behind, is_in_number}
-use Rattle.pb_proof.specs.Line.ByteKind.{number_mark}
-use Rattle.pb_proof.specs.declared.line.byte_kind.NumberMark.{NumberMark}
-use Rattle.pb_proof.specs.declared.line.byte_kind.NumberMark.TheVariants.{Blank, Digit, Semicolon, Feed}
+use Rattle.pb_proof.specs.Line.ByteKind.{number_byte}
+use Rattle.pb_proof.specs.declared.line.byte_kind.NumberByte.{NumberByte}
+use Rattle.pb_proof.specs.declared.line.byte_kind.NumberByte.TheVariants.{Blank, Digit, Semicolon, Feed}
 use Rattle.pb_proof.specs.declared.line.count.phase.CountPhase.{CountPhase}
 use Rattle.pb_proof.specs.declared.line.count.phase.CountPhase.TheVariants.{Start, Gap, Digits, Tail, Closing, Done}
 use Rattle.pb_proof.specs.declared.line.count.phase.CountMove.{CountMove}
@@ -58,7 +58,7 @@ module _ (limit top : ℕ) where
   digits_sound n d l q h =
       on_test (nat_le (10 * n + d) top) (To (Digits (10 * n + d))) l q (λ e _ i. (leb-true (10 * n + d) top e, h i))
 
-  behind_sound : (count : Option ℕ) (gap : CountPhase) (k : NumberMark) (l : Letter) (p : List Letter) → is_in_number gap ≡ false → NumberMeans k l.byte
+  behind_sound : (count : Option ℕ) (gap : CountPhase) (k : NumberByte) (l : Letter) (p : List Letter) → is_in_number gap ≡ false → NumberMeans k l.byte
       → ends.Gapped (body top count) p → (IsTrue (is_blank l.byte) → l.numeral ≡ false → front top gap (p ++ l ∷ [])) → OnNext (act top (behind count gap k)) l (p ++ l ∷ [])
   behind_sound count gap Blank l p i m h f = λ _ n. f m (n ∙ i)
   behind_sound count gap Semicolon l p i m h f = λ _ n. ends.semicolon_behind_blanks (body top count) l p m n h
@@ -75,7 +75,7 @@ module _ (limit top : ℕ) where
   abbrev IsBlank : ℕ → Type 0
   IsBlank = λ b. IsTrue (is_blank b)
 
-  sound : (ph : CountPhase) (k : NumberMark) (l : Letter) (p : List Letter) → NumberMeans k l.byte → front top ph p → OnNext (act top (plan top ph k)) l (p ++ l ∷ [])
+  sound : (ph : CountPhase) (k : NumberByte) (l : Letter) (p : List Letter) → NumberMeans k l.byte → front top ph p → OnNext (act top (plan top ph k)) l (p ++ l ∷ [])
   sound Start k l p m h =
       behind_sound None Gap k l p refl m (gapped Empty p h)
       (λ b n. subst (λ x. Blanks1 (x ++ l ∷ [])) (sym h) (some-one IsBlank l.byte l (ends.as_unmarked l l.byte refl n) b))
@@ -95,4 +95,4 @@ module _ (limit top : ℕ) where
   sound _ k l p m h = tt
 
 pub keeps_front : (limit : ℕ) → Keeps count_automaton Front (Whole limit)
-keeps_front limit s l p h = sound limit s.top s.phase (number_mark l.byte) l p (number_means l.byte) h
+keeps_front limit s l p h = sound limit s.top s.phase (number_byte l.byte) l p (number_means l.byte) h

@@ -8,9 +8,9 @@ use Rattle.pb_text.specs.Spelling.{Letter}
 use Rattle.pb_text.proofs.Walking.{told}
 use Rattle.pb_proof.specs.Lines.{SpellsCount}
 use Rattle.pb_proof.specs.Line.Count.{CountState, at, count_automaton, counting, count_last, act, plan, digits, behind, is_midway, is_done, PhaseFits, MoveFits, IsCountInOrder}
-use Rattle.pb_proof.specs.Line.ByteKind.{number_mark}
-use Rattle.pb_proof.specs.declared.line.byte_kind.NumberMark.{NumberMark}
-use Rattle.pb_proof.specs.declared.line.byte_kind.NumberMark.TheVariants.{Blank, Digit, Semicolon, Feed}
+use Rattle.pb_proof.specs.Line.ByteKind.{number_byte}
+use Rattle.pb_proof.specs.declared.line.byte_kind.NumberByte.{NumberByte}
+use Rattle.pb_proof.specs.declared.line.byte_kind.NumberByte.TheVariants.{Blank, Digit, Semicolon, Feed}
 use Rattle.pb_proof.specs.declared.line.count.phase.CountPhase.{CountPhase}
 use Rattle.pb_proof.specs.declared.line.count.phase.CountPhase.TheVariants.{Start, Gap, Digits, Tail, Closing, Done}
 use Rattle.pb_proof.specs.declared.line.count.phase.CountMove.{CountMove}
@@ -30,12 +30,12 @@ digits_fit top n d = by_test (nat_le (10 * n + d) top) (λ e. (leb-true (10 * n 
     by_test true h = h refl
     by_test false h = tt
 
-behind_fits : (top : ℕ) (count : Option ℕ) (gap : CountPhase) (k : NumberMark) → PhaseFits top gap → is_midway gap ≡ true → MoveFits top (behind count gap k)
+behind_fits : (top : ℕ) (count : Option ℕ) (gap : CountPhase) (k : NumberByte) → PhaseFits top gap → is_midway gap ≡ true → MoveFits top (behind count gap k)
 behind_fits top count gap Blank f h = (f, h)
 behind_fits top count gap Semicolon f h = (tt, refl)
 behind_fits top count gap _ f h = tt
 
-plan_fits : (top : ℕ) (ph : CountPhase) (k : NumberMark) → MoveFits top (plan top ph k)
+plan_fits : (top : ℕ) (ph : CountPhase) (k : NumberByte) → MoveFits top (plan top ph k)
 plan_fits top Start k = behind_fits top None Gap k tt refl
 plan_fits top Gap (Digit d) = digits_fit top 0 d
 plan_fits top Gap k = behind_fits top None Gap k tt refl
@@ -62,7 +62,7 @@ acted top (move.TheVariants.End count) next h e = cc
 acted top move.TheVariants.Stop next h e = cc
 
 goes : (s next : CountState) (b : ℕ) → count_automaton.step s b ≡ Go next → Steps s.top next
-goes s next b e = acted s.top (plan s.top s.phase (number_mark b)) next (plan_fits s.top s.phase (number_mark b)) e
+goes s next b e = acted s.top (plan s.top s.phase (number_byte b)) next (plan_fits s.top s.phase (number_byte b)) e
 
 in_order : (s next : CountState) (b : ℕ) → IsCountInOrder s → count_automaton.step s b ≡ Go next → IsCountInOrder next
 in_order s next b h e =
@@ -81,7 +81,7 @@ owes : (ph : CountPhase) → is_midway ph ≡ true → is_done ph ≡ false
 owes Done h = sym h
 owes _ h = refl
 
-stops : (top : ℕ) (ph : CountPhase) (k : NumberMark) → is_done ph ≡ true → act top (plan top ph k) ≡ Refuse
+stops : (top : ℕ) (ph : CountPhase) (k : NumberByte) → is_done ph ≡ true → act top (plan top ph k) ≡ Refuse
 stops top Done k h = refl
 stops top _ k h = cc
 
@@ -104,9 +104,9 @@ count_of_one = record {
   begins = λ s next b e. (goes s next b e).midway;
   owes = λ s h. owes s.phase h;
   leads = λ s next b e. ap count_last (goes s next b e).same_top;
-  ends = λ s next b e i. ended s.top (plan s.top s.phase (number_mark b)) next e i;
+  ends = λ s next b e i. ended s.top (plan s.top s.phase (number_byte b)) next e i;
   done = λ s. refl;
-  stops = λ s h b. stops s.top s.phase (number_mark b) h;
+  stops = λ s h b. stops s.top s.phase (number_byte b) h;
   goes_on = λ s g h. some_text s.top s.phase h;
   plain = λ s h. plain s.phase h;
   grows = λ s next b e. omega arith;

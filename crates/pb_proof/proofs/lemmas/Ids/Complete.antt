@@ -11,9 +11,9 @@ use Rattle.pb_text.specs.Spelling.{Letter}
 use Rattle.pb_text.proofs.Walking.{Walks, walks_then, reads_behind}
 use Rattle.pb_proof.specs.Lines.{LineEnd, Listed, SpellsId, SpellsIds, Minus as Sign}
 use Rattle.pb_proof.specs.Line.Ids.{IdsState, ids_automaton, ids_at, ids_first, ids_last, step, act, digits, behind}
-use Rattle.pb_proof.specs.Line.ByteKind.{number_mark}
-use Rattle.pb_proof.specs.declared.line.byte_kind.NumberMark.{NumberMark}
-use Rattle.pb_proof.specs.declared.line.byte_kind.NumberMark.TheVariants as mark
+use Rattle.pb_proof.specs.Line.ByteKind.{number_byte}
+use Rattle.pb_proof.specs.declared.line.byte_kind.NumberByte.{NumberByte}
+use Rattle.pb_proof.specs.declared.line.byte_kind.NumberByte.TheVariants as kind
 use Rattle.pb_proof.specs.declared.line.ids.phase.IdsPhase.{IdsPhase}
 use Rattle.pb_proof.specs.declared.line.ids.phase.IdsPhase.TheVariants.{Gap, Between, Minus, Digits, Closing}
 use Rattle.pb_proof.specs.declared.line.ids.phase.IdsMove.{IdsMove}
@@ -32,14 +32,14 @@ module _ (limit top : ℕ) where
   abbrev last : S
   last = ids_last top
 
-  by_mark : (s : S) (b : ℕ) (k : NumberMark) → number_mark b ≡ k → ids_automaton.step s b ≡ step s k
-  by_mark s b k e = ap (λ x. step s x) e
+  by_kind : (s : S) (b : ℕ) (k : NumberByte) → number_byte b ≡ k → ids_automaton.step s b ≡ step s k
+  by_kind s b k e = ap (λ x. step s x) e
 
-  by_blank : (s : S) (b : ℕ) → IsTrue (is_blank b) → ids_automaton.step s b ≡ step s mark.Blank
-  by_blank s b h = by_mark s b mark.Blank (number_blank b h)
+  by_blank : (s : S) (b : ℕ) → IsTrue (is_blank b) → ids_automaton.step s b ≡ step s kind.Blank
+  by_blank s b h = by_kind s b kind.Blank (number_blank b h)
 
-  by_digit : (s : S) (d : ℕ) → d < 10 → ids_automaton.step s (48 + d) ≡ step s (mark.Digit d)
-  by_digit s d h = by_mark s (48 + d) (mark.Digit d) (number_digit d h)
+  by_digit : (s : S) (d : ℕ) → d < 10 → ids_automaton.step s (48 + d) ≡ step s (kind.Digit d)
+  by_digit s d h = by_kind s (48 + d) (kind.Digit d) (number_digit d h)
 
   -- The line may end here with these ids, and a further one may come.
   pub record IsBehind (ids : List ℤ) (s : S) : Type 0 where
@@ -50,15 +50,15 @@ module _ (limit top : ℕ) where
   not_zero : (n : ℕ) → 0 < n → nat_eq n 0 ≡ false
   not_zero n h = grind (arith, nat_tests)
 
-  whole_id : (ids : List ℤ) (negative : Bool) (n : ℕ) (k : NumberMark) (m : IdsMove) → 0 < n → m ≡ cond (nat_eq n 0) move.Stop (behind (signed negative n) k)
+  whole_id : (ids : List ℤ) (negative : Bool) (n : ℕ) (k : NumberByte) (m : IdsMove) → 0 < n → m ≡ cond (nat_eq n 0) move.Stop (behind (signed negative n) k)
       → act top ids m ≡ act top ids (behind (signed negative n) k)
   whole_id ids negative n k m h e = ap (λ x. act top ids x) (e ∙ ap (λ b. cond b move.Stop (behind (signed negative n) k)) (not_zero n h))
 
   pub digits_behind : (ids : List ℤ) (negative : Bool) (n : ℕ) → 0 < n → IsBehind (ids ++ signed negative n ∷ []) (at ids (Digits negative n))
   digits_behind ids negative n h = record {
-    blank = λ b i. by_blank (at ids (Digits negative n)) b i ∙ whole_id ids negative n mark.Blank _ h refl;
-    semicolon = whole_id ids negative n mark.Semicolon _ h refl;
-    feed = whole_id ids negative n mark.Feed _ h refl;
+    blank = λ b i. by_blank (at ids (Digits negative n)) b i ∙ whole_id ids negative n kind.Blank _ h refl;
+    semicolon = whole_id ids negative n kind.Semicolon _ h refl;
+    feed = whole_id ids negative n kind.Feed _ h refl;
   }
 
   takes_blanks : (ids : List ℤ) (s : S) → IsBehind ids s → TakesBlanks ids_automaton s (at ids Between)

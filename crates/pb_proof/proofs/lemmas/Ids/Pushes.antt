@@ -3,8 +3,8 @@ use Rattle.std.proofs.Common.{◌≡◌, ℕ, ◌<◌, ◌^◌, Bool, true, fals
 use Rattle.std.specs.Prelude.{IsTrue, ℤ}
 use Rattle.pb_text.specs.Automaton.{Next, Go, End, Refuse, Admits, IsState}
 use Rattle.pb_proof.specs.Line.Ids.{IdsState, ids_automaton, ids_at, act, plan, keeps, is_midway, PhaseFits, IsIdsInOrder}
-use Rattle.pb_proof.specs.Line.ByteKind.{number_mark}
-use Rattle.pb_proof.specs.declared.line.byte_kind.NumberMark.{NumberMark}
+use Rattle.pb_proof.specs.Line.ByteKind.{number_byte}
+use Rattle.pb_proof.specs.declared.line.byte_kind.NumberByte.{NumberByte}
 use Rattle.pb_proof.specs.declared.line.ids.phase.IdsPhase.{IdsPhase}
 use Rattle.pb_proof.specs.declared.line.ids.phase.IdsMove.{IdsMove}
 use Rattle.pb_proof.specs.declared.line.ids.phase.IdsMove.TheVariants as move
@@ -25,10 +25,10 @@ kept_acts top ids move.End h e = cc
 kept_acts top ids move.Stop h e = cc
 
 -- memory is asked for at a byte that ends an id, and only where the byte is taken
-pub wants : (top : ℕ) (ids : List ℤ) (p : IdsPhase) (b : ℕ) (k : NumberMark) (m : IdsMove) → IsIdsInOrder (ids_at top ids p) → k ≡ number_mark b → m ≡ plan top p k → keeps m ≡ true
+pub wants : (top : ℕ) (ids : List ℤ) (p : IdsPhase) (b : ℕ) (k : NumberByte) (m : IdsMove) → IsIdsInOrder (ids_at top ids p) → k ≡ number_byte b → m ≡ plan top p k → keeps m ≡ true
     → IsTrue (ids_automaton.asks (ids_at top ids p) b) × Admits ids_automaton (ids_at top ids p) b
 wants top ids p b k m o f g h =
-    let i : plan top p (number_mark b) ≡ m = ap (λ x. plan top p x) (sym f) ∙ sym g in (
+    let i : plan top p (number_byte b) ≡ m = ap (λ x. plan top p x) (sym f) ∙ sym g in (
       ap keeps i ∙ h,
       admits ids_automaton IsIdsInOrder _ ids_of_one (ids_at top ids p) b (act top ids m) o (ap (λ x. act top ids x) i) (kept_acts top ids m h),
     )

@@ -14,9 +14,9 @@ use Rattle.pb_text.specs.Spelling.{Letter}
 use Rattle.pb_text.proofs.Walking.{On, Keeps}
 use Rattle.pb_proof.specs.Lines.{Listed, SpellsId, SpellsIds, Minus as Sign}
 use Rattle.pb_proof.specs.Line.Ids.{IdsState, ids_automaton, act, plan, digits, before, behind}
-use Rattle.pb_proof.specs.Line.ByteKind.{number_mark}
-use Rattle.pb_proof.specs.declared.line.byte_kind.NumberMark.{NumberMark}
-use Rattle.pb_proof.specs.declared.line.byte_kind.NumberMark.TheVariants as mark
+use Rattle.pb_proof.specs.Line.ByteKind.{number_byte}
+use Rattle.pb_proof.specs.declared.line.byte_kind.NumberByte.{NumberByte}
+use Rattle.pb_proof.specs.declared.line.byte_kind.NumberByte.TheVariants as kind
 use Rattle.pb_proof.specs.declared.line.ids.phase.IdsPhase.{IdsPhase}
 use Rattle.pb_proof.specs.declared.line.ids.phase.IdsPhase.TheVariants.{Start, Gap, Between, Minus, Digits, Closing, Done}
 use Rattle.pb_proof.specs.declared.line.ids.phase.IdsMove.{IdsMove}
@@ -75,16 +75,16 @@ module _ (limit top : ℕ) where
   some_ids : (ids : List ℤ) (id : ℤ) → 0 < length (ids ++ id ∷ [])
   some_ids ids id = omega (arith, length-append ids (id ∷ []))
 
-  behind_sound : (ids : List ℤ) (id : ℤ) (k : NumberMark) (l : Letter) (p : List Letter) → NumberMeans k l.byte → Row top (ids ++ id ∷ []) p → OnNext (act top ids (behind id k)) l (p ++ l ∷ [])
-  behind_sound ids id mark.Blank l p m h =
+  behind_sound : (ids : List ℤ) (id : ℤ) (k : NumberByte) (l : Letter) (p : List Letter) → NumberMeans k l.byte → Row top (ids ++ id ∷ []) p → OnNext (act top ids (behind id k)) l (p ++ l ∷ [])
+  behind_sound ids id kind.Blank l p m h =
       λ _ n. (some_ids ids id, next (Row top (ids ++ id ∷ [])) Blanks1 p l h (some-one (λ b. IsTrue (is_blank b)) l.byte l (ends.as_unmarked l l.byte refl n) m))
-  behind_sound ids id mark.Semicolon l p m h = λ _ n. (some_ids ids id, ends.semicolon_behind (Row top (ids ++ id ∷ [])) l p m n h)
-  behind_sound ids id mark.Feed l p m h = λ n. (some_ids ids id, ends.line_behind (Row top (ids ++ id ∷ [])) l p m n h)
+  behind_sound ids id kind.Semicolon l p m h = λ _ n. (some_ids ids id, ends.semicolon_behind (Row top (ids ++ id ∷ [])) l p m n h)
+  behind_sound ids id kind.Feed l p m h = λ n. (some_ids ids id, ends.line_behind (Row top (ids ++ id ∷ [])) l p m n h)
   behind_sound ids id _ l p m h = tt
 
-  before_sound : (ids : List ℤ) (k : NumberMark) (l : Letter) (p : List Letter) → NumberMeans k l.byte → Before top ids p → OnNext (act top ids (before top k)) l (p ++ l ∷ [])
-  before_sound ids mark.Minus l p m h = λ _ n. next (Before top ids) (Sign true) p l h (ap (λ x. x ∷ []) (ends.as_unmarked l 45 m n))
-  before_sound ids (mark.Digit d) l p m h =
+  before_sound : (ids : List ℤ) (k : NumberByte) (l : Letter) (p : List Letter) → NumberMeans k l.byte → Before top ids p → OnNext (act top ids (before top k)) l (p ++ l ∷ [])
+  before_sound ids kind.Minus l p m h = λ _ n. next (Before top ids) (Sign true) p l h (ap (λ x. x ∷ []) (ends.as_unmarked l 45 m n))
+  before_sound ids (kind.Digit d) l p m h =
       digits_sound ids false 0 d l (p ++ l ∷ [])
       (λ n. next (Before top ids ⋅ Sign false) (DigitsOf (10 * 0 + d)) p l (none_yet (Before top ids) (Sign false) p refl h) (digits-one d l (as_digit l d m.0 n) m.1))
   before_sound ids _ l p m h = tt
@@ -99,27 +99,27 @@ module _ (limit top : ℕ) where
   positive : (n : ℕ) → nat_eq n 0 ≡ false → 0 < n
   positive n e = grind (arith, nat_tests)
 
-  sound : (ph : IdsPhase) (ids : List ℤ) (k : NumberMark) (l : Letter) (p : List Letter) → NumberMeans k l.byte → front top ph ids p → OnNext (act top ids (plan top ph k)) l (p ++ l ∷ [])
-  sound Start ids mark.Blank l p m h =
+  sound : (ph : IdsPhase) (ids : List ℤ) (k : NumberByte) (l : Letter) (p : List Letter) → NumberMeans k l.byte → front top ph ids p → OnNext (act top ids (plan top ph k)) l (p ++ l ∷ [])
+  sound Start ids kind.Blank l p m h =
       λ _ n. (h.0, subst (λ x. Blanks1 (x ++ l ∷ [])) (sym h.1) (some-one (λ b. IsTrue (is_blank b)) l.byte l (ends.as_unmarked l l.byte refl n) m))
-  sound Gap ids mark.Blank l p m h = λ _ n. (h.0, some-grown (λ b. IsTrue (is_blank b)) l.byte l (ends.as_unmarked l l.byte refl n) m p h.1)
+  sound Gap ids kind.Blank l p m h = λ _ n. (h.0, some-grown (λ b. IsTrue (is_blank b)) l.byte l (ends.as_unmarked l l.byte refl n) m p h.1)
   sound Gap ids k l p m h = before_sound ids k l p m (first_before ids p h.0 h.1)
-  sound Between ids mark.Blank l p m h =
+  sound Between ids kind.Blank l p m h =
       λ _ n. (h.0, grown (Row top ids) Blanks1 Blanks1 p l (some-grown (λ b. IsTrue (is_blank b)) l.byte l (ends.as_unmarked l l.byte refl n) m) h.1)
-  sound Between ids mark.Semicolon l p m h = λ _ n. (h.0, ends.semicolon_behind_blanks (Row top ids) l p m n (gapped ids p h.1))
-  sound Between ids mark.Feed l p m h = λ n. (h.0, ends.line_behind_blanks (Row top ids) l p m n (gapped ids p h.1))
+  sound Between ids kind.Semicolon l p m h = λ _ n. (h.0, ends.semicolon_behind_blanks (Row top ids) l p m n (gapped ids p h.1))
+  sound Between ids kind.Feed l p m h = λ n. (h.0, ends.line_behind_blanks (Row top ids) l p m n (gapped ids p h.1))
   sound Between ids k l p m h = before_sound ids k l p m h.1
-  sound Minus ids (mark.Digit d) l p m h =
+  sound Minus ids (kind.Digit d) l p m h =
       digits_sound ids true 0 d l (p ++ l ∷ []) (λ n. next (Before top ids ⋅ Sign true) (DigitsOf (10 * 0 + d)) p l h (digits-one d l (as_digit l d m.0 n) m.1))
-  sound (Digits negative n) ids (mark.Digit d) l p m h =
+  sound (Digits negative n) ids (kind.Digit d) l p m h =
       digits_sound ids negative n d l (p ++ l ∷ [])
       (λ i. grown (Before top ids ⋅ Sign negative) (DigitsOf n) (DigitsOf (10 * n + d)) p l (digits-grown n d l (as_digit l d m.0 i) m.1) h.1)
   sound (Digits negative n) ids k l p m h =
       on_nonzero ids (nat_eq n 0) (behind (signed negative n) k) l (p ++ l ∷ [])
       (λ e. behind_sound ids (signed negative n) k l p m (id_ends ids negative n p (positive n e) h.0 h.1))
-  sound Closing ids mark.Blank l p m h = λ _ n. (h.0, ends.blank_closing (Row top ids) l p m n h.1)
-  sound Closing ids mark.Feed l p m h = λ n. (h.0, ends.line_closing (Row top ids) l p m n h.1)
+  sound Closing ids kind.Blank l p m h = λ _ n. (h.0, ends.blank_closing (Row top ids) l p m n h.1)
+  sound Closing ids kind.Feed l p m h = λ n. (h.0, ends.line_closing (Row top ids) l p m n h.1)
   sound _ ids k l p m h = tt
 
 pub keeps_front : (limit : ℕ) → Keeps ids_automaton Front (Whole limit)
-keeps_front limit s l p h = sound limit s.top s.phase s.ids (number_mark l.byte) l p (number_means l.byte) h
+keeps_front limit s l p h = sound limit s.top s.phase s.ids (number_byte l.byte) l p (number_means l.byte) h

@@ -11,9 +11,9 @@ use Rattle.pb_text.specs.Spelling.{Letter}
 use Rattle.pb_text.proofs.Walking.{told}
 use Rattle.pb_proof.specs.Lines.{SpellsIds}
 use Rattle.pb_proof.specs.Line.Ids.{IdsState, ids_automaton, ids_at, ids_first, ids_last, act, plan, digits, before, behind, is_midway, is_done, is_in_number, MoveFits, PhaseFits, IsIdsInOrder}
-use Rattle.pb_proof.specs.Line.ByteKind.{number_mark}
-use Rattle.pb_proof.specs.declared.line.byte_kind.NumberMark.{NumberMark}
-use Rattle.pb_proof.specs.declared.line.byte_kind.NumberMark.TheVariants as mark
+use Rattle.pb_proof.specs.Line.ByteKind.{number_byte}
+use Rattle.pb_proof.specs.declared.line.byte_kind.NumberByte.{NumberByte}
+use Rattle.pb_proof.specs.declared.line.byte_kind.NumberByte.TheVariants as kind
 use Rattle.pb_proof.specs.declared.line.ids.phase.IdsPhase.{IdsPhase}
 use Rattle.pb_proof.specs.declared.line.ids.phase.IdsPhase.TheVariants.{Start, Gap, Between, Minus, Digits, Closing, Done}
 use Rattle.pb_proof.specs.declared.line.ids.phase.IdsMove.{IdsMove}
@@ -33,33 +33,33 @@ digits_fit top negative n d = by_test (nat_le (10 * n + d) top) (λ e. (leb-true
     by_test true h = h refl
     by_test false h = tt
 
-before_fits : (top : ℕ) (k : NumberMark) → MoveFits top (before top k)
-before_fits top mark.Minus = (tt, refl)
-before_fits top (mark.Digit d) = digits_fit top false 0 d
+before_fits : (top : ℕ) (k : NumberByte) → MoveFits top (before top k)
+before_fits top kind.Minus = (tt, refl)
+before_fits top (kind.Digit d) = digits_fit top false 0 d
 before_fits top _ = tt
 
-behind_fits : (top : ℕ) (id : ℤ) (k : NumberMark) → MoveFits top (behind id k)
-behind_fits top id mark.Blank = (tt, refl)
-behind_fits top id mark.Semicolon = (tt, refl)
+behind_fits : (top : ℕ) (id : ℤ) (k : NumberByte) → MoveFits top (behind id k)
+behind_fits top id kind.Blank = (tt, refl)
+behind_fits top id kind.Semicolon = (tt, refl)
 behind_fits top id _ = tt
 
 nonzero_fits : (top : ℕ) (b : Bool) (m : IdsMove) → MoveFits top m → MoveFits top (cond b move.Stop m)
 nonzero_fits top true m h = tt
 nonzero_fits top false m h = h
 
-plan_fits : (top : ℕ) (ph : IdsPhase) (k : NumberMark) → MoveFits top (plan top ph k)
-plan_fits top Start mark.Blank = (tt, refl)
-plan_fits top Gap mark.Blank = (tt, refl)
+plan_fits : (top : ℕ) (ph : IdsPhase) (k : NumberByte) → MoveFits top (plan top ph k)
+plan_fits top Start kind.Blank = (tt, refl)
+plan_fits top Gap kind.Blank = (tt, refl)
 plan_fits top Gap k = before_fits top k
-plan_fits top Between mark.Blank = (tt, refl)
-plan_fits top Between mark.Semicolon = (tt, refl)
-plan_fits top Between mark.Feed = tt
+plan_fits top Between kind.Blank = (tt, refl)
+plan_fits top Between kind.Semicolon = (tt, refl)
+plan_fits top Between kind.Feed = tt
 plan_fits top Between k = before_fits top k
-plan_fits top Minus (mark.Digit d) = digits_fit top true 0 d
-plan_fits top (Digits negative n) (mark.Digit d) = digits_fit top negative n d
+plan_fits top Minus (kind.Digit d) = digits_fit top true 0 d
+plan_fits top (Digits negative n) (kind.Digit d) = digits_fit top negative n d
 plan_fits top (Digits negative n) k = nonzero_fits top (nat_eq n 0) (behind (signed negative n) k) (behind_fits top (signed negative n) k)
-plan_fits top Closing mark.Blank = (tt, refl)
-plan_fits top Closing mark.Feed = tt
+plan_fits top Closing kind.Blank = (tt, refl)
+plan_fits top Closing kind.Feed = tt
 plan_fits _ _ _ = tt
 
 same : (s t : IdsState) → ◌≡◌ {A = N} (Go s) (Go t) → s ≡ t
@@ -83,7 +83,7 @@ acted top ids (move.EndWith id) next h e = cc
 acted top ids move.Stop next h e = cc
 
 goes : (s next : IdsState) (b : ℕ) → ids_automaton.step s b ≡ Go next → Steps s.top s.ids next
-goes s next b e = acted s.top s.ids (plan s.top s.phase (number_mark b)) next (plan_fits s.top s.phase (number_mark b)) e
+goes s next b e = acted s.top s.ids (plan s.top s.phase (number_byte b)) next (plan_fits s.top s.phase (number_byte b)) e
 
 ended : (top : ℕ) (ids : List ℤ) (m : IdsMove) (next : IdsState) (e : List ℤ) → act top ids m ≡ End e next → next ≡ ids_last top
 ended top ids (move.To p) next e i = cc
@@ -99,7 +99,7 @@ owes : (ph : IdsPhase) → is_midway ph ≡ true → is_done ph ≡ false
 owes Done h = sym h
 owes _ h = refl
 
-stops : (top : ℕ) (ids : List ℤ) (ph : IdsPhase) (k : NumberMark) → is_done ph ≡ true → act top ids (plan top ph k) ≡ Refuse
+stops : (top : ℕ) (ids : List ℤ) (ph : IdsPhase) (k : NumberByte) → is_done ph ≡ true → act top ids (plan top ph k) ≡ Refuse
 stops top ids Done k h = refl
 stops top ids _ k h = cc
 
@@ -169,9 +169,9 @@ ids_of_one = record {
   begins = λ s next b e. (goes s next b e).midway;
   owes = λ s h. owes s.phase h;
   leads = λ s next b e. ap ids_last (goes s next b e).same_top;
-  ends = λ s next b e i. ended s.top s.ids (plan s.top s.phase (number_mark b)) next e i;
+  ends = λ s next b e i. ended s.top s.ids (plan s.top s.phase (number_byte b)) next e i;
   done = λ s. refl;
-  stops = λ s h b. stops s.top s.ids s.phase (number_mark b) h;
+  stops = λ s h b. stops s.top s.ids s.phase (number_byte b) h;
   goes_on = λ s g h. some_text s.top g.1 s.ids s.phase h;
   plain = λ s h. plain s.phase h;
   grows = λ s next b e. (goes s next b e).grows;

@@ -18,21 +18,21 @@ use Rattle.pb_sums.specs.declared.Part as part
 use Rattle.pb_sums.specs.declared.Spaces.TheVariants.{Blank as BlankSpaces}
 use Rattle.pb_sums.proofs.Asked.{ends_nothing, ends_behind, asks_behind, at_name, sums_asked, first_asks_nothing}
 use Rattle.pb_proof.specs.Asking.{EndsNumber}
-use Rattle.pb_proof.specs.Line.Rup.{GoalState, goal_automaton, goal_first, goal_asks, goal_plan}
+use Rattle.pb_proof.specs.Line.Rup.{RupState, rup_automaton, rup_first, rup_asks, rup_plan}
 use Rattle.pb_proof.specs.Line.Ids.{IdsState, ids_automaton, ids_first, plan, digits, before, keeps}
 use Rattle.pb_proof.specs.Line.Literals.{LiteralsState, literals_automaton, literals_first, adds, is_more}
 use Rattle.pb_proof.specs.Line.Literals as literals
-use Rattle.pb_proof.specs.Line.ByteKind.{number_mark, name_mark}
-use Rattle.pb_proof.specs.declared.line.rup.phase.GoalPhase.{GoalPhase}
-use Rattle.pb_proof.specs.declared.line.rup.phase.GoalPhase.TheVariants as goal
+use Rattle.pb_proof.specs.Line.ByteKind.{number_byte, name_byte}
+use Rattle.pb_proof.specs.declared.line.rup.phase.RupPhase.{RupPhase}
+use Rattle.pb_proof.specs.declared.line.rup.phase.RupPhase.TheVariants as rup
 use Rattle.pb_proof.specs.declared.line.ids.phase.IdsPhase.{IdsPhase}
 use Rattle.pb_proof.specs.declared.line.ids.phase.IdsPhase.TheVariants.{Start, Gap, Between, Minus, Digits, Closing, Done}
 use Rattle.pb_proof.specs.declared.line.literals.phase.LiteralsPhase.{LiteralsPhase}
 use Rattle.pb_proof.specs.declared.line.literals.phase.LiteralsPhase.TheVariants as at
-use Rattle.pb_proof.specs.declared.line.byte_kind.NumberMark.{NumberMark}
-use Rattle.pb_proof.specs.declared.line.byte_kind.NumberMark.TheVariants as number
-use Rattle.pb_proof.specs.declared.line.byte_kind.NameMark.{NameMark}
-use Rattle.pb_proof.specs.declared.line.byte_kind.NameMark.TheVariants as name
+use Rattle.pb_proof.specs.declared.line.byte_kind.NumberByte.{NumberByte}
+use Rattle.pb_proof.specs.declared.line.byte_kind.NumberByte.TheVariants as number
+use Rattle.pb_proof.specs.declared.line.byte_kind.NameByte.{NameByte}
+use Rattle.pb_proof.specs.declared.line.byte_kind.NameByte.TheVariants as name
 use Rattle.pb_proof.proofs.lemmas.Choices.{chosen}
 use Rattle.pb_proof.proofs.lemmas.Rup.Reads as reads
 use Rattle.pb_proof.proofs.lemmas.Ids.Sound as ids
@@ -78,15 +78,15 @@ not_digit b e = grind (arith, nat_tests)
 ids_quiet : (top : ℕ) (negative : Bool) (n d : ℕ) → keeps (digits top negative n d) ≡ false
 ids_quiet top negative n d = chosen (λ m. keeps m ≡ false) (nat_le (10 * n + d) top) _ _ (λ _. refl) (λ _. refl)
 
-before_quiet : (top : ℕ) (k : NumberMark) → keeps (before top k) ≡ false
+before_quiet : (top : ℕ) (k : NumberByte) → keeps (before top k) ≡ false
 before_quiet top number.Minus = refl
 before_quiet top (number.Digit d) = ids_quiet top false 0 d
 before_quiet top _ = refl
 
 module _ (limit : ℕ) where
-  asks_dark : (top : ℕ) (negative : Bool) (n b : ℕ) → keeps (plan top (Digits negative n) (number_mark b)) ≡ true → is_digit b ≡ false
+  asks_dark : (top : ℕ) (negative : Bool) (n b : ℕ) → keeps (plan top (Digits negative n) (number_byte b)) ≡ true → is_digit b ≡ false
   asks_dark top negative n b =
-      let P : NumberMark → Type 0 = λ k. keeps (plan top (Digits negative n) k) ≡ true → is_digit b ≡ false in
+      let P : NumberByte → Type 0 = λ k. keeps (plan top (Digits negative n) k) ≡ true → is_digit b ≡ false in
       chosen P (is_blank b) _ _ (λ e h. not_digit b e)
       (λ _. chosen P (is_digit b) _ _ (λ _ h. absurd (false≢true (sym (ids_quiet top negative n (b - 48)) ∙ h))) (λ e. dark e (nat_eq b 45) (nat_eq b 59) (nat_eq b 10)))
     where
@@ -94,33 +94,33 @@ module _ (limit : ℕ) where
           → keeps (plan top (Digits negative n) (cond x number.Minus (cond y number.Semicolon (cond z number.Feed number.Other)))) ≡ true → is_digit b ≡ false
       dark e x y z h = e
 
-  ids_at : (ph : IdsPhase) (top : ℕ) (held : List ℤ) (t : List Letter) (b : ℕ) → ids.front top ph held t → keeps (plan top ph (number_mark b)) ≡ true → EndsNumber (bytes t) b
-  ids_at Start top held t b h k = absurd (false≢true (sym (start (number_mark b)) ∙ k))
+  ids_at : (ph : IdsPhase) (top : ℕ) (held : List ℤ) (t : List Letter) (b : ℕ) → ids.front top ph held t → keeps (plan top ph (number_byte b)) ≡ true → EndsNumber (bytes t) b
+  ids_at Start top held t b h k = absurd (false≢true (sym (start (number_byte b)) ∙ k))
     where
-      start : (m : NumberMark) → keeps (plan top Start m) ≡ false
+      start : (m : NumberByte) → keeps (plan top Start m) ≡ false
       start number.Blank = refl
       start _ = refl
-  ids_at Gap top held t b h k = absurd (false≢true (sym (gap (number_mark b)) ∙ k))
+  ids_at Gap top held t b h k = absurd (false≢true (sym (gap (number_byte b)) ∙ k))
     where
-      gap : (m : NumberMark) → keeps (plan top Gap m) ≡ false
+      gap : (m : NumberByte) → keeps (plan top Gap m) ≡ false
       gap number.Blank = refl
       gap m = before_quiet top m
-  ids_at Between top held t b h k = absurd (false≢true (sym (between (number_mark b)) ∙ k))
+  ids_at Between top held t b h k = absurd (false≢true (sym (between (number_byte b)) ∙ k))
     where
-      between : (m : NumberMark) → keeps (plan top Between m) ≡ false
+      between : (m : NumberByte) → keeps (plan top Between m) ≡ false
       between number.Blank = refl
       between number.Semicolon = refl
       between number.Feed = refl
       between m = before_quiet top m
-  ids_at Minus top held t b h k = absurd (false≢true (sym (minus (number_mark b)) ∙ k))
+  ids_at Minus top held t b h k = absurd (false≢true (sym (minus (number_byte b)) ∙ k))
     where
-      minus : (m : NumberMark) → keeps (plan top Minus m) ≡ false
+      minus : (m : NumberByte) → keeps (plan top Minus m) ≡ false
       minus (number.Digit d) = ids_quiet top true 0 d
       minus _ = refl
   ids_at (Digits negative n) top held t b h k = number_end _ n t b h.1 (asks_dark top negative n b k)
-  ids_at Closing top held t b h k = absurd (false≢true (sym (closing (number_mark b)) ∙ k))
+  ids_at Closing top held t b h k = absurd (false≢true (sym (closing (number_byte b)) ∙ k))
     where
-      closing : (m : NumberMark) → keeps (plan top Closing m) ≡ false
+      closing : (m : NumberByte) → keeps (plan top Closing m) ≡ false
       closing number.Blank = refl
       closing number.Feed = refl
       closing _ = refl
@@ -143,13 +143,13 @@ first_front (x ∷ []) b h k = (h, (k, tt))
 first_front (x ∷ y ∷ bs) b h k = absurd h
 
 module _ (b : ℕ) (text : List ℕ) where
-  behind_quiet : (k : NameMark) → adds (literals.behind k) ≡ false
+  behind_quiet : (k : NameByte) → adds (literals.behind k) ≡ false
   behind_quiet name.Blank = refl
   behind_quiet name.Semicolon = refl
   behind_quiet name.Feed = refl
   behind_quiet _ = refl
 
-  begins_at : (k : NameMark) → NameMeans k b → adds (literals.before k) ≡ true → AsksLiteral text b
+  begins_at : (k : NameByte) → NameMeans k b → adds (literals.before k) ≡ true → AsksLiteral text b
   begins_at name.Tilde m h = absurd (false≢true h)
   begins_at (name.Letter c) m h = letter_begins text b (subst (λ (x : ℕ). IsTrue (is_letter x)) (sym m.0) m.1)
   begins_at name.Blank m h = absurd (false≢true h)
@@ -158,7 +158,7 @@ module _ (b : ℕ) (text : List ℕ) where
   begins_at (name.Inner c) m h = absurd (false≢true h)
   begins_at name.Other m h = absurd (false≢true h)
 
-  start_at : (joined : Bool) (k : NameMark) → NameMeans k b → (adds (literals.plan joined at.Start k) || false) ≡ true → AsksLiteral text b
+  start_at : (joined : Bool) (k : NameByte) → NameMeans k b → (adds (literals.plan joined at.Start k) || false) ≡ true → AsksLiteral text b
   start_at true k m h = begins_at k m (or_false (adds (literals.before k)) h)
     where
       or_false : (x : Bool) → (x || false) ≡ true → x ≡ true
@@ -166,14 +166,14 @@ module _ (b : ℕ) (text : List ℕ) where
       or_false false e = e
   start_at false k m h = absurd (false≢true (sym (ap (λ x. x || false) (behind_quiet k)) ∙ h))
 
-  gap_at : (joined : Bool) (k : NameMark) → NameMeans k b → (adds (literals.plan joined at.Gap k) || false) ≡ true → AsksLiteral text b
+  gap_at : (joined : Bool) (k : NameByte) → NameMeans k b → (adds (literals.plan joined at.Gap k) || false) ≡ true → AsksLiteral text b
   gap_at joined k m h = begins_at k m (or_false (adds (literals.before k)) h)
     where
       or_false : (x : Bool) → (x || false) ≡ true → x ≡ true
       or_false true e = refl
       or_false false e = e
 
-  negation_at : (joined : Bool) (k : NameMark) → NameMeans k b → (adds (literals.plan joined at.Negation k) || false) ≡ true → AsksLiteral text b
+  negation_at : (joined : Bool) (k : NameByte) → NameMeans k b → (adds (literals.plan joined at.Negation k) || false) ≡ true → AsksLiteral text b
   negation_at joined (name.Letter c) m h = letter_begins text b (subst (λ (x : ℕ). IsTrue (is_letter x)) (sym m.0) m.1)
   negation_at joined name.Tilde m h = absurd (false≢true h)
   negation_at joined name.Blank m h = absurd (false≢true h)
@@ -182,7 +182,7 @@ module _ (b : ℕ) (text : List ℕ) where
   negation_at joined (name.Inner c) m h = absurd (false≢true h)
   negation_at joined name.Other m h = absurd (false≢true h)
 
-  first_at : (joined negated : Bool) (bs : List ℕ) → EndsIn text bs → IsFirst bs → (k : NameMark) → NameMeans k b → (adds (literals.plan joined (at.First negated) k) || false) ≡ true → AsksLiteral text b
+  first_at : (joined negated : Bool) (bs : List ℕ) → EndsIn text bs → IsFirst bs → (k : NameByte) → NameMeans k b → (adds (literals.plan joined (at.First negated) k) || false) ≡ true → AsksLiteral text b
   first_at joined negated bs e f (name.Letter c) m h = inl (bs, e, first_front bs b f (letter_name b (subst (λ (x : ℕ). IsTrue (is_letter x)) (sym m.0) m.1)))
   first_at joined negated bs e f (name.Inner c) m h = inl (bs, e, first_front bs b f (subst (λ (x : ℕ). IsTrue (is_name_byte x)) (sym m.0) m.1))
   first_at joined negated bs e f name.Tilde m h = absurd (false≢true h)
@@ -191,7 +191,7 @@ module _ (b : ℕ) (text : List ℕ) where
   first_at joined negated bs e f name.Feed m h = absurd (false≢true h)
   first_at joined negated bs e f name.Other m h = absurd (false≢true h)
 
-  closing_at : (joined : Bool) (k : NameMark) → (adds (literals.plan joined at.Closing k) || false) ≡ true → AsksLiteral text b
+  closing_at : (joined : Bool) (k : NameByte) → (adds (literals.plan joined at.Closing k) || false) ≡ true → AsksLiteral text b
   closing_at joined name.Blank h = absurd (false≢true h)
   closing_at joined name.Feed h = absurd (false≢true h)
   closing_at joined name.Tilde h = absurd (false≢true h)
@@ -201,14 +201,14 @@ module _ (b : ℕ) (text : List ℕ) where
   closing_at joined name.Other h = absurd (false≢true h)
 
 literals_at : (ph : LiteralsPhase) (joined : Bool) (ls : List Literal) (bs : List ℕ) (t : List Letter) (b : ℕ) → sound.front joined ph ls bs t
-    → (adds (literals.plan joined ph (name_mark b)) || is_more ph) ≡ true → AsksLiteral (bytes t) b
-literals_at at.Start joined ls bs t b h k = start_at b (bytes t) joined (name_mark b) (name_means b) k
-literals_at at.Gap joined ls bs t b h k = gap_at b (bytes t) joined (name_mark b) (name_means b) k
-literals_at at.Negation joined ls bs t b h k = negation_at b (bytes t) joined (name_mark b) (name_means b) k
+    → (adds (literals.plan joined ph (name_byte b)) || is_more ph) ≡ true → AsksLiteral (bytes t) b
+literals_at at.Start joined ls bs t b h k = start_at b (bytes t) joined (name_byte b) (name_means b) k
+literals_at at.Gap joined ls bs t b h k = gap_at b (bytes t) joined (name_byte b) (name_means b) k
+literals_at at.Negation joined ls bs t b h k = negation_at b (bytes t) joined (name_byte b) (name_means b) k
 literals_at (at.First negated) joined ls bs t b (a, c, e, p, (f, is)) k =
-    first_at b (bytes t) joined negated bs (literal_end (sound.Before joined ls) negated bs t (a, c, e, p, is)) f (name_mark b) (name_means b) k
+    first_at b (bytes t) joined negated bs (literal_end (sound.Before joined ls) negated bs t (a, c, e, p, is)) f (name_byte b) (name_means b) k
 literals_at (at.More negated) joined ls bs t b (a, c, e, p, (f, is)) k = at_name (bytes t) bs b (literal_end (sound.Before joined ls) negated bs t (a, c, e, p, is)) f
-literals_at at.Closing joined ls bs t b h k = closing_at b (bytes t) joined (name_mark b) k
+literals_at at.Closing joined ls bs t b h k = closing_at b (bytes t) joined (name_byte b) k
 literals_at at.Done joined ls bs t b h k = absurd h
 
 pub literals_asked : (joined : Bool) (t : List Letter) (s : LiteralsState) (b : ℕ) → Walks literals_automaton (literals_first joined) t s → literals_automaton.asks s b ≡ true → AsksLiteral (bytes t) b
@@ -217,19 +217,19 @@ literals_asked joined t s b w h =
 
 -- ---- linear texts
 module _ (limit top : ℕ) where
-  goal_at : (s : GoalState) (ph : GoalPhase) (t : List Letter) (b : ℕ) → reads.front limit top s ph t → goal_asks s b (goal_plan ph b) ≡ true → AsksLiteral (bytes t) b
-  goal_at s goal.Start t b h = chosen (λ m. goal_asks s b m ≡ true → AsksLiteral (bytes t) b) (is_blank b) _ _ (λ _ k. absurd (false≢true k)) (λ _ k. absurd (false≢true k))
-  goal_at s goal.Gap t b (h, inner, linear) =
-      chosen (λ m. goal_asks s b m ≡ true → AsksLiteral (bytes t) b) (is_blank b) _ _ (λ _ k. absurd (false≢true k))
+  rup_at : (s : RupState) (ph : RupPhase) (t : List Letter) (b : ℕ) → reads.front limit top s ph t → rup_asks s b (rup_plan ph b) ≡ true → AsksLiteral (bytes t) b
+  rup_at s rup.Start t b h = chosen (λ m. rup_asks s b m ≡ true → AsksLiteral (bytes t) b) (is_blank b) _ _ (λ _ k. absurd (false≢true k)) (λ _ k. absurd (false≢true k))
+  rup_at s rup.Gap t b (h, inner, linear) =
+      chosen (λ m. rup_asks s b m ≡ true → AsksLiteral (bytes t) b) (is_blank b) _ _ (λ _ k. absurd (false≢true k))
       (λ _ k. absurd (false≢true (sym (ap (λ (x : SumState). sums.asks x b) inner ∙ first_asks_nothing BlankSpaces part.TheVariants.AtLeast limit b) ∙ k)))
-  goal_at s goal.Inside t b (linear, (a, c, e, h, w)) = λ k.
+  rup_at s rup.Inside t b (linear, (a, c, e, h, w)) = λ k.
       subst (λ (x : List ℕ). AsksLiteral x b) (sym (ap bytes e ∙ bytes-append a c))
       (asks_behind (bytes a) (bytes c) b (sums_asked BlankSpaces part.TheVariants.AtLeast limit c s.inner b w k))
-  goal_at s goal.Tail t b h =
-      chosen (λ m. goal_asks s b m ≡ true → AsksLiteral (bytes t) b) (is_blank b) _ _ (λ _ k. absurd (false≢true k))
-      (λ _. chosen (λ m. goal_asks s b m ≡ true → AsksLiteral (bytes t) b) (nat_eq b 10) _ _ (λ _ k. absurd (false≢true k)) (λ _ k. absurd (false≢true k)))
-  goal_at s goal.Done t b h = absurd h
+  rup_at s rup.Tail t b h =
+      chosen (λ m. rup_asks s b m ≡ true → AsksLiteral (bytes t) b) (is_blank b) _ _ (λ _ k. absurd (false≢true k))
+      (λ _. chosen (λ m. rup_asks s b m ≡ true → AsksLiteral (bytes t) b) (nat_eq b 10) _ _ (λ _ k. absurd (false≢true k)) (λ _ k. absurd (false≢true k)))
+  rup_at s rup.Done t b h = absurd h
 
-  pub goal_asked : (t : List Letter) (s : GoalState) (b : ℕ) → Walks goal_automaton (goal_first limit) t s → goal_automaton.asks s b ≡ true → AsksLiteral (bytes t) b
-  goal_asked t s b w h =
-      goal_at s s.phase t b (fronts goal_automaton (reads.Front limit top) (reads.Whole limit top) (reads.keeps limit top) t (goal_first limit) [] s w (refl, refl, refl)) h
+  pub rup_asked : (t : List Letter) (s : RupState) (b : ℕ) → Walks rup_automaton (rup_first limit) t s → rup_automaton.asks s b ≡ true → AsksLiteral (bytes t) b
+  rup_asked t s b w h =
+      rup_at s s.phase t b (fronts rup_automaton (reads.Front limit top) (reads.Whole limit top) (reads.keeps limit top) t (rup_first limit) [] s w (refl, refl, refl)) h

@@ -6,13 +6,13 @@ use Rattle.std.specs.Prelude.{IsTrue, nat_eq}
 use Rattle.pb_text.specs.Classes.{is_blank, is_digit, is_letter, is_name_byte}
 use Rattle.pb_text.specs.Languages.{digit}
 use Rattle.pb_text.specs.Spelling.{Letter}
-use Rattle.pb_proof.specs.Line.ByteKind.{number_mark, name_mark}
-use Rattle.pb_proof.specs.declared.line.byte_kind.NumberMark.{NumberMark}
-use Rattle.pb_proof.specs.declared.line.byte_kind.NumberMark as number
-use Rattle.pb_proof.specs.declared.line.byte_kind.NameMark.{NameMark}
-use Rattle.pb_proof.specs.declared.line.byte_kind.NameMark as name
+use Rattle.pb_proof.specs.Line.ByteKind.{number_byte, name_byte}
+use Rattle.pb_proof.specs.declared.line.byte_kind.NumberByte.{NumberByte}
+use Rattle.pb_proof.specs.declared.line.byte_kind.NumberByte as number
+use Rattle.pb_proof.specs.declared.line.byte_kind.NameByte.{NameByte}
+use Rattle.pb_proof.specs.declared.line.byte_kind.NameByte as name
 
-abbrev pub NumberMeans : NumberMark → ℕ → Type 0
+abbrev pub NumberMeans : NumberByte → ℕ → Type 0
 NumberMeans number.TheVariants.Blank b = IsTrue (is_blank b)
 NumberMeans (number.TheVariants.Digit d) b = (b ≡ 48 + d) × (d < 10)
 NumberMeans number.TheVariants.Minus b = b ≡ 45
@@ -20,7 +20,7 @@ NumberMeans number.TheVariants.Semicolon b = b ≡ 59
 NumberMeans number.TheVariants.Feed b = b ≡ 10
 NumberMeans number.TheVariants.Other b = Unit {0}
 
-abbrev pub NameMeans : NameMark → ℕ → Type 0
+abbrev pub NameMeans : NameByte → ℕ → Type 0
 NameMeans name.TheVariants.Blank b = IsTrue (is_blank b)
 NameMeans (name.TheVariants.Letter c) b = (b ≡ c) × IsTrue (is_letter c)
 NameMeans (name.TheVariants.Inner c) b = (b ≡ c) × IsTrue (is_name_byte c)
@@ -36,18 +36,18 @@ chosen P false x y f g = g refl
 digit-of : (b : ℕ) → is_digit b ≡ true → (b ≡ 48 + (b - 48)) × (b - 48 < 10)
 digit-of b e = grind (arith, nat_tests)
 
-pub number_means : (b : ℕ) → NumberMeans (number_mark b) b
+pub number_means : (b : ℕ) → NumberMeans (number_byte b) b
 number_means b =
-    let P : NumberMark → Type 0 = λ k. NumberMeans k b in
+    let P : NumberByte → Type 0 = λ k. NumberMeans k b in
     chosen P (is_blank b) _ _ (λ e. e) (λ _.
     chosen P (is_digit b) _ _ (λ e. digit-of b e) (λ _.
     chosen P (nat_eq b 45) _ _ (λ e. eqb-true b 45 e) (λ _.
     chosen P (nat_eq b 59) _ _ (λ e. eqb-true b 59 e) (λ _.
     chosen P (nat_eq b 10) _ _ (λ e. eqb-true b 10 e) (λ _. tt)))))
 
-pub name_means : (b : ℕ) → NameMeans (name_mark b) b
+pub name_means : (b : ℕ) → NameMeans (name_byte b) b
 name_means b =
-    let P : NameMark → Type 0 = λ k. NameMeans k b in
+    let P : NameByte → Type 0 = λ k. NameMeans k b in
     chosen P (is_blank b) _ _ (λ e. e) (λ _.
     chosen P (is_letter b) _ _ (λ e. (refl, e)) (λ _.
     chosen P (is_name_byte b) _ _ (λ e. (refl, e)) (λ _.
@@ -55,17 +55,17 @@ name_means b =
     chosen P (nat_eq b 59) _ _ (λ e. eqb-true b 59 e) (λ _.
     chosen P (nat_eq b 10) _ _ (λ e. eqb-true b 10 e) (λ _. tt))))))
 
-pub number_blank : (b : ℕ) → IsTrue (is_blank b) → number_mark b ≡ number.TheVariants.Blank
+pub number_blank : (b : ℕ) → IsTrue (is_blank b) → number_byte b ≡ number.TheVariants.Blank
 number_blank b e = rw e refl
 
-pub number_digit : (d : ℕ) → d < 10 → number_mark (48 + d) ≡ number.TheVariants.Digit d
+pub number_digit : (d : ℕ) → d < 10 → number_byte (48 + d) ≡ number.TheVariants.Digit d
 number_digit d h =
     let e : is_digit (48 + d) ≡ true = grind (arith, nat_tests) in
     let f : is_blank (48 + d) ≡ false = grind (arith, nat_tests) in
     let g : (48 + d) - 48 ≡ d = omega arith in
     rw (f, e) (ap number.TheVariants.Digit g)
 
-pub name_blank : (b : ℕ) → IsTrue (is_blank b) → name_mark b ≡ name.TheVariants.Blank
+pub name_blank : (b : ℕ) → IsTrue (is_blank b) → name_byte b ≡ name.TheVariants.Blank
 name_blank b e = rw e refl
 
 low : (b : ℕ) → 33 ≤ b → is_blank b ≡ false
@@ -77,13 +77,13 @@ high b h = grind (arith, nat_tests)
 pub letter_is_name_byte : (b : ℕ) → IsTrue (is_letter b) → IsTrue (is_name_byte b)
 letter_is_name_byte b e = rw e refl
 
-pub name_letter : (b : ℕ) → IsTrue (is_letter b) → name_mark b ≡ name.TheVariants.Letter b
+pub name_letter : (b : ℕ) → IsTrue (is_letter b) → name_byte b ≡ name.TheVariants.Letter b
 name_letter b e = rw (low b (high b (letter_is_name_byte b e)), e) refl
 
-pub name_inner : (b : ℕ) → IsTrue (is_name_byte b) → (name_mark b ≡ name.TheVariants.Letter b) ⊎ (name_mark b ≡ name.TheVariants.Inner b)
+pub name_inner : (b : ℕ) → IsTrue (is_name_byte b) → (name_byte b ≡ name.TheVariants.Letter b) ⊎ (name_byte b ≡ name.TheVariants.Inner b)
 name_inner b e = go (is_letter b) refl
   where
-    go : (x : Bool) → is_letter b ≡ x → (name_mark b ≡ name.TheVariants.Letter b) ⊎ (name_mark b ≡ name.TheVariants.Inner b)
+    go : (x : Bool) → is_letter b ≡ x → (name_byte b ≡ name.TheVariants.Letter b) ⊎ (name_byte b ≡ name.TheVariants.Inner b)
     go true f = inl (name_letter b f)
     go false f = inr (rw (low b (high b e), e, f) refl)
 

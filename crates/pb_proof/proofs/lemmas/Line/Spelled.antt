@@ -12,7 +12,7 @@ use Rattle.pb_sums.specs.Sums.{IsName, SpellsLiteral, SpellsLinear}
 use Rattle.pb_sums.specs.declared.values.Literal.{Literal}
 use Rattle.pb_sums.specs.declared.grammar.Spaces.TheVariants.{Blank}
 use Rattle.pb_sums.proofs.CanonicalLaws.{linear-spelled}
-use Rattle.pb_proof.specs.Lines.{pseudo_word, proof_word, version_word, two_word, f_word, pol_word, rup_word, soli_word, solx_word, del_word, id_word, output_word, conclusion_word, end_word, none_word, unsat_word, sat_word, bounds_word, Feed, LineEnd, Listed, SpellsId, Factor, SpellsBound, SpellsShown, Shown, IdShown, SpellsWord, SpellsConclusion, SpellsCount, SpellsWords, SpellsGoal, SpellsLiterals, SpellsIds, SpellsClaim, SpellsStatement}
+use Rattle.pb_proof.specs.Lines.{pseudo_word, proof_word, version_word, two_word, f_word, pol_word, rup_word, soli_word, solx_word, del_word, id_word, output_word, conclusion_word, end_word, none_word, unsat_word, sat_word, bounds_word, Feed, LineEnd, Listed, SpellsId, Factor, SpellsBound, SpellsShown, Shown, IdShown, SpellsWord, SpellsConclusion, SpellsCount, SpellsWords, SpellsRup, SpellsLiterals, SpellsIds, SpellsClaim, SpellsStatement}
 use Rattle.pb_proof.specs.Values.{IfGiven, IsId, IsFactor, AreLiterals, IsBound, IsWord, IsConclusion, IsStatementValue}
 use Rattle.pb_proof.specs.declared.word.PolWord.{PolWord}
 use Rattle.pb_proof.specs.declared.word.PolWord.TheVariants.{Id, Axiom, Add, Multiply, Divide, Saturate, Weaken}
@@ -137,7 +137,7 @@ module _ (limit : ℕ) (small : limit < 2 ^ 127) where
         both (Bytes pol_word) (SpellsWords limit top ws) (plain pol_word) (listed_text word_text ws ++ feed) refl
         (h.0, both (Listed (SpellsWord limit top) ws) LineEnd (listed_text word_text ws) feed (listed_spelled (SpellsWord limit top) word_text (IsWord limit top) word_spelled ws h.1) ended)
     line_spelled (Rup c) h =
-        both (Bytes rup_word) (SpellsGoal limit top c) (plain rup_word) (space ++ linear_text c ++ feed) refl
+        both (Bytes rup_word) (SpellsRup limit top c) (plain rup_word) (space ++ linear_text c ++ feed) refl
         (h.0, both (Blanks1 ⋅ SpellsLinear Blank limit c) Feed (space ++ linear_text c) feed (both Blanks1 (SpellsLinear Blank limit c) space (linear_text c) space1 (linear-spelled limit (omega arith) Blank c h.1)) feed_spelled)
     line_spelled (Soli ls) h =
         both (Bytes soli_word) (SpellsLiterals limit top ls) (plain soli_word) (listed_text literal_text ls ++ feed) refl

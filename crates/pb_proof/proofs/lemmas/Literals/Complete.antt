@@ -11,9 +11,9 @@ use Rattle.pb_sums.specs.Sums.{SpellsLiteral}
 use Rattle.pb_sums.specs.declared.Literal.{Literal}
 use Rattle.pb_proof.specs.Lines.{LineEnd, Listed}
 use Rattle.pb_proof.specs.Line.Literals.{LiteralsState, SpellsJoined, literals_automaton, literals_at, literals_first, literals_last, literal, step}
-use Rattle.pb_proof.specs.Line.ByteKind.{name_mark}
-use Rattle.pb_proof.specs.declared.line.byte_kind.NameMark.{NameMark}
-use Rattle.pb_proof.specs.declared.line.byte_kind.NameMark.TheVariants as mark
+use Rattle.pb_proof.specs.Line.ByteKind.{name_byte}
+use Rattle.pb_proof.specs.declared.line.byte_kind.NameByte.{NameByte}
+use Rattle.pb_proof.specs.declared.line.byte_kind.NameByte.TheVariants as kind
 use Rattle.pb_proof.specs.declared.line.literals.phase.LiteralsPhase.TheVariants.{Gap, Negation, First, More, Closing}
 use Rattle.pb_proof.proofs.lemmas.Line.ByteKinds.{name_blank, name_letter, name_inner}
 use Rattle.pb_proof.proofs.lemmas.Line.Ends.{TakesBlanks, MayEnd, blanks1_lead, line_reads, listed_walks}
@@ -31,8 +31,8 @@ module _ (joined : Bool) where
   abbrev at_more : List Literal → Bool → List ℕ → S
   at_more ls negated name = literals_at joined ls name (More negated)
 
-  by_mark : (s : S) (b : ℕ) (k : NameMark) → name_mark b ≡ k → literals_automaton.step s b ≡ step s k
-  by_mark s b k e = ap (λ x. step s x) e
+  by_kind : (s : S) (b : ℕ) (k : NameByte) → name_byte b ≡ k → literals_automaton.step s b ≡ step s k
+  by_kind s b k e = ap (λ x. step s x) e
 
   -- The line may end here with these literals, and a further one may come.
   pub record IsBehind (ls : List Literal) (s : S) : Type 0 where
@@ -41,11 +41,11 @@ module _ (joined : Bool) where
     pub feed : literals_automaton.step s 10 ≡ End ls (literals_last joined)
 
   gap_behind : (ls : List Literal) → IsBehind ls (at_gap ls)
-  gap_behind ls = record { blank = λ b h. by_mark (at_gap ls) b mark.Blank (name_blank b h); semicolon = refl; feed = refl }
+  gap_behind ls = record { blank = λ b h. by_kind (at_gap ls) b kind.Blank (name_blank b h); semicolon = refl; feed = refl }
 
   more_behind : (ls : List Literal) (negated : Bool) (name : List ℕ) → IsBehind (ls ++ literal negated name ∷ []) (at_more ls negated name)
   more_behind ls negated name = record {
-    blank = λ b h. by_mark (at_more ls negated name) b mark.Blank (name_blank b h);
+    blank = λ b h. by_kind (at_more ls negated name) b kind.Blank (name_blank b h);
     semicolon = refl;
     feed = refl;
   }
@@ -62,8 +62,8 @@ module _ (joined : Bool) where
     plain = refl;
     last = record {
       blanks = record {
-        enters = λ b i. by_mark (at_closing ls) b mark.Blank (name_blank b i);
-        stays = λ b i. by_mark (at_closing ls) b mark.Blank (name_blank b i);
+        enters = λ b i. by_kind (at_closing ls) b kind.Blank (name_blank b i);
+        stays = λ b i. by_kind (at_closing ls) b kind.Blank (name_blank b i);
         begun = refl;
         plain = refl;
       };
@@ -78,22 +78,22 @@ module _ (joined : Bool) where
     pub letter : (b : ℕ) → IsTrue (is_letter b) → literals_automaton.step s b ≡ Go (literals_at joined ls (b ∷ []) (First false))
 
   gap_opens : (ls : List Literal) → Opens ls (at_gap ls)
-  gap_opens ls = record { tilde = refl; letter = λ b h. by_mark (at_gap ls) b (mark.Letter b) (name_letter b h) }
+  gap_opens ls = record { tilde = refl; letter = λ b h. by_kind (at_gap ls) b (kind.Letter b) (name_letter b h) }
 
   name_step : (ls : List Literal) (negated : Bool) (name : List ℕ) (b : ℕ) → IsTrue (is_name_byte b)
       → literals_automaton.step (at_more ls negated name) b ≡ Go (at_more ls negated (name ++ b ∷ []))
   name_step ls negated name b h =
       elim (name_inner b h) [
-        | inl e ↦ by_mark (at_more ls negated name) b (mark.Letter b) e
-        | inr e ↦ by_mark (at_more ls negated name) b (mark.Inner b) e
+        | inl e ↦ by_kind (at_more ls negated name) b (kind.Letter b) e
+        | inr e ↦ by_kind (at_more ls negated name) b (kind.Inner b) e
       ]
 
   second_step : (ls : List Literal) (negated : Bool) (a b : ℕ) → IsTrue (is_name_byte b)
       → literals_automaton.step (literals_at joined ls (a ∷ []) (First negated)) b ≡ Go (at_more ls negated (a ∷ b ∷ []))
   second_step ls negated a b h =
       elim (name_inner b h) [
-        | inl e ↦ by_mark (literals_at joined ls (a ∷ []) (First negated)) b (mark.Letter b) e
-        | inr e ↦ by_mark (literals_at joined ls (a ∷ []) (First negated)) b (mark.Inner b) e
+        | inl e ↦ by_kind (literals_at joined ls (a ∷ []) (First negated)) b (kind.Letter b) e
+        | inr e ↦ by_kind (literals_at joined ls (a ∷ []) (First negated)) b (kind.Inner b) e
       ]
 
   name_walks : (ls : List Literal) (negated : Bool) (name bs : List ℕ) → Each (λ b. IsTrue (is_name_byte b)) bs
@@ -125,7 +125,7 @@ module _ (joined : Bool) where
         refl,
         (
           literals_at joined ls (a ∷ []) (First true),
-          by_mark (literals_at joined ls [] Negation) a (mark.Letter a) (name_letter a h.0.0),
+          by_kind (literals_at joined ls [] Negation) a (kind.Letter a) (name_letter a h.0.0),
           refl,
           refl,
           first_walks ls true a b bs h.0.1,
@@ -157,11 +157,11 @@ module _ (joined : Bool) where
       (line_reads literals_automaton mid (at_gap (ls ++ ms)) (at_closing (ls ++ ms)) (literals_last joined) (ls ++ ms) (may_end (ls ++ ms) mid g) b k))
 
 first_behind : (joined : Bool) → IsBehind joined [] (literals_first joined)
-first_behind true = record { blank = λ b h. by_mark true (literals_first true) b mark.Blank (name_blank b h); semicolon = refl; feed = refl }
-first_behind false = record { blank = λ b h. by_mark false (literals_first false) b mark.Blank (name_blank b h); semicolon = refl; feed = refl }
+first_behind true = record { blank = λ b h. by_kind true (literals_first true) b kind.Blank (name_blank b h); semicolon = refl; feed = refl }
+first_behind false = record { blank = λ b h. by_kind false (literals_first false) b kind.Blank (name_blank b h); semicolon = refl; feed = refl }
 
 first_opens : Opens true [] (literals_first true)
-first_opens = record { tilde = refl; letter = λ b h. by_mark true (literals_first true) b (mark.Letter b) (name_letter b h) }
+first_opens = record { tilde = refl; letter = λ b h. by_kind true (literals_first true) b (kind.Letter b) (name_letter b h) }
 
 -- the first literal where it is joined
 first_joined : (l : Literal) (t : List Letter) → (Blanks0 ⋅ SpellsLiteral l) t → Walks literals_automaton (literals_first true) t (at_more true [] l.negated l.name)

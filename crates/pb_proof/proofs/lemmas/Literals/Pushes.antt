@@ -5,8 +5,8 @@ use Rattle.std.specs.Prelude.{IsTrue}
 use Rattle.pb_text.specs.Automaton.{Next, Go, End, Refuse, Admits, IsState}
 use Rattle.pb_sums.specs.declared.Literal.{Literal}
 use Rattle.pb_proof.specs.Line.Literals.{LiteralsState, literals_automaton, literals_at, flushed, act, plan, adds, is_more, is_midway, units, IsLiteralsInOrder}
-use Rattle.pb_proof.specs.Line.ByteKind.{name_mark}
-use Rattle.pb_proof.specs.declared.line.byte_kind.NameMark.{NameMark}
+use Rattle.pb_proof.specs.Line.ByteKind.{name_byte}
+use Rattle.pb_proof.specs.declared.line.byte_kind.NameByte.{NameByte}
 use Rattle.pb_proof.specs.declared.line.literals.phase.LiteralsPhase.{LiteralsPhase}
 use Rattle.pb_proof.specs.declared.line.literals.phase.LiteralsMove.{LiteralsMove}
 use Rattle.pb_proof.specs.declared.line.literals.phase.LiteralsMove.TheVariants as move
@@ -30,16 +30,16 @@ taken_acts joined ms ls name (move.Add q b) h e = refuse_go _ e
 taken_acts joined ms ls name move.End h e = refuse_end _ _ e
 taken_acts joined ms ls name move.Stop h e = h
 
-module _ (joined : Bool) (ls : List Literal) (name : List ℕ) (p : LiteralsPhase) (b : ℕ) (k : NameMark) where
-  planned : (m : LiteralsMove) → k ≡ name_mark b → m ≡ plan joined p k → plan joined p (name_mark b) ≡ m
+module _ (joined : Bool) (ls : List Literal) (name : List ℕ) (p : LiteralsPhase) (b : ℕ) (k : NameByte) where
+  planned : (m : LiteralsMove) → k ≡ name_byte b → m ≡ plan joined p k → plan joined p (name_byte b) ≡ m
   planned m f g = ap (λ x. plan joined p x) (sym f) ∙ sym g
 
-  moved : (m : LiteralsMove) → k ≡ name_mark b → m ≡ plan joined p k
+  moved : (m : LiteralsMove) → k ≡ name_byte b → m ≡ plan joined p k
       → literals_automaton.step (literals_at joined ls name p) b ≡ act joined (flushed p ls name) ls name m
   moved m f g = ap (λ x. act joined (flushed p ls name) ls name x) (planned m f g)
 
   -- memory is asked for at a byte of a name or one that ends a literal, and only where the byte is taken
-  pub wants : (m : LiteralsMove) → IsLiteralsInOrder (literals_at joined ls name p) → k ≡ name_mark b → m ≡ plan joined p k → IsTaken m
+  pub wants : (m : LiteralsMove) → IsLiteralsInOrder (literals_at joined ls name p) → k ≡ name_byte b → m ≡ plan joined p k → IsTaken m
       → (adds m || is_more p) ≡ true → IsTrue (literals_automaton.asks (literals_at joined ls name p) b) × Admits literals_automaton (literals_at joined ls name p) b
   wants m o f g t a = (
     ap (λ x. adds x || is_more p) (planned m f g) ∙ a,
@@ -47,7 +47,7 @@ module _ (joined : Bool) (ls : List Literal) (name : List ℕ) (p : LiteralsPhas
         (taken_acts joined (flushed p ls name) ls name m t),
   )
 
-  pub goes_to : (ms : List Literal) (new : List ℕ) (q : LiteralsPhase) → new ≡ [] → k ≡ name_mark b → move.To q ≡ plan joined p k → ms ≡ flushed p ls name
+  pub goes_to : (ms : List Literal) (new : List ℕ) (q : LiteralsPhase) → new ≡ [] → k ≡ name_byte b → move.To q ≡ plan joined p k → ms ≡ flushed p ls name
       → literals_automaton.step (literals_at joined ls name p) b ≡ Go (literals_at joined ms new q)
   goes_to ms new q z f g i =
       moved (move.To q) f g ∙ (ap (λ x. act joined x ls name (move.To q)) (sym i) ∙ ap (λ x. Go (literals_at joined ms x q)) (sym z))

@@ -11,9 +11,9 @@ use Rattle.pb_sums.specs.Sums.{SpellsLiteral}
 use Rattle.pb_sums.specs.declared.Literal.{Literal}
 use Rattle.pb_proof.specs.Lines.{LineEnd, Listed}
 use Rattle.pb_proof.specs.Line.Literals.{LiteralsState, SpellsJoined, literals_automaton, literal, flushed, act, plan, behind, before}
-use Rattle.pb_proof.specs.Line.ByteKind.{name_mark}
-use Rattle.pb_proof.specs.declared.line.byte_kind.NameMark.{NameMark}
-use Rattle.pb_proof.specs.declared.line.byte_kind.NameMark.TheVariants as mark
+use Rattle.pb_proof.specs.Line.ByteKind.{name_byte}
+use Rattle.pb_proof.specs.declared.line.byte_kind.NameByte.{NameByte}
+use Rattle.pb_proof.specs.declared.line.byte_kind.NameByte.TheVariants as kind
 use Rattle.pb_proof.specs.declared.line.literals.phase.LiteralsPhase.{LiteralsPhase}
 use Rattle.pb_proof.specs.declared.line.literals.phase.LiteralsPhase.TheVariants.{Start, Gap, Negation, First, More, Closing, Done}
 use Rattle.pb_proof.proofs.lemmas.Line.ByteKinds.{NameMeans, name_means, letter_is_name_byte}
@@ -74,17 +74,17 @@ abbrev OnNext : Next LiteralsState (List Literal) → Letter → Language
 OnNext = On literals_automaton Front Whole
 
 module _ (joined : Bool) where
-  behind_sound : (ms ls : List Literal) (name : List ℕ) (k : NameMark) (l : Letter) (p : List Letter) → NameMeans k l.byte → ends.Gapped (Row joined ms) p
+  behind_sound : (ms ls : List Literal) (name : List ℕ) (k : NameByte) (l : Letter) (p : List Letter) → NameMeans k l.byte → ends.Gapped (Row joined ms) p
       → (IsTrue (is_blank l.byte) → l.numeral ≡ false → (Row joined ms ⋅ Blanks1) (p ++ l ∷ [])) → OnNext (act joined ms ls name (behind k)) l (p ++ l ∷ [])
-  behind_sound ms ls name mark.Blank l p m h f = λ _ n. f m n
-  behind_sound ms ls name mark.Semicolon l p m h f = λ _ n. ends.semicolon_behind_blanks (Row joined ms) l p m n h
-  behind_sound ms ls name mark.Feed l p m h f = λ n. whole joined ms (p ++ l ∷ []) (ends.line_behind_blanks (Row joined ms) l p m n h)
+  behind_sound ms ls name kind.Blank l p m h f = λ _ n. f m n
+  behind_sound ms ls name kind.Semicolon l p m h f = λ _ n. ends.semicolon_behind_blanks (Row joined ms) l p m n h
+  behind_sound ms ls name kind.Feed l p m h f = λ n. whole joined ms (p ++ l ∷ []) (ends.line_behind_blanks (Row joined ms) l p m n h)
   behind_sound ms ls name _ l p m h f = tt
 
-  before_sound : (ls : List Literal) (name : List ℕ) (k : NameMark) (l : Letter) (p : List Letter) → NameMeans k l.byte → Before joined ls p → ends.Gapped (Row joined ls) p
+  before_sound : (ls : List Literal) (name : List ℕ) (k : NameByte) (l : Letter) (p : List Letter) → NameMeans k l.byte → Before joined ls p → ends.Gapped (Row joined ls) p
       → (IsTrue (is_blank l.byte) → l.numeral ≡ false → (Row joined ls ⋅ Blanks1) (p ++ l ∷ [])) → OnNext (act joined ls ls name (before k)) l (p ++ l ∷ [])
-  before_sound ls name mark.Tilde l p m b h f = λ _ n. next (Before joined ls) (Byte 126) p l b (ap (λ x. x ∷ []) (ends.as_unmarked l 126 m n))
-  before_sound ls name (mark.Letter c) l p m b h f =
+  before_sound ls name kind.Tilde l p m b h f = λ _ n. next (Before joined ls) (Byte 126) p l b (ap (λ x. x ∷ []) (ends.as_unmarked l 126 m n))
+  before_sound ls name (kind.Letter c) l p m b h f =
       λ _ n. next (Before joined ls) (FirstOf false (c ∷ [])) p l b (m.1, ap (λ x. x ∷ []) (ends.as_unmarked l c m.0 n))
   before_sound ls name k l p m b h f = behind_sound ls ls name k l p m h f
 
@@ -103,7 +103,7 @@ module _ (joined : Bool) where
   start_row : (ls : List Literal) (p : List Letter) → ls ≡ [] → Empty p → Row joined ls p
   start_row ls p e h = subst (λ y. Row joined y p) (sym e) (row_empty joined p h)
 
-start_sound : (joined : Bool) (ls : List Literal) (name : List ℕ) (k : NameMark) (l : Letter) (p : List Letter) → NameMeans k l.byte → ls ≡ [] → Empty p
+start_sound : (joined : Bool) (ls : List Literal) (name : List ℕ) (k : NameByte) (l : Letter) (p : List Letter) → NameMeans k l.byte → ls ≡ [] → Empty p
     → OnNext (act joined ls ls name (cond joined (before k) (behind k))) l (p ++ l ∷ [])
 start_sound true ls name k l p m e h =
     before_sound true ls name k l p m (subst (λ y. Before true y p) (sym e) ([], tt, h)) (gapped true ls p (start_row true ls p e h))
@@ -112,27 +112,27 @@ start_sound false ls name k l p m e h =
     behind_sound false ls ls name k l p m (gapped false ls p (start_row false ls p e h)) (blank_next false ls l p (start_row false ls p e h))
 
 module _ (joined : Bool) where
-  sound : (ph : LiteralsPhase) (ls : List Literal) (name : List ℕ) (k : NameMark) (l : Letter) (p : List Letter) → NameMeans k l.byte → front joined ph ls name p
+  sound : (ph : LiteralsPhase) (ls : List Literal) (name : List ℕ) (k : NameByte) (l : Letter) (p : List Letter) → NameMeans k l.byte → front joined ph ls name p
       → OnNext (act joined (flushed ph ls name) ls name (plan joined ph k)) l (p ++ l ∷ [])
   sound Start ls name k l p m h = start_sound joined ls name k l p m h.0 h.1
   sound Gap ls name k l p m h =
       before_sound joined ls name k l p m (before_of joined ls p h) (gap_more joined ls p h) (blank_grown joined ls l p h)
-  sound Negation ls name (mark.Letter c) l p m h =
+  sound Negation ls name (kind.Letter c) l p m h =
       λ _ n. grown (Before joined ls) (Byte 126) (FirstOf true (c ∷ [])) p l
       (λ q r. (m.1, ap (λ x. x ++ l ∷ []) r ∙ ap (λ y. unmarked 126 ∷ y ∷ []) (ends.as_unmarked l c m.0 n))) h
-  sound (First negated) ls name (mark.Letter c) l p m h =
+  sound (First negated) ls name (kind.Letter c) l p m h =
       λ _ n. first_grown (Before joined ls) negated name c l p (ends.as_unmarked l c m.0 n) (letter_is_name_byte c m.1) h
-  sound (First negated) ls name (mark.Inner c) l p m h = λ _ n. first_grown (Before joined ls) negated name c l p (ends.as_unmarked l c m.0 n) m.1 h
-  sound (More negated) ls name (mark.Letter c) l p m h =
+  sound (First negated) ls name (kind.Inner c) l p m h = λ _ n. first_grown (Before joined ls) negated name c l p (ends.as_unmarked l c m.0 n) m.1 h
+  sound (More negated) ls name (kind.Letter c) l p m h =
       λ _ n. more_grown (Before joined ls) negated name c l p (ends.as_unmarked l c m.0 n) (letter_is_name_byte c m.1) h
-  sound (More negated) ls name (mark.Inner c) l p m h = λ _ n. more_grown (Before joined ls) negated name c l p (ends.as_unmarked l c m.0 n) m.1 h
+  sound (More negated) ls name (kind.Inner c) l p m h = λ _ n. more_grown (Before joined ls) negated name c l p (ends.as_unmarked l c m.0 n) m.1 h
   sound (More negated) ls name k l p m h =
       let ms : List Literal = ls ++ literal negated name ∷ [] in
       let r : Row joined ms p = row_append joined ls (literal negated name) p h in
       behind_sound joined ms ls name k l p m (gapped joined ms p r) (blank_next joined ms l p r)
-  sound Closing ls name mark.Blank l p m h = λ _ n. ends.blank_closing (Row joined ls) l p m n h
-  sound Closing ls name mark.Feed l p m h = λ n. whole joined ls (p ++ l ∷ []) (ends.line_closing (Row joined ls) l p m n h)
+  sound Closing ls name kind.Blank l p m h = λ _ n. ends.blank_closing (Row joined ls) l p m n h
+  sound Closing ls name kind.Feed l p m h = λ n. whole joined ls (p ++ l ∷ []) (ends.line_closing (Row joined ls) l p m n h)
   sound _ ls name k l p m h = tt
 
 pub keeps_front : Keeps literals_automaton Front Whole
-keeps_front s l p h = sound s.joined s.phase s.literals s.name (name_mark l.byte) l p (name_means l.byte) h
+keeps_front s l p h = sound s.joined s.phase s.literals s.name (name_byte l.byte) l p (name_means l.byte) h

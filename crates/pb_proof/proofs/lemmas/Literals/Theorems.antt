@@ -8,9 +8,9 @@ use Rattle.pb_text.specs.Spelling.{Letter}
 use Rattle.pb_text.proofs.Walking.{told}
 use Rattle.pb_sums.specs.declared.Literal.{Literal}
 use Rattle.pb_proof.specs.Line.Literals.{LiteralsState, SpellsJoined, literals_automaton, literals_at, literals_first, literals_last, literal, flushed, act, plan, behind, before, is_midway, is_begun, is_done, units, in_hand, ready, all_units, IsLiteralsInOrder}
-use Rattle.pb_proof.specs.Line.ByteKind.{name_mark}
-use Rattle.pb_proof.specs.declared.line.byte_kind.NameMark.{NameMark}
-use Rattle.pb_proof.specs.declared.line.byte_kind.NameMark.TheVariants as mark
+use Rattle.pb_proof.specs.Line.ByteKind.{name_byte}
+use Rattle.pb_proof.specs.declared.line.byte_kind.NameByte.{NameByte}
+use Rattle.pb_proof.specs.declared.line.byte_kind.NameByte.TheVariants as kind
 use Rattle.pb_proof.specs.declared.line.literals.phase.LiteralsPhase.{LiteralsPhase}
 use Rattle.pb_proof.specs.declared.line.literals.phase.LiteralsPhase.TheVariants.{Start, Gap, Negation, First, More, Closing, Done}
 use Rattle.pb_proof.specs.declared.line.literals.phase.LiteralsMove.{LiteralsMove}
@@ -29,30 +29,30 @@ IsSane joined ph (move.TheVariants.Begin q b) = (is_midway q ≡ true) × (in_ha
 IsSane joined ph (move.TheVariants.Add q b) = (is_midway q ≡ true) × (in_hand q + ready joined q ≡ 1) × (in_hand ph ≡ 1)
 IsSane joined ph _ = Unit {0}
 
-behind_sane : (joined : Bool) (ph : LiteralsPhase) (k : NameMark) → IsSane joined ph (behind k)
-behind_sane joined ph mark.Blank = (refl, refl)
-behind_sane joined ph mark.Semicolon = (refl, refl)
+behind_sane : (joined : Bool) (ph : LiteralsPhase) (k : NameByte) → IsSane joined ph (behind k)
+behind_sane joined ph kind.Blank = (refl, refl)
+behind_sane joined ph kind.Semicolon = (refl, refl)
 behind_sane joined ph _ = tt
 
-before_sane : (joined : Bool) (ph : LiteralsPhase) (k : NameMark) → ready joined ph ≡ 1 → IsSane joined ph (before k)
-before_sane joined ph mark.Tilde h = (refl, refl)
-before_sane joined ph (mark.Letter b) h = (refl, refl, h)
+before_sane : (joined : Bool) (ph : LiteralsPhase) (k : NameByte) → ready joined ph ≡ 1 → IsSane joined ph (before k)
+before_sane joined ph kind.Tilde h = (refl, refl)
+before_sane joined ph (kind.Letter b) h = (refl, refl, h)
 before_sane joined ph k h = behind_sane joined ph k
 
-start_sane : (joined : Bool) (k : NameMark) → IsSane joined Start (cond joined (before k) (behind k))
+start_sane : (joined : Bool) (k : NameByte) → IsSane joined Start (cond joined (before k) (behind k))
 start_sane true k = before_sane true Start k refl
 start_sane false k = behind_sane false Start k
 
-plan_sane : (joined : Bool) (ph : LiteralsPhase) (k : NameMark) → IsSane joined ph (plan joined ph k)
+plan_sane : (joined : Bool) (ph : LiteralsPhase) (k : NameByte) → IsSane joined ph (plan joined ph k)
 plan_sane joined Start k = start_sane joined k
 plan_sane joined Gap k = before_sane joined Gap k refl
-plan_sane joined Negation (mark.Letter b) = (refl, refl, refl)
-plan_sane joined (First negated) (mark.Letter b) = (refl, refl, refl)
-plan_sane joined (First negated) (mark.Inner b) = (refl, refl, refl)
-plan_sane joined (More negated) (mark.Letter b) = (refl, refl, refl)
-plan_sane joined (More negated) (mark.Inner b) = (refl, refl, refl)
+plan_sane joined Negation (kind.Letter b) = (refl, refl, refl)
+plan_sane joined (First negated) (kind.Letter b) = (refl, refl, refl)
+plan_sane joined (First negated) (kind.Inner b) = (refl, refl, refl)
+plan_sane joined (More negated) (kind.Letter b) = (refl, refl, refl)
+plan_sane joined (More negated) (kind.Inner b) = (refl, refl, refl)
 plan_sane joined (More negated) k = behind_sane joined (More negated) k
-plan_sane joined Closing mark.Blank = (refl, refl)
+plan_sane joined Closing kind.Blank = (refl, refl)
 plan_sane _ _ _ = tt
 
 midway_begun : (joined : Bool) (ph : LiteralsPhase) → is_midway ph ≡ true → is_begun joined ph ≡ true
@@ -137,7 +137,7 @@ module _ (joined : Bool) (ls : List Literal) (name : List ℕ) (ph : LiteralsPha
   ended move.TheVariants.Stop next e i = cc
 
 goes : (s next : LiteralsState) (b : ℕ) → literals_automaton.step s b ≡ Go next → Steps s next
-goes s next b e = acted s.joined s.literals s.name s.phase (plan s.joined s.phase (name_mark b)) next (plan_sane s.joined s.phase (name_mark b)) e
+goes s next b e = acted s.joined s.literals s.name s.phase (plan s.joined s.phase (name_byte b)) next (plan_sane s.joined s.phase (name_byte b)) e
 
 abbrev last : LiteralsState → LiteralsState
 last s = literals_last s.joined
@@ -146,7 +146,7 @@ owes : (joined : Bool) (ph : LiteralsPhase) → is_begun joined ph ≡ true → 
 owes joined Done h = sym h
 owes joined _ h = refl
 
-stops : (joined : Bool) (ph : LiteralsPhase) (ls : List Literal) (name : List ℕ) (k : NameMark) → is_done ph ≡ true
+stops : (joined : Bool) (ph : LiteralsPhase) (ls : List Literal) (name : List ℕ) (k : NameByte) → is_done ph ≡ true
     → act joined (flushed ph ls name) ls name (plan joined ph k) ≡ Refuse
 stops joined Done ls name k h = refl
 stops joined _ ls name k h = cc
@@ -181,9 +181,9 @@ literals_of_one = record {
   begins = λ s next b e. midway_begun next.joined next.phase (goes s next b e).midway;
   owes = λ s h. owes s.joined s.phase h;
   leads = λ s next b e. ap literals_last (goes s next b e).joined;
-  ends = λ s next b e i. ended s.joined s.literals s.name s.phase (plan s.joined s.phase (name_mark b)) next e i;
+  ends = λ s next b e i. ended s.joined s.literals s.name s.phase (plan s.joined s.phase (name_byte b)) next e i;
   done = λ s. refl;
-  stops = λ s h b. stops s.joined s.phase s.literals s.name (name_mark b) h;
+  stops = λ s h b. stops s.joined s.phase s.literals s.name (name_byte b) h;
   goes_on = λ s g h. some_text s.joined s.phase s.literals s.name h;
   plain = λ s h. refl;
   grows = λ s next b e. (goes s next b e).grows;

@@ -7,29 +7,29 @@ use Rattle.std.specs.Prelude.{nat_eq, slice_index}
 use Rattle.pb_text.specs.Automaton.{Accepts, IsState}
 use Rattle.pb_text.specs.Languages.{unmarked, Blanks1, Byte}
 use Rattle.pb_text.specs.Spelling.{Letter, Item, plain}
-use Rattle.pb_proof.specs.Line.Machine.{inners, inner_first}
+use Rattle.pb_proof.specs.Line.Machine.{line_automaton, line_first}
 use Rattle.pb_proof.specs.Lines.{Feed, LineEnd, none_word, conclusion_word, f_word}
 use Rattle.pb_proof.specs.Machine.Transition.{words_of, behind, meets}
 use Rattle.pb_proof.specs.Order.{IsOrdered}
 use Rattle.pb_proof.specs.Machine.State.{ProofState, proofs, at, idle, giving, stage_behind, act, PhaseFits, HasGaps, Holds, IsInOrder}
 use Rattle.pb_proof.specs.declared.conclusion.Conclusion.TheVariants.{NoClaim}
-use Rattle.pb_proof.specs.declared.line.Inner.{Inner}
-use Rattle.pb_proof.specs.declared.machine.phase.Front.{Front}
-use Rattle.pb_proof.specs.declared.machine.phase.Front.TheVariants as front
+use Rattle.pb_proof.specs.declared.line.LineMachine.{LineMachine}
+use Rattle.pb_proof.specs.declared.machine.phase.Keyword.{Keyword}
+use Rattle.pb_proof.specs.declared.machine.phase.Keyword.TheVariants as keyword
 use Rattle.pb_proof.specs.declared.machine.phase.Stage.{Stage}
 use Rattle.pb_proof.specs.declared.machine.phase.Stage.TheVariants.{Opening, Formula, Steps, Claim, Closing, Complete}
-use Rattle.pb_proof.specs.declared.machine.phase.Rest.{Rest}
-use Rattle.pb_proof.specs.declared.machine.phase.Rest.TheVariants as rest
+use Rattle.pb_proof.specs.declared.machine.phase.LineKind.{LineKind}
+use Rattle.pb_proof.specs.declared.machine.phase.LineKind.TheVariants as kind
 use Rattle.pb_proof.specs.declared.machine.phase.Phase.{Phase}
 use Rattle.pb_proof.specs.declared.machine.phase.Phase.TheVariants as phase
 use Rattle.pb_proof.specs.declared.statement.Statement.{Statement}
 use Rattle.pb_proof.specs.declared.statement.Statement as statement
-use Rattle.pb_proof.proofs.lemmas.Line.Laws.{inner_begins, inner_fresh, inner_first_state}
+use Rattle.pb_proof.proofs.lemmas.Line.Laws.{line_begins, line_fresh, line_first_state}
 use Rattle.pb_proof.proofs.lemmas.Living.{IsAlive, before, final, accepted, ReadsOn, reads_on}
 use Rattle.pb_proof.proofs.lemmas.Machine.Complete.{spelt, header_end, output_end, step_on, step_last, given_reads, meets_self}
 use Rattle.pb_proof.proofs.lemmas.Machine.Exact.{no_gap}
 use Rattle.pb_proof.proofs.lemmas.Machine.Orders.{ordered_each}
-use Rattle.pb_proof.proofs.lemmas.Spaced.{Spaced, One, chooses, FrontWords, front_only}
+use Rattle.pb_proof.proofs.lemmas.Spaced.{Spaced, One, chooses, KeywordWords, keyword_only}
 
 -- words as they are written
 one_plain : (c : ℕ) → One c (unmarked c ∷ [])
@@ -43,8 +43,8 @@ plain_spaced : (w : List ℕ) → Spaced w (plain w)
 plain_spaced [] = refl
 plain_spaced (c ∷ w) = (unmarked c ∷ [], plain w, refl, one_plain c, plain_spaced w)
 
-written : (f : Front) → FrontWords f (plain (words_of f))
-written f = front_only f (plain (words_of f)) (plain_spaced (words_of f))
+written : (f : Keyword) → KeywordWords f (plain (words_of f))
+written f = keyword_only f (plain (words_of f)) (plain_spaced (words_of f))
 
 fed : Feed (unmarked 10 ∷ [])
 fed = ([], unmarked 10 ∷ [], refl, ([], tt, refl), refl)
@@ -57,13 +57,13 @@ item text e = record { gap = []; text = text; event = e }
 
 -- what may come at a stage, for one
 abbrev closing_lines : List (Item Statement)
-closing_lines = item (plain (words_of front.End)) statement.TheVariants.End ∷ []
+closing_lines = item (plain (words_of keyword.End)) statement.TheVariants.End ∷ []
 
 abbrev claim_lines : List (Item Statement)
 claim_lines = item (plain conclusion_word ++ (plain (32 ∷ none_word) ++ unmarked 10 ∷ [])) (statement.TheVariants.Conclude NoClaim) ∷ closing_lines
 
 abbrev step_lines : List (Item Statement)
-step_lines = item (plain (words_of front.Output) ++ unmarked 10 ∷ []) statement.TheVariants.Output ∷ claim_lines
+step_lines = item (plain (words_of keyword.Output) ++ unmarked 10 ∷ []) statement.TheVariants.Output ∷ claim_lines
 
 abbrev formula_lines : List (Item Statement)
 formula_lines = item (plain f_word ++ unmarked 10 ∷ []) (statement.TheVariants.F None) ∷ step_lines
@@ -74,11 +74,11 @@ example Closing = closing_lines
 example Claim = claim_lines
 example Steps = step_lines
 example Formula = formula_lines
-example Opening = item (plain (words_of front.Header) ++ unmarked 10 ∷ []) statement.TheVariants.Header ∷ formula_lines
+example Opening = item (plain (words_of keyword.Header) ++ unmarked 10 ∷ []) statement.TheVariants.Header ∷ formula_lines
 
 module _ (limit top : ℕ) where
   closing_ordered : IsOrdered limit top Closing closing_lines
-  closing_ordered = (no_gap, refl, written front.End, refl)
+  closing_ordered = (no_gap, refl, written keyword.End, refl)
 
   claim_ordered : IsOrdered limit top Claim claim_lines
   claim_ordered = (
@@ -95,7 +95,7 @@ module _ (limit top : ℕ) where
   )
 
   steps_ordered : IsOrdered limit top Steps step_lines
-  steps_ordered = (no_gap, refl, (plain (words_of front.Output), unmarked 10 ∷ [], refl, written front.Output, ended), claim_ordered)
+  steps_ordered = (no_gap, refl, (plain (words_of keyword.Output), unmarked 10 ∷ [], refl, written keyword.Output, ended), claim_ordered)
 
   formula_ordered : IsOrdered limit top Formula formula_lines
   formula_ordered = (no_gap, refl, (plain f_word, unmarked 10 ∷ [], refl, refl, ended), steps_ordered)
@@ -106,7 +106,7 @@ module _ (limit top : ℕ) where
   example_ordered Claim = claim_ordered
   example_ordered Steps = steps_ordered
   example_ordered Formula = formula_ordered
-  example_ordered Opening = (refl, refl, (plain (words_of front.Header), unmarked 10 ∷ [], refl, written front.Header, fed), formula_ordered)
+  example_ordered Opening = (refl, refl, (plain (words_of keyword.Header), unmarked 10 ∷ [], refl, written keyword.Header, fed), formula_ordered)
 
   pub stage_accepts : (s : Stage) → Accepts proofs (idle limit top s) (example s)
   stage_accepts s = ordered_each limit top (example s) s (example_ordered s)
@@ -117,7 +117,7 @@ module _ (limit top : ℕ) where
   pub output_end_alive : (may : Bool) → IsAlive proofs (output_end limit top may)
   output_end_alive may = final proofs (output_end limit top may) (idle limit top Claim) 10 statement.TheVariants.Output refl (example Claim) (stage_accepts Claim)
 
-  pub reading_alive : (r : Rest) (i : Inner) → ReadsOn inners i → IsAlive proofs (giving limit top r i)
+  pub reading_alive : (r : LineKind) (i : LineMachine) → ReadsOn line_automaton i → IsAlive proofs (giving limit top r i)
   reading_alive r i (text, e, last, h) = record {
     text = text;
     event = e;
@@ -127,26 +127,26 @@ module _ (limit top : ℕ) where
     accepts = stage_accepts (stage_behind r);
   }
 
-  pub inside_alive : (r : Rest) (i : Inner) → IsState inners i → inners.done i ≡ false → IsAlive proofs (giving limit top r i)
-  inside_alive r i state d = reading_alive r i (reads_on inners inner_begins i state d)
+  pub inside_alive : (r : LineKind) (i : LineMachine) → IsState line_automaton i → line_automaton.done i ≡ false → IsAlive proofs (giving limit top r i)
+  inside_alive r i state d = reading_alive r i (reads_on line_automaton line_begins i state d)
 
   module _ (l : limit < 2 ^ 127) (t : top < 2 ^ 63) (some : 0 < top) where
-    pub first_alive : (r : Rest) → IsAlive proofs (giving limit top r (inner_first limit top r))
-    first_alive r = inside_alive r (inner_first limit top r) (inner_first_state limit top l t some r) (inner_fresh limit top r).0
+    pub first_alive : (r : LineKind) → IsAlive proofs (giving limit top r (line_first limit top r))
+    first_alive r = inside_alive r (line_first limit top r) (line_first_state limit top l t some r) (line_fresh limit top r).0
 
     pub solution_alive : IsAlive proofs (at limit top phase.Solution)
-    solution_alive = before proofs (at limit top phase.Solution) (giving limit top rest.Improving (inner_first limit top rest.Improving)) 105 refl refl (first_alive rest.Improving)
+    solution_alive = before proofs (at limit top phase.Solution) (giving limit top kind.Soli (line_first limit top kind.Soli)) 105 refl refl (first_alive kind.Soli)
 
-    behind_alive : (f : Front) (k c : ℕ) → proofs.step (spelt limit top f k) c ≡ act (spelt limit top f k) c (behind f) → IsAlive proofs (spelt limit top f k)
-    behind_alive front.Header k c e = before proofs (spelt limit top front.Header k) (header_end limit top) c e refl header_end_alive
-    behind_alive front.Formula k c e = before proofs (spelt limit top front.Formula k) (giving limit top rest.Count (inner_first limit top rest.Count)) c e refl (first_alive rest.Count)
-    behind_alive front.Pol k c e = before proofs (spelt limit top front.Pol k) (giving limit top rest.Words (inner_first limit top rest.Words)) c e refl (first_alive rest.Words)
-    behind_alive front.Rup k c e = before proofs (spelt limit top front.Rup k) (giving limit top rest.Goal (inner_first limit top rest.Goal)) c e refl (first_alive rest.Goal)
-    behind_alive front.Solution k c e = before proofs (spelt limit top front.Solution k) (at limit top phase.Solution) c e refl solution_alive
-    behind_alive front.Delete k c e = before proofs (spelt limit top front.Delete k) (giving limit top rest.Deleted (inner_first limit top rest.Deleted)) c e refl (first_alive rest.Deleted)
-    behind_alive front.Output k c e = before proofs (spelt limit top front.Output k) (output_end limit top true) c e refl (output_end_alive true)
-    behind_alive front.Conclusion k c e = before proofs (spelt limit top front.Conclusion k) (giving limit top rest.Claimed (inner_first limit top rest.Claimed)) c e refl (first_alive rest.Claimed)
-    behind_alive front.End k c e = final proofs (spelt limit top front.End k) (idle limit top Complete) c statement.TheVariants.End e [] refl
+    behind_alive : (f : Keyword) (k c : ℕ) → proofs.step (spelt limit top f k) c ≡ act (spelt limit top f k) c (behind f) → IsAlive proofs (spelt limit top f k)
+    behind_alive keyword.Header k c e = before proofs (spelt limit top keyword.Header k) (header_end limit top) c e refl header_end_alive
+    behind_alive keyword.Formula k c e = before proofs (spelt limit top keyword.Formula k) (giving limit top kind.Count (line_first limit top kind.Count)) c e refl (first_alive kind.Count)
+    behind_alive keyword.Pol k c e = before proofs (spelt limit top keyword.Pol k) (giving limit top kind.Pol (line_first limit top kind.Pol)) c e refl (first_alive kind.Pol)
+    behind_alive keyword.Rup k c e = before proofs (spelt limit top keyword.Rup k) (giving limit top kind.Rup (line_first limit top kind.Rup)) c e refl (first_alive kind.Rup)
+    behind_alive keyword.Solution k c e = before proofs (spelt limit top keyword.Solution k) (at limit top phase.Solution) c e refl solution_alive
+    behind_alive keyword.Delete k c e = before proofs (spelt limit top keyword.Delete k) (giving limit top kind.Delete (line_first limit top kind.Delete)) c e refl (first_alive kind.Delete)
+    behind_alive keyword.Output k c e = before proofs (spelt limit top keyword.Output k) (output_end limit top true) c e refl (output_end_alive true)
+    behind_alive keyword.Conclusion k c e = before proofs (spelt limit top keyword.Conclusion k) (giving limit top kind.Conclusion (line_first limit top kind.Conclusion)) c e refl (first_alive kind.Conclusion)
+    behind_alive keyword.End k c e = final proofs (spelt limit top keyword.End k) (idle limit top Complete) c statement.TheVariants.End e [] refl
 
     -- a byte of the words meets itself, and a space is a blank
     meets_any : (c : ℕ) → meets c c ≡ true
@@ -156,14 +156,14 @@ module _ (limit top : ℕ) where
         by_test true e = let is : c ≡ 32 = eqb-true c 32 e in subst (λ b. meets b b ≡ true) (sym is) refl
         by_test false e = meets_self c e
 
-    spelling_on : (f : Front) (before_it left : List ℕ) (c : ℕ) → words_of f ≡ before_it ++ c ∷ left → IsAlive proofs (spelt limit top f (length before_it))
+    spelling_on : (f : Keyword) (before_it left : List ℕ) (c : ℕ) → words_of f ≡ before_it ++ c ∷ left → IsAlive proofs (spelt limit top f (length before_it))
     spelling_on f before_it [] c e = behind_alive f (length before_it) c (step_last limit top f before_it c c e (meets_any c))
     spelling_on f before_it (d ∷ left) c e =
         before proofs (spelt limit top f (length before_it)) (spelt limit top f (length before_it + 1)) c (step_on limit top f before_it left c d c e (meets_any c)) refl
         (subst (λ k. IsAlive proofs (spelt limit top f k)) (length-append before_it (c ∷ []))
         (spelling_on f (before_it ++ c ∷ []) left d (e ∙ sym (append_assoc before_it (c ∷ []) (d ∷ left)))))
 
-    pub spelling_alive : (f : Front) (k : ℕ) → k < length (words_of f) → IsAlive proofs (spelt limit top f k)
+    pub spelling_alive : (f : Keyword) (k : ℕ) → k < length (words_of f) → IsAlive proofs (spelt limit top f k)
     spelling_alive f k h =
         subst (λ j. IsAlive proofs (spelt limit top f j)) (length-take-le k (words_of f) (omega arith))
         (spelling_on f (take k (words_of f)) (drop (suc k) (words_of f)) (slice_index (words_of f) k) (split_at (words_of f) k 0 h))
@@ -205,7 +205,7 @@ by_phase s order (phase.OutputEnd may) e fits h = at_accepts s (phase.OutputEnd 
 by_phase s order (phase.Inside r) e fits (i, g, d, state) =
     accepted proofs s (subst (IsAlive proofs) (sym (is_giving s r i e g)) (inside_alive s.limit s.top r i state d))
   where
-    is_giving : (s : ProofState) (r : Rest) (i : Inner) → s.phase ≡ phase.Inside r → s.inner ≡ Some i → s ≡ giving s.limit s.top r i
+    is_giving : (s : ProofState) (r : LineKind) (i : LineMachine) → s.phase ≡ phase.Inside r → s.inner ≡ Some i → s ≡ giving s.limit s.top r i
     is_giving s r i e h = rw (e, h) refl
 
 -- each state in order accepts something

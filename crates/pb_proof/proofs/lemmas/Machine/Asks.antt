@@ -11,23 +11,23 @@ use Rattle.pb_text.proofs.Walking.{Walks, reads_behind, fronts}
 use Rattle.pb_proof.specs.Asking.{AsksBehind, FirstWord, Asks}
 use Rattle.pb_proof.specs.Line.ClaimState.{claim_first}
 use Rattle.pb_proof.specs.Line.Count.{counting}
-use Rattle.pb_proof.specs.Line.Rup.{goal_first}
+use Rattle.pb_proof.specs.Line.Rup.{rup_first}
 use Rattle.pb_proof.specs.Line.Ids.{ids_first}
-use Rattle.pb_proof.specs.Line.Machine.{inners, inner_first, SpellsRest}
+use Rattle.pb_proof.specs.Line.Machine.{line_automaton, line_first, SpellsRest}
 use Rattle.pb_proof.specs.Line.Literals.{literals_first}
 use Rattle.pb_proof.specs.Machine.Transition.{plan}
 use Rattle.pb_proof.specs.Order.{stage_after}
 use Rattle.pb_proof.specs.Line.PolState.{pol_first}
 use Rattle.pb_proof.specs.Proofs.{IsProof}
 use Rattle.pb_proof.specs.Machine.State as state
-use Rattle.pb_proof.specs.Machine.State.{ProofState, proofs, begin, at, idle, giving, act, over, step_inner, asks, is_within}
-use Rattle.pb_proof.specs.declared.line.Inner.{Inner}
+use Rattle.pb_proof.specs.Machine.State.{ProofState, proofs, begin, at, idle, giving, act, over, step_line, asks, is_within}
+use Rattle.pb_proof.specs.declared.line.LineMachine.{LineMachine}
 use Rattle.pb_proof.specs.declared.machine.phase.Move.{Move}
 use Rattle.pb_proof.specs.declared.machine.phase.Move.TheVariants.{To, Begin, Give, EndHeader, EndOutput, EndProof, Stop}
 use Rattle.pb_proof.specs.declared.machine.phase.Phase.{Phase}
 use Rattle.pb_proof.specs.declared.machine.phase.Phase.TheVariants as phase
-use Rattle.pb_proof.specs.declared.machine.phase.Rest.{Rest}
-use Rattle.pb_proof.specs.declared.machine.phase.Rest.TheVariants as rest
+use Rattle.pb_proof.specs.declared.machine.phase.LineKind.{LineKind}
+use Rattle.pb_proof.specs.declared.machine.phase.LineKind.TheVariants as kind
 use Rattle.pb_proof.specs.declared.machine.phase.Stage.{Stage}
 use Rattle.pb_proof.specs.declared.machine.phase.Stage.TheVariants.{Opening}
 use Rattle.pb_proof.specs.declared.statement.Statement.{Statement}
@@ -35,84 +35,84 @@ use Rattle.pb_proof.specs.declared.statement.Statement.TheVariants as statement
 use Rattle.pb_proof.proofs.lemmas.Carried.{walks_out, reads_out}
 use Rattle.pb_proof.proofs.lemmas.Choices.{never}
 use Rattle.pb_proof.proofs.lemmas.Claim.Asks.{claim_asked}
-use Rattle.pb_proof.proofs.lemmas.Line.Laws.{count_carries, words_carries, goal_carries, improving_carries, excluded_carries, deleted_carries, claimed_carries, inner_begins, inner_only}
-use Rattle.pb_proof.proofs.lemmas.Line.Asks.{ids_asked, literals_asked, goal_asked}
+use Rattle.pb_proof.proofs.lemmas.Line.Laws.{count_carries, pol_carries, rup_carries, soli_carries, solx_carries, delete_carries, conclusion_carries, line_begins, line_only}
+use Rattle.pb_proof.proofs.lemmas.Line.Asks.{ids_asked, literals_asked, rup_asked}
 use Rattle.pb_proof.proofs.lemmas.Pol.Asks.{pol_asked}
 use Rattle.pb_proof.proofs.lemmas.Machine.Exact.{reads_proofs}
 use Rattle.pb_proof.proofs.lemmas.Machine.Sound as sound
 
 module _ (limit top : ℕ) where
   -- behind the first word
-  inner_asks : (r : Rest) (q more : List Letter) (l : Letter) (i last : Inner) (e : Statement) → Walks inners (inner_first limit top r) q i → Reads inners i (l ∷ more) e last
-      → inners.asks i l.byte ≡ true → AsksBehind e (bytes q) l.byte
-  inner_asks rest.Count q more l i last e w r h =
+  line_asks : (r : LineKind) (q more : List Letter) (l : Letter) (i last : LineMachine) (e : Statement) → Walks line_automaton (line_first limit top r) q i → Reads line_automaton i (l ∷ more) e last
+      → line_automaton.asks i l.byte ≡ true → AsksBehind e (bytes q) l.byte
+  line_asks kind.Count q more l i last e w r h =
       let (s, is, k) = walks_out _ _ _ _ count_carries q (counting top) i w in
-      absurd (false≢true (subst (λ x. inners.asks x l.byte ≡ true) is h))
-  inner_asks rest.Words q more l i last e w r h =
-      let (s, is, k) = walks_out _ _ _ _ words_carries q (pol_first limit top) i w in
-      let (v, after, same, j) = reads_out _ _ _ _ words_carries (l ∷ more) s e last (subst (λ x. Reads inners x (l ∷ more) e last) is r) in
-      subst (λ y. AsksBehind y (bytes q) l.byte) (sym same) (pol_asked limit top q s l.byte k (subst (λ x. inners.asks x l.byte ≡ true) is h))
-  inner_asks rest.Goal q more l i last e w r h =
-      let (s, is, k) = walks_out _ _ _ _ goal_carries q (goal_first limit) i w in
-      let (v, after, same, j) = reads_out _ _ _ _ goal_carries (l ∷ more) s e last (subst (λ x. Reads inners x (l ∷ more) e last) is r) in
-      subst (λ y. AsksBehind y (bytes q) l.byte) (sym same) (goal_asked limit top q s l.byte k (subst (λ x. inners.asks x l.byte ≡ true) is h))
-  inner_asks rest.Improving q more l i last e w r h =
-      let (s, is, k) = walks_out _ _ _ _ improving_carries q (literals_first false) i w in
-      let (v, after, same, j) = reads_out _ _ _ _ improving_carries (l ∷ more) s e last (subst (λ x. Reads inners x (l ∷ more) e last) is r) in
-      subst (λ y. AsksBehind y (bytes q) l.byte) (sym same) (literals_asked false q s l.byte k (subst (λ x. inners.asks x l.byte ≡ true) is h))
-  inner_asks rest.Excluded q more l i last e w r h =
-      let (s, is, k) = walks_out _ _ _ _ excluded_carries q (literals_first false) i w in
-      let (v, after, same, j) = reads_out _ _ _ _ excluded_carries (l ∷ more) s e last (subst (λ x. Reads inners x (l ∷ more) e last) is r) in
-      subst (λ y. AsksBehind y (bytes q) l.byte) (sym same) (literals_asked false q s l.byte k (subst (λ x. inners.asks x l.byte ≡ true) is h))
-  inner_asks rest.Deleted q more l i last e w r h =
-      let (s, is, k) = walks_out _ _ _ _ deleted_carries q (ids_first top) i w in
-      let (v, after, same, j) = reads_out _ _ _ _ deleted_carries (l ∷ more) s e last (subst (λ x. Reads inners x (l ∷ more) e last) is r) in
-      subst (λ y. AsksBehind y (bytes q) l.byte) (sym same) (ids_asked limit top q s l.byte k (subst (λ x. inners.asks x l.byte ≡ true) is h))
-  inner_asks rest.Claimed q more l i last e w r h =
-      let (s, is, k) = walks_out _ _ _ _ claimed_carries q (claim_first limit top) i w in
-      let (v, after, same, j) = reads_out _ _ _ _ claimed_carries (l ∷ more) s e last (subst (λ x. Reads inners x (l ∷ more) e last) is r) in
-      subst (λ y. AsksBehind y (bytes q) l.byte) (sym same) (claim_asked limit top q more l s after v k j (subst (λ x. inners.asks x l.byte ≡ true) is h))
+      absurd (false≢true (subst (λ x. line_automaton.asks x l.byte ≡ true) is h))
+  line_asks kind.Pol q more l i last e w r h =
+      let (s, is, k) = walks_out _ _ _ _ pol_carries q (pol_first limit top) i w in
+      let (v, after, same, j) = reads_out _ _ _ _ pol_carries (l ∷ more) s e last (subst (λ x. Reads line_automaton x (l ∷ more) e last) is r) in
+      subst (λ y. AsksBehind y (bytes q) l.byte) (sym same) (pol_asked limit top q s l.byte k (subst (λ x. line_automaton.asks x l.byte ≡ true) is h))
+  line_asks kind.Rup q more l i last e w r h =
+      let (s, is, k) = walks_out _ _ _ _ rup_carries q (rup_first limit) i w in
+      let (v, after, same, j) = reads_out _ _ _ _ rup_carries (l ∷ more) s e last (subst (λ x. Reads line_automaton x (l ∷ more) e last) is r) in
+      subst (λ y. AsksBehind y (bytes q) l.byte) (sym same) (rup_asked limit top q s l.byte k (subst (λ x. line_automaton.asks x l.byte ≡ true) is h))
+  line_asks kind.Soli q more l i last e w r h =
+      let (s, is, k) = walks_out _ _ _ _ soli_carries q (literals_first false) i w in
+      let (v, after, same, j) = reads_out _ _ _ _ soli_carries (l ∷ more) s e last (subst (λ x. Reads line_automaton x (l ∷ more) e last) is r) in
+      subst (λ y. AsksBehind y (bytes q) l.byte) (sym same) (literals_asked false q s l.byte k (subst (λ x. line_automaton.asks x l.byte ≡ true) is h))
+  line_asks kind.Solx q more l i last e w r h =
+      let (s, is, k) = walks_out _ _ _ _ solx_carries q (literals_first false) i w in
+      let (v, after, same, j) = reads_out _ _ _ _ solx_carries (l ∷ more) s e last (subst (λ x. Reads line_automaton x (l ∷ more) e last) is r) in
+      subst (λ y. AsksBehind y (bytes q) l.byte) (sym same) (literals_asked false q s l.byte k (subst (λ x. line_automaton.asks x l.byte ≡ true) is h))
+  line_asks kind.Delete q more l i last e w r h =
+      let (s, is, k) = walks_out _ _ _ _ delete_carries q (ids_first top) i w in
+      let (v, after, same, j) = reads_out _ _ _ _ delete_carries (l ∷ more) s e last (subst (λ x. Reads line_automaton x (l ∷ more) e last) is r) in
+      subst (λ y. AsksBehind y (bytes q) l.byte) (sym same) (ids_asked limit top q s l.byte k (subst (λ x. line_automaton.asks x l.byte ≡ true) is h))
+  line_asks kind.Conclusion q more l i last e w r h =
+      let (s, is, k) = walks_out _ _ _ _ conclusion_carries q (claim_first limit top) i w in
+      let (v, after, same, j) = reads_out _ _ _ _ conclusion_carries (l ∷ more) s e last (subst (λ x. Reads line_automaton x (l ∷ more) e last) is r) in
+      subst (λ y. AsksBehind y (bytes q) l.byte) (sym same) (claim_asked limit top q more l s after v k j (subst (λ x. line_automaton.asks x l.byte ≡ true) is h))
 
   -- the first word of such a statement
-  first_word : (r : Rest) (e : Statement) (t word : List Letter) (text : List ℕ) (b : ℕ) → SpellsRest limit top r e t → sound.Before r word → AsksBehind e text b → FirstWord e word
-  first_word rest.Count (statement.F c) t word text b h k a = absurd a
-  first_word rest.Count _ t word text b h k a = absurd h
-  first_word rest.Words (statement.Pol c) t word text b h k a = k
-  first_word rest.Words _ t word text b h k a = absurd h
-  first_word rest.Goal (statement.Rup c) t word text b h k a = k
-  first_word rest.Goal _ t word text b h k a = absurd h
-  first_word rest.Improving (statement.Soli c) t word text b h k a = k
-  first_word rest.Improving _ t word text b h k a = absurd h
-  first_word rest.Excluded (statement.Solx c) t word text b h k a = k
-  first_word rest.Excluded _ t word text b h k a = absurd h
-  first_word rest.Deleted (statement.Delete c) t word text b h k a = k
-  first_word rest.Deleted _ t word text b h k a = absurd h
-  first_word rest.Claimed (statement.Conclude c) t word text b h k a = k
-  first_word rest.Claimed _ t word text b h k a = absurd h
+  first_word : (r : LineKind) (e : Statement) (t word : List Letter) (text : List ℕ) (b : ℕ) → SpellsRest limit top r e t → sound.Before r word → AsksBehind e text b → FirstWord e word
+  first_word kind.Count (statement.F c) t word text b h k a = absurd a
+  first_word kind.Count _ t word text b h k a = absurd h
+  first_word kind.Pol (statement.Pol c) t word text b h k a = k
+  first_word kind.Pol _ t word text b h k a = absurd h
+  first_word kind.Rup (statement.Rup c) t word text b h k a = k
+  first_word kind.Rup _ t word text b h k a = absurd h
+  first_word kind.Soli (statement.Soli c) t word text b h k a = k
+  first_word kind.Soli _ t word text b h k a = absurd h
+  first_word kind.Solx (statement.Solx c) t word text b h k a = k
+  first_word kind.Solx _ t word text b h k a = absurd h
+  first_word kind.Delete (statement.Delete c) t word text b h k a = k
+  first_word kind.Delete _ t word text b h k a = absurd h
+  first_word kind.Conclusion (statement.Conclude c) t word text b h k a = k
+  first_word kind.Conclusion _ t word text b h k a = absurd h
 
   -- Behind the first word, what is read is read by the machine there.
-  inner_step : (s : ProofState) (b : ℕ) (r : Rest) (i : Inner) → s.phase ≡ phase.Inside r → s.inner ≡ Some i → proofs.step s b ≡ over s r (inners.step i b)
-  inner_step s b r i e f = ap (λ q. act s b (plan q b)) e ∙ ap (λ x. over s r (step_inner x b)) f
+  line_step : (s : ProofState) (b : ℕ) (r : LineKind) (i : LineMachine) → s.phase ≡ phase.Inside r → s.inner ≡ Some i → proofs.step s b ≡ over s r (line_automaton.step i b)
+  line_step s b r i e f = ap (λ q. act s b (plan q b)) e ∙ ap (λ x. over s r (step_line x b)) f
 
-  went : (s next : ProofState) (r : Rest) (x : Next Inner Statement) → ◌≡◌ {A = Next ProofState Statement} (over s r x) (Go next) → (i : Inner) × (x ≡ Go i) × (next ≡ giving s.limit s.top r i)
+  went : (s next : ProofState) (r : LineKind) (x : Next LineMachine Statement) → ◌≡◌ {A = Next ProofState Statement} (over s r x) (Go next) → (i : LineMachine) × (x ≡ Go i) × (next ≡ giving s.limit s.top r i)
   went s next r (Go i) e = (i, refl, (let f : next ≡ giving s.limit s.top r i = cc in f))
   went s next r (End v i) e = absurd (let f : ⊥ = cc in f)
   went s next r Refuse e = absurd (let f : ⊥ = cc in f)
 
-  ended : (s next : ProofState) (r : Rest) (e : Statement) (x : Next Inner Statement) → ◌≡◌ {A = Next ProofState Statement} (over s r x) (End e next) → (i : Inner) × (x ≡ End e i)
+  ended : (s next : ProofState) (r : LineKind) (e : Statement) (x : Next LineMachine Statement) → ◌≡◌ {A = Next ProofState Statement} (over s r x) (End e next) → (i : LineMachine) × (x ≡ End e i)
   ended s next r e (Go i) h = absurd (let f : ⊥ = cc in f)
-  ended s next r e (End v i) h = (i, (let f : v ≡ e = cc in ap (λ (y : Statement). let z : Next Inner Statement = End y i in z) f))
+  ended s next r e (End v i) h = (i, (let f : v ≡ e = cc in ap (λ (y : Statement). let z : Next LineMachine Statement = End y i in z) f))
   ended s next r e Refuse h = absurd (let f : ⊥ = cc in f)
 
-  inside_reads : (t : List Letter) (s : ProofState) (r : Rest) (i : Inner) (e : Statement) (next : ProofState) → s.phase ≡ phase.Inside r → s.inner ≡ Some i → Reads proofs s t e next
-      → (last : Inner) × Reads inners i t e last
+  inside_reads : (t : List Letter) (s : ProofState) (r : LineKind) (i : LineMachine) (e : Statement) (next : ProofState) → s.phase ≡ phase.Inside r → s.inner ≡ Some i → Reads proofs s t e next
+      → (last : LineMachine) × Reads line_automaton i t e last
   inside_reads [] s r i e next p o h = absurd h
   inside_reads (l ∷ []) s r i e next p o (h, n) =
-      let (last, k) = ended s next r e (inners.step i l.byte) (sym (inner_step s l.byte r i p o) ∙ h) in (last, (k, n))
+      let (last, k) = ended s next r e (line_automaton.step i l.byte) (sym (line_step s l.byte r i p o) ∙ h) in (last, (k, n))
   inside_reads (l ∷ d ∷ t) s r i e next p o (mid, h, w, n, k) =
-      let (j, g, same) = went s mid r (inners.step i l.byte) (sym (inner_step s l.byte r i p o) ∙ h) in
+      let (j, g, same) = went s mid r (line_automaton.step i l.byte) (sym (line_step s l.byte r i p o) ∙ h) in
       let (last, v) = inside_reads (d ∷ t) mid r j e next (ap (λ x. x.phase) same) (ap (λ x. x.inner) same) k in
-      (last, (j, g, inner_begins i j l.byte g, n ∙ ap proofs.in_number same, v))
+      (last, (j, g, line_begins i j l.byte g, n ∙ ap proofs.in_number same, v))
 
   -- ---- between two statements
   abbrev Idle : ProofState → Type 0
@@ -170,7 +170,7 @@ module _ (limit top : ℕ) where
   quiet : (s : ProofState) (b : ℕ) (m : Move) → s.inner ≡ None → asks s b m ≡ false
   quiet s b (To p) e = refl
   quiet s b (Begin r) e = refl
-  quiet s b (Give r) e = ap (state.asked false (λ i. inners.asks i b)) e
+  quiet s b (Give r) e = ap (state.asked false (λ i. line_automaton.asks i b)) e
   quiet s b EndHeader e = refl
   quiet s b EndOutput e = refl
   quiet s b EndProof e = refl
@@ -190,9 +190,9 @@ module _ (limit top : ℕ) where
     by_phase (phase.OutputEnd false) f k h = silent (phase.OutputEnd false) k.2 h
     by_phase (phase.Inside x) f (same, (i, o, (word, c, is, before, w))) h =
         let (last, v) = inside_reads (l ∷ more) s x i e next f o r in
-        let a : inners.asks i l.byte ≡ true = sym (ap (state.asked false (λ j. inners.asks j l.byte)) o) ∙ h in
-        let b : AsksBehind e (bytes c) l.byte = inner_asks x c more l i last e w v a in
-        let spelled : SpellsRest limit top x e (c ++ l ∷ more) = inner_only limit top x (c ++ l ∷ more) e last (reads_behind inners c (l ∷ more) (inner_first limit top x) i last e w v) in
+        let a : line_automaton.asks i l.byte ≡ true = sym (ap (state.asked false (λ j. line_automaton.asks j l.byte)) o) ∙ h in
+        let b : AsksBehind e (bytes c) l.byte = line_asks x c more l i last e w v a in
+        let spelled : SpellsRest limit top x e (c ++ l ∷ more) = line_only limit top x (c ++ l ∷ more) e last (reads_behind line_automaton c (l ∷ more) (line_first limit top x) i last e w v) in
         (word, bytes c, first_word x e (c ++ l ∷ more) word (bytes c) l.byte spelled before b, ap bytes is ∙ bytes-append word c, b)
 
   texts : (start s next : ProofState) (front more : List Letter) (l : Letter) (e : Statement) → Idle start → Walks proofs start front s → Reads proofs s (l ∷ more) e next

@@ -10,27 +10,27 @@ use Rattle.pb_text.specs.Classes.{is_blank}
 use Rattle.pb_text.specs.Languages.{unmarked, Language, ◌⋅◌, Byte, Each, Blanks1}
 use Rattle.pb_text.specs.Spelling.{Letter, plain}
 use Rattle.pb_text.proofs.Walking.{Walks, walks_then, walks_more, ends_walk, reads_behind, same_first, longer}
-use Rattle.pb_proof.specs.Line.Machine.{inners, inner_first, SpellsRest}
+use Rattle.pb_proof.specs.Line.Machine.{line_automaton, line_first, SpellsRest}
 use Rattle.pb_proof.specs.Lines.{Feed, LineEnd, SpellsStatement}
 use Rattle.pb_proof.specs.Machine.Transition.{words_of, sol_word, behind, meets, spell, plan}
 use Rattle.pb_proof.specs.Order.{stage_of, stage_after}
 use Rattle.pb_proof.specs.Machine.State.{ProofState, proofs, at, idle, giving, stage_behind, over, act}
-use Rattle.pb_proof.specs.declared.line.Inner.{Inner}
-use Rattle.pb_proof.specs.declared.machine.phase.Front.{Front}
-use Rattle.pb_proof.specs.declared.machine.phase.Front.TheVariants as front
+use Rattle.pb_proof.specs.declared.line.LineMachine.{LineMachine}
+use Rattle.pb_proof.specs.declared.machine.phase.Keyword.{Keyword}
+use Rattle.pb_proof.specs.declared.machine.phase.Keyword.TheVariants as keyword
 use Rattle.pb_proof.specs.declared.machine.phase.Stage.TheVariants.{Opening, Formula, Steps, Claim, Closing, Complete}
-use Rattle.pb_proof.specs.declared.machine.phase.Rest.{Rest}
-use Rattle.pb_proof.specs.declared.machine.phase.Rest.TheVariants as rest
+use Rattle.pb_proof.specs.declared.machine.phase.LineKind.{LineKind}
+use Rattle.pb_proof.specs.declared.machine.phase.LineKind.TheVariants as kind
 use Rattle.pb_proof.specs.declared.machine.phase.Phase.TheVariants as phase
 use Rattle.pb_proof.specs.declared.machine.phase.Move.{Move}
 use Rattle.pb_proof.specs.declared.machine.phase.Move.TheVariants as move
 use Rattle.pb_proof.specs.declared.statement.Statement.{Statement}
 use Rattle.pb_proof.specs.declared.statement.Statement as statement
 use Rattle.pb_proof.proofs.lemmas.Choices.{never, both, fails}
-use Rattle.pb_proof.proofs.lemmas.Line.Laws.{inner_each, inner_fresh}
+use Rattle.pb_proof.proofs.lemmas.Line.Laws.{line_each, line_fresh}
 use Rattle.pb_proof.proofs.lemmas.Line.Ends.{Feeds, feed_reads, MayEnd, line_reads}
-use Rattle.pb_proof.proofs.lemmas.Machine.Sound.{stage_front, Before}
-use Rattle.pb_proof.proofs.lemmas.Spaced.{Spaced, One, chooses, FrontWords, front_each}
+use Rattle.pb_proof.proofs.lemmas.Machine.Sound.{stage_keyword, Before}
+use Rattle.pb_proof.proofs.lemmas.Spaced.{Spaced, One, chooses, KeywordWords, keyword_each}
 
 -- Behind a space of the words stands a byte that is no blank.
 abbrev dark_first : List ℕ → Bool
@@ -41,16 +41,16 @@ abbrev is_laid : List ℕ → Bool
 is_laid [] = true
 is_laid (c ∷ cs) = (not (nat_eq c 32) || dark_first cs) && is_laid cs
 
-words_laid : (f : Front) → is_laid (words_of f) ≡ true
-words_laid front.Header = refl
-words_laid front.Formula = refl
-words_laid front.Pol = refl
-words_laid front.Rup = refl
-words_laid front.Solution = refl
-words_laid front.Delete = refl
-words_laid front.Output = refl
-words_laid front.Conclusion = refl
-words_laid front.End = refl
+words_laid : (f : Keyword) → is_laid (words_of f) ≡ true
+words_laid keyword.Header = refl
+words_laid keyword.Formula = refl
+words_laid keyword.Pol = refl
+words_laid keyword.Rup = refl
+words_laid keyword.Solution = refl
+words_laid keyword.Delete = refl
+words_laid keyword.Output = refl
+words_laid keyword.Conclusion = refl
+words_laid keyword.End = refl
 
 laid_later : (front more : List ℕ) → is_laid (front ++ more) ≡ true → is_laid more ≡ true
 laid_later [] more h = h
@@ -83,38 +83,38 @@ meets_blank c b e h = rw (e, h) refl
 
 module _ (limit top : ℕ) where
   -- so many bytes of the words
-  abbrev pub spelt : Front → ℕ → ProofState
+  abbrev pub spelt : Keyword → ℕ → ProofState
   spelt f k = at limit top (phase.Spelling f k)
 
-  at_seam : (f : Front) (front left : List ℕ) (c : ℕ) → words_of f ≡ front ++ c ∷ left → slice_index (words_of f) (length front) ≡ c
+  at_seam : (f : Keyword) (front left : List ℕ) (c : ℕ) → words_of f ≡ front ++ c ∷ left → slice_index (words_of f) (length front) ≡ c
   at_seam f front left c e = ap (λ y. slice_index y (length front)) e ∙ get_or-append_seam front c left 0
 
   -- the next byte is met, and it is the last or not
-  spell_next : (f : Front) (front left : List ℕ) (c b : ℕ) (x : Bool) (other : Move) → words_of f ≡ front ++ c ∷ left → meets c b ≡ true → nat_eq (length front + 1) (length (words_of f)) ≡ x
+  spell_next : (f : Keyword) (front left : List ℕ) (c b : ℕ) (x : Bool) (other : Move) → words_of f ≡ front ++ c ∷ left → meets c b ≡ true → nat_eq (length front + 1) (length (words_of f)) ≡ x
       → spell f (length front) b other ≡ cond x (behind f) (move.To (phase.Spelling f (length front + 1)))
   spell_next f front left c b x other e m n =
       ap (λ y. cond (meets y b) (cond (nat_eq (length front + 1) (length (words_of f))) (behind f) (move.To (phase.Spelling f (length front + 1)))) other) (at_seam f front left c e)
       ∙ (ap (λ y. cond y (cond (nat_eq (length front + 1) (length (words_of f))) (behind f) (move.To (phase.Spelling f (length front + 1)))) other) m
       ∙ ap (λ y. cond y (behind f) (move.To (phase.Spelling f (length front + 1)))) n)
 
-  more_left : (f : Front) (front left : List ℕ) (c d : ℕ) → words_of f ≡ front ++ c ∷ d ∷ left → nat_eq (length front + 1) (length (words_of f)) ≡ false
+  more_left : (f : Keyword) (front left : List ℕ) (c d : ℕ) → words_of f ≡ front ++ c ∷ d ∷ left → nat_eq (length front + 1) (length (words_of f)) ≡ false
   more_left f front left c d e =
       let m : length (words_of f) ≡ length front + (2 + length left) = ap length e ∙ (length-append front (c ∷ d ∷ left) ∙ omega arith) in
       rw m (grind (arith, nat_tests))
 
-  pub last_left : (f : Front) (front : List ℕ) (c : ℕ) → words_of f ≡ front ++ c ∷ [] → nat_eq (length front + 1) (length (words_of f)) ≡ true
+  pub last_left : (f : Keyword) (front : List ℕ) (c : ℕ) → words_of f ≡ front ++ c ∷ [] → nat_eq (length front + 1) (length (words_of f)) ≡ true
   last_left f front c e =
       let m : length (words_of f) ≡ length front + 1 = ap length e ∙ length-append front (c ∷ []) in
       rw m (nat-same (length front + 1))
 
-  pub step_on : (f : Front) (front left : List ℕ) (c d b : ℕ) → words_of f ≡ front ++ c ∷ d ∷ left → meets c b ≡ true → proofs.step (spelt f (length front)) b ≡ Go (spelt f (length front + 1))
+  pub step_on : (f : Keyword) (front left : List ℕ) (c d b : ℕ) → words_of f ≡ front ++ c ∷ d ∷ left → meets c b ≡ true → proofs.step (spelt f (length front)) b ≡ Go (spelt f (length front + 1))
   step_on f front left c d b e m = ap (act (spelt f (length front)) b) (spell_next f front (d ∷ left) c b false _ e m (more_left f front left c d e))
 
-  pub step_last : (f : Front) (front : List ℕ) (c b : ℕ) → words_of f ≡ front ++ c ∷ [] → meets c b ≡ true → proofs.step (spelt f (length front)) b ≡ act (spelt f (length front)) b (behind f)
+  pub step_last : (f : Keyword) (front : List ℕ) (c b : ℕ) → words_of f ≡ front ++ c ∷ [] → meets c b ≡ true → proofs.step (spelt f (length front)) b ≡ act (spelt f (length front)) b (behind f)
   step_last f front c b e m = ap (act (spelt f (length front)) b) (spell_next f front [] c b true _ e m (last_left f front c e))
 
   -- more blanks behind a space
-  blank_stays : (f : Front) (front left : List ℕ) (d b : ℕ) → words_of f ≡ front ++ 32 ∷ d ∷ left → is_blank b ≡ true → proofs.step (spelt f (length front + 1)) b ≡ Go (spelt f (length front + 1))
+  blank_stays : (f : Keyword) (front left : List ℕ) (d b : ℕ) → words_of f ≡ front ++ 32 ∷ d ∷ left → is_blank b ≡ true → proofs.step (spelt f (length front + 1)) b ≡ Go (spelt f (length front + 1))
   blank_stays f front left d b e h =
       let j : length front + 1 ≡ length (front ++ 32 ∷ []) = sym (length-append front (32 ∷ [])) in
       let g : words_of f ≡ (front ++ 32 ∷ []) ++ d ∷ left = e ∙ sym (append_assoc front (32 ∷ []) (d ∷ left)) in
@@ -125,14 +125,14 @@ module _ (limit top : ℕ) where
       ap (λ x. act (spelt f (length front + 1)) b (cond x (cond (nat_eq (length front + 1 + 1) (length (words_of f))) (behind f) (move.To (phase.Spelling f (length front + 1 + 1)))) (cond (is_blank b && nat_eq (slice_index (words_of f) (length front + 1 - 1)) 32) (move.To (phase.Spelling f (length front + 1))) move.Stop))) away
       ∙ ap (λ x. act (spelt f (length front + 1)) b (cond x (move.To (phase.Spelling f (length front + 1))) move.Stop)) (ap₂ (λ x y. x && nat_eq y 32) h behind_it)
 
-  blanks_stay : (f : Front) (front left : List ℕ) (d : ℕ) → words_of f ≡ front ++ 32 ∷ d ∷ left → (bs : List ℕ) → Each (λ b. IsTrue (is_blank b)) bs
+  blanks_stay : (f : Keyword) (front left : List ℕ) (d : ℕ) → words_of f ≡ front ++ 32 ∷ d ∷ left → (bs : List ℕ) → Each (λ b. IsTrue (is_blank b)) bs
       → Walks proofs (spelt f (length front + 1)) (plain bs) (spelt f (length front + 1))
   blanks_stay f front left d e [] h = refl
   blanks_stay f front left d e (b ∷ bs) h =
       (spelt f (length front + 1), blank_stays f front left d b e h.0, refl, refl, blanks_stay f front left d e bs h.1)
 
   -- a byte of the words, or blanks
-  one_walks : (f : Front) (front left : List ℕ) (c d : ℕ) (t : List Letter) → words_of f ≡ front ++ c ∷ d ∷ left → One c t → Walks proofs (spelt f (length front)) t (spelt f (length front + 1))
+  one_walks : (f : Keyword) (front left : List ℕ) (c d : ℕ) (t : List Letter) → words_of f ≡ front ++ c ∷ d ∷ left → One c t → Walks proofs (spelt f (length front)) t (spelt f (length front + 1))
   one_walks f front left c d t e h = by_test (nat_eq c 32) refl h
     where
       by_test : (x : Bool) → nat_eq c 32 ≡ x → chooses x Blanks1 (Byte c) t → Walks proofs (spelt f (length front)) t (spelt f (length front + 1))
@@ -150,7 +150,7 @@ module _ (limit top : ℕ) where
           (spelt f (length front + 1), step_on f front left c d c e (meets_self c s), refl, refl, refl)
 
   -- Words but for their last byte, which is no space.
-  record Split (f : Front) (front : List ℕ) (c : ℕ) (left : List ℕ) (t : List Letter) : Type 0 where
+  record Split (f : Keyword) (front : List ℕ) (c : ℕ) (left : List ℕ) (t : List Letter) : Type 0 where
     pub init : List ℕ
     pub final : ℕ
     pub is : words_of f ≡ init ++ final ∷ []
@@ -160,7 +160,7 @@ module _ (limit top : ℕ) where
     pub walks : Walks proofs (spelt f (length front)) text (spelt f (length init))
     pub last : One final letter
 
-  splits : (f : Front) (front left : List ℕ) (c : ℕ) (t : List Letter) → words_of f ≡ front ++ c ∷ left → Spaced (c ∷ left) t → Split f front c left t
+  splits : (f : Keyword) (front left : List ℕ) (c : ℕ) (t : List Letter) → words_of f ≡ front ++ c ∷ left → Spaced (c ∷ left) t → Split f front c left t
   splits f front [] c t e (a, b, g, h, i) = record {
     init = front;
     final = c;
@@ -187,7 +187,7 @@ module _ (limit top : ℕ) where
       }
 
   -- The last byte of the words is no space.
-  last_dark : (f : Front) (init : List ℕ) (c : ℕ) → words_of f ≡ init ++ c ∷ [] → nat_eq c 32 ≡ false
+  last_dark : (f : Keyword) (init : List ℕ) (c : ℕ) → words_of f ≡ init ++ c ∷ [] → nat_eq c 32 ≡ false
   last_dark f init c e = by_or_dark (both (not (nat_eq c 32) || false) true (laid_later init (c ∷ []) (subst (λ x. is_laid x ≡ true) e (words_laid f)))).0
     where
       by_or_dark : (not (nat_eq c 32) || false) ≡ true → nat_eq c 32 ≡ false
@@ -198,7 +198,7 @@ module _ (limit top : ℕ) where
           at_test false g = refl
 
   -- a text of the words: the way up to the last letter, and what that does
-  record Spelled (f : Front) (t : List Letter) : Type 0 where
+  record Spelled (f : Keyword) (t : List Letter) : Type 0 where
     pub count : ℕ
     pub text : List Letter
     pub final : ℕ
@@ -206,7 +206,7 @@ module _ (limit top : ℕ) where
     pub walks : Walks proofs (spelt f 0) text (spelt f count)
     pub last : proofs.step (spelt f count) final ≡ act (spelt f count) final (behind f)
 
-  to_spelled : (f : Front) (c : ℕ) (left : List ℕ) (t : List Letter) → words_of f ≡ c ∷ left → Split f [] c left t → Spelled f t
+  to_spelled : (f : Keyword) (c : ℕ) (left : List ℕ) (t : List Letter) → words_of f ≡ c ∷ left → Split f [] c left t → Spelled f t
   to_spelled f c left t e s =
       let dark = last_dark f s.init s.final s.is in
       let is : s.letter ≡ unmarked s.final ∷ [] = subst (λ x. chooses x Blanks1 (Byte s.final) s.letter) dark s.last in
@@ -219,72 +219,72 @@ module _ (limit top : ℕ) where
         last = step_last f s.init s.final s.final s.is (meets_self s.final dark);
       }
 
-  spelled_words : (f : Front) (t : List Letter) → Spaced (words_of f) t → Spelled f t
-  spelled_words front.Header t h = to_spelled front.Header _ _ t refl (splits front.Header [] _ _ t refl h)
-  spelled_words front.Formula t h = to_spelled front.Formula _ _ t refl (splits front.Formula [] _ _ t refl h)
-  spelled_words front.Pol t h = to_spelled front.Pol _ _ t refl (splits front.Pol [] _ _ t refl h)
-  spelled_words front.Rup t h = to_spelled front.Rup _ _ t refl (splits front.Rup [] _ _ t refl h)
-  spelled_words front.Solution t h = to_spelled front.Solution _ _ t refl (splits front.Solution [] _ _ t refl h)
-  spelled_words front.Delete t h = to_spelled front.Delete _ _ t refl (splits front.Delete [] _ _ t refl h)
-  spelled_words front.Output t h = to_spelled front.Output _ _ t refl (splits front.Output [] _ _ t refl h)
-  spelled_words front.Conclusion t h = to_spelled front.Conclusion _ _ t refl (splits front.Conclusion [] _ _ t refl h)
-  spelled_words front.End t h = to_spelled front.End _ _ t refl (splits front.End [] _ _ t refl h)
+  spelled_words : (f : Keyword) (t : List Letter) → Spaced (words_of f) t → Spelled f t
+  spelled_words keyword.Header t h = to_spelled keyword.Header _ _ t refl (splits keyword.Header [] _ _ t refl h)
+  spelled_words keyword.Formula t h = to_spelled keyword.Formula _ _ t refl (splits keyword.Formula [] _ _ t refl h)
+  spelled_words keyword.Pol t h = to_spelled keyword.Pol _ _ t refl (splits keyword.Pol [] _ _ t refl h)
+  spelled_words keyword.Rup t h = to_spelled keyword.Rup _ _ t refl (splits keyword.Rup [] _ _ t refl h)
+  spelled_words keyword.Solution t h = to_spelled keyword.Solution _ _ t refl (splits keyword.Solution [] _ _ t refl h)
+  spelled_words keyword.Delete t h = to_spelled keyword.Delete _ _ t refl (splits keyword.Delete [] _ _ t refl h)
+  spelled_words keyword.Output t h = to_spelled keyword.Output _ _ t refl (splits keyword.Output [] _ _ t refl h)
+  spelled_words keyword.Conclusion t h = to_spelled keyword.Conclusion _ _ t refl (splits keyword.Conclusion [] _ _ t refl h)
+  spelled_words keyword.End t h = to_spelled keyword.End _ _ t refl (splits keyword.End [] _ _ t refl h)
 
   -- The first byte of the words does from the stage what it does within them.
-  abbrev first_byte : Front → ℕ
+  abbrev first_byte : Keyword → ℕ
   first_byte f = slice_index (words_of f) 0
 
-  pub enters : (f : Front) → proofs.step (idle limit top (stage_front f)) (first_byte f) ≡ proofs.step (spelt f 0) (first_byte f)
-  enters front.Header = refl
-  enters front.Formula = refl
-  enters front.Pol = refl
-  enters front.Rup = refl
-  enters front.Solution = refl
-  enters front.Delete = refl
-  enters front.Output = refl
-  enters front.Conclusion = refl
-  enters front.End = refl
+  pub enters : (f : Keyword) → proofs.step (idle limit top (stage_keyword f)) (first_byte f) ≡ proofs.step (spelt f 0) (first_byte f)
+  enters keyword.Header = refl
+  enters keyword.Formula = refl
+  enters keyword.Pol = refl
+  enters keyword.Rup = refl
+  enters keyword.Solution = refl
+  enters keyword.Delete = refl
+  enters keyword.Output = refl
+  enters keyword.Conclusion = refl
+  enters keyword.End = refl
 
-  begins_with : (f : Front) (t : List Letter) → Spaced (words_of f) t → (u : List Letter) × (t ≡ unmarked (first_byte f) ∷ u)
-  begins_with front.Header t (a, b, e, h, k) = (b, e ∙ ap (λ x. x ++ b) h)
-  begins_with front.Formula t (a, b, e, h, k) = (b, e ∙ ap (λ x. x ++ b) h)
-  begins_with front.Pol t (a, b, e, h, k) = (b, e ∙ ap (λ x. x ++ b) h)
-  begins_with front.Rup t (a, b, e, h, k) = (b, e ∙ ap (λ x. x ++ b) h)
-  begins_with front.Solution t (a, b, e, h, k) = (b, e ∙ ap (λ x. x ++ b) h)
-  begins_with front.Delete t (a, b, e, h, k) = (b, e ∙ ap (λ x. x ++ b) h)
-  begins_with front.Output t (a, b, e, h, k) = (b, e ∙ ap (λ x. x ++ b) h)
-  begins_with front.Conclusion t (a, b, e, h, k) = (b, e ∙ ap (λ x. x ++ b) h)
-  begins_with front.End t (a, b, e, h, k) = (b, e ∙ ap (λ x. x ++ b) h)
+  begins_with : (f : Keyword) (t : List Letter) → Spaced (words_of f) t → (u : List Letter) × (t ≡ unmarked (first_byte f) ∷ u)
+  begins_with keyword.Header t (a, b, e, h, k) = (b, e ∙ ap (λ x. x ++ b) h)
+  begins_with keyword.Formula t (a, b, e, h, k) = (b, e ∙ ap (λ x. x ++ b) h)
+  begins_with keyword.Pol t (a, b, e, h, k) = (b, e ∙ ap (λ x. x ++ b) h)
+  begins_with keyword.Rup t (a, b, e, h, k) = (b, e ∙ ap (λ x. x ++ b) h)
+  begins_with keyword.Solution t (a, b, e, h, k) = (b, e ∙ ap (λ x. x ++ b) h)
+  begins_with keyword.Delete t (a, b, e, h, k) = (b, e ∙ ap (λ x. x ++ b) h)
+  begins_with keyword.Output t (a, b, e, h, k) = (b, e ∙ ap (λ x. x ++ b) h)
+  begins_with keyword.Conclusion t (a, b, e, h, k) = (b, e ∙ ap (λ x. x ++ b) h)
+  begins_with keyword.End t (a, b, e, h, k) = (b, e ∙ ap (λ x. x ++ b) h)
 
   -- From the stage the words, and what is read behind them.
-  entered : (f : Front) (t u : List Letter) (e : Statement) (after : ProofState) → Spaced (words_of f) t → Reads proofs (spelt f 0) (t ++ u) e after
-      → Reads proofs (idle limit top (stage_front f)) (t ++ u) e after
+  entered : (f : Keyword) (t u : List Letter) (e : Statement) (after : ProofState) → Spaced (words_of f) t → Reads proofs (spelt f 0) (t ++ u) e after
+      → Reads proofs (idle limit top (stage_keyword f)) (t ++ u) e after
   entered f t u e after h r =
       let (v, g) = begins_with f t h in
-      subst (λ x. Reads proofs (idle limit top (stage_front f)) (x ++ u) e after) (sym g)
-      (same_first proofs (unmarked (first_byte f)) (v ++ u) (idle limit top (stage_front f)) (spelt f 0) after e (enters f)
+      subst (λ x. Reads proofs (idle limit top (stage_keyword f)) (x ++ u) e after) (sym g)
+      (same_first proofs (unmarked (first_byte f)) (v ++ u) (idle limit top (stage_keyword f)) (spelt f 0) after e (enters f)
       (subst (λ x. Reads proofs (spelt f 0) (x ++ u) e after) g r))
 
-  words_then : (f : Front) (next : ProofState) → ((k b : ℕ) → act (spelt f k) b (behind f) ≡ Go next) → proofs.begun next ≡ true → proofs.in_number next ≡ false
-      → (t u : List Letter) (e : Statement) (after : ProofState) → FrontWords f t → Reads proofs next u e after → Reads proofs (idle limit top (stage_front f)) (t ++ u) e after
+  words_then : (f : Keyword) (next : ProofState) → ((k b : ℕ) → act (spelt f k) b (behind f) ≡ Go next) → proofs.begun next ≡ true → proofs.in_number next ≡ false
+      → (t u : List Letter) (e : Statement) (after : ProofState) → KeywordWords f t → Reads proofs next u e after → Reads proofs (idle limit top (stage_keyword f)) (t ++ u) e after
   words_then f next g w n t u e after h r =
-      let spaced : Spaced (words_of f) t = front_each f t h in
+      let spaced : Spaced (words_of f) t = keyword_each f t h in
       let s : Spelled f t = spelled_words f t spaced in
       entered f t u e after spaced
       (reads_behind proofs t u (spelt f 0) next after e
       (subst (λ x. Walks proofs (spelt f 0) x next) (sym s.text_is)
       (walks_more proofs s.text (unmarked s.final) (spelt f 0) (spelt f s.count) next s.walks (s.last ∙ g s.count s.final) w (sym n))) r)
 
-  words_end : (t : List Letter) → FrontWords front.End t → Reads proofs (idle limit top Closing) t statement.TheVariants.End (idle limit top Complete)
+  words_end : (t : List Letter) → KeywordWords keyword.End t → Reads proofs (idle limit top Closing) t statement.TheVariants.End (idle limit top Complete)
   words_end t h =
-      let spaced : Spaced (words_of front.End) t = front_each front.End t h in
-      let s : Spelled front.End t = spelled_words front.End t spaced in
-      let r : Reads proofs (spelt front.End 0) t statement.TheVariants.End (idle limit top Complete) =
-      subst (λ x. Reads proofs (spelt front.End 0) x statement.TheVariants.End (idle limit top Complete)) (sym s.text_is)
-      (ends_walk proofs s.text (unmarked s.final) (spelt front.End 0) (spelt front.End s.count) (idle limit top Complete) statement.TheVariants.End s.walks s.last refl) in
+      let spaced : Spaced (words_of keyword.End) t = keyword_each keyword.End t h in
+      let s : Spelled keyword.End t = spelled_words keyword.End t spaced in
+      let r : Reads proofs (spelt keyword.End 0) t statement.TheVariants.End (idle limit top Complete) =
+      subst (λ x. Reads proofs (spelt keyword.End 0) x statement.TheVariants.End (idle limit top Complete)) (sym s.text_is)
+      (ends_walk proofs s.text (unmarked s.final) (spelt keyword.End 0) (spelt keyword.End s.count) (idle limit top Complete) statement.TheVariants.End s.walks s.last refl) in
       subst (λ x. Reads proofs (idle limit top Closing) x statement.TheVariants.End (idle limit top Complete)) (append-nil t)
-      (entered front.End t [] statement.TheVariants.End (idle limit top Complete) spaced
-      (subst (λ x. Reads proofs (spelt front.End 0) x statement.TheVariants.End (idle limit top Complete)) (sym (append-nil t)) r))
+      (entered keyword.End t [] statement.TheVariants.End (idle limit top Complete) spaced
+      (subst (λ x. Reads proofs (spelt keyword.End 0) x statement.TheVariants.End (idle limit top Complete)) (sym (append-nil t)) r))
 
   -- the ends of lines
   abbrev pub header_end : ProofState
@@ -318,27 +318,27 @@ module _ (limit top : ℕ) where
   }
 
   -- what the machine behind the words reads
-  pub given_reads : (r : Rest) (t : List Letter) (i last : Inner) (e : Statement) → Reads inners i t e last → Reads proofs (giving limit top r i) t e (idle limit top (stage_behind r))
+  pub given_reads : (r : LineKind) (t : List Letter) (i last : LineMachine) (e : Statement) → Reads line_automaton i t e last → Reads proofs (giving limit top r i) t e (idle limit top (stage_behind r))
   given_reads r [] i last e h = absurd h
   given_reads r (l ∷ []) i last e (g, n) = (ap (over (giving limit top r i) r) g, n)
   given_reads r (l ∷ k ∷ t) i last e (mid, g, w, n, h) =
       (giving limit top r mid, ap (over (giving limit top r i) r) g, refl, n, given_reads r (k ∷ t) mid last e h)
 
-  rest_reads : (r : Rest) (t : List Letter) (e : Statement) → SpellsRest limit top r e t → Reads proofs (giving limit top r (inner_first limit top r)) t e (idle limit top (stage_behind r))
-  rest_reads r t e h = let (last, k) = inner_each limit top r t e h in given_reads r t (inner_first limit top r) last e k
+  rest_reads : (r : LineKind) (t : List Letter) (e : Statement) → SpellsRest limit top r e t → Reads proofs (giving limit top r (line_first limit top r)) t e (idle limit top (stage_behind r))
+  rest_reads r t e h = let (last, k) = line_each limit top r t e h in given_reads r t (line_first limit top r) last e k
 
-  plain_first : (r : Rest) → proofs.in_number (giving limit top r (inner_first limit top r)) ≡ false
-  plain_first r = (inner_fresh limit top r).2
+  plain_first : (r : LineKind) → proofs.in_number (giving limit top r (line_first limit top r)) ≡ false
+  plain_first r = (line_fresh limit top r).2
 
-  abbrev begun_rest : Rest → ProofState
-  begun_rest r = giving limit top r (inner_first limit top r)
+  abbrev begun_rest : LineKind → ProofState
+  begun_rest r = giving limit top r (line_first limit top r)
 
   -- behind `soli` and `solx`
-  solution_then : (b : ℕ) (r : Rest) (t u : List Letter) (e : Statement) (after : ProofState) → plan phase.Solution b ≡ move.Begin r → t ≡ plain sol_word ++ unmarked b ∷ []
+  solution_then : (b : ℕ) (r : LineKind) (t u : List Letter) (e : Statement) (after : ProofState) → plan phase.Solution b ≡ move.Begin r → t ≡ plain sol_word ++ unmarked b ∷ []
       → Reads proofs (begun_rest r) u e after → Reads proofs (idle limit top Steps) (t ++ u) e after
   solution_then b r t u e after g f h =
       subst (λ x. Reads proofs (idle limit top Steps) x e after) (sym (ap (λ x. x ++ u) f ∙ append_assoc (plain sol_word) (unmarked b ∷ []) u))
-      (words_then front.Solution (at limit top phase.Solution) (λ k c. refl) refl refl (plain sol_word) (unmarked b ∷ u) e after refl
+      (words_then keyword.Solution (at limit top phase.Solution) (λ k c. refl) refl refl (plain sol_word) (unmarked b ∷ u) e after refl
       (longer proofs (unmarked b) u (at limit top phase.Solution) (begun_rest r) after e (ap (act (at limit top phase.Solution) b) g) refl (sym (plain_first r)) h))
 
   by_parts : (P Q : Language) (t : List Letter) (e : Statement) (s after : ProofState) → ((a b : List Letter) → P a → Q b → Reads proofs s (a ++ b) e after) → (P ⋅ Q) t → Reads proofs s t e after
@@ -347,32 +347,32 @@ module _ (limit top : ℕ) where
   -- The machine reads each statement.
   pub statement_each : (t : List Letter) (e : Statement) → SpellsStatement limit top e t → Reads proofs (idle limit top (stage_of e)) t e (idle limit top (stage_after e))
   statement_each t statement.TheVariants.Header h =
-      by_parts (FrontWords front.Header) Feed t statement.TheVariants.Header (idle limit top Opening) (idle limit top Formula)
-      (λ a b i k. words_then front.Header header_end (λ j c. refl) refl refl a b statement.TheVariants.Header (idle limit top Formula) i
+      by_parts (KeywordWords keyword.Header) Feed t statement.TheVariants.Header (idle limit top Opening) (idle limit top Formula)
+      (λ a b i k. words_then keyword.Header header_end (λ j c. refl) refl refl a b statement.TheVariants.Header (idle limit top Formula) i
       (feed_reads proofs header_end header_end (idle limit top Formula) statement.TheVariants.Header header_feeds b k)) h
   statement_each t (statement.TheVariants.F c) h =
-      by_parts (FrontWords front.Formula) (SpellsRest limit top rest.Count (statement.TheVariants.F c)) t (statement.TheVariants.F c) (idle limit top Formula) (idle limit top Steps)
-      (λ a b i k. words_then front.Formula (begun_rest rest.Count) (λ j d. refl) refl (plain_first rest.Count) a b (statement.TheVariants.F c) (idle limit top Steps) i (rest_reads rest.Count b (statement.TheVariants.F c) k)) h
+      by_parts (KeywordWords keyword.Formula) (SpellsRest limit top kind.Count (statement.TheVariants.F c)) t (statement.TheVariants.F c) (idle limit top Formula) (idle limit top Steps)
+      (λ a b i k. words_then keyword.Formula (begun_rest kind.Count) (λ j d. refl) refl (plain_first kind.Count) a b (statement.TheVariants.F c) (idle limit top Steps) i (rest_reads kind.Count b (statement.TheVariants.F c) k)) h
   statement_each t (statement.TheVariants.Pol c) h =
-      by_parts (FrontWords front.Pol) (SpellsRest limit top rest.Words (statement.TheVariants.Pol c)) t (statement.TheVariants.Pol c) (idle limit top Steps) (idle limit top Steps)
-      (λ a b i k. words_then front.Pol (begun_rest rest.Words) (λ j d. refl) refl (plain_first rest.Words) a b (statement.TheVariants.Pol c) (idle limit top Steps) i (rest_reads rest.Words b (statement.TheVariants.Pol c) k)) h
+      by_parts (KeywordWords keyword.Pol) (SpellsRest limit top kind.Pol (statement.TheVariants.Pol c)) t (statement.TheVariants.Pol c) (idle limit top Steps) (idle limit top Steps)
+      (λ a b i k. words_then keyword.Pol (begun_rest kind.Pol) (λ j d. refl) refl (plain_first kind.Pol) a b (statement.TheVariants.Pol c) (idle limit top Steps) i (rest_reads kind.Pol b (statement.TheVariants.Pol c) k)) h
   statement_each t (statement.TheVariants.Rup c) h =
-      by_parts (FrontWords front.Rup) (SpellsRest limit top rest.Goal (statement.TheVariants.Rup c)) t (statement.TheVariants.Rup c) (idle limit top Steps) (idle limit top Steps)
-      (λ a b i k. words_then front.Rup (begun_rest rest.Goal) (λ j d. refl) refl (plain_first rest.Goal) a b (statement.TheVariants.Rup c) (idle limit top Steps) i (rest_reads rest.Goal b (statement.TheVariants.Rup c) k)) h
+      by_parts (KeywordWords keyword.Rup) (SpellsRest limit top kind.Rup (statement.TheVariants.Rup c)) t (statement.TheVariants.Rup c) (idle limit top Steps) (idle limit top Steps)
+      (λ a b i k. words_then keyword.Rup (begun_rest kind.Rup) (λ j d. refl) refl (plain_first kind.Rup) a b (statement.TheVariants.Rup c) (idle limit top Steps) i (rest_reads kind.Rup b (statement.TheVariants.Rup c) k)) h
   statement_each t (statement.TheVariants.Soli c) h =
-      by_parts (Before rest.Improving) (SpellsRest limit top rest.Improving (statement.TheVariants.Soli c)) t (statement.TheVariants.Soli c) (idle limit top Steps) (idle limit top Steps)
-      (λ a b i k. solution_then 105 rest.Improving a b (statement.TheVariants.Soli c) (idle limit top Steps) refl i (rest_reads rest.Improving b (statement.TheVariants.Soli c) k)) h
+      by_parts (Before kind.Soli) (SpellsRest limit top kind.Soli (statement.TheVariants.Soli c)) t (statement.TheVariants.Soli c) (idle limit top Steps) (idle limit top Steps)
+      (λ a b i k. solution_then 105 kind.Soli a b (statement.TheVariants.Soli c) (idle limit top Steps) refl i (rest_reads kind.Soli b (statement.TheVariants.Soli c) k)) h
   statement_each t (statement.TheVariants.Solx c) h =
-      by_parts (Before rest.Excluded) (SpellsRest limit top rest.Excluded (statement.TheVariants.Solx c)) t (statement.TheVariants.Solx c) (idle limit top Steps) (idle limit top Steps)
-      (λ a b i k. solution_then 120 rest.Excluded a b (statement.TheVariants.Solx c) (idle limit top Steps) refl i (rest_reads rest.Excluded b (statement.TheVariants.Solx c) k)) h
+      by_parts (Before kind.Solx) (SpellsRest limit top kind.Solx (statement.TheVariants.Solx c)) t (statement.TheVariants.Solx c) (idle limit top Steps) (idle limit top Steps)
+      (λ a b i k. solution_then 120 kind.Solx a b (statement.TheVariants.Solx c) (idle limit top Steps) refl i (rest_reads kind.Solx b (statement.TheVariants.Solx c) k)) h
   statement_each t (statement.TheVariants.Delete c) h =
-      by_parts (FrontWords front.Delete) (SpellsRest limit top rest.Deleted (statement.TheVariants.Delete c)) t (statement.TheVariants.Delete c) (idle limit top Steps) (idle limit top Steps)
-      (λ a b i k. words_then front.Delete (begun_rest rest.Deleted) (λ j d. refl) refl (plain_first rest.Deleted) a b (statement.TheVariants.Delete c) (idle limit top Steps) i (rest_reads rest.Deleted b (statement.TheVariants.Delete c) k)) h
+      by_parts (KeywordWords keyword.Delete) (SpellsRest limit top kind.Delete (statement.TheVariants.Delete c)) t (statement.TheVariants.Delete c) (idle limit top Steps) (idle limit top Steps)
+      (λ a b i k. words_then keyword.Delete (begun_rest kind.Delete) (λ j d. refl) refl (plain_first kind.Delete) a b (statement.TheVariants.Delete c) (idle limit top Steps) i (rest_reads kind.Delete b (statement.TheVariants.Delete c) k)) h
   statement_each t statement.TheVariants.Output h =
-      by_parts (FrontWords front.Output) LineEnd t statement.TheVariants.Output (idle limit top Steps) (idle limit top Claim)
-      (λ a b i k. words_then front.Output (output_end true) (λ j d. refl) refl refl a b statement.TheVariants.Output (idle limit top Claim) i
+      by_parts (KeywordWords keyword.Output) LineEnd t statement.TheVariants.Output (idle limit top Steps) (idle limit top Claim)
+      (λ a b i k. words_then keyword.Output (output_end true) (λ j d. refl) refl refl a b statement.TheVariants.Output (idle limit top Claim) i
       (line_reads proofs (output_end true) (output_end true) (output_end false) (idle limit top Claim) statement.TheVariants.Output output_may b k)) h
   statement_each t (statement.TheVariants.Conclude c) h =
-      by_parts (FrontWords front.Conclusion) (SpellsRest limit top rest.Claimed (statement.TheVariants.Conclude c)) t (statement.TheVariants.Conclude c) (idle limit top Claim) (idle limit top Closing)
-      (λ a b i k. words_then front.Conclusion (begun_rest rest.Claimed) (λ j d. refl) refl (plain_first rest.Claimed) a b (statement.TheVariants.Conclude c) (idle limit top Closing) i (rest_reads rest.Claimed b (statement.TheVariants.Conclude c) k)) h
+      by_parts (KeywordWords keyword.Conclusion) (SpellsRest limit top kind.Conclusion (statement.TheVariants.Conclude c)) t (statement.TheVariants.Conclude c) (idle limit top Claim) (idle limit top Closing)
+      (λ a b i k. words_then keyword.Conclusion (begun_rest kind.Conclusion) (λ j d. refl) refl (plain_first kind.Conclusion) a b (statement.TheVariants.Conclude c) (idle limit top Closing) i (rest_reads kind.Conclusion b (statement.TheVariants.Conclude c) k)) h
   statement_each t statement.TheVariants.End h = words_end t h

@@ -9,11 +9,11 @@ use Rattle.pb_text.specs.Blank.{IsBlank, in_comment, passes}
 use Rattle.pb_text.specs.Classes.{is_white}
 use Rattle.pb_text.specs.Spelling.{Letter}
 use Rattle.pb_text.proofs.Blanks.{in_comment-snoc, IsBlank-snoc}
-use Rattle.pb_proof.specs.Machine.Transition.{enter, between, pass, spell, meets, words_of, behind, step_front}
+use Rattle.pb_proof.specs.Machine.Transition.{enter, between, pass, spell, meets, words_of, behind, step_keyword}
 use Rattle.pb_proof.specs.Proofs.{IsGap}
 use Rattle.pb_proof.specs.Machine.State.{ProofState, proofs, at, idle, act, is_within, HasGaps}
-use Rattle.pb_proof.specs.declared.machine.phase.Front.{Front}
-use Rattle.pb_proof.specs.declared.machine.phase.Front.TheVariants as front
+use Rattle.pb_proof.specs.declared.machine.phase.Keyword.{Keyword}
+use Rattle.pb_proof.specs.declared.machine.phase.Keyword.TheVariants as keyword
 use Rattle.pb_proof.specs.declared.machine.phase.Stage.{Stage}
 use Rattle.pb_proof.specs.declared.machine.phase.Stage.TheVariants.{Opening, Formula, Steps, Claim, Closing, Complete}
 use Rattle.pb_proof.specs.declared.machine.phase.Phase.TheVariants as phase
@@ -34,27 +34,27 @@ abbrev pub Inside : Move → Type 0
 Inside (move.To p) = is_within p ≡ true
 Inside _ = Unit {0}
 
-behind_inside : (f : Front) → Inside (behind f)
-behind_inside front.Header = refl
-behind_inside front.Formula = tt
-behind_inside front.Pol = tt
-behind_inside front.Rup = tt
-behind_inside front.Solution = refl
-behind_inside front.Delete = tt
-behind_inside front.Output = refl
-behind_inside front.Conclusion = tt
-behind_inside front.End = tt
+behind_inside : (f : Keyword) → Inside (behind f)
+behind_inside keyword.Header = refl
+behind_inside keyword.Formula = tt
+behind_inside keyword.Pol = tt
+behind_inside keyword.Rup = tt
+behind_inside keyword.Solution = refl
+behind_inside keyword.Delete = tt
+behind_inside keyword.Output = refl
+behind_inside keyword.Conclusion = tt
+behind_inside keyword.End = tt
 
-pub spell_inside : (f : Front) (k b : ℕ) (other : Move) → Inside other → Inside (spell f k b other)
+pub spell_inside : (f : Keyword) (k b : ℕ) (other : Move) → Inside other → Inside (spell f k b other)
 spell_inside f k b other h = chosen Inside (meets (slice_index (words_of f) k) b) _ _
     (λ _. chosen Inside (nat_eq (k + 1) (length (words_of f))) _ _ (λ _. behind_inside f) (λ _. refl)) (λ _. h)
 
 pub enter_inside : (s : Stage) (b : ℕ) → Inside (enter s b)
-enter_inside Opening b = spell_inside front.Header 0 b move.Stop tt
-enter_inside Formula b = spell_inside front.Formula 0 b move.Stop tt
-enter_inside Steps b = spell_inside (step_front b) 0 b move.Stop tt
-enter_inside Claim b = spell_inside front.Conclusion 0 b move.Stop tt
-enter_inside Closing b = spell_inside front.End 0 b move.Stop tt
+enter_inside Opening b = spell_inside keyword.Header 0 b move.Stop tt
+enter_inside Formula b = spell_inside keyword.Formula 0 b move.Stop tt
+enter_inside Steps b = spell_inside (step_keyword b) 0 b move.Stop tt
+enter_inside Claim b = spell_inside keyword.Conclusion 0 b move.Stop tt
+enter_inside Closing b = spell_inside keyword.End 0 b move.Stop tt
 enter_inside Complete b = tt
 
 module _ (limit top : ℕ) (s : Stage) (gaps : HasGaps s) where

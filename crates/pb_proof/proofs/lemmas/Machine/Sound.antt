@@ -11,18 +11,18 @@ use Rattle.pb_text.specs.Languages.{Language, ◌⋅◌, Bytes, Blanks0}
 use Rattle.pb_text.specs.Spelling.{Letter, plain}
 use Rattle.pb_text.proofs.Languages.{grown, none_yet}
 use Rattle.pb_text.proofs.Walking.{Walks, walks_more, ends_walk, On, Keeps, told}
-use Rattle.pb_proof.specs.Line.Machine.{inners, inner_first, SpellsRest}
+use Rattle.pb_proof.specs.Line.Machine.{line_automaton, line_first, SpellsRest}
 use Rattle.pb_proof.specs.Lines.{f_word, pol_word, rup_word, soli_word, solx_word, conclusion_word, SpellsStatement}
-use Rattle.pb_proof.specs.Machine.Transition.{words_of, sol_word, behind, meets, spell, step_front, enter, pass, between, plan}
+use Rattle.pb_proof.specs.Machine.Transition.{words_of, sol_word, behind, meets, spell, step_keyword, enter, pass, between, plan}
 use Rattle.pb_proof.specs.Order.{stage_of, stage_after}
-use Rattle.pb_proof.specs.Machine.State.{ProofState, proofs, idle, stage_behind, over, step_inner, act, asked}
-use Rattle.pb_proof.specs.declared.line.Inner.{Inner}
-use Rattle.pb_proof.specs.declared.machine.phase.Front.{Front}
-use Rattle.pb_proof.specs.declared.machine.phase.Front.TheVariants as front
+use Rattle.pb_proof.specs.Machine.State.{ProofState, proofs, idle, stage_behind, over, step_line, act, asked}
+use Rattle.pb_proof.specs.declared.line.LineMachine.{LineMachine}
+use Rattle.pb_proof.specs.declared.machine.phase.Keyword.{Keyword}
+use Rattle.pb_proof.specs.declared.machine.phase.Keyword.TheVariants as keyword
 use Rattle.pb_proof.specs.declared.machine.phase.Stage.{Stage}
 use Rattle.pb_proof.specs.declared.machine.phase.Stage.TheVariants.{Opening, Formula, Steps, Claim, Closing, Complete}
-use Rattle.pb_proof.specs.declared.machine.phase.Rest.{Rest}
-use Rattle.pb_proof.specs.declared.machine.phase.Rest.TheVariants as rest
+use Rattle.pb_proof.specs.declared.machine.phase.LineKind.{LineKind}
+use Rattle.pb_proof.specs.declared.machine.phase.LineKind.TheVariants as kind
 use Rattle.pb_proof.specs.declared.machine.phase.Phase.{Phase}
 use Rattle.pb_proof.specs.declared.machine.phase.Phase.TheVariants as phase
 use Rattle.pb_proof.specs.declared.machine.phase.Move.{Move}
@@ -30,32 +30,32 @@ use Rattle.pb_proof.specs.declared.machine.phase.Move.TheVariants as move
 use Rattle.pb_proof.specs.declared.statement.Statement.{Statement}
 use Rattle.pb_proof.specs.declared.statement.Statement as statement
 use Rattle.pb_proof.proofs.lemmas.Choices.{never, chosen, both}
-use Rattle.pb_proof.proofs.lemmas.Line.Laws.{inner_only, inner_begins, inner_fresh}
+use Rattle.pb_proof.proofs.lemmas.Line.Laws.{line_only, line_begins, line_fresh}
 use Rattle.pb_proof.proofs.lemmas.Line.Ends.{as_unmarked, Gapped, Closing as Closed, blank_more, semicolon_behind_blanks, blank_closing, line_behind_blanks, line_closing, feed_behind_blanks}
-use Rattle.pb_proof.proofs.lemmas.Spaced.{Spaced, one_met, spaced_more, spaced_blank, FrontWords, front_only}
+use Rattle.pb_proof.proofs.lemmas.Spaced.{Spaced, one_met, spaced_more, spaced_blank, KeywordWords, keyword_only}
 
 -- the stage of the words that a statement begins with, and of what stands behind them
-abbrev pub stage_front : Front → Stage
-stage_front front.Header = Opening
-stage_front front.Formula = Formula
-stage_front front.Conclusion = Claim
-stage_front front.End = Closing
-stage_front _ = Steps
+abbrev pub stage_keyword : Keyword → Stage
+stage_keyword keyword.Header = Opening
+stage_keyword keyword.Formula = Formula
+stage_keyword keyword.Conclusion = Claim
+stage_keyword keyword.End = Closing
+stage_keyword _ = Steps
 
-abbrev pub stage_rest : Rest → Stage
-stage_rest rest.Count = Formula
-stage_rest rest.Claimed = Claim
+abbrev pub stage_rest : LineKind → Stage
+stage_rest kind.Count = Formula
+stage_rest kind.Conclusion = Claim
 stage_rest _ = Steps
 
 -- the words before what is given to a machine of its own
-abbrev pub Before : Rest → Language
-Before rest.Count = Bytes f_word
-Before rest.Words = Bytes pol_word
-Before rest.Goal = Bytes rup_word
-Before rest.Improving = Bytes soli_word
-Before rest.Excluded = Bytes solx_word
-Before rest.Deleted = FrontWords front.Delete
-Before rest.Claimed = Bytes conclusion_word
+abbrev pub Before : LineKind → Language
+Before kind.Count = Bytes f_word
+Before kind.Pol = Bytes pol_word
+Before kind.Rup = Bytes rup_word
+Before kind.Soli = Bytes soli_word
+Before kind.Solx = Bytes solx_word
+Before kind.Delete = KeywordWords keyword.Delete
+Before kind.Conclusion = Bytes conclusion_word
 
 -- words, letter by letter
 word_further : (w : List ℕ) (k : ℕ) (l : Letter) (p : List Letter) → k < length w → meets (slice_index w k) l.byte ≡ true → l.numeral ≡ false
@@ -81,12 +81,12 @@ module _ (limit top : ℕ) (here : Stage) where
   abbrev pub front_of : ProofState → Phase → Language
   front_of s (phase.Between at) = λ p. (at ≡ here) × (p ≡ []) × (s.inner ≡ None)
   front_of s (phase.Comment at) = λ p. ⊥
-  front_of s (phase.Spelling f k) = λ p. (stage_front f ≡ here) × (0 < k) × (k < length (words_of f)) × Spaced (take k (words_of f)) p × (s.inner ≡ None)
+  front_of s (phase.Spelling f k) = λ p. (stage_keyword f ≡ here) × (0 < k) × (k < length (words_of f)) × Spaced (take k (words_of f)) p × (s.inner ≡ None)
   front_of s phase.Solution = λ p. (Steps ≡ here) × Bytes sol_word p × (s.inner ≡ None)
-  front_of s phase.HeaderEnd = λ p. (Opening ≡ here) × Gapped (FrontWords front.Header) p × (s.inner ≡ None)
-  front_of s (phase.OutputEnd true) = λ p. (Steps ≡ here) × Gapped (FrontWords front.Output) p × (s.inner ≡ None)
-  front_of s (phase.OutputEnd false) = λ p. (Steps ≡ here) × Closed (FrontWords front.Output) p × (s.inner ≡ None)
-  front_of s (phase.Inside r) = λ p. (stage_rest r ≡ here) × ((i : Inner) × (s.inner ≡ Some i) × (Before r ⋅ (λ q. Walks inners (inner_first limit top r) q i)) p)
+  front_of s phase.HeaderEnd = λ p. (Opening ≡ here) × Gapped (KeywordWords keyword.Header) p × (s.inner ≡ None)
+  front_of s (phase.OutputEnd true) = λ p. (Steps ≡ here) × Gapped (KeywordWords keyword.Output) p × (s.inner ≡ None)
+  front_of s (phase.OutputEnd false) = λ p. (Steps ≡ here) × Closed (KeywordWords keyword.Output) p × (s.inner ≡ None)
+  front_of s (phase.Inside r) = λ p. (stage_rest r ≡ here) × ((i : LineMachine) × (s.inner ≡ Some i) × (Before r ⋅ (λ q. Walks line_automaton (line_first limit top r) q i)) p)
 
   abbrev pub Known : ProofState → Type 0
   Known s = (s.limit ≡ limit) × (s.top ≡ top)
@@ -102,22 +102,22 @@ module _ (limit top : ℕ) (here : Stage) where
   same_idle l t a b e f g = rw (e, f, g) refl
 
   -- What stands behind the words makes a statement with them.
-  rest_statement : (r : Rest) (e : Statement) (t : List Letter) → (Before r ⋅ SpellsRest limit top r e) t
+  rest_statement : (r : LineKind) (e : Statement) (t : List Letter) → (Before r ⋅ SpellsRest limit top r e) t
       → (stage_of e ≡ stage_rest r) × SpellsStatement limit top e t × (stage_behind r ≡ stage_after e)
-  rest_statement rest.Count (statement.TheVariants.F c) t h = (refl, h, refl)
-  rest_statement rest.Count _ t h = absurd h.4
-  rest_statement rest.Words (statement.TheVariants.Pol c) t h = (refl, h, refl)
-  rest_statement rest.Words _ t h = absurd h.4
-  rest_statement rest.Goal (statement.TheVariants.Rup c) t h = (refl, h, refl)
-  rest_statement rest.Goal _ t h = absurd h.4
-  rest_statement rest.Improving (statement.TheVariants.Soli c) t h = (refl, h, refl)
-  rest_statement rest.Improving _ t h = absurd h.4
-  rest_statement rest.Excluded (statement.TheVariants.Solx c) t h = (refl, h, refl)
-  rest_statement rest.Excluded _ t h = absurd h.4
-  rest_statement rest.Deleted (statement.TheVariants.Delete c) t h = (refl, h, refl)
-  rest_statement rest.Deleted _ t h = absurd h.4
-  rest_statement rest.Claimed (statement.TheVariants.Conclude c) t h = (refl, h, refl)
-  rest_statement rest.Claimed _ t h = absurd h.4
+  rest_statement kind.Count (statement.TheVariants.F c) t h = (refl, h, refl)
+  rest_statement kind.Count _ t h = absurd h.4
+  rest_statement kind.Pol (statement.TheVariants.Pol c) t h = (refl, h, refl)
+  rest_statement kind.Pol _ t h = absurd h.4
+  rest_statement kind.Rup (statement.TheVariants.Rup c) t h = (refl, h, refl)
+  rest_statement kind.Rup _ t h = absurd h.4
+  rest_statement kind.Soli (statement.TheVariants.Soli c) t h = (refl, h, refl)
+  rest_statement kind.Soli _ t h = absurd h.4
+  rest_statement kind.Solx (statement.TheVariants.Solx c) t h = (refl, h, refl)
+  rest_statement kind.Solx _ t h = absurd h.4
+  rest_statement kind.Delete (statement.TheVariants.Delete c) t h = (refl, h, refl)
+  rest_statement kind.Delete _ t h = absurd h.4
+  rest_statement kind.Conclusion (statement.TheVariants.Conclude c) t h = (refl, h, refl)
+  rest_statement kind.Conclusion _ t h = absurd h.4
 
   module _ (s : ProofState) (l : Letter) (p : List Letter) (k : Known s) where
     -- what is known of an outcome, and after a move
@@ -127,48 +127,48 @@ module _ (limit top : ℕ) (here : Stage) where
     abbrev After : Move → Type 0
     After m = Leaves (act s l.byte m)
 
-    plain_letter : s.inner ≡ None → l.numeral ≡ asked false inners.in_number s.inner → l.numeral ≡ false
-    plain_letter e n = n ∙ ap (asked false inners.in_number) e
+    plain_letter : s.inner ≡ None → l.numeral ≡ asked false line_automaton.in_number s.inner → l.numeral ≡ false
+    plain_letter e n = n ∙ ap (asked false line_automaton.in_number) e
 
     -- a machine of what stands behind the words begins
-    begins : (r : Rest) → stage_rest r ≡ here → (l.numeral ≡ false → Before r (p ++ l ∷ [])) → After (move.Begin r)
+    begins : (r : LineKind) → stage_rest r ≡ here → (l.numeral ≡ false → Before r (p ++ l ∷ [])) → After (move.Begin r)
     begins r at h = λ w n.
-        let plain : l.numeral ≡ false = n ∙ (inner_fresh s.limit s.top r).2 in (
+        let plain : l.numeral ≡ false = n ∙ (line_fresh s.limit s.top r).2 in (
           k,
           (
             at,
             (
-              inner_first s.limit s.top r,
+              line_first s.limit s.top r,
               refl,
-              none_yet (Before r) (λ q. Walks inners (inner_first limit top r) q (inner_first s.limit s.top r)) (p ++ l ∷ [])
-                  (ap (λ x. inner_first x s.top r) k.0 ∙ ap (λ x. inner_first limit x r) k.1) (h plain),
+              none_yet (Before r) (λ q. Walks line_automaton (line_first limit top r) q (line_first s.limit s.top r)) (p ++ l ∷ [])
+                  (ap (λ x. line_first x s.top r) k.0 ∙ ap (λ x. line_first limit x r) k.1) (h plain),
             ),
           ),
         )
 
     -- all words have been read
-    whole : s.inner ≡ None → (f : Front) → stage_front f ≡ here → (l.numeral ≡ false → FrontWords f (p ++ l ∷ [])) → After (behind f)
-    whole o front.Header at h = λ w n. (k, (at, none_yet (FrontWords front.Header) Blanks0 (p ++ l ∷ []) ([], tt, refl) (h (plain_letter o n)), o))
-    whole o front.Formula at h = begins rest.Count at h
-    whole o front.Pol at h = begins rest.Words at h
-    whole o front.Rup at h = begins rest.Goal at h
-    whole o front.Solution at h = λ w n. (k, (at, h (plain_letter o n), o))
-    whole o front.Delete at h = begins rest.Deleted at h
-    whole o front.Output at h = λ w n. (k, (at, none_yet (FrontWords front.Output) Blanks0 (p ++ l ∷ []) ([], tt, refl) (h (plain_letter o n)), o))
-    whole o front.Conclusion at h = begins rest.Claimed at h
-    whole o front.End at h = λ n. (at, h n, same_idle s.limit s.top Complete Complete k.0 k.1 refl)
+    whole : s.inner ≡ None → (f : Keyword) → stage_keyword f ≡ here → (l.numeral ≡ false → KeywordWords f (p ++ l ∷ [])) → After (behind f)
+    whole o keyword.Header at h = λ w n. (k, (at, none_yet (KeywordWords keyword.Header) Blanks0 (p ++ l ∷ []) ([], tt, refl) (h (plain_letter o n)), o))
+    whole o keyword.Formula at h = begins kind.Count at h
+    whole o keyword.Pol at h = begins kind.Pol at h
+    whole o keyword.Rup at h = begins kind.Rup at h
+    whole o keyword.Solution at h = λ w n. (k, (at, h (plain_letter o n), o))
+    whole o keyword.Delete at h = begins kind.Delete at h
+    whole o keyword.Output at h = λ w n. (k, (at, none_yet (KeywordWords keyword.Output) Blanks0 (p ++ l ∷ []) ([], tt, refl) (h (plain_letter o n)), o))
+    whole o keyword.Conclusion at h = begins kind.Conclusion at h
+    whole o keyword.End at h = λ n. (at, h n, same_idle s.limit s.top Complete Complete k.0 k.1 refl)
 
     -- the next byte of the words
-    spells : s.inner ≡ None → (f : Front) → stage_front f ≡ here → (j : ℕ) → j < length (words_of f) → Spaced (take j (words_of f)) p → (other : Move) → After other
+    spells : s.inner ≡ None → (f : Keyword) → stage_keyword f ≡ here → (j : ℕ) → j < length (words_of f) → Spaced (take j (words_of f)) p → (other : Move) → After other
         → After (spell f j l.byte other)
     spells o f at j h q other else = chosen After (meets (slice_index (words_of f) j) l.byte) _ _
         (λ e. chosen After (nat_eq (j + 1) (length (words_of f))) _ _
-        (λ g. whole o f at (λ n. front_only f (p ++ l ∷ [])
+        (λ g. whole o f at (λ n. keyword_only f (p ++ l ∷ [])
         (subst (λ x. Spaced x (p ++ l ∷ [])) (take_all (j + 1) (words_of f) (omega (arith, eqb-true (j + 1) (length (words_of f)) g))) (word_further (words_of f) j l p h e n q))))
         (λ g w n. (k, (at, omega arith, further j (length (words_of f)) h g, word_further (words_of f) j l p h e (plain_letter o n) q, o))))
         (λ _. else)
 
-    spelling : (f : Front) (j : ℕ) → stage_front f ≡ here → 0 < j → j < length (words_of f) → Spaced (take j (words_of f)) p → s.inner ≡ None
+    spelling : (f : Keyword) (j : ℕ) → stage_keyword f ≡ here → 0 < j → j < length (words_of f) → Spaced (take j (words_of f)) p → s.inner ≡ None
         → After (plan (phase.Spelling f j) l.byte)
     spelling f j at some h q o = spells o f at j h q _
         (chosen After (is_blank l.byte && nat_eq (slice_index (words_of f) (j - 1)) 32) _ _
@@ -177,32 +177,32 @@ module _ (limit top : ℕ) (here : Stage) where
         (k, (at, some, h, word_blank (words_of f) j l p some h g.1 g.0 (plain_letter o n) q, o)))
         (λ _. tt))
 
-    first : s.inner ≡ None → p ≡ [] → (f : Front) → stage_front f ≡ here → After (spell f 0 l.byte move.Stop)
+    first : s.inner ≡ None → p ≡ [] → (f : Keyword) → stage_keyword f ≡ here → After (spell f 0 l.byte move.Stop)
     first o e f at = spells o f at 0 (some_byte f) e move.Stop tt
       where
-        some_byte : (g : Front) → 0 < length (words_of g)
-        some_byte front.Header = omega arith
-        some_byte front.Formula = omega arith
-        some_byte front.Pol = omega arith
-        some_byte front.Rup = omega arith
-        some_byte front.Solution = omega arith
-        some_byte front.Delete = omega arith
-        some_byte front.Output = omega arith
-        some_byte front.Conclusion = omega arith
-        some_byte front.End = omega arith
+        some_byte : (g : Keyword) → 0 < length (words_of g)
+        some_byte keyword.Header = omega arith
+        some_byte keyword.Formula = omega arith
+        some_byte keyword.Pol = omega arith
+        some_byte keyword.Rup = omega arith
+        some_byte keyword.Solution = omega arith
+        some_byte keyword.Delete = omega arith
+        some_byte keyword.Output = omega arith
+        some_byte keyword.Conclusion = omega arith
+        some_byte keyword.End = omega arith
 
-    step_stage : (b : ℕ) → stage_front (step_front b) ≡ Steps
+    step_stage : (b : ℕ) → stage_keyword (step_keyword b) ≡ Steps
     step_stage b = chosen P (nat_eq b 112) _ _ (λ _. refl) (λ _. chosen P (nat_eq b 114) _ _ (λ _. refl) (λ _. chosen P (nat_eq b 115) _ _ (λ _. refl) (λ _. chosen P (nat_eq b 100) _ _ (λ _. refl) (λ _. refl))))
       where
-        P : Front → Type 0
-        P f = stage_front f ≡ Steps
+        P : Keyword → Type 0
+        P f = stage_keyword f ≡ Steps
 
     enters : (at : Stage) → at ≡ here → p ≡ [] → s.inner ≡ None → After (enter at l.byte)
-    enters Opening at e o = first o e front.Header at
-    enters Formula at e o = first o e front.Formula at
-    enters Steps at e o = first o e (step_front l.byte) (step_stage l.byte ∙ at)
-    enters Claim at e o = first o e front.Conclusion at
-    enters Closing at e o = first o e front.End at
+    enters Opening at e o = first o e keyword.Header at
+    enters Formula at e o = first o e keyword.Formula at
+    enters Steps at e o = first o e (step_keyword l.byte) (step_stage l.byte ∙ at)
+    enters Claim at e o = first o e keyword.Conclusion at
+    enters Closing at e o = first o e keyword.End at
     enters Complete at e o = tt
 
     passes : (at : Stage) → at ≡ here → p ≡ [] → s.inner ≡ None → After (pass at l.byte)
@@ -221,37 +221,37 @@ module _ (limit top : ℕ) (here : Stage) where
     -- `i` or `x` behind `sol`
     logged : Steps ≡ here → Bytes sol_word p → After (plan phase.Solution l.byte)
     logged at e = chosen After (nat_eq l.byte 105) _ _
-        (λ h. begins rest.Improving at (λ n. ap (λ x. x ++ l ∷ []) e ∙ ap (λ x. plain sol_word ++ x ∷ []) (as_unmarked l 105 (eqb-true l.byte 105 h) n)))
+        (λ h. begins kind.Soli at (λ n. ap (λ x. x ++ l ∷ []) e ∙ ap (λ x. plain sol_word ++ x ∷ []) (as_unmarked l 105 (eqb-true l.byte 105 h) n)))
         (λ _. chosen After (nat_eq l.byte 120) _ _
-        (λ h. begins rest.Excluded at (λ n. ap (λ x. x ++ l ∷ []) e ∙ ap (λ x. plain sol_word ++ x ∷ []) (as_unmarked l 120 (eqb-true l.byte 120 h) n)))
+        (λ h. begins kind.Solx at (λ n. ap (λ x. x ++ l ∷ []) e ∙ ap (λ x. plain sol_word ++ x ∷ []) (as_unmarked l 120 (eqb-true l.byte 120 h) n)))
         (λ _. tt))
 
-    header_ends : Opening ≡ here → Gapped (FrontWords front.Header) p → s.inner ≡ None → After (plan phase.HeaderEnd l.byte)
+    header_ends : Opening ≡ here → Gapped (KeywordWords keyword.Header) p → s.inner ≡ None → After (plan phase.HeaderEnd l.byte)
     header_ends at h o = chosen After (is_blank l.byte) _ _
-        (λ e w n. (k, (at, blank_more (FrontWords front.Header) l p e (plain_letter o n) h, o)))
+        (λ e w n. (k, (at, blank_more (KeywordWords keyword.Header) l p e (plain_letter o n) h, o)))
         (λ _. chosen After (nat_eq l.byte 10) _ _
-        (λ e n. (at, feed_behind_blanks (FrontWords front.Header) l p (eqb-true l.byte 10 e) n h, same_idle s.limit s.top Formula Formula k.0 k.1 refl))
+        (λ e n. (at, feed_behind_blanks (KeywordWords keyword.Header) l p (eqb-true l.byte 10 e) n h, same_idle s.limit s.top Formula Formula k.0 k.1 refl))
         (λ _. tt))
 
     output_ends : (may : Bool) → front_of s (phase.OutputEnd may) p → After (plan (phase.OutputEnd may) l.byte)
     output_ends true (at, h, o) = chosen After (is_blank l.byte) _ _
-        (λ e w n. (k, (at, blank_more (FrontWords front.Output) l p e (plain_letter o n) h, o)))
+        (λ e w n. (k, (at, blank_more (KeywordWords keyword.Output) l p e (plain_letter o n) h, o)))
         (λ _. chosen After (nat_eq l.byte 10) _ _
-        (λ e n. (at, line_behind_blanks (FrontWords front.Output) l p (eqb-true l.byte 10 e) n h, same_idle s.limit s.top Claim Claim k.0 k.1 refl))
+        (λ e n. (at, line_behind_blanks (KeywordWords keyword.Output) l p (eqb-true l.byte 10 e) n h, same_idle s.limit s.top Claim Claim k.0 k.1 refl))
         (λ _. chosen After (nat_eq l.byte 59 && true) _ _
-        (λ e w n. (k, (at, semicolon_behind_blanks (FrontWords front.Output) l p (eqb-true l.byte 59 (both (nat_eq l.byte 59) true e).0) (plain_letter o n) h, o)))
+        (λ e w n. (k, (at, semicolon_behind_blanks (KeywordWords keyword.Output) l p (eqb-true l.byte 59 (both (nat_eq l.byte 59) true e).0) (plain_letter o n) h, o)))
         (λ _. tt)))
     output_ends false (at, h, o) = chosen After (is_blank l.byte) _ _
-        (λ e w n. (k, (at, blank_closing (FrontWords front.Output) l p e (plain_letter o n) h, o)))
+        (λ e w n. (k, (at, blank_closing (KeywordWords keyword.Output) l p e (plain_letter o n) h, o)))
         (λ _. chosen After (nat_eq l.byte 10) _ _
-        (λ e n. (at, line_closing (FrontWords front.Output) l p (eqb-true l.byte 10 e) n h, same_idle s.limit s.top Claim Claim k.0 k.1 refl))
+        (λ e n. (at, line_closing (KeywordWords keyword.Output) l p (eqb-true l.byte 10 e) n h, same_idle s.limit s.top Claim Claim k.0 k.1 refl))
         (λ _. chosen After (nat_eq l.byte 59 && false) _ _
         (λ e. never false (both (nat_eq l.byte 59) false e).1 refl)
         (λ _. tt)))
 
     -- what the machine behind the words does
-    given : (r : Rest) → stage_rest r ≡ here → (i : Inner) → (Before r ⋅ (λ q. Walks inners (inner_first limit top r) q i)) p → (x : Next Inner Statement)
-        → inners.step i l.byte ≡ x → Leaves (over s r x)
+    given : (r : LineKind) → stage_rest r ≡ here → (i : LineMachine) → (Before r ⋅ (λ q. Walks line_automaton (line_first limit top r) q i)) p → (x : Next LineMachine Statement)
+        → line_automaton.step i l.byte ≡ x → Leaves (over s r x)
     given r at i h (Go inner) e = λ w n. (
       k,
       (
@@ -259,22 +259,22 @@ module _ (limit top : ℕ) (here : Stage) where
         (
           inner,
           refl,
-          grown (Before r) (λ q. Walks inners (inner_first limit top r) q i) (λ q. Walks inners (inner_first limit top r) q inner) p l
-              (λ q g. walks_more inners q l (inner_first limit top r) i inner g e (inner_begins i inner l.byte e) n) h,
+          grown (Before r) (λ q. Walks line_automaton (line_first limit top r) q i) (λ q. Walks line_automaton (line_first limit top r) q inner) p l
+              (λ q g. walks_more line_automaton q l (line_first limit top r) i inner g e (line_begins i inner l.byte e) n) h,
         ),
       ),
     )
     given r at i h (End e last) f = λ n.
         let t : (Before r ⋅ SpellsRest limit top r e) (p ++ l ∷ []) =
-        grown (Before r) (λ q. Walks inners (inner_first limit top r) q i) (SpellsRest limit top r e) p l
-        (λ q g. inner_only limit top r (q ++ l ∷ []) e last (ends_walk inners q l (inner_first limit top r) i last e g f n)) h in
+        grown (Before r) (λ q. Walks line_automaton (line_first limit top r) q i) (SpellsRest limit top r e) p l
+        (λ q g. line_only limit top r (q ++ l ∷ []) e last (ends_walk line_automaton q l (line_first limit top r) i last e g f n)) h in
         let z = rest_statement r e (p ++ l ∷ []) t in
         (z.0 ∙ at, z.1, same_idle s.limit s.top (stage_behind r) (stage_after e) k.0 k.1 z.2)
     given r at i h Refuse e = tt
 
-    inside : (r : Rest) → stage_rest r ≡ here → (i : Inner) → s.inner ≡ Some i → (Before r ⋅ (λ q. Walks inners (inner_first limit top r) q i)) p → After (plan (phase.Inside r) l.byte)
+    inside : (r : LineKind) → stage_rest r ≡ here → (i : LineMachine) → s.inner ≡ Some i → (Before r ⋅ (λ q. Walks line_automaton (line_first limit top r) q i)) p → After (plan (phase.Inside r) l.byte)
     inside r at i e h =
-        subst (λ x. Leaves (over s r (step_inner x l.byte))) (sym e) (given r at i h (inners.step i l.byte) refl)
+        subst (λ x. Leaves (over s r (step_line x l.byte))) (sym e) (given r at i h (line_automaton.step i l.byte) refl)
 
     sound : (q : Phase) → front_of s q p → After (plan q l.byte)
     sound (phase.Between at) h = between_two at h.0 h.1 h.2

@@ -5,22 +5,22 @@ use Rattle.std.specs.Prelude.{IsTrue, nat_eq, slice_index}
 use Rattle.pb_text.specs.Automaton.{Next, Go, End, Refuse, Admits, IsState}
 use Rattle.pb_text.specs.Classes.{is_blank, is_white}
 use Rattle.pb_text.proofs.Residual.{refuses}
-use Rattle.pb_proof.specs.Line.Machine.{inners, inner_first}
-use Rattle.pb_proof.specs.Machine.Transition.{words_of, behind, meets, spell, step_front, enter, pass, between, plan}
-use Rattle.pb_proof.specs.Machine.State.{ProofState, proofs, at, idle, giving, stage_behind, over, step_inner, act, asked, asks, is_within, is_done, is_complete, HasGaps, PhaseFits, Holds, IsInOrder}
-use Rattle.pb_proof.specs.declared.line.Inner.{Inner}
-use Rattle.pb_proof.specs.declared.machine.phase.Front.{Front}
-use Rattle.pb_proof.specs.declared.machine.phase.Front.TheVariants as front
+use Rattle.pb_proof.specs.Line.Machine.{line_automaton, line_first}
+use Rattle.pb_proof.specs.Machine.Transition.{words_of, behind, meets, spell, step_keyword, enter, pass, between, plan}
+use Rattle.pb_proof.specs.Machine.State.{ProofState, proofs, at, idle, giving, stage_behind, over, step_line, act, asked, asks, is_within, is_done, is_complete, HasGaps, PhaseFits, Holds, IsInOrder}
+use Rattle.pb_proof.specs.declared.line.LineMachine.{LineMachine}
+use Rattle.pb_proof.specs.declared.machine.phase.Keyword.{Keyword}
+use Rattle.pb_proof.specs.declared.machine.phase.Keyword.TheVariants as keyword
 use Rattle.pb_proof.specs.declared.machine.phase.Stage.{Stage}
 use Rattle.pb_proof.specs.declared.machine.phase.Stage.TheVariants.{Opening, Formula, Steps, Claim, Closing, Complete}
-use Rattle.pb_proof.specs.declared.machine.phase.Rest.{Rest}
+use Rattle.pb_proof.specs.declared.machine.phase.LineKind.{LineKind}
 use Rattle.pb_proof.specs.declared.machine.phase.Phase.{Phase}
 use Rattle.pb_proof.specs.declared.machine.phase.Phase.TheVariants as phase
 use Rattle.pb_proof.specs.declared.machine.phase.Move.{Move}
 use Rattle.pb_proof.specs.declared.machine.phase.Move.TheVariants as move
 use Rattle.pb_proof.specs.declared.statement.Statement.{Statement}
 use Rattle.pb_proof.proofs.lemmas.Choices.{never, chosen}
-use Rattle.pb_proof.proofs.lemmas.Line.Laws.{inner_begins, inner_fresh, inner_first_state}
+use Rattle.pb_proof.proofs.lemmas.Line.Laws.{line_begins, line_fresh, line_first_state}
 use Rattle.pb_proof.proofs.lemmas.Living.{admits_before, admits_final, admitted_on}
 use Rattle.pb_proof.proofs.lemmas.Machine.Alive.{live, reading_alive, stage_accepts, example}
 use Rattle.pb_proof.proofs.lemmas.Machine.Exact.{closes}
@@ -46,44 +46,44 @@ OnMove p _ = IsPlain p
 within_on : (p q : Phase) → IsPlain p → is_done q ≡ false → is_within q ≡ true → PhaseFits q → IsPlain q → OnMove p (move.To q)
 within_on p q o d w f n = (o, record { owes = d; stays = λ _. w; fits = f; plain = n })
 
-on_behind : (p : Phase) → IsPlain p → (f : Front) → OnMove p (behind f)
-on_behind p o front.Header = within_on p phase.HeaderEnd o refl refl tt tt
-on_behind p o front.Formula = o
-on_behind p o front.Pol = o
-on_behind p o front.Rup = o
-on_behind p o front.Solution = within_on p phase.Solution o refl refl tt tt
-on_behind p o front.Delete = o
-on_behind p o front.Output = within_on p (phase.OutputEnd true) o refl refl tt tt
-on_behind p o front.Conclusion = o
-on_behind p o front.End = o
+on_behind : (p : Phase) → IsPlain p → (f : Keyword) → OnMove p (behind f)
+on_behind p o keyword.Header = within_on p phase.HeaderEnd o refl refl tt tt
+on_behind p o keyword.Formula = o
+on_behind p o keyword.Pol = o
+on_behind p o keyword.Rup = o
+on_behind p o keyword.Solution = within_on p phase.Solution o refl refl tt tt
+on_behind p o keyword.Delete = o
+on_behind p o keyword.Output = within_on p (phase.OutputEnd true) o refl refl tt tt
+on_behind p o keyword.Conclusion = o
+on_behind p o keyword.End = o
 
 further : (k size : ℕ) → k < size → nat_eq (k + 1) size ≡ false → k + 1 < size
 further k size h e = grind (arith, nat_tests)
 
-on_spell : (p : Phase) → IsPlain p → (f : Front) (k b : ℕ) (other : Move) → k < length (words_of f) → OnMove p other → OnMove p (spell f k b other)
+on_spell : (p : Phase) → IsPlain p → (f : Keyword) (k b : ℕ) (other : Move) → k < length (words_of f) → OnMove p other → OnMove p (spell f k b other)
 on_spell p o f k b other h i = chosen (OnMove p) (meets (slice_index (words_of f) k) b) _ _
     (λ _. chosen (OnMove p) (nat_eq (k + 1) (length (words_of f))) _ _
     (λ _. on_behind p o f)
     (λ e. within_on p (phase.Spelling f (k + 1)) o refl refl (omega arith, further k (length (words_of f)) h e) tt))
     (λ _. i)
 
-some_byte : (f : Front) → 0 < length (words_of f)
-some_byte front.Header = omega arith
-some_byte front.Formula = omega arith
-some_byte front.Pol = omega arith
-some_byte front.Rup = omega arith
-some_byte front.Solution = omega arith
-some_byte front.Delete = omega arith
-some_byte front.Output = omega arith
-some_byte front.Conclusion = omega arith
-some_byte front.End = omega arith
+some_byte : (f : Keyword) → 0 < length (words_of f)
+some_byte keyword.Header = omega arith
+some_byte keyword.Formula = omega arith
+some_byte keyword.Pol = omega arith
+some_byte keyword.Rup = omega arith
+some_byte keyword.Solution = omega arith
+some_byte keyword.Delete = omega arith
+some_byte keyword.Output = omega arith
+some_byte keyword.Conclusion = omega arith
+some_byte keyword.End = omega arith
 
 on_enter : (p : Phase) → IsPlain p → (s : Stage) (b : ℕ) → OnMove p (enter s b)
-on_enter p o Opening b = on_spell p o front.Header 0 b move.Stop (some_byte front.Header) o
-on_enter p o Formula b = on_spell p o front.Formula 0 b move.Stop (some_byte front.Formula) o
-on_enter p o Steps b = on_spell p o (step_front b) 0 b move.Stop (some_byte (step_front b)) o
-on_enter p o Claim b = on_spell p o front.Conclusion 0 b move.Stop (some_byte front.Conclusion) o
-on_enter p o Closing b = on_spell p o front.End 0 b move.Stop (some_byte front.End) o
+on_enter p o Opening b = on_spell p o keyword.Header 0 b move.Stop (some_byte keyword.Header) o
+on_enter p o Formula b = on_spell p o keyword.Formula 0 b move.Stop (some_byte keyword.Formula) o
+on_enter p o Steps b = on_spell p o (step_keyword b) 0 b move.Stop (some_byte (step_keyword b)) o
+on_enter p o Claim b = on_spell p o keyword.Conclusion 0 b move.Stop (some_byte keyword.Conclusion) o
+on_enter p o Closing b = on_spell p o keyword.End 0 b move.Stop (some_byte keyword.End) o
 on_enter p o Complete b = o
 
 gaps_incomplete : (s : Stage) → HasGaps s → is_complete s ≡ false
@@ -168,16 +168,16 @@ On s (Go next) = Goes s next
 On s (End e next) = proofs.begun next ≡ false
 On s Refuse = Unit {0}
 
-first_spent : (s : ProofState) → IsInOrder s → (r : Rest) → inners.spent (inner_first s.limit s.top r) ≡ 0
-first_spent s h r = (inner_first_state s.limit s.top h.limit h.top h.some r).empties (inner_fresh s.limit s.top r).1
+first_spent : (s : ProofState) → IsInOrder s → (r : LineKind) → line_automaton.spent (line_first s.limit s.top r) ≡ 0
+first_spent s h r = (line_first_state s.limit s.top h.limit h.top h.some r).empties (line_fresh s.limit s.top r).1
 
-on_given : (s : ProofState) (r : Rest) (b : ℕ) (i : Inner) → s.inner ≡ Some i → IsState inners i → (n : Next Inner Statement) → inners.step i b ≡ n → On s (over s r n)
+on_given : (s : ProofState) (r : LineKind) (b : ℕ) (i : LineMachine) → s.inner ≡ Some i → IsState line_automaton i → (n : Next LineMachine Statement) → line_automaton.step i b ≡ n → On s (over s r n)
 on_given s r b i h state (Go inner) e = record { owes = refl; stays = λ w. refl; grows = rw h (state.grows b inner e) }
 on_given s r b i h state (End x last) e = refl
 on_given s r b i h state Refuse e = tt
 
 -- what stands behind the words, where it is given a byte
-pub inside_of : (s : ProofState) (p : Phase) (r : Rest) → p ≡ phase.Inside r → Holds s p → (i : Inner) × (s.inner ≡ Some i) × (inners.done i ≡ false) × IsState inners i
+pub inside_of : (s : ProofState) (p : Phase) (r : LineKind) → p ≡ phase.Inside r → Holds s p → (i : LineMachine) × (s.inner ≡ Some i) × (line_automaton.done i ≡ false) × IsState line_automaton i
 inside_of s p r e h = subst (Holds s) e h
 
 on_act : (s : ProofState) → IsInOrder s → (b : ℕ) (m : Move) → OnMove s.phase m → On s (act s b m)
@@ -185,7 +185,7 @@ on_act s h b (move.To q) k = record { owes = k.1.owes; stays = k.1.stays; grows 
 on_act s h b (move.Begin r) k = record { owes = refl; stays = λ w. refl; grows = omega (arith, first_spent s h r) }
 on_act s h b (move.Give r) k =
     let (i, e, d, state) = inside_of s s.phase r k h.holds in
-    subst (λ x. On s (over s r (step_inner x b))) (sym e) (on_given s r b i e state (inners.step i b) refl)
+    subst (λ x. On s (over s r (step_line x b))) (sym e) (on_given s r b i e state (line_automaton.step i b) refl)
 on_act s h b move.EndHeader k = refl
 on_act s h b move.EndOutput k = refl
 on_act s h b move.EndProof k = refl
@@ -213,10 +213,10 @@ is_state s h = record {
   owes = λ b next e. (goes s next b h e).owes;
   stays = λ i b next e. (goes s next b h e).stays i;
   closes = λ b x next e. subst (On s) e (steps s h b);
-  plain = λ o. ap (asked false inners.in_number) (plain_holds s s.phase (outside_plain s.phase o) h.holds);
+  plain = λ o. ap (asked false line_automaton.in_number) (plain_holds s s.phase (outside_plain s.phase o) h.holds);
   grows = λ b next e. (goes s next b h e).grows;
   bounds = kept_within s s.phase h.holds;
-  empties = λ o. ap (asked 0 inners.spent) (plain_holds s s.phase (outside_plain s.phase o) h.holds);
+  empties = λ o. ap (asked 0 line_automaton.spent) (plain_holds s s.phase (outside_plain s.phase o) h.holds);
 }
 
 -- What a byte leaves a machine with.
@@ -225,7 +225,7 @@ module _ (s : ProofState) (h : IsInOrder s) (b : ℕ) where
   known m e = subst (OnMove s.phase) e (on_plan s.phase b h.fits)
 
   -- with no machine behind the words
-  pub at_order : (p : Phase) → IsPlain p → PhaseFits p → (i : Option Inner) → i ≡ None → IsInOrder (record { limit = s.limit; top = s.top; phase = p; inner = i })
+  pub at_order : (p : Phase) → IsPlain p → PhaseFits p → (i : Option LineMachine) → i ≡ None → IsInOrder (record { limit = s.limit; top = s.top; phase = p; inner = i })
   at_order p o f i e = record { limit = h.limit; top = h.top; some = h.some; fits = f; holds = holds_plain (record { limit = s.limit; top = s.top; phase = p; inner = i }) p o e }
 
   pub to_order : (p : Phase) → plan s.phase b ≡ move.To p → IsInOrder (record s { phase = p })
@@ -233,20 +233,20 @@ module _ (s : ProofState) (h : IsInOrder s) (b : ℕ) where
       let k = known (move.To p) e in
       at_order p k.1.plain k.1.fits s.inner (plain_holds s s.phase k.0 h.holds)
 
-  pub begin_order : (r : Rest) → IsInOrder (giving s.limit s.top r (inner_first s.limit s.top r))
+  pub begin_order : (r : LineKind) → IsInOrder (giving s.limit s.top r (line_first s.limit s.top r))
   begin_order r = record {
     limit = h.limit;
     top = h.top;
     some = h.some;
     fits = tt;
-    holds = (inner_first s.limit s.top r, refl, (inner_fresh s.limit s.top r).0, inner_first_state s.limit s.top h.limit h.top h.some r);
+    holds = (line_first s.limit s.top r, refl, (line_fresh s.limit s.top r).0, line_first_state s.limit s.top h.limit h.top h.some r);
   }
 
-  module _ (r : Rest) (planned : plan s.phase b ≡ move.Give r) where
-    pub given : (i : Inner) × (s.inner ≡ Some i) × (inners.done i ≡ false) × IsState inners i
+  module _ (r : LineKind) (planned : plan s.phase b ≡ move.Give r) where
+    pub given : (i : LineMachine) × (s.inner ≡ Some i) × (line_automaton.done i ≡ false) × IsState line_automaton i
     given = inside_of s s.phase r (known (move.Give r) planned) h.holds
 
-    pub give_order : (i inner : Inner) → s.inner ≡ Some i → inners.step i b ≡ Go inner → IsState inners inner → IsInOrder (giving s.limit s.top r inner)
+    pub give_order : (i inner : LineMachine) → s.inner ≡ Some i → line_automaton.step i b ≡ Go inner → IsState line_automaton inner → IsInOrder (giving s.limit s.top r inner)
     give_order i inner e g state =
         let (j, f, d, old) = given in
         let same : i ≡ j = (let z : i ≡ j = some_same i j (sym e ∙ f) in z) in
@@ -255,28 +255,28 @@ module _ (s : ProofState) (h : IsInOrder s) (b : ℕ) where
           top = h.top;
           some = h.some;
           fits = tt;
-          holds = (inner, refl, old.owes b inner (ap (λ x. inners.step x b) (sym same) ∙ g), state);
+          holds = (inner, refl, old.owes b inner (ap (λ x. line_automaton.step x b) (sym same) ∙ g), state);
         }
       where
-        some_same : (x y : Inner) → ◌≡◌ {A = Option Inner} (Some x) (Some y) → x ≡ y
+        some_same : (x y : LineMachine) → ◌≡◌ {A = Option LineMachine} (Some x) (Some y) → x ≡ y
         some_same x y e = cc
 
-    stepped : (i : Inner) → s.inner ≡ Some i → (n : Next Inner Statement) → inners.step i b ≡ n → proofs.step s b ≡ over s r n
-    stepped i e n g = ap (act s b) planned ∙ (ap (λ x. over s r (step_inner x b)) e ∙ ap (over s r) g)
+    stepped : (i : LineMachine) → s.inner ≡ Some i → (n : Next LineMachine Statement) → line_automaton.step i b ≡ n → proofs.step s b ≡ over s r n
+    stepped i e n g = ap (act s b) planned ∙ (ap (λ x. over s r (step_line x b)) e ∙ ap (over s r) g)
 
-    by_step : (i : Inner) → s.inner ≡ Some i → IsState inners i → (n : Next Inner Statement) → inners.step i b ≡ n → Admits inners i b → Admits proofs s b
+    by_step : (i : LineMachine) → s.inner ≡ Some i → IsState line_automaton i → (n : Next LineMachine Statement) → line_automaton.step i b ≡ n → Admits line_automaton i b → Admits proofs s b
     by_step i e old (Go inner) g a =
         admits_before proofs s (giving s.limit s.top r inner) b (stepped i e (Go inner) g) refl
-        (reading_alive s.limit s.top r inner (admitted_on inners inner_begins i inner b g a))
+        (reading_alive s.limit s.top r inner (admitted_on line_automaton line_begins i inner b g a))
     by_step i e old (End x last) g a = admits_final proofs s (idle s.limit s.top (stage_behind r)) b x (stepped i e (End x last) g) (example (stage_behind r)) (stage_accepts s.limit s.top (stage_behind r))
-    by_step i e old Refuse g a = absurd (refuses inners i i b g a.0 a.1 (a.2, a.3))
+    by_step i e old Refuse g a = absurd (refuses line_automaton i i b g a.0 a.1 (a.2, a.3))
 
-    pub give_admits : (i : Inner) → s.inner ≡ Some i → IsTrue (inners.asks i b) → Admits inners i b → IsTrue (proofs.asks s b) × Admits proofs s b
+    pub give_admits : (i : LineMachine) → s.inner ≡ Some i → IsTrue (line_automaton.asks i b) → Admits line_automaton i b → IsTrue (proofs.asks s b) × Admits proofs s b
     give_admits i e asking a =
         let (j, f, d, old) = given in (
-          subst (λ m. IsTrue (asks s b m)) (sym planned) (subst (λ x. IsTrue (asked false (λ y. inners.asks y b) x)) (sym e) asking),
-          by_step i e (subst (IsState inners) (some_one j i (sym f ∙ e)) old) (inners.step i b) refl a,
+          subst (λ m. IsTrue (asks s b m)) (sym planned) (subst (λ x. IsTrue (asked false (λ y. line_automaton.asks y b) x)) (sym e) asking),
+          by_step i e (subst (IsState line_automaton) (some_one j i (sym f ∙ e)) old) (line_automaton.step i b) refl a,
         )
       where
-        some_one : (x y : Inner) → ◌≡◌ {A = Option Inner} (Some x) (Some y) → x ≡ y
+        some_one : (x y : LineMachine) → ◌≡◌ {A = Option LineMachine} (Some x) (Some y) → x ≡ y
         some_one x y e = cc

@@ -1,4 +1,4 @@
--- A run of the machine behind a first word is a run of the machine of proofs, and a run of the machine of sums one of the machine of goals.
+-- A run of the machine behind a first word is a run of the machine of proofs, and a run of the machine of sums one of the machine of `rup`.
 use Rattle.std.proofs.Common.{◌≡◌, ℕ, List, [], ◌∷◌, refl, sym, ap, ap₂, subst, ◌∙◌, Option, Some}
 use Rattle.pb_text.specs.Automaton.{Next, Go, End, Refuse, Pushes, Runs}
 use Rattle.pb_text.specs.declared.machine.Push.{Push}
@@ -6,22 +6,22 @@ use Rattle.pb_text.specs.declared.machine.Push.TheVariants as push
 use Rattle.pb_sums.specs.State.{SumState, sums}
 use Rattle.pb_sums.specs.declared.Linear.{Linear}
 use Rattle.pb_sums.specs.declared.SumEvent.{SumEvent}
-use Rattle.pb_proof.specs.Line.Rup.{GoalState, goal_automaton, goal_plan, goal_act, goal_over, IsGoalInOrder}
-use Rattle.pb_proof.specs.Line.Machine.{inners}
+use Rattle.pb_proof.specs.Line.Rup.{RupState, rup_automaton, rup_plan, rup_act, rup_over, IsRupInOrder}
+use Rattle.pb_proof.specs.Line.Machine.{line_automaton}
 use Rattle.pb_proof.specs.Machine.State.{ProofState, proofs, giving, over, Holds, IsInOrder}
-use Rattle.pb_proof.specs.declared.line.rup.phase.GoalPhase.TheVariants.{Inside as InsideGoal}
-use Rattle.pb_proof.specs.declared.line.rup.phase.GoalMove.TheVariants.{Give}
-use Rattle.pb_proof.specs.declared.line.Inner.{Inner}
-use Rattle.pb_proof.specs.declared.machine.phase.Rest.{Rest}
+use Rattle.pb_proof.specs.declared.line.rup.phase.RupPhase.TheVariants.{Inside as InsideRup}
+use Rattle.pb_proof.specs.declared.line.rup.phase.RupMove.TheVariants.{Give}
+use Rattle.pb_proof.specs.declared.line.LineMachine.{LineMachine}
+use Rattle.pb_proof.specs.declared.machine.phase.LineKind.{LineKind}
 use Rattle.pb_proof.specs.declared.machine.phase.Phase.{Phase}
 use Rattle.pb_proof.specs.declared.machine.phase.Phase.TheVariants as phase
-use Rattle.pb_proof.proofs.lemmas.Rup.States as goals
+use Rattle.pb_proof.proofs.lemmas.Rup.States as rup_states
 use Rattle.pb_proof.proofs.lemmas.Machine.States as states
 
 -- within what stands behind a first word
-within : (limit top : ℕ) (r : Rest) (old : Inner) → IsInOrder (giving limit top r old) → (text : List ℕ) (new : Inner) → Runs inners old text new
+within : (limit top : ℕ) (r : LineKind) (old : LineMachine) → IsInOrder (giving limit top r old) → (text : List ℕ) (new : LineMachine) → Runs line_automaton old text new
     → Runs proofs (giving limit top r old) text (giving limit top r new) × IsInOrder (giving limit top r new)
-within limit top r old h [] new same = (ap (giving limit top r) same, subst (λ (i : Inner). IsInOrder (giving limit top r i)) (sym same) h)
+within limit top r old h [] new same = (ap (giving limit top r) same, subst (λ (i : LineMachine). IsInOrder (giving limit top r i)) (sym same) h)
 within limit top r old h (b ∷ text) new (mid, goes, state, rest) =
     let s = giving limit top r old in
     let k = states.give_order s h b r refl old mid refl goes state in
@@ -29,7 +29,7 @@ within limit top r old h (b ∷ text) new (mid, goes, state, rest) =
     ((giving limit top r mid, ap (over s r) goes, states.is_state (giving limit top r mid) k, runs), order)
 
 -- where such a machine is kept, it reads
-reading : (s : ProofState) (p : Phase) → Holds s p → (i : Inner) → s.inner ≡ Some i → (r : Rest) × (p ≡ phase.Inside r)
+reading : (s : ProofState) (p : Phase) → Holds s p → (i : LineMachine) → s.inner ≡ Some i → (r : LineKind) × (p ≡ phase.Inside r)
 reading s (phase.Inside r) h i e = (r, refl)
 reading s (phase.Between at) h i e = absurd (let f : ⊥ = cc in f)
 reading s (phase.Comment at) h i e = absurd (let f : ⊥ = cc in f)
@@ -38,11 +38,11 @@ reading s phase.Solution h i e = absurd (let f : ⊥ = cc in f)
 reading s phase.HeaderEnd h i e = absurd (let f : ⊥ = cc in f)
 reading s (phase.OutputEnd may) h i e = absurd (let f : ⊥ = cc in f)
 
-abbrev put : ProofState → Phase → Option Inner → ProofState
+abbrev put : ProofState → Phase → Option LineMachine → ProofState
 put s p i = record { limit = s.limit; top = s.top; phase = p; inner = i }
 
 -- the run, and the order behind it
-pub runs_given : (s : ProofState) → IsInOrder s → (old : Inner) → s.inner ≡ Some old → (text : List ℕ) (new : Inner) → Runs inners old text new
+pub runs_given : (s : ProofState) → IsInOrder s → (old : LineMachine) → s.inner ≡ Some old → (text : List ℕ) (new : LineMachine) → Runs line_automaton old text new
     → Runs proofs s text (record s { inner = Some new }) × IsInOrder (record s { inner = Some new })
 runs_given s h old e text new runs =
     let (r, at) = reading s s.phase h.holds old e in
@@ -53,40 +53,40 @@ runs_given s h old e text new runs =
       subst IsInOrder further k.1,
     )
 
-goes_on : (s new : GoalState) (e : Linear) (n : Next SumState SumEvent) → goal_over s n ≡ End e new → ⊥
+goes_on : (s new : RupState) (e : Linear) (n : Next SumState SumEvent) → rup_over s n ≡ End e new → ⊥
 goes_on s new e (Go inner) h = cc
 goes_on s new e (End f inner) h = cc
 goes_on s new e Refuse h = cc
 
 -- where a byte is given and not taken, nothing changes
-pub unmoved : (s new : GoalState) (b : ℕ) (answer : Push Linear) → goal_plan s.phase b ≡ Give → Pushes goal_automaton s b answer new → (answer ≡ push.Go → ⊥) → new ≡ s
+pub unmoved : (s new : RupState) (b : ℕ) (answer : Push Linear) → rup_plan s.phase b ≡ Give → Pushes rup_automaton s b answer new → (answer ≡ push.Go → ⊥) → new ≡ s
 unmoved s new b push.Go planned h k = absurd (k refl)
-unmoved s new b (push.Event e) planned h k = absurd (goes_on s new e (sums.step s.inner b) (sym (ap (goal_act s b) planned) ∙ h))
+unmoved s new b (push.Event e) planned h k = absurd (goes_on s new e (sums.step s.inner b) (sym (ap (rup_act s b) planned) ∙ h))
 unmoved s new b push.No planned h k = h.2
 unmoved s new b push.Large planned h k = h.2
 unmoved s new b push.Memory planned h k = h.2
 
 -- within a constraint
-within_goal : (o : Option Linear) (old : SumState) → IsGoalInOrder (record { phase = InsideGoal; inner = old; linear = o }) → (text : List ℕ) (new : SumState) → Runs sums old text new
-    → Runs goal_automaton (record { phase = InsideGoal; inner = old; linear = o }) text (record { phase = InsideGoal; inner = new; linear = o })
-    × IsGoalInOrder (record { phase = InsideGoal; inner = new; linear = o })
-within_goal o old h [] new same = (
-  ap (λ i. let s : GoalState = record { phase = InsideGoal; inner = i; linear = o } in s) same,
-  subst (λ i. IsGoalInOrder (record { phase = InsideGoal; inner = i; linear = o })) (sym same) h,
+within_rup : (o : Option Linear) (old : SumState) → IsRupInOrder (record { phase = InsideRup; inner = old; linear = o }) → (text : List ℕ) (new : SumState) → Runs sums old text new
+    → Runs rup_automaton (record { phase = InsideRup; inner = old; linear = o }) text (record { phase = InsideRup; inner = new; linear = o })
+    × IsRupInOrder (record { phase = InsideRup; inner = new; linear = o })
+within_rup o old h [] new same = (
+  ap (λ i. let s : RupState = record { phase = InsideRup; inner = i; linear = o } in s) same,
+  subst (λ i. IsRupInOrder (record { phase = InsideRup; inner = i; linear = o })) (sym same) h,
 )
-within_goal o old h (b ∷ text) new (mid, goes, state, rest) =
-    let s : GoalState = record { phase = InsideGoal; inner = old; linear = o } in
-    let next : GoalState = record { phase = InsideGoal; inner = mid; linear = o } in
-    let k = goals.give_order s h b mid refl goes state in
-    let (runs, order) = within_goal o mid k text new rest in
-    ((next, ap (goal_over s) goes, goals.goal_is_state next k, runs), order)
+within_rup o old h (b ∷ text) new (mid, goes, state, rest) =
+    let s : RupState = record { phase = InsideRup; inner = old; linear = o } in
+    let next : RupState = record { phase = InsideRup; inner = mid; linear = o } in
+    let k = rup_states.give_order s h b mid refl goes state in
+    let (runs, order) = within_rup o mid k text new rest in
+    ((next, ap (rup_over s) goes, rup_states.rup_is_state next k, runs), order)
 
-pub goal_runs_given : (s : GoalState) → IsGoalInOrder s → s.phase ≡ InsideGoal → (text : List ℕ) (new : SumState) → Runs sums s.inner text new
-    → Runs goal_automaton s text (record s { inner = new }) × IsGoalInOrder (record s { inner = new })
-goal_runs_given s h at text new runs =
-    let same : s ≡ record s { phase = InsideGoal } = ap (λ p. let x : GoalState = record s { phase = p } in x) at in
-    let further : (let x : GoalState = record s { phase = InsideGoal; inner = new } in x) ≡ record s { inner = new } = ap (λ p. let x : GoalState = record s { phase = p; inner = new } in x) (sym at) in
-    let k = within_goal s.linear s.inner (subst IsGoalInOrder same h) text new runs in (
-      subst (λ x. Runs goal_automaton x text (record s { inner = new })) (sym same) (subst (λ x. Runs goal_automaton (record s { phase = InsideGoal }) text x) further k.0),
-      subst IsGoalInOrder further k.1,
+pub rup_runs_given : (s : RupState) → IsRupInOrder s → s.phase ≡ InsideRup → (text : List ℕ) (new : SumState) → Runs sums s.inner text new
+    → Runs rup_automaton s text (record s { inner = new }) × IsRupInOrder (record s { inner = new })
+rup_runs_given s h at text new runs =
+    let same : s ≡ record s { phase = InsideRup } = ap (λ p. let x : RupState = record s { phase = p } in x) at in
+    let further : (let x : RupState = record s { phase = InsideRup; inner = new } in x) ≡ record s { inner = new } = ap (λ p. let x : RupState = record s { phase = p; inner = new } in x) (sym at) in
+    let k = within_rup s.linear s.inner (subst IsRupInOrder same h) text new runs in (
+      subst (λ x. Runs rup_automaton x text (record s { inner = new })) (sym same) (subst (λ x. Runs rup_automaton (record s { phase = InsideRup }) text x) further k.0),
+      subst IsRupInOrder further k.1,
     )

@@ -13,7 +13,7 @@ use Rattle.pb_sums.specs.declared.Spaces.TheVariants.{Blank}
 use Rattle.pb_sums.specs.declared.Part as part
 use Rattle.pb_sums.specs.declared.SumEvent as sum
 use Rattle.pb_sums.proofs.Larger.{spells_larger}
-use Rattle.pb_proof.specs.Lines.{Feed, LineEnd, Listed, SpellsId, Factor, SpellsBound, Shown, IdShown, SpellsWord, SpellsConclusion, SpellsCount, SpellsGoal, SpellsStatement, rup_word, f_word, conclusion_word, unsat_word, bounds_word}
+use Rattle.pb_proof.specs.Lines.{Feed, LineEnd, Listed, SpellsId, Factor, SpellsBound, Shown, IdShown, SpellsWord, SpellsConclusion, SpellsCount, SpellsRup, SpellsStatement, rup_word, f_word, conclusion_word, unsat_word, bounds_word}
 use Rattle.pb_proof.specs.Proofs.{IsGap, AreSpelled, BeginsAtOnce, IsProof}
 use Rattle.pb_proof.specs.declared.word.PolWord.{PolWord}
 use Rattle.pb_proof.specs.declared.word.PolWord.TheVariants.{Id, Axiom, Add, Multiply, Divide, Saturate, Weaken}
@@ -92,8 +92,8 @@ module _ (limit limit' top top' : ℕ) (h : limit ≤ limit') (j : top ≤ top')
   linear_grows : (c : Linear) → Within (SpellsLinear Blank limit c) (SpellsLinear Blank limit' c)
   linear_grows c t k = (spells_larger Blank limit limit' h part.TheVariants.Linear t (sum.TheVariants.Linear c) (refl, k)).1
 
-  spelt_goal : (c : Linear) → Within (SpellsGoal limit top c) (SpellsGoal limit' top' c)
-  spelt_goal c t (r, k) =
+  spelt_rup : (c : Linear) → Within (SpellsRup limit top c) (SpellsRup limit' top' c)
+  spelt_rup c t (r, k) =
       (r, first_grows (Blanks1 ⋅ SpellsLinear Blank limit c) (Blanks1 ⋅ SpellsLinear Blank limit' c) Feed (last_grows Blanks1 (SpellsLinear Blank limit c) (SpellsLinear Blank limit' c) (linear_grows c)) t k)
 
   statement_grows : (e : Statement) → Within (SpellsStatement limit top e) (SpellsStatement limit' top' e)
@@ -101,7 +101,7 @@ module _ (limit limit' top top' : ℕ) (h : limit ≤ limit') (j : top ≤ top')
   statement_grows (F c) t k = last_grows (Bytes f_word) (SpellsCount limit top c) (SpellsCount limit' top' c) (spelt_count c) t k
   statement_grows (Pol ws) t (a, b, e, i, (p, k)) =
       (a, b, e, i, (p, first_grows (Listed (SpellsWord limit top) ws) (Listed (SpellsWord limit' top') ws) LineEnd (listed_grows (SpellsWord limit top) (SpellsWord limit' top') word_grows ws) b k))
-  statement_grows (Rup c) t k = last_grows (Bytes rup_word) (SpellsGoal limit top c) (SpellsGoal limit' top' c) (spelt_goal c) t k
+  statement_grows (Rup c) t k = last_grows (Bytes rup_word) (SpellsRup limit top c) (SpellsRup limit' top' c) (spelt_rup c) t k
   statement_grows (Soli ls) t k = k
   statement_grows (Solx ls) t k = k
   statement_grows (Delete ids) t (a, b, e, i, (p, k)) =

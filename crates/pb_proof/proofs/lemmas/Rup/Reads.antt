@@ -1,4 +1,4 @@
--- What a machine of goals reads is the grammar.
+-- What a machine of `rup` reads is the grammar.
 use Rattle.std.proofs.Common.{◌≡◌, ℕ, true, false, List, [], ◌∷◌, ◌++◌, refl, sym, ap, subst, ◌∙◌, ◌↔◌}
 use Rattle.std.proofs.lemmas.Bool.{eqb-true}
 use Rattle.std.specs.Prelude.{IsTrue, nat_eq, Option, Some, None}
@@ -19,12 +19,12 @@ use Rattle.pb_sums.specs.declared.SumEvent.{SumEvent}
 use Rattle.pb_sums.specs.declared.SumEvent as sum
 use Rattle.pb_sums.proofs.Links.{reads_grammar}
 use Rattle.pb_sums.proofs.States.{goes-midway}
-use Rattle.pb_proof.specs.Line.Rup.{GoalState, goal_automaton, goal_first, goal_last, goals, after_goals, goal_plan, goal_act, goal_over, linear_of, goal_finish}
-use Rattle.pb_proof.specs.Lines.{SpellsGoal}
-use Rattle.pb_proof.specs.declared.line.rup.phase.GoalPhase.{GoalPhase}
-use Rattle.pb_proof.specs.declared.line.rup.phase.GoalPhase.TheVariants.{Start, Gap, Inside, Tail, Done}
-use Rattle.pb_proof.specs.declared.line.rup.phase.GoalMove.{GoalMove}
-use Rattle.pb_proof.specs.declared.line.rup.phase.GoalMove.TheVariants.{Give}
+use Rattle.pb_proof.specs.Line.Rup.{RupState, rup_automaton, rup_first, rup_last, sum_first, sum_last, rup_plan, rup_act, rup_over, linear_of, rup_finish}
+use Rattle.pb_proof.specs.Lines.{SpellsRup}
+use Rattle.pb_proof.specs.declared.line.rup.phase.RupPhase.{RupPhase}
+use Rattle.pb_proof.specs.declared.line.rup.phase.RupPhase.TheVariants.{Start, Gap, Inside, Tail, Done}
+use Rattle.pb_proof.specs.declared.line.rup.phase.RupMove.{RupMove}
+use Rattle.pb_proof.specs.declared.line.rup.phase.RupMove.TheVariants.{Give}
 use Rattle.pb_proof.proofs.lemmas.Choices.{never, chosen, blank_each, fails}
 use Rattle.pb_proof.proofs.lemmas.Line.Ends.{as_unmarked, TakesBlanks, blanks1_lead, Feeds, feed_reads}
 
@@ -33,31 +33,31 @@ IsBlank b = IsTrue (is_blank b)
 
 module _ (limit top : ℕ) where
   abbrev pub SumFront : SumState → Language
-  SumFront inner = λ p. Walks sums (goals limit) p inner
+  SumFront inner = λ p. Walks sums (sum_first limit) p inner
 
-  abbrev pub Whole : Linear → GoalState → Language
-  Whole c after = λ t. SpellsGoal limit top c t × (after ≡ goal_last limit)
+  abbrev pub Whole : Linear → RupState → Language
+  Whole c after = λ t. SpellsRup limit top c t × (after ≡ rup_last limit)
 
   -- What has been read, by phase.
-  abbrev pub front : GoalState → GoalPhase → Language
-  front s Start = λ p. (p ≡ []) × (s.inner ≡ goals limit) × (s.linear ≡ None)
-  front s Gap = λ p. Blanks1 p × (s.inner ≡ goals limit) × (s.linear ≡ None)
+  abbrev pub front : RupState → RupPhase → Language
+  front s Start = λ p. (p ≡ []) × (s.inner ≡ sum_first limit) × (s.linear ≡ None)
+  front s Gap = λ p. Blanks1 p × (s.inner ≡ sum_first limit) × (s.linear ≡ None)
   front s Inside = λ p. (s.linear ≡ None) × (Blanks1 ⋅ SumFront s.inner) p
-  front s Tail = λ p. (s.inner ≡ after_goals limit)
+  front s Tail = λ p. (s.inner ≡ sum_last limit)
       × ((c : Linear) × (s.linear ≡ Some c) × (c.relation ≡ AtLeast) × (Blanks1 ⋅ SpellsLinear Blank limit c ⋅ Blanks0) p)
   front s Done = λ p. ⊥
 
-  abbrev pub Front : GoalState → Language
+  abbrev pub Front : RupState → Language
   Front s = front s s.phase
 
-  module _ (s : GoalState) (l : Letter) (p : List Letter) where
-    abbrev Leaves : Next GoalState Linear → Type 0
-    Leaves x = On goal_automaton Front Whole x l (p ++ l ∷ [])
+  module _ (s : RupState) (l : Letter) (p : List Letter) where
+    abbrev Leaves : Next RupState Linear → Type 0
+    Leaves x = On rup_automaton Front Whole x l (p ++ l ∷ [])
 
-    abbrev After : GoalMove → Type 0
-    After m = Leaves (goal_act s l.byte m)
+    abbrev After : RupMove → Type 0
+    After m = Leaves (rup_act s l.byte m)
 
-    at_start : p ≡ [] → s.inner ≡ goals limit → s.linear ≡ None → After (goal_plan Start l.byte)
+    at_start : p ≡ [] → s.inner ≡ sum_first limit → s.linear ≡ None → After (rup_plan Start l.byte)
     at_start e i n = chosen After (is_blank l.byte) _ _
         (λ h w f. (subst Blanks1 (ap (λ x. x ++ l ∷ []) (sym e)) (some-one IsBlank l.byte l (as_unmarked l l.byte refl f) h), i, n))
         (λ h. tt)
@@ -72,65 +72,65 @@ module _ (limit top : ℕ) where
     spelled (sum.TheVariants.Linear c) (a, b, e, h, k) =
         (allowed c.relation k.0, none_yet (Blanks1 ⋅ SpellsLinear Blank limit c) Blanks0 (p ++ l ∷ []) ([], tt, refl) (a, b, e, h, k.1))
 
-    given : s.linear ≡ None → (Blanks1 ⋅ SumFront s.inner) p → (x : Next SumState SumEvent) → sums.step s.inner l.byte ≡ x → Leaves (goal_over s x)
+    given : s.linear ≡ None → (Blanks1 ⋅ SumFront s.inner) p → (x : Next SumState SumEvent) → sums.step s.inner l.byte ≡ x → Leaves (rup_over s x)
     given n h (Go inner) e = λ w f. (
       n,
       grown Blanks1 (SumFront s.inner) (SumFront inner) p l
-          (λ q r. walks_more sums q l (goals limit) s.inner inner r e (goes-midway s.inner inner l.byte e) f) h,
+          (λ q r. walks_more sums q l (sum_first limit) s.inner inner r e (goes-midway s.inner inner l.byte e) f) h,
     )
     given n h (End e new) i = λ w f.
         let (a, b, j, g, r) = h in
-        let k : Spells Blank limit part.TheVariants.AtLeast e (b ++ l ∷ []) × (new ≡ after_goals limit) =
-        (reads_grammar Blank part.TheVariants.AtLeast limit (b ++ l ∷ []) e new).0 (ends_walk sums b l (goals limit) s.inner new e r i f) in
+        let k : Spells Blank limit part.TheVariants.AtLeast e (b ++ l ∷ []) × (new ≡ sum_last limit) =
+        (reads_grammar Blank part.TheVariants.AtLeast limit (b ++ l ∷ []) e new).0 (ends_walk sums b l (sum_first limit) s.inner new e r i f) in
         let t : (Blanks1 ⋅ Spells Blank limit part.TheVariants.AtLeast e) (p ++ l ∷ []) = grown Blanks1 (λ q. q ≡ b) (Spells Blank limit part.TheVariants.AtLeast e) p l (λ q z. subst (λ x. Spells Blank limit part.TheVariants.AtLeast e (x ++ l ∷ [])) (sym z) k.0) (a, b, j, g, refl) in
         (k.1, (linear_of e, refl, (spelled e t).0, (spelled e t).1))
     given n h Refuse i = tt
 
-    in_gap : Blanks1 p → s.inner ≡ goals limit → s.linear ≡ None → After (goal_plan Gap l.byte)
+    in_gap : Blanks1 p → s.inner ≡ sum_first limit → s.linear ≡ None → After (rup_plan Gap l.byte)
     in_gap h i n = chosen After (is_blank l.byte) _ _
         (λ k w f. (some-grown IsBlank l.byte l (as_unmarked l l.byte refl f) k p h, i, n))
         (λ k. given n (none_yet Blanks1 (SumFront s.inner) p i h) (sums.step s.inner l.byte) refl)
 
-    in_tail : s.inner ≡ after_goals limit → (c : Linear) → s.linear ≡ Some c → c.relation ≡ AtLeast → (Blanks1 ⋅ SpellsLinear Blank limit c ⋅ Blanks0) p → After (goal_plan Tail l.byte)
+    in_tail : s.inner ≡ sum_last limit → (c : Linear) → s.linear ≡ Some c → c.relation ≡ AtLeast → (Blanks1 ⋅ SpellsLinear Blank limit c ⋅ Blanks0) p → After (rup_plan Tail l.byte)
     in_tail i c k r h = chosen After (is_blank l.byte) _ _
         (λ g w f. (i, (c, k, r, grown (Blanks1 ⋅ SpellsLinear Blank limit c) Blanks0 Blanks0 p l (many-grown IsBlank l.byte l (as_unmarked l l.byte refl f) g) h)))
         (λ _. chosen After (nat_eq l.byte 10) _ _
         (λ g. ends g s.linear k)
         (λ _. tt))
       where
-        ends : nat_eq l.byte 10 ≡ true → (o : Option Linear) → o ≡ Some c → Leaves (goal_finish s o)
+        ends : nat_eq l.byte 10 ≡ true → (o : Option Linear) → o ≡ Some c → Leaves (rup_finish s o)
         ends g None e = absurd (let f : ⊥ = cc in f)
         ends g (Some d) e = λ f.
             let same : d ≡ c = cc in
-            let whole : SpellsGoal limit top c (p ++ l ∷ []) =
+            let whole : SpellsRup limit top c (p ++ l ∷ []) =
             (r, regroup (Blanks1 ⋅ SpellsLinear Blank limit c) Blanks0 (Byte 10) (p ++ l ∷ []) (next (Blanks1 ⋅ SpellsLinear Blank limit c ⋅ Blanks0) (Byte 10) p l h (ap (λ x. x ∷ []) (as_unmarked l 10 (eqb-true l.byte 10 g) f)))) in
-            (subst (λ x. SpellsGoal limit top x (p ++ l ∷ [])) (sym same) whole, rw i refl)
+            (subst (λ x. SpellsRup limit top x (p ++ l ∷ [])) (sym same) whole, rw i refl)
 
-    sound : (q : GoalPhase) → front s q p → After (goal_plan q l.byte)
+    sound : (q : RupPhase) → front s q p → After (rup_plan q l.byte)
     sound Start h = at_start h.0 h.1 h.2
     sound Gap h = in_gap h.0 h.1 h.2
     sound Inside h = given h.0 h.1 (sums.step s.inner l.byte) refl
     sound Tail h = in_tail h.0 h.1.0 h.1.1 h.1.2 h.1.3
     sound Done h = absurd h
 
-  pub keeps : Keeps goal_automaton Front Whole
+  pub keeps : Keeps rup_automaton Front Whole
   keeps s l p f = sound s l p s.phase f
 
-  pub goal_only : (t : List Letter) (c : Linear) (after : GoalState) → Reads goal_automaton (goal_first limit) t c after → SpellsGoal limit top c t × (after ≡ goal_last limit)
-  goal_only t c after r =
-      told goal_automaton Front Whole keeps t (goal_first limit) [] c after r (refl, refl, refl)
+  pub rup_only : (t : List Letter) (c : Linear) (after : RupState) → Reads rup_automaton (rup_first limit) t c after → SpellsRup limit top c t × (after ≡ rup_last limit)
+  rup_only t c after r =
+      told rup_automaton Front Whole keeps t (rup_first limit) [] c after r (refl, refl, refl)
 
   -- The other way: each part of a text leads on.
-  abbrev in_phase : GoalPhase → GoalState
-  in_phase p = record { phase = p; inner = goals limit; linear = None }
+  abbrev in_phase : RupPhase → RupState
+  in_phase p = record { phase = p; inner = sum_first limit; linear = None }
 
-  abbrev inside : SumState → GoalState
+  abbrev inside : SumState → RupState
   inside inner = record { phase = Inside; inner = inner; linear = None }
 
-  abbrev behind : SumEvent → SumState → GoalState
+  abbrev behind : SumEvent → SumState → RupState
   behind e inner = record { phase = Tail; inner = inner; linear = Some (linear_of e) }
 
-  gap_blanks : TakesBlanks goal_automaton (in_phase Start) (in_phase Gap)
+  gap_blanks : TakesBlanks rup_automaton (in_phase Start) (in_phase Gap)
   gap_blanks = record {
     enters = λ b h. rw h refl;
     stays = λ b h. rw h refl;
@@ -138,7 +138,7 @@ module _ (limit top : ℕ) where
     plain = refl;
   }
 
-  tail_blanks : (e : SumEvent) (inner : SumState) → TakesBlanks goal_automaton (behind e inner) (behind e inner)
+  tail_blanks : (e : SumEvent) (inner : SumState) → TakesBlanks rup_automaton (behind e inner) (behind e inner)
   tail_blanks e inner = record {
     enters = λ b h. rw h refl;
     stays = λ b h. rw h refl;
@@ -146,15 +146,15 @@ module _ (limit top : ℕ) where
     plain = refl;
   }
 
-  tail_feeds : (e : SumEvent) → Feeds goal_automaton (behind e (after_goals limit)) (behind e (after_goals limit)) (linear_of e) (goal_last limit)
-  tail_feeds e = record { blanks = tail_blanks e (after_goals limit); ends = refl; ends_gap = refl }
+  tail_feeds : (e : SumEvent) → Feeds rup_automaton (behind e (sum_last limit)) (behind e (sum_last limit)) (linear_of e) (rup_last limit)
+  tail_feeds e = record { blanks = tail_blanks e (sum_last limit); ends = refl; ends_gap = refl }
 
   -- what the machine of sums reads
-  given_walks : (t : List Letter) (inner new : SumState) (e : SumEvent) → Reads sums inner t e new → Walks goal_automaton (inside inner) t (behind e new)
+  given_walks : (t : List Letter) (inner new : SumState) (e : SumEvent) → Reads sums inner t e new → Walks rup_automaton (inside inner) t (behind e new)
   given_walks [] inner new e r = absurd r
-  given_walks (l ∷ []) inner new e (g, n) = (behind e new, ap (goal_over (inside inner)) g, refl, n, refl)
+  given_walks (l ∷ []) inner new e (g, n) = (behind e new, ap (rup_over (inside inner)) g, refl, n, refl)
   given_walks (l ∷ k ∷ t) inner new e (mid, g, i, n, r) =
-      (inside mid, ap (goal_over (inside inner)) g, refl, n, given_walks (k ∷ t) mid new e r)
+      (inside mid, ap (rup_over (inside inner)) g, refl, n, given_walks (k ∷ t) mid new e r)
 
   refuse_end : (e : SumEvent) (new : SumState) → ◌≡◌ {A = Next SumState SumEvent} Refuse (End e new) → ⊥
   refuse_end e new h = cc
@@ -163,40 +163,40 @@ module _ (limit top : ℕ) where
   refuse_go new h = cc
 
   -- no blank begins a constraint
-  no_blank : (b : ℕ) → is_blank b ≡ true → sums.step (goals limit) b ≡ Refuse
-  no_blank = blank_each (λ b. sums.step (goals limit) b ≡ Refuse) refl refl refl
+  no_blank : (b : ℕ) → is_blank b ≡ true → sums.step (sum_first limit) b ≡ Refuse
+  no_blank = blank_each (λ b. sums.step (sum_first limit) b ≡ Refuse) refl refl refl
 
-  gap_gives : (l : Letter) → (sums.step (goals limit) l.byte ≡ Refuse → ⊥) → goal_plan Gap l.byte ≡ Give
+  gap_gives : (l : Letter) → (sums.step (sum_first limit) l.byte ≡ Refuse → ⊥) → rup_plan Gap l.byte ≡ Give
   gap_gives l h =
       let e : is_blank l.byte ≡ false = fails (is_blank l.byte) (λ k. h (no_blank l.byte k)) in rw e refl
 
-  linear_walks : (t : List Letter) (new : SumState) (e : SumEvent) → Reads sums (goals limit) t e new → Walks goal_automaton (in_phase Gap) t (behind e new)
+  linear_walks : (t : List Letter) (new : SumState) (e : SumEvent) → Reads sums (sum_first limit) t e new → Walks rup_automaton (in_phase Gap) t (behind e new)
   linear_walks [] new e r = absurd r
   linear_walks (l ∷ []) new e (g, n) =
       let k = gap_gives l (λ h. refuse_end e new (sym h ∙ g)) in
-      (behind e new, ap (goal_act (in_phase Gap) l.byte) k ∙ ap (goal_over (in_phase Gap)) g, refl, n, refl)
+      (behind e new, ap (rup_act (in_phase Gap) l.byte) k ∙ ap (rup_over (in_phase Gap)) g, refl, n, refl)
   linear_walks (l ∷ c ∷ t) new e (mid, g, i, n, r) =
       let k = gap_gives l (λ h. refuse_go mid (sym h ∙ g)) in
-      (inside mid, ap (goal_act (in_phase Gap) l.byte) k ∙ ap (goal_over (in_phase Gap)) g, refl, n, given_walks (c ∷ t) mid new e r)
+      (inside mid, ap (rup_act (in_phase Gap) l.byte) k ∙ ap (rup_over (in_phase Gap)) g, refl, n, given_walks (c ∷ t) mid new e r)
 
   allows_it : (r : Relation) → r ≡ AtLeast → IsTrue (allows part.TheVariants.AtLeast r)
   allows_it AtLeast h = refl
   allows_it Equal h = cc
 
-  pub goal_each : (t : List Letter) (c : Linear) → SpellsGoal limit top c t → Reads goal_automaton (goal_first limit) t c (goal_last limit)
-  goal_each t c (r, (ab, f, e, (a, b, g, h, k), i)) =
-      let q : Reads sums (goals limit) b (sum.TheVariants.Linear c) (after_goals limit) =
-      (reads_grammar Blank part.TheVariants.AtLeast limit b (sum.TheVariants.Linear c) (after_goals limit)).1 ((allows_it c.relation r, k), refl) in
-      let w : Walks goal_automaton (goal_first limit) (a ++ b) (behind (sum.TheVariants.Linear c) (after_goals limit)) =
-      walks_then goal_automaton a b (goal_first limit) (in_phase Gap) (behind (sum.TheVariants.Linear c) (after_goals limit))
-      (blanks1_lead goal_automaton (in_phase Start) (in_phase Gap) gap_blanks a h) (linear_walks b (after_goals limit) (sum.TheVariants.Linear c) q) in
-      subst (λ x. Reads goal_automaton (goal_first limit) x c (goal_last limit)) (ap (λ x. x ++ f) (sym g) ∙ sym e)
-      (reads_behind goal_automaton (a ++ b) f (goal_first limit) (behind (sum.TheVariants.Linear c) (after_goals limit)) (goal_last limit) c w
-      (feed_reads goal_automaton (behind (sum.TheVariants.Linear c) (after_goals limit)) (behind (sum.TheVariants.Linear c) (after_goals limit)) (goal_last limit) c (tail_feeds (sum.TheVariants.Linear c)) f i))
+  pub rup_each : (t : List Letter) (c : Linear) → SpellsRup limit top c t → Reads rup_automaton (rup_first limit) t c (rup_last limit)
+  rup_each t c (r, (ab, f, e, (a, b, g, h, k), i)) =
+      let q : Reads sums (sum_first limit) b (sum.TheVariants.Linear c) (sum_last limit) =
+      (reads_grammar Blank part.TheVariants.AtLeast limit b (sum.TheVariants.Linear c) (sum_last limit)).1 ((allows_it c.relation r, k), refl) in
+      let w : Walks rup_automaton (rup_first limit) (a ++ b) (behind (sum.TheVariants.Linear c) (sum_last limit)) =
+      walks_then rup_automaton a b (rup_first limit) (in_phase Gap) (behind (sum.TheVariants.Linear c) (sum_last limit))
+      (blanks1_lead rup_automaton (in_phase Start) (in_phase Gap) gap_blanks a h) (linear_walks b (sum_last limit) (sum.TheVariants.Linear c) q) in
+      subst (λ x. Reads rup_automaton (rup_first limit) x c (rup_last limit)) (ap (λ x. x ++ f) (sym g) ∙ sym e)
+      (reads_behind rup_automaton (a ++ b) f (rup_first limit) (behind (sum.TheVariants.Linear c) (sum_last limit)) (rup_last limit) c w
+      (feed_reads rup_automaton (behind (sum.TheVariants.Linear c) (sum_last limit)) (behind (sum.TheVariants.Linear c) (sum_last limit)) (rup_last limit) c (tail_feeds (sum.TheVariants.Linear c)) f i))
 
-  -- What a new machine reads are the goals, and then it has ended.
-  pub goal_reads : (t : List Letter) (c : Linear) (after : GoalState) → Reads goal_automaton (goal_first limit) t c after ↔ (SpellsGoal limit top c t × (after ≡ goal_last limit))
-  goal_reads t c after = (
-    goal_only t c after,
-    λ h. subst (λ x. Reads goal_automaton (goal_first limit) t c x) (sym h.1) (goal_each t c h.0),
+  -- What a new machine reads are the sum_first, and then it has ended.
+  pub rup_reads : (t : List Letter) (c : Linear) (after : RupState) → Reads rup_automaton (rup_first limit) t c after ↔ (SpellsRup limit top c t × (after ≡ rup_last limit))
+  rup_reads t c after = (
+    rup_only t c after,
+    λ h. subst (λ x. Reads rup_automaton (rup_first limit) t c x) (sym h.1) (rup_each t c h.0),
   )

@@ -1,4 +1,4 @@
--- What holds of each state that a machine of goals can be in.
+-- What holds of each state that a machine of `rup` can be in.
 use Rattle.std.proofs.Common.{◌≡◌, ℕ, ◌+◌, ◌≤◌, Bool, true, false, cond, List, [], ◌∷◌, ◌++◌, refl, sym, ap, subst, ◌∙◌, arith, ◌&&◌}
 use Rattle.std.specs.Prelude.{IsTrue, nat_eq, Option, Some, None}
 use Rattle.pb_text.specs.Automaton.{Next, Go, End, Refuse, Reads, Accepts, Admits, IsState, is_large}
@@ -18,11 +18,11 @@ use Rattle.pb_sums.specs.declared.SumEvent as sum
 use Rattle.pb_sums.proofs.Counts.{flushed-units}
 use Rattle.pb_sums.proofs.Links.{reads_something, midway-not-done}
 use Rattle.pb_sums.proofs.States.{goes-midway, ended-last}
-use Rattle.pb_proof.specs.Line.Rup.{GoalState, goal_automaton, goal_first, goals, goal_plan, goal_act, goal_over, goal_finish, goal_midway, goal_done, goal_in_number, goal_asks, linear_of, GoalHolds, IsGoalInOrder}
-use Rattle.pb_proof.specs.declared.line.rup.phase.GoalPhase.{GoalPhase}
-use Rattle.pb_proof.specs.declared.line.rup.phase.GoalPhase.TheVariants.{Start, Gap, Inside, Tail, Done}
-use Rattle.pb_proof.specs.declared.line.rup.phase.GoalMove.{GoalMove}
-use Rattle.pb_proof.specs.declared.line.rup.phase.GoalMove.TheVariants.{To, Give, Finish, Stop}
+use Rattle.pb_proof.specs.Line.Rup.{RupState, rup_automaton, rup_first, sum_first, rup_plan, rup_act, rup_over, rup_finish, rup_midway, rup_done, rup_in_number, rup_asks, linear_of, RupHolds, IsRupInOrder}
+use Rattle.pb_proof.specs.declared.line.rup.phase.RupPhase.{RupPhase}
+use Rattle.pb_proof.specs.declared.line.rup.phase.RupPhase.TheVariants.{Start, Gap, Inside, Tail, Done}
+use Rattle.pb_proof.specs.declared.line.rup.phase.RupMove.{RupMove}
+use Rattle.pb_proof.specs.declared.line.rup.phase.RupMove.TheVariants.{To, Give, Finish, Stop}
 use Rattle.pb_proof.proofs.lemmas.Choices.{never, chosen}
 use Rattle.pb_proof.proofs.lemmas.Living.{IsAlive, ReadsOn, before, final, accepted, reads_on, admits_before}
 
@@ -52,20 +52,20 @@ pub ended_empty : (s next : SumState) (b : ℕ) (e : SumEvent) → sums.step s b
 ended_empty s next b e h = ap sums.spent (ended-last s next b e h)
 
 -- what a byte leads to
-record Goes (s next : GoalState) : Type 0 where
-  pub begins : goal_midway next.phase ≡ true
-  pub grows : goal_automaton.spent next ≤ goal_automaton.spent s + 1
+record Goes (s next : RupState) : Type 0 where
+  pub begins : rup_midway next.phase ≡ true
+  pub grows : rup_automaton.spent next ≤ rup_automaton.spent s + 1
 
-abbrev On : GoalState → Next GoalState Linear → Type 0
+abbrev On : RupState → Next RupState Linear → Type 0
 On s (Go next) = Goes s next
-On s (End e next) = (goal_done next.phase ≡ true) × (goal_automaton.spent next ≡ 0)
+On s (End e next) = (rup_done next.phase ≡ true) × (rup_automaton.spent next ≡ 0)
 On s Refuse = Unit {0}
 
-abbrev OnMove : GoalMove → Type 0
-OnMove (To p) = goal_midway p ≡ true
+abbrev OnMove : RupMove → Type 0
+OnMove (To p) = rup_midway p ≡ true
 OnMove _ = Unit {0}
 
-on_plan : (p : GoalPhase) (b : ℕ) → OnMove (goal_plan p b)
+on_plan : (p : RupPhase) (b : ℕ) → OnMove (rup_plan p b)
 on_plan Start b = chosen OnMove (is_blank b) (To Gap) Stop (λ e. refl) (λ e. tt)
 on_plan Gap b = chosen OnMove (is_blank b) (To Gap) Give (λ e. refl) (λ e. tt)
 on_plan Inside b = tt
@@ -73,7 +73,7 @@ on_plan Tail b = chosen OnMove (is_blank b) (To Tail) _ (λ e. refl) (λ e. chos
 on_plan Done b = tt
 
 -- where bytes are given to the machine of sums, and where the line ends
-given_none : (s : GoalState) (p : GoalPhase) (b : ℕ) → GoalHolds s p → goal_plan p b ≡ Give → s.linear ≡ None
+given_none : (s : RupState) (p : RupPhase) (b : ℕ) → RupHolds s p → rup_plan p b ≡ Give → s.linear ≡ None
 given_none s Start b h e = h.0
 given_none s Gap b h e = h.0
 given_none s Inside b h e = h.0
@@ -85,7 +85,7 @@ given_none s Tail b h e = absurd (not_given (is_blank b) (nat_eq b 10) e)
     not_given false false e = cc
 given_none s Done b h e = h.0
 
-finish_empty : (s : GoalState) (p : GoalPhase) (b : ℕ) → GoalHolds s p → goal_plan p b ≡ Finish → sums.spent s.inner ≡ 0
+finish_empty : (s : RupState) (p : RupPhase) (b : ℕ) → RupHolds s p → rup_plan p b ≡ Finish → sums.spent s.inner ≡ 0
 finish_empty s Start b h e = absurd (not_finished (is_blank b) e)
   where
     not_finished : (x : Bool) → cond x (To Gap) Stop ≡ Finish → ⊥
@@ -100,82 +100,82 @@ finish_empty s Inside b h e = absurd (let f : ⊥ = cc in f)
 finish_empty s Tail b h e = h.1
 finish_empty s Done b h e = h.1
 
-on_given : (s : GoalState) → IsState sums s.inner → s.linear ≡ None → (b : ℕ) (n : Next SumState SumEvent) → sums.step s.inner b ≡ n → On s (goal_over s n)
+on_given : (s : RupState) → IsState sums s.inner → s.linear ≡ None → (b : ℕ) (n : Next SumState SumEvent) → sums.step s.inner b ≡ n → On s (rup_over s n)
 on_given s state h b (Go inner) e = record { begins = refl; grows = omega (arith, state.grows b inner e) }
 on_given s state h b (End x inner) e = record { begins = refl; grows = rw (ended_empty s.inner inner b x e) (omega (arith, ended_units s.inner inner b x e)) }
 on_given s state h b Refuse e = tt
 
-on_finish : (s : GoalState) → sums.spent s.inner ≡ 0 → (o : Option Linear) → On s (goal_finish s o)
+on_finish : (s : RupState) → sums.spent s.inner ≡ 0 → (o : Option Linear) → On s (rup_finish s o)
 on_finish s h None = tt
 on_finish s h (Some c) = (refl, ap (λ (n : ℕ). 0 + n) h)
 
-on_act : (s : GoalState) → IsGoalInOrder s → (b : ℕ) (m : GoalMove) → goal_plan s.phase b ≡ m → OnMove m → On s (goal_act s b m)
+on_act : (s : RupState) → IsRupInOrder s → (b : ℕ) (m : RupMove) → rup_plan s.phase b ≡ m → OnMove m → On s (rup_act s b m)
 on_act s h b (To p) e k = record { begins = k; grows = omega arith }
 on_act s h b Give e k = on_given s h.state (given_none s s.phase b h.holds e) b (sums.step s.inner b) refl
 on_act s h b Finish e k = on_finish s (finish_empty s s.phase b h.holds e) s.linear
 on_act s h b Stop e k = tt
 
-steps : (s : GoalState) → IsGoalInOrder s → (b : ℕ) → On s (goal_automaton.step s b)
-steps s h b = on_act s h b (goal_plan s.phase b) refl (on_plan s.phase b)
+steps : (s : RupState) → IsRupInOrder s → (b : ℕ) → On s (rup_automaton.step s b)
+steps s h b = on_act s h b (rup_plan s.phase b) refl (on_plan s.phase b)
 
-goes : (s next : GoalState) (b : ℕ) → IsGoalInOrder s → goal_automaton.step s b ≡ Go next → Goes s next
+goes : (s next : RupState) (b : ℕ) → IsRupInOrder s → rup_automaton.step s b ≡ Go next → Goes s next
 goes s next b h e = subst (On s) e (steps s h b)
 
-ends : (s next : GoalState) (b : ℕ) (c : Linear) → IsGoalInOrder s → goal_automaton.step s b ≡ End c next → (goal_done next.phase ≡ true) × (goal_automaton.spent next ≡ 0)
+ends : (s next : RupState) (b : ℕ) (c : Linear) → IsRupInOrder s → rup_automaton.step s b ≡ End c next → (rup_done next.phase ≡ true) × (rup_automaton.spent next ≡ 0)
 ends s next b c h e = subst (On s) e (steps s h b)
 
 -- any byte that is taken begins the line, or is behind its beginning
-abbrev OnGo : Next GoalState Linear → Type 0
-OnGo (Go next) = goal_midway next.phase ≡ true
+abbrev OnGo : Next RupState Linear → Type 0
+OnGo (Go next) = rup_midway next.phase ≡ true
 OnGo _ = Unit {0}
 
-begun_given : (s : GoalState) (n : Next SumState SumEvent) → OnGo (goal_over s n)
+begun_given : (s : RupState) (n : Next SumState SumEvent) → OnGo (rup_over s n)
 begun_given s (Go inner) = refl
 begun_given s (End x inner) = refl
 begun_given s Refuse = tt
 
-begun_finish : (s : GoalState) (o : Option Linear) → OnGo (goal_finish s o)
+begun_finish : (s : RupState) (o : Option Linear) → OnGo (rup_finish s o)
 begun_finish s None = tt
 begun_finish s (Some c) = tt
 
-begun_act : (s : GoalState) (b : ℕ) (m : GoalMove) → OnMove m → OnGo (goal_act s b m)
+begun_act : (s : RupState) (b : ℕ) (m : RupMove) → OnMove m → OnGo (rup_act s b m)
 begun_act s b (To p) k = k
 begun_act s b Give k = begun_given s (sums.step s.inner b)
 begun_act s b Finish k = begun_finish s s.linear
 begun_act s b Stop k = tt
 
-pub goal_begins : (s next : GoalState) (b : ℕ) → goal_automaton.step s b ≡ Go next → goal_automaton.begun next ≡ true
-goal_begins s next b e = subst OnGo e (begun_act s b (goal_plan s.phase b) (on_plan s.phase b))
+pub rup_begins : (s next : RupState) (b : ℕ) → rup_automaton.step s b ≡ Go next → rup_automaton.begun next ≡ true
+rup_begins s next b e = subst OnGo e (begun_act s b (rup_plan s.phase b) (on_plan s.phase b))
 
-midway_not_done : (p : GoalPhase) → goal_midway p ≡ true → goal_done p ≡ false
+midway_not_done : (p : RupPhase) → rup_midway p ≡ true → rup_done p ≡ false
 midway_not_done Start h = refl
 midway_not_done Gap h = refl
 midway_not_done Inside h = refl
 midway_not_done Tail h = refl
 midway_not_done Done h = sym h
 
-done_not_midway : (p : GoalPhase) → goal_done p ≡ true → goal_midway p ≡ false
+done_not_midway : (p : RupPhase) → rup_done p ≡ true → rup_midway p ≡ false
 done_not_midway Done h = refl
 done_not_midway Start h = refl
 done_not_midway Gap h = sym h
 done_not_midway Inside h = sym h
 done_not_midway Tail h = sym h
 
-done_stops : (s : GoalState) (p : GoalPhase) (b : ℕ) → goal_done p ≡ true → goal_act s b (goal_plan p b) ≡ Refuse
+done_stops : (s : RupState) (p : RupPhase) (b : ℕ) → rup_done p ≡ true → rup_act s b (rup_plan p b) ≡ Refuse
 done_stops s Done b h = refl
 done_stops s Start b h = never false h refl
 done_stops s Gap b h = never false h refl
 done_stops s Inside b h = never false h refl
 done_stops s Tail b h = never false h refl
 
-outside_plain : (s : GoalState) (p : GoalPhase) → goal_midway p ≡ false → goal_in_number s p ≡ false
+outside_plain : (s : RupState) (p : RupPhase) → rup_midway p ≡ false → rup_in_number s p ≡ false
 outside_plain s Start h = refl
 outside_plain s Done h = refl
 outside_plain s Gap h = refl
 outside_plain s Inside h = never true refl h
 outside_plain s Tail h = refl
 
-empty_outside : (s : GoalState) (p : GoalPhase) → GoalHolds s p → goal_midway p ≡ false → goal_automaton.spent s ≡ 0
+empty_outside : (s : RupState) (p : RupPhase) → RupHolds s p → rup_midway p ≡ false → rup_automaton.spent s ≡ 0
 empty_outside s Start h k = rw h.0 (ap (λ (x : SumState). 0 + sums.spent x) h.1)
 empty_outside s Done h k = rw h.0 (ap (λ (n : ℕ). 0 + n) h.1)
 empty_outside s Gap h k = never true refl k
@@ -183,65 +183,65 @@ empty_outside s Inside h k = never true refl k
 empty_outside s Tail h k = never true refl k
 
 -- Each state that has not ended can end.
-finishing : (s : GoalState) (c : Linear) → s.phase ≡ Tail → s.linear ≡ Some c → IsAlive goal_automaton s
+finishing : (s : RupState) (c : Linear) → s.phase ≡ Tail → s.linear ≡ Some c → IsAlive rup_automaton s
 finishing s c p e =
-    final goal_automaton s (record s { phase = Done; linear = None }) 10 c (ap (λ x. goal_act s 10 (goal_plan x 10)) p ∙ ap (goal_finish s) e) [] refl
+    final rup_automaton s (record s { phase = Done; linear = None }) 10 c (ap (λ x. rup_act s 10 (rup_plan x 10)) p ∙ ap (rup_finish s) e) [] refl
 
-inside_alive : (s : GoalState) → s.phase ≡ Inside → sums.done s.inner ≡ false → IsAlive goal_automaton s
+inside_alive : (s : RupState) → s.phase ≡ Inside → sums.done s.inner ≡ false → IsAlive rup_automaton s
 inside_alive s p d =
     let (text, e, last, r) = reads_something s.inner.spaces s.inner.part s.inner.limit s.inner.work d in
     let tail = finishing (record { phase = Tail; inner = last; linear = Some (linear_of e) }) (linear_of e) refl refl in
-    subst (IsAlive goal_automaton) (sym (same s p)) (record {
+    subst (IsAlive rup_automaton) (sym (same s p)) (record {
       text = text ++ tail.text;
       event = tail.event;
       after = tail.after;
-      reads = reads_behind goal_automaton text tail.text (record s { phase = Inside }) (record { phase = Tail; inner = last; linear = Some (linear_of e) }) tail.after tail.event
+      reads = reads_behind rup_automaton text tail.text (record s { phase = Inside }) (record { phase = Tail; inner = last; linear = Some (linear_of e) }) tail.after tail.event
           (walks s.linear text s.inner last e r) tail.reads;
       rest = tail.rest;
       accepts = tail.accepts;
     })
   where
-    same : (s : GoalState) → s.phase ≡ Inside → s ≡ record s { phase = Inside }
+    same : (s : RupState) → s.phase ≡ Inside → s ≡ record s { phase = Inside }
     same s p = rw p refl
 
-    at : Option Linear → SumState → GoalState
+    at : Option Linear → SumState → RupState
     at o inner = record { phase = Inside; inner = inner; linear = o }
 
     walks : (o : Option Linear) (t : List Letter) (inner new : SumState) (e : SumEvent) → Reads sums inner t e new
-        → Walks goal_automaton (at o inner) t (record { phase = Tail; inner = new; linear = Some (linear_of e) })
+        → Walks rup_automaton (at o inner) t (record { phase = Tail; inner = new; linear = Some (linear_of e) })
     walks o [] inner new e r = absurd r
-    walks o (l ∷ []) inner new e (g, n) = (record { phase = Tail; inner = new; linear = Some (linear_of e) }, ap (goal_over (at o inner)) g, refl, n, refl)
+    walks o (l ∷ []) inner new e (g, n) = (record { phase = Tail; inner = new; linear = Some (linear_of e) }, ap (rup_over (at o inner)) g, refl, n, refl)
     walks o (l ∷ k ∷ t) inner new e (mid, g, i, n, r) =
-        (at o mid, ap (goal_over (at o inner)) g, refl, n, walks o (k ∷ t) mid new e r)
+        (at o mid, ap (rup_over (at o inner)) g, refl, n, walks o (k ∷ t) mid new e r)
 
 -- behind blanks, with `>`
-gap_alive : (s : GoalState) → s.phase ≡ Gap → s.inner ≡ goals s.inner.limit → IsAlive goal_automaton s
+gap_alive : (s : RupState) → s.phase ≡ Gap → s.inner ≡ sum_first s.inner.limit → IsAlive rup_automaton s
 gap_alive s p i =
-    let mid : GoalState = record s { phase = Inside; inner = record { spaces = s.inner.spaces; part = s.inner.part; limit = s.inner.limit; work = record { terms = []; name = []; phase = sum_phase.TheVariants.Greater } } } in
-    before goal_automaton s mid 62 (ap (λ x. goal_act s 62 (goal_plan x 62)) p ∙ stepped s i) refl (inside_alive mid refl refl)
+    let mid : RupState = record s { phase = Inside; inner = record { spaces = s.inner.spaces; part = s.inner.part; limit = s.inner.limit; work = record { terms = []; name = []; phase = sum_phase.TheVariants.Greater } } } in
+    before rup_automaton s mid 62 (ap (λ x. rup_act s 62 (rup_plan x 62)) p ∙ stepped s i) refl (inside_alive mid refl refl)
   where
-    stepped : (s : GoalState) → s.inner ≡ goals s.inner.limit → goal_over s (sums.step s.inner 62) ≡ Go (record s { phase = Inside; inner = record { spaces = s.inner.spaces; part = s.inner.part; limit = s.inner.limit; work = record { terms = []; name = []; phase = sum_phase.TheVariants.Greater } } })
+    stepped : (s : RupState) → s.inner ≡ sum_first s.inner.limit → rup_over s (sums.step s.inner 62) ≡ Go (record s { phase = Inside; inner = record { spaces = s.inner.spaces; part = s.inner.part; limit = s.inner.limit; work = record { terms = []; name = []; phase = sum_phase.TheVariants.Greater } } })
     stepped s i = rw i refl
 
-start_alive : (s : GoalState) → s.phase ≡ Start → s.inner ≡ goals s.inner.limit → IsAlive goal_automaton s
+start_alive : (s : RupState) → s.phase ≡ Start → s.inner ≡ sum_first s.inner.limit → IsAlive rup_automaton s
 start_alive s p i =
-    let mid : GoalState = record s { phase = Gap } in
-    before goal_automaton s mid 32 (ap (λ x. goal_act s 32 (goal_plan x 32)) p) refl (gap_alive mid refl i)
+    let mid : RupState = record s { phase = Gap } in
+    before rup_automaton s mid 32 (ap (λ x. rup_act s 32 (rup_plan x 32)) p) refl (gap_alive mid refl i)
 
-alive : (s : GoalState) (p : GoalPhase) → s.phase ≡ p → GoalHolds s p → goal_done p ≡ false → IsAlive goal_automaton s
+alive : (s : RupState) (p : RupPhase) → s.phase ≡ p → RupHolds s p → rup_done p ≡ false → IsAlive rup_automaton s
 alive s Start e h d = start_alive s e h.1
 alive s Gap e h d = gap_alive s e h.1
 alive s Inside e h d = inside_alive s e h.1
 alive s Tail e h d = finishing s h.0.0 e h.0.1
 alive s Done e h d = never true refl d
 
-live : (s : GoalState) → IsGoalInOrder s → (d : Bool) → goal_done s.phase ≡ d → (items : List (Item Linear)) × Accepts goal_automaton s items
+live : (s : RupState) → IsRupInOrder s → (d : Bool) → rup_done s.phase ≡ d → (items : List (Item Linear)) × Accepts rup_automaton s items
 live s h true d = ([], d)
-live s h false d = accepted goal_automaton s (alive s s.phase refl h.holds d)
+live s h false d = accepted rup_automaton s (alive s s.phase refl h.holds d)
 
-pub goal_is_state : (s : GoalState) → IsGoalInOrder s → IsState goal_automaton s
-goal_is_state s h = record {
-  live = live s h (goal_done s.phase) refl;
+pub rup_is_state : (s : RupState) → IsRupInOrder s → IsState rup_automaton s
+rup_is_state s h = record {
+  live = live s h (rup_done s.phase) refl;
   ends = λ d b. done_stops s s.phase b d;
   owes = λ b next e. midway_not_done next.phase (goes s next b h e).begins;
   stays = λ i b next e. (goes s next b h e).begins;
@@ -253,14 +253,14 @@ goal_is_state s h = record {
 }
 
 -- before a line
-pub goal_first_in_order : (limit : ℕ) → IsState sums (goals limit) → IsGoalInOrder (goal_first limit)
-goal_first_in_order limit state = record { holds = (refl, refl); state = state }
+pub rup_first_in_order : (limit : ℕ) → IsState sums (sum_first limit) → IsRupInOrder (rup_first limit)
+rup_first_in_order limit state = record { holds = (refl, refl); state = state }
 
 -- What a byte leaves a machine with.
-pub to_order : (s : GoalState) → IsGoalInOrder s → (b : ℕ) (p : GoalPhase) → goal_plan s.phase b ≡ To p → IsGoalInOrder (record s { phase = p })
+pub to_order : (s : RupState) → IsRupInOrder s → (b : ℕ) (p : RupPhase) → rup_plan s.phase b ≡ To p → IsRupInOrder (record s { phase = p })
 to_order s h b p e = record { holds = held s.phase h.holds e; state = h.state }
   where
-    at_gap : (x : Bool) (m : GoalMove) → cond x (To Gap) m ≡ To p → (m ≡ To p → p ≡ Gap) → p ≡ Gap
+    at_gap : (x : Bool) (m : RupMove) → cond x (To Gap) m ≡ To p → (m ≡ To p → p ≡ Gap) → p ≡ Gap
     at_gap true m e k = cc
     at_gap false m e k = k e
 
@@ -269,27 +269,27 @@ to_order s h b p e = record { holds = held s.phase h.holds e; state = h.state }
     at_tail false true e = absurd (let f : ⊥ = cc in f)
     at_tail false false e = absurd (let f : ⊥ = cc in f)
 
-    held : (q : GoalPhase) → GoalHolds s q → goal_plan q b ≡ To p → GoalHolds s p
-    held Start h e = subst (GoalHolds s) (sym (at_gap (is_blank b) Stop e (λ k. absurd (let f : ⊥ = cc in f)))) h
-    held Gap h e = subst (GoalHolds s) (sym (at_gap (is_blank b) Give e (λ k. absurd (let f : ⊥ = cc in f)))) h
+    held : (q : RupPhase) → RupHolds s q → rup_plan q b ≡ To p → RupHolds s p
+    held Start h e = subst (RupHolds s) (sym (at_gap (is_blank b) Stop e (λ k. absurd (let f : ⊥ = cc in f)))) h
+    held Gap h e = subst (RupHolds s) (sym (at_gap (is_blank b) Give e (λ k. absurd (let f : ⊥ = cc in f)))) h
     held Inside h e = absurd (let f : ⊥ = cc in f)
-    held Tail h e = subst (GoalHolds s) (sym (at_tail (is_blank b) (nat_eq b 10) e)) h
+    held Tail h e = subst (RupHolds s) (sym (at_tail (is_blank b) (nat_eq b 10) e)) h
     held Done h e = absurd (let f : ⊥ = cc in f)
 
-pub give_order : (s : GoalState) → IsGoalInOrder s → (b : ℕ) (inner : SumState) → goal_plan s.phase b ≡ Give → sums.step s.inner b ≡ Go inner → IsState sums inner → IsGoalInOrder (record s { phase = Inside; inner = inner })
+pub give_order : (s : RupState) → IsRupInOrder s → (b : ℕ) (inner : SumState) → rup_plan s.phase b ≡ Give → sums.step s.inner b ≡ Go inner → IsState sums inner → IsRupInOrder (record s { phase = Inside; inner = inner })
 give_order s h b inner e g state = record {
   holds = (given_none s s.phase b h.holds e, midway-not-done inner.work.phase (goes-midway s.inner inner b g));
   state = state;
 }
 
-pub tail_order : (s : GoalState) (b : ℕ) (e : SumEvent) (inner : SumState) → sums.step s.inner b ≡ End e inner → IsState sums inner → IsGoalInOrder (record { phase = Tail; inner = inner; linear = Some (linear_of e) })
+pub tail_order : (s : RupState) (b : ℕ) (e : SumEvent) (inner : SumState) → sums.step s.inner b ≡ End e inner → IsState sums inner → IsRupInOrder (record { phase = Tail; inner = inner; linear = Some (linear_of e) })
 tail_order s b e inner g state = record { holds = ((linear_of e, refl), ended_empty s.inner inner b e g); state = state }
 
-pub done_order : (s : GoalState) → IsGoalInOrder s → (b : ℕ) → goal_plan s.phase b ≡ Finish → IsGoalInOrder (record s { phase = Done; linear = None })
+pub done_order : (s : RupState) → IsRupInOrder s → (b : ℕ) → rup_plan s.phase b ≡ Finish → IsRupInOrder (record s { phase = Done; linear = None })
 done_order s h b e = record { holds = (refl, finish_empty s s.phase b h.holds e); state = h.state }
 
 -- where bytes are given the numbers are those of the machine of sums
-given_number : (s : GoalState) (p : GoalPhase) (b : ℕ) → GoalHolds s p → goal_plan p b ≡ Give → goal_in_number s p ≡ sums.in_number s.inner
+given_number : (s : RupState) (p : RupPhase) (b : ℕ) → RupHolds s p → rup_plan p b ≡ Give → rup_in_number s p ≡ sums.in_number s.inner
 given_number s Inside b h e = refl
 given_number s Gap b h e = sym (ap sums.in_number h.1)
 given_number s Start b h e = sym (ap sums.in_number h.1)
@@ -301,25 +301,25 @@ given_number s Tail b h e = absurd (not_given (is_blank b) (nat_eq b 10) e)
     not_given false false e = cc
 given_number s Done b h e = absurd (let f : ⊥ = cc in f)
 
-module _ (s : GoalState) (h : IsGoalInOrder s) (b : ℕ) (planned : goal_plan s.phase b ≡ Give) where
-  pub give_refused : sums.step s.inner b ≡ Refuse → (goal_automaton.step s b ≡ Refuse) × (is_large goal_automaton s b ≡ is_large sums s.inner b)
+module _ (s : RupState) (h : IsRupInOrder s) (b : ℕ) (planned : rup_plan s.phase b ≡ Give) where
+  pub give_refused : sums.step s.inner b ≡ Refuse → (rup_automaton.step s b ≡ Refuse) × (is_large rup_automaton s b ≡ is_large sums s.inner b)
   give_refused stops = (
-    ap (goal_act s b) planned ∙ ap (goal_over s) stops,
+    ap (rup_act s b) planned ∙ ap (rup_over s) stops,
     ap (λ (x : Bool). x && is_digit b) (given_number s s.phase b h.holds planned),
   )
 
-  by_step : (n : Next SumState SumEvent) → sums.step s.inner b ≡ n → Admits sums s.inner b → Admits goal_automaton s b
+  by_step : (n : Next SumState SumEvent) → sums.step s.inner b ≡ n → Admits sums s.inner b → Admits rup_automaton s b
   by_step (Go inner) e a =
-      admits_before goal_automaton s (record s { phase = Inside; inner = inner }) b (ap (goal_act s b) planned ∙ ap (goal_over s) e) refl
+      admits_before rup_automaton s (record s { phase = Inside; inner = inner }) b (ap (rup_act s b) planned ∙ ap (rup_over s) e) refl
       (inside_alive (record s { phase = Inside; inner = inner }) refl (midway-not-done inner.work.phase (goes-midway s.inner inner b e)))
   by_step (End x inner) e a =
-      admits_before goal_automaton s (record { phase = Tail; inner = inner; linear = Some (linear_of x) }) b (ap (goal_act s b) planned ∙ ap (goal_over s) e) refl
+      admits_before rup_automaton s (record { phase = Tail; inner = inner; linear = Some (linear_of x) }) b (ap (rup_act s b) planned ∙ ap (rup_over s) e) refl
       (finishing (record { phase = Tail; inner = inner; linear = Some (linear_of x) }) (linear_of x) refl refl)
   by_step Refuse e a = absurd (refuses sums s.inner s.inner b e a.0 a.1 (a.2, a.3))
 
-  pub give_admits : IsTrue (sums.asks s.inner b) → Admits sums s.inner b → IsTrue (goal_automaton.asks s b) × Admits goal_automaton s b
-  give_admits asking a = (subst (λ (m : GoalMove). IsTrue (goal_asks s b m)) (sym planned) asking, by_step (sums.step s.inner b) refl a)
+  pub give_admits : IsTrue (sums.asks s.inner b) → Admits sums s.inner b → IsTrue (rup_automaton.asks s b) × Admits rup_automaton s b
+  give_admits asking a = (subst (λ (m : RupMove). IsTrue (rup_asks s b m)) (sym planned) asking, by_step (sums.step s.inner b) refl a)
 
 -- Each state in order that has not ended reads some text.
-pub goal_goes_on : (s : GoalState) → IsGoalInOrder s → goal_automaton.done s ≡ false → ReadsOn goal_automaton s
-goal_goes_on s h d = reads_on goal_automaton goal_begins s (goal_is_state s h) d
+pub rup_goes_on : (s : RupState) → IsRupInOrder s → rup_automaton.done s ≡ false → ReadsOn rup_automaton s
+rup_goes_on s h d = reads_on rup_automaton rup_begins s (rup_is_state s h) d

@@ -1,8 +1,8 @@
-//! What a machine of goals has read last, and what it does with a byte.
+//! What a machine of `rup` has read last, and what it does with a byte.
 
 /// What has been read last.
 #[derive(Clone, Copy, Drop)]
-pub enum GoalPhase {
+pub enum RupPhase {
     /// Nothing.
     Start,
     /// Blanks.
@@ -15,11 +15,11 @@ pub enum GoalPhase {
     Done,
 }
 
-/// What a machine of goals does with a byte.
+/// What a machine of `rup` does with a byte.
 #[derive(Clone, Copy, Drop)]
-pub enum GoalMove {
+pub enum RupMove {
     /// Goes on.
-    To(GoalPhase),
+    To(RupPhase),
     /// Gives the byte to the machine of sums.
     Give,
     /// Ends the line.

@@ -3,7 +3,7 @@ use Rattle.pb_text.specs.Automaton.{Admits}
 use Rattle.pb_proof.specs.Machine.Transition.{plan}
 use Rattle.pb_proof.specs.Machine.State.{ProofState, IsInOrder, proofs}
 use Rattle.pb_proof.specs.contracts.machine.ProofMachine.{the_view}
-use Rattle.pb_proof.specs.declared.line.Inner.{Inner}
+use Rattle.pb_proof.specs.declared.line.LineMachine.{LineMachine}
 use Rattle.pb_proof.specs.declared.machine.phase.Move.TheVariants.{Give}
 use Rattle.pb_proof.proofs.lemmas.Machine.States.{give_order, give_admits, known}
 use Rattle.pb_proof.proofs.machine.ProofMachine.give.Goals as goal
@@ -11,12 +11,12 @@ use Rattle.pb_proof.proofs.machine.ProofMachine.give.Goals as goal
 pub invariant_of-self-in-Go : goal.invariant_of-self-in-Go
 invariant_of-self-in-Go c =
     let s : ProofState = the_view c.self.inside in
-    let planned : plan s.phase c.args.byte ≡ Give c.args.rest = subst (λ (x : ProofState). plan x.phase c.args.byte ≡ Give c.args.rest) (sym c.self.view_is) c.requires in
-    let order = give_order s c.self.invariant c.args.byte c.args.rest planned c.in-Some.inner c.push.new.self c.in-Some.is c.in-Go.ensures.pushes c.in-Go.ensures.state in
+    let planned : plan s.phase c.args.byte ≡ Give c.args.kind = subst (λ (x : ProofState). plan x.phase c.args.byte ≡ Give c.args.kind) (sym c.self.view_is) c.requires in
+    let order = give_order s c.self.invariant c.args.byte c.args.kind planned c.in-Some.inner c.push.new.self c.in-Some.is c.in-Go.ensures.pushes c.in-Go.ensures.state in
     subst (λ p. IsInOrder (record { limit = s.limit; top = s.top; phase = p; inner = Some c.push.new.self }))
-    (sym (known s c.self.invariant c.args.byte (Give c.args.rest) planned)) order
+    (sym (known s c.self.invariant c.args.byte (Give c.args.kind) planned)) order
 
-same_view : (s : ProofState) (old new : Inner) → s.inner ≡ Some old → new ≡ old → record s { inner = Some new } ≡ s
+same_view : (s : ProofState) (old new : LineMachine) → s.inner ≡ Some old → new ≡ old → record s { inner = Some new } ≡ s
 same_view s old new e h = rw (h, ← e) (same s)
   where
     same : (s : ProofState) → record s { inner = s.inner } ≡ s
@@ -25,8 +25,8 @@ same_view s old new e h = rw (h, ← e) (same s)
 pub returns-in-Memory : goal.returns-in-Memory
 returns-in-Memory c =
     let s : ProofState = the_view c.self.inside in
-    let planned : plan s.phase c.args.byte ≡ Give c.args.rest = subst (λ (x : ProofState). plan x.phase c.args.byte ≡ Give c.args.rest) (sym c.self.view_is) c.requires in
+    let planned : plan s.phase c.args.byte ≡ Give c.args.kind = subst (λ (x : ProofState). plan x.phase c.args.byte ≡ Give c.args.kind) (sym c.self.view_is) c.requires in
     let p = c.in-Memory.ensures.pushes in
-    let k = give_admits s c.self.invariant c.args.byte c.args.rest planned c.in-Some.inner c.in-Some.is p.0 p.1 in
+    let k = give_admits s c.self.invariant c.args.byte c.args.kind planned c.in-Some.inner c.in-Some.is p.0 p.1 in
     subst (λ (x : ProofState). IsTrue (proofs.asks x c.args.byte) × Admits proofs x c.args.byte × (record s { inner = Some c.push.new.self } ≡ x)) c.self.view_is
     (k.0, k.1, same_view s c.in-Some.inner c.push.new.self c.in-Some.is p.2)

@@ -9,8 +9,8 @@ use Rattle.pb_proof.proofs.line.ids.IdsMachineMachine.push.Goals as goal
 pub returns-then-is_err-clause-pushes : goal.returns-then-is_err-clause-pushes
 returns-then-is_err-clause-pushes c = rw (← c.self.view_is) (
     let k = unchanged c.push.result _ _ _ c.push.ensures.items (sym c.if-is_err.ensures.value) in
-    let f = wants c.self.inside.top c.self.inside.ids c.self.inside.phase c.args.byte c.number_mark.result
-    (move.Keep c.in-Keep.phase c.in-Keep.id) c.self.invariant c.number_mark.ensures.mark c.in-Keep.ensures.plan refl in
+    let f = wants c.self.inside.top c.self.inside.ids c.self.inside.phase c.args.byte c.number_byte.result
+    (move.Keep c.in-Keep.phase c.in-Keep.id) c.self.invariant c.number_byte.ensures.kind c.in-Keep.ensures.plan refl in
     (f.0, f.1, ap (λ x. ids_at c.self.inside.top x c.self.inside.phase) k)
     )
 
@@ -22,8 +22,8 @@ returns-then-is_err-clause-state c =
 pub returns-then-is_err-2-clause-pushes : goal.returns-then-is_err-2-clause-pushes
 returns-then-is_err-2-clause-pushes c = rw (← c.self.view_is) (
     let k = unchanged c.push-in-EndWith.result _ _ _ c.push-in-EndWith.ensures.items (sym c.if-is_err-2.ensures.value) in
-    let f = wants c.self.inside.top c.self.inside.ids c.self.inside.phase c.args.byte c.number_mark.result
-    (move.EndWith c.in-EndWith.id) c.self.invariant c.number_mark.ensures.mark c.in-EndWith.ensures.plan refl in
+    let f = wants c.self.inside.top c.self.inside.ids c.self.inside.phase c.args.byte c.number_byte.result
+    (move.EndWith c.in-EndWith.id) c.self.invariant c.number_byte.ensures.kind c.in-EndWith.ensures.plan refl in
     (f.0, f.1, ap (λ x. ids_at c.self.inside.top x c.self.inside.phase) k)
     )
 

@@ -26,8 +26,8 @@ returns-else-is_err-2-clause-state c = midway_state c.self.inside.joined c.self.
 pub returns-else-is_err-3-clause-goes : goal.returns-else-is_err-3-clause-goes
 returns-else-is_err-3-clause-goes c = rw (← c.self.view_is) (
     let k = when_ok c.flush.result _ c.flush.ensures.ok (sym c.if-is_err-3.ensures.value) in
-    goes_to c.self.inside.joined c.self.inside.literals c.self.inside.name c.self.inside.phase c.args.byte c.name_mark.result
-    _ _ c.in-To.phase k.1 c.name_mark.ensures.mark c.in-To.ensures.plan k.0
+    goes_to c.self.inside.joined c.self.inside.literals c.self.inside.name c.self.inside.phase c.args.byte c.name_byte.result
+    _ _ c.in-To.phase k.1 c.name_byte.ensures.kind c.in-To.ensures.plan k.0
     )
 
 pub returns-else-is_err-3-clause-state : goal.returns-else-is_err-3-clause-state

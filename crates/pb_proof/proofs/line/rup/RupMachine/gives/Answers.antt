@@ -1,12 +1,12 @@
 use Rattle.std.proofs.Common.{subst}
 use Rattle.pb_text.specs.Automaton.{Pushes}
-use Rattle.pb_proof.specs.Line.Rup.{goal_automaton}
+use Rattle.pb_proof.specs.Line.Rup.{rup_automaton}
 use Rattle.pb_proof.proofs.lemmas.Machine.Taken.{unmoved}
-use Rattle.pb_proof.proofs.line.rup.GoalMachine.gives.Goals as goal
-use Rattle.pb_proof.proofs.line.rup.GoalMachine.gives.Goals.{in-Go, in_default}
+use Rattle.pb_proof.proofs.line.rup.RupMachine.gives.Goals as goal
+use Rattle.pb_proof.proofs.line.rup.RupMachine.gives.Goals.{in-Go, in_default}
 
 pub returns : goal.returns
 returns c = elim c.match-give.branch [
-  | in-Go w ↦ rw w.result-is (subst (λ x. Pushes goal_automaton c.args.self.now c.args.byte x c.give.new.self) w.in-Go.is c.give.ensures)
+  | in-Go w ↦ rw w.result-is (subst (λ x. Pushes rup_automaton c.args.self.now c.args.byte x c.give.new.self) w.in-Go.is c.give.ensures)
   | in_default w ↦ rw w.result-is (unmoved c.args.self.now c.give.new.self c.args.byte c.give.result c.requires c.give.ensures w.in_default.not-Go)
 ]
