@@ -27,16 +27,16 @@ abbrev pub literals_state : LiteralsFields → LiteralsState
 literals_state m = record { joined = m.joined; literals = m.literals; name = m.name; phase = m.phase }
 
 abbrev pub rup_state : RupFields → RupState
-rup_state m = record { phase = m.phase; inner = m.inner; linear = m.linear }
+rup_state m = record { phase = m.phase; sums = m.sums; linear = m.linear }
 
 abbrev pub claim_state : ClaimFields → ClaimState
-claim_state m = record { limit = largest m.limits; top = top_of m.limits; phase = m.phase; inner = m.inner }
+claim_state m = record { limit = largest m.limits; top = top_of m.limits; phase = m.phase; literals = m.literals }
 
 abbrev pub pol_state : PolFields → PolState
 pol_state m = record { limit = m.limit; top = m.top; work = record { words = m.words.items; depth = m.depth; name = m.name; phase = m.phase } }
 
 abbrev pub proof_state : ProofFields → ProofState
-proof_state m = record { limit = largest m.limits; top = top_of m.limits; phase = m.phase; inner = m.inner }
+proof_state m = record { limit = largest m.limits; top = top_of m.limits; phase = m.phase; line = m.line }
 
 -- Each keeps nothing beside its state, and the allocator, the limits and the vector of words where it has them.
 abbrev pub CountKeeps : Type 0

@@ -21,7 +21,7 @@ pub struct ProofMachine {
     alloc: Global,
     limits: Limits,
     phase: Phase,
-    inner: Option<LineMachine>,
+    line: Option<LineMachine>,
 }
 
 impl Model for ProofMachine {
@@ -34,22 +34,22 @@ impl Model for ProofMachine {
       limit = largest m.limits;
       top = top_of m.limits;
       phase = m.phase;
-      inner = m.inner;
+      line = m.line;
     } };
 
     ghost invariant = { λ m. IsInOrder (record {
       limit = largest m.limits;
       top = top_of m.limits;
       phase = m.phase;
-      inner = m.inner;
+      line = m.line;
     }) };
 }
 
 /// Puts a machine, or none, in the place of another.
-fn replace(inner: &mut Option<LineMachine>, next: Option<LineMachine>)
-    ensures { inner.new ≡ next }
+fn replace(line: &mut Option<LineMachine>, next: Option<LineMachine>)
+    ensures { line.new ≡ next }
 {
-    *inner = next;
+    *line = next;
 }
 
 impl ProofMachine {
@@ -84,7 +84,7 @@ impl ProofMachine {
             alloc,
             limits,
             phase: Phase::Between(Stage::Opening),
-            inner: None,
+            line: None,
         }
     }
 }
@@ -105,7 +105,7 @@ impl ProofMachine {
             }
             Move::Begin(kind) => {
                 replace(
-                    &mut self.inner,
+                    &mut self.line,
                     Some(line_first(self.alloc, self.limits, kind)),
                 );
                 self.phase = Phase::Inside(kind);
@@ -133,13 +133,13 @@ impl ProofMachine {
         requires { plan self.old.phase byte ≡ Move.Give kind }
         ensures { Pushes proofs self.old byte result self.new }
     {
-        let Some(inner) = &mut self.inner else {
+        let Some(line) = &mut self.line else {
             return Push::No;
         };
-        match inner.push(byte) {
+        match line.push(byte) {
             Push::Go => Push::Go,
             Push::Event(statement) => {
-                replace(&mut self.inner, None);
+                replace(&mut self.line, None);
                 self.phase = Phase::Between(stage_behind(kind));
                 Push::Event(statement)
             }
@@ -161,8 +161,8 @@ impl ProofMachine {
         ensures runs { Runs proofs self.old (take result text.now) self.new }
         ensures state { IsState proofs self.new }
     {
-        let taken = match &mut self.inner {
-            Some(inner) => inner.run(text),
+        let taken = match &mut self.line {
+            Some(line) => line.run(text),
             None => 0,
         };
         let _ = self.is_done();
@@ -184,8 +184,8 @@ impl Machine for ProofMachine {
                 true
             }
             Move::Begin(kind) => {
-                let inner = line_first(self.alloc, self.limits, kind);
-                replace(&mut self.inner, Some(inner));
+                let line = line_first(self.alloc, self.limits, kind);
+                replace(&mut self.line, Some(line));
                 self.phase = Phase::Inside(kind);
                 true
             }
@@ -225,8 +225,8 @@ impl Machine for ProofMachine {
     }
 
     fn held(&self) -> usize {
-        match &self.inner {
-            Some(inner) => inner.held(),
+        match &self.line {
+            Some(line) => line.held(),
             None => 0,
         }
     }

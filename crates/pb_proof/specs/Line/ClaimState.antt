@@ -20,11 +20,11 @@ pub record ClaimState : Type 0 where
   pub limit : ℕ
   pub top : ℕ
   pub phase : Phase
-  pub inner : LiteralsState
+  pub literals : LiteralsState
 
 -- with no literal read
 abbrev pub claim_at : ℕ → ℕ → Phase → ClaimState
-claim_at limit top p = record { limit = limit; top = top; phase = p; inner = literals_first true }
+claim_at limit top p = record { limit = limit; top = top; phase = p; literals = literals_first true }
 
 -- before a claim, and after it
 abbrev pub claim_first : ℕ → ℕ → ClaimState
@@ -45,7 +45,7 @@ claim_value (claim.TheVariants.Shows shows) = showing_value shows None
 
 -- with what the machine of literals has read
 abbrev pub giving : ClaimState → LiteralsState → ClaimState
-giving s inner = record s { inner = inner }
+giving s inner = record s { literals = inner }
 
 -- What a step of the machine of literals leads to: where it ends, its literals are shown.
 abbrev pub over : ClaimState → Showing → Next LiteralsState (List Literal) → Next ClaimState Conclusion
@@ -57,26 +57,26 @@ over s shows Refuse = Refuse
 abbrev pub act : ClaimState → ℕ → Move → Next ClaimState Conclusion
 act s b (To p) = Go (claim_at s.limit s.top p)
 act s b (Finish claim) = End (claim_value claim) (claim_last s.limit s.top)
-act s b (Give shows) = over s shows (literals_automaton.step s.inner b)
+act s b (Give shows) = over s shows (literals_automaton.step s.literals b)
 act s b Stop = Refuse
 
 -- the byte before is a digit of a number
 abbrev pub is_in_number : ClaimState → Phase → Bool
-is_in_number s (phase.Shown shows) = literals_automaton.in_number s.inner
+is_in_number s (phase.Shown shows) = literals_automaton.in_number s.literals
 is_in_number s p = is_in_digits p
 
 -- memory is asked for by the machine of literals alone
 abbrev pub asks : ClaimState → ℕ → Move → Bool
-asks s b (Give shows) = literals_automaton.asks s.inner b
+asks s b (Give shows) = literals_automaton.asks s.literals b
 asks s b _ = false
 
 -- nothing is kept but by the machine of literals, once it has begun
 abbrev pub kept : ClaimState → Phase → ℕ
-kept s (phase.Shown shows) = literals_automaton.kept s.inner
+kept s (phase.Shown shows) = literals_automaton.kept s.literals
 kept s _ = 0
 
 abbrev pub spent : ClaimState → Phase → ℕ
-spent s (phase.Shown shows) = literals_automaton.spent s.inner
+spent s (phase.Shown shows) = literals_automaton.spent s.literals
 spent s _ = 0
 
 -- the automaton
@@ -93,8 +93,8 @@ claim_automaton = record {
 
 -- The machine of literals has read nothing, or some of what stands behind `:` and not all.
 abbrev pub Holds : ClaimState → Phase → Type 0
-Holds s (phase.Shown shows) = literals_automaton.done s.inner ≡ false
-Holds s _ = s.inner ≡ literals_first true
+Holds s (phase.Shown shows) = literals_automaton.done s.literals ≡ false
+Holds s _ = s.literals ≡ literals_first true
 
 -- What a machine of claims keeps of its state.
 pub record IsClaimInOrder (s : ClaimState) : Type 0 where
@@ -103,4 +103,4 @@ pub record IsClaimInOrder (s : ClaimState) : Type 0 where
   pub some : 0 < s.top
   pub fits : PhaseFits s.limit s.top s.phase
   pub holds : Holds s s.phase
-  pub inner : IsLiteralsInOrder s.inner
+  pub literals : IsLiteralsInOrder s.literals

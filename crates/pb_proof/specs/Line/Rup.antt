@@ -17,7 +17,7 @@ use Rattle.pb_proof.specs.declared.line.rup.phase.RupMove.TheVariants.{To, Give,
 -- what was read last, the machine of sums, and the constraint that it has read
 pub record RupState : Type 0 where
   pub phase : RupPhase
-  pub inner : SumState
+  pub sums : SumState
   pub linear : Option Linear
 
 -- before a constraint, and after it
@@ -28,10 +28,10 @@ abbrev pub sum_last : ℕ → SumState
 sum_last limit = last Blank part.TheVariants.AtLeast limit
 
 abbrev pub rup_first : ℕ → RupState
-rup_first limit = record { phase = Start; inner = sum_first limit; linear = None }
+rup_first limit = record { phase = Start; sums = sum_first limit; linear = None }
 
 abbrev pub rup_last : ℕ → RupState
-rup_last limit = record { phase = Done; inner = sum_last limit; linear = None }
+rup_last limit = record { phase = Done; sums = sum_last limit; linear = None }
 
 abbrev pub rup_plan : RupPhase → ℕ → RupMove
 rup_plan Start b = cond (is_blank b) (To Gap) Stop
@@ -46,8 +46,8 @@ linear_of (sum.TheVariants.Linear c) = c
 linear_of (sum.TheVariants.Sum terms) = record { terms = terms; relation = AtLeast; degree = pos 0 }
 
 abbrev pub rup_over : RupState → Next SumState SumEvent → Next RupState Linear
-rup_over s (Go inner) = Go (record s { phase = Inside; inner = inner })
-rup_over s (End e inner) = Go (record { phase = Tail; inner = inner; linear = Some (linear_of e) })
+rup_over s (Go inner) = Go (record s { phase = Inside; sums = inner })
+rup_over s (End e inner) = Go (record { phase = Tail; sums = inner; linear = Some (linear_of e) })
 rup_over s Refuse = Refuse
 
 abbrev pub rup_finish : RupState → Option Linear → Next RupState Linear
@@ -56,7 +56,7 @@ rup_finish s (Some c) = End c (record s { phase = Done; linear = None })
 
 abbrev pub rup_act : RupState → ℕ → RupMove → Next RupState Linear
 rup_act s b (To p) = Go (record s { phase = p })
-rup_act s b Give = rup_over s (sums.step s.inner b)
+rup_act s b Give = rup_over s (sums.step s.sums b)
 rup_act s b Finish = rup_finish s s.linear
 rup_act s b Stop = Refuse
 
@@ -70,11 +70,11 @@ rup_done Done = true
 rup_done _ = false
 
 abbrev pub rup_in_number : RupState → RupPhase → Bool
-rup_in_number s Inside = sums.in_number s.inner
+rup_in_number s Inside = sums.in_number s.sums
 rup_in_number s _ = false
 
 abbrev pub rup_asks : RupState → ℕ → RupMove → Bool
-rup_asks s b Give = sums.asks s.inner b
+rup_asks s b Give = sums.asks s.sums b
 rup_asks s b _ = false
 
 -- literals of the constraint that has been read, and the bytes of their names
@@ -89,18 +89,18 @@ rup_automaton = record {
   begun = λ s. rup_midway s.phase;
   in_number = λ s. rup_in_number s s.phase;
   asks = λ s b. rup_asks s b (rup_plan s.phase b);
-  kept = λ s. min (units_in s.linear + sums.kept s.inner) (2 ^ 64 - 1);
-  spent = λ s. units_in s.linear + sums.spent s.inner;
+  kept = λ s. min (units_in s.linear + sums.kept s.sums) (2 ^ 64 - 1);
+  spent = λ s. units_in s.linear + sums.spent s.sums;
 }
 
 -- What a machine keeps of its state.
 abbrev pub RupHolds : RupState → RupPhase → Type 0
-RupHolds s Start = (s.linear ≡ None) × (s.inner ≡ sum_first s.inner.limit)
-RupHolds s Gap = (s.linear ≡ None) × (s.inner ≡ sum_first s.inner.limit)
-RupHolds s Inside = (s.linear ≡ None) × (sums.done s.inner ≡ false)
-RupHolds s Tail = ((c : Linear) × (s.linear ≡ Some c)) × (sums.spent s.inner ≡ 0)
-RupHolds s Done = (s.linear ≡ None) × (sums.spent s.inner ≡ 0)
+RupHolds s Start = (s.linear ≡ None) × (s.sums ≡ sum_first s.sums.limit)
+RupHolds s Gap = (s.linear ≡ None) × (s.sums ≡ sum_first s.sums.limit)
+RupHolds s Inside = (s.linear ≡ None) × (sums.done s.sums ≡ false)
+RupHolds s Tail = ((c : Linear) × (s.linear ≡ Some c)) × (sums.spent s.sums ≡ 0)
+RupHolds s Done = (s.linear ≡ None) × (sums.spent s.sums ≡ 0)
 
 pub record IsRupInOrder (s : RupState) : Type 0 where
   pub holds : RupHolds s s.phase
-  pub state : IsState sums s.inner
+  pub state : IsState sums s.sums

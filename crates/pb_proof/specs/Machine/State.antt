@@ -20,11 +20,11 @@ pub record ProofState : Type 0 where
   pub limit : ℕ
   pub top : ℕ
   pub phase : Phase
-  pub inner : Option LineMachine
+  pub line : Option LineMachine
 
 -- with no such machine
 abbrev pub at : ℕ → ℕ → Phase → ProofState
-at limit top p = record { limit = limit; top = top; phase = p; inner = None }
+at limit top p = record { limit = limit; top = top; phase = p; line = None }
 
 -- between two statements
 abbrev pub idle : ℕ → ℕ → Stage → ProofState
@@ -36,7 +36,7 @@ begin limit top = idle limit top stage.TheVariants.Opening
 
 -- within what stands behind a first word
 abbrev pub giving : ℕ → ℕ → LineKind → LineMachine → ProofState
-giving limit top r inner = record { limit = limit; top = top; phase = phase.TheVariants.Inside r; inner = Some inner }
+giving limit top r line = record { limit = limit; top = top; phase = phase.TheVariants.Inside r; line = Some line }
 
 -- what may come behind a statement
 abbrev pub stage_behind : LineKind → Stage
@@ -44,18 +44,18 @@ stage_behind kind.TheVariants.Conclusion = stage.TheVariants.Closing
 stage_behind _ = stage.TheVariants.Steps
 
 abbrev pub over : ProofState → LineKind → Next LineMachine Statement → Next ProofState Statement
-over s r (Go inner) = Go (giving s.limit s.top r inner)
-over s r (End e inner) = End e (idle s.limit s.top (stage_behind r))
+over s r (Go line) = Go (giving s.limit s.top r line)
+over s r (End e line) = End e (idle s.limit s.top (stage_behind r))
 over s r Refuse = Refuse
 
 abbrev pub step_line : Option LineMachine → ℕ → Next LineMachine Statement
 step_line None b = Refuse
-step_line (Some inner) b = line_automaton.step inner b
+step_line (Some line) b = line_automaton.step line b
 
 abbrev pub act : ProofState → ℕ → Move → Next ProofState Statement
 act s b (To p) = Go (record s { phase = p })
 act s b (Begin r) = Go (giving s.limit s.top r (line_first s.limit s.top r))
-act s b (Give r) = over s r (step_line s.inner b)
+act s b (Give r) = over s r (step_line s.line b)
 act s b EndHeader = End statement.TheVariants.Header (idle s.limit s.top stage.TheVariants.Formula)
 act s b EndOutput = End statement.TheVariants.Output (idle s.limit s.top stage.TheVariants.Claim)
 act s b EndProof = End statement.TheVariants.End (idle s.limit s.top stage.TheVariants.Complete)
@@ -78,11 +78,11 @@ is_done _ = false
 -- what is asked of the machine behind a first word, where there is one
 abbrev pub asked : {A : Type 0} → A → (LineMachine → A) → Option LineMachine → A
 asked none ask None = none
-asked none ask (Some inner) = ask inner
+asked none ask (Some line) = ask line
 
 -- memory is asked for by that machine alone
 abbrev pub asks : ProofState → ℕ → Move → Bool
-asks s b (Give r) = asked false (λ i. line_automaton.asks i b) s.inner
+asks s b (Give r) = asked false (λ i. line_automaton.asks i b) s.line
 asks s b _ = false
 
 abbrev pub proofs : Automaton ProofState Statement
@@ -90,10 +90,10 @@ proofs = record {
   step = λ s b. act s b (plan s.phase b);
   done = λ s. is_done s.phase;
   begun = λ s. is_within s.phase;
-  in_number = λ s. asked false line_automaton.in_number s.inner;
+  in_number = λ s. asked false line_automaton.in_number s.line;
   asks = λ s b. asks s b (plan s.phase b);
-  kept = λ s. asked 0 line_automaton.kept s.inner;
-  spent = λ s. asked 0 line_automaton.spent s.inner;
+  kept = λ s. asked 0 line_automaton.kept s.line;
+  spent = λ s. asked 0 line_automaton.spent s.line;
 }
 
 -- the stages with gaps before their statements
@@ -110,8 +110,8 @@ PhaseFits _ = Unit {0}
 
 -- What stands with what was read last.
 abbrev pub Holds : ProofState → Phase → Type 0
-Holds s (phase.TheVariants.Inside r) = (i : LineMachine) × (s.inner ≡ Some i) × (line_automaton.done i ≡ false) × IsState line_automaton i
-Holds s _ = s.inner ≡ None
+Holds s (phase.TheVariants.Inside r) = (i : LineMachine) × (s.line ≡ Some i) × (line_automaton.done i ≡ false) × IsState line_automaton i
+Holds s _ = s.line ≡ None
 
 pub record IsInOrder (s : ProofState) : Type 0 where
   pub limit : s.limit < 2 ^ 127

@@ -23,7 +23,7 @@ pub struct ClaimMachine {
     alloc: Global,
     limits: Limits,
     phase: Phase,
-    inner: LiteralsMachine,
+    literals: LiteralsMachine,
 }
 
 impl Model for ClaimMachine {
@@ -36,14 +36,14 @@ impl Model for ClaimMachine {
       limit = largest m.limits;
       top = top_of m.limits;
       phase = m.phase;
-      inner = m.inner;
+      literals = m.literals;
     } };
 
     ghost invariant = { λ m. IsClaimInOrder (record {
       limit = largest m.limits;
       top = top_of m.limits;
       phase = m.phase;
-      inner = m.inner;
+      literals = m.literals;
     }) };
 }
 
@@ -84,7 +84,7 @@ impl ClaimMachine {
             alloc,
             limits,
             phase: Phase::Start,
-            inner: LiteralsMachine::new(alloc, true),
+            literals: LiteralsMachine::new(alloc, true),
         }
     }
 }
@@ -105,7 +105,7 @@ impl ClaimMachine {
             }
             Move::Finish(claim) => {
                 self.phase = Phase::Done;
-                self.inner = LiteralsMachine::new(self.alloc, true);
+                self.literals = LiteralsMachine::new(self.alloc, true);
                 Push::Event(claim_value(claim))
             }
             Move::Give(showing) => self.give(showing, byte),
@@ -124,11 +124,11 @@ impl ClaimMachine {
         requires { plan self.old.limit self.old.top self.old.phase byte ≡ Move.Give showing }
         ensures { Pushes claim_automaton self.old byte result self.new }
     {
-        match self.inner.push(byte) {
+        match self.literals.push(byte) {
             Push::Go => Push::Go,
             Push::Event(literals) => {
                 self.phase = Phase::Done;
-                self.inner = LiteralsMachine::new(self.alloc, true);
+                self.literals = LiteralsMachine::new(self.alloc, true);
                 Push::Event(showing_value(showing, Some(literals)))
             }
             Push::No => Push::No,
@@ -167,7 +167,7 @@ impl Machine for ClaimMachine {
 
     fn held(&self) -> usize {
         match self.phase {
-            Phase::Shown(_) => self.inner.held(),
+            Phase::Shown(_) => self.literals.held(),
             _ => 0,
         }
     }

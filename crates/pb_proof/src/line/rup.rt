@@ -18,7 +18,7 @@ use std::mem;
 #[derive(Drop)]
 pub(crate) struct RupMachine {
     phase: RupPhase,
-    inner: SumMachine,
+    sums: SumMachine,
     linear: Option<Linear>,
 }
 
@@ -27,9 +27,9 @@ impl Model for RupMachine {
 
     ghost Value = { RupState };
 
-    ghost view = { λ m. record { phase = m.phase; inner = m.inner; linear = m.linear } };
+    ghost view = { λ m. record { phase = m.phase; sums = m.sums; linear = m.linear } };
 
-    ghost invariant = { λ m. IsRupInOrder (record { phase = m.phase; inner = m.inner; linear = m.linear }) };
+    ghost invariant = { λ m. IsRupInOrder (record { phase = m.phase; sums = m.sums; linear = m.linear }) };
 }
 
 /// What a machine does with a byte.
@@ -87,7 +87,7 @@ impl RupMachine {
     {
         RupMachine {
             phase: RupPhase::Start,
-            inner: SumMachine::new(alloc, Spaces::Blank, Part::AtLeast, limits),
+            sums: SumMachine::new(alloc, Spaces::Blank, Part::AtLeast, limits),
             linear: None,
         }
     }
@@ -112,7 +112,7 @@ impl RupMachine {
         requires { rup_plan self.old.phase byte ≡ RupMove.Give }
         ensures { Pushes rup_automaton self.old byte result self.new }
     {
-        match self.inner.push(byte) {
+        match self.sums.push(byte) {
             Push::Go => {
                 self.phase = RupPhase::Inside;
                 Push::Go
@@ -166,7 +166,7 @@ impl RupMachine {
         ensures state { IsState rup_automaton self.new }
     {
         let taken = match self.phase {
-            RupPhase::Inside => self.inner.run(text),
+            RupPhase::Inside => self.sums.run(text),
             _ => 0,
         };
         let _ = self.is_done();
@@ -217,6 +217,6 @@ impl Machine for RupMachine {
     }
 
     fn held(&self) -> usize {
-        units_in(&self.linear).saturating_add(self.inner.held())
+        units_in(&self.linear).saturating_add(self.sums.held())
     }
 }

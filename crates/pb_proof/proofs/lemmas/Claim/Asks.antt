@@ -106,7 +106,7 @@ module _ (s : ClaimState) (b : ℕ) where
   shows_only phase.Done h = absurd (false≢true h)
 
 -- What is read there shows literals.
-shown_step : (s : ClaimState) (b : ℕ) (x : Showing) → s.phase ≡ phase.Shown x → claim_automaton.step s b ≡ over s x (literals_automaton.step s.inner b)
+shown_step : (s : ClaimState) (b : ℕ) (x : Showing) → s.phase ≡ phase.Shown x → claim_automaton.step s b ≡ over s x (literals_automaton.step s.literals b)
 shown_step s b x e = ap (λ q. act s b (plan s.limit s.top q b)) e
 
 shown_went : (s next : ClaimState) (x : Showing) (y : Next LiteralsState (List Literal)) → ◌≡◌ {A = Next ClaimState Conclusion} (over s x y) (Go next) → next.phase ≡ s.phase
@@ -123,21 +123,21 @@ shown_ended s next x c Refuse e = absurd (let f : ⊥ = cc in f)
 shown_reads : (t : List Letter) (s : ClaimState) (x : Showing) (c : Conclusion) (next : ClaimState) → s.phase ≡ phase.Shown x → Reads claim_automaton s t c next
     → (ls : List Literal) × (c ≡ showing_value x (Some ls))
 shown_reads [] s x c next at r = absurd r
-shown_reads (l ∷ []) s x c next at (h, n) = shown_ended s next x c (literals_automaton.step s.inner l.byte) (sym (shown_step s l.byte x at) ∙ h)
+shown_reads (l ∷ []) s x c next at (h, n) = shown_ended s next x c (literals_automaton.step s.literals l.byte) (sym (shown_step s l.byte x at) ∙ h)
 shown_reads (l ∷ k ∷ t) s x c next at (mid, h, o, n, r) =
-    shown_reads (k ∷ t) mid x c next (shown_went s mid x (literals_automaton.step s.inner l.byte) (sym (shown_step s l.byte x at) ∙ h) ∙ at) r
+    shown_reads (k ∷ t) mid x c next (shown_went s mid x (literals_automaton.step s.literals l.byte) (sym (shown_step s l.byte x at) ∙ h) ∙ at) r
 
 shows_claim : (x : Showing) (ls : List Literal) (text : List ℕ) (b : ℕ) → AsksShown text b → AsksClaim (showing_value x (Some ls)) text b
 shows_claim showing.Sat ls text b h = h
 shows_claim (showing.Bounds lower id upper) ls text b h = h
 
 module _ (limit top : ℕ) where
-  shown_at : (s : ClaimState) (x : Showing) (t : List Letter) (b : ℕ) → s.phase ≡ phase.Shown x → claims.front s.limit s.top s.inner s.phase t → claim_automaton.asks s b ≡ true → AsksShown (bytes t) b
+  shown_at : (s : ClaimState) (x : Showing) (t : List Letter) (b : ℕ) → s.phase ≡ phase.Shown x → claims.front s.limit s.top s.literals s.phase t → claim_automaton.asks s b ≡ true → AsksShown (bytes t) b
   shown_at s x t b at f h =
-      let (a, c, e, (u, v, i, j, colon), w) = subst (λ q. claims.front s.limit s.top s.inner q t) at f in
-      let asks_it : literals_automaton.asks s.inner b ≡ true = subst (λ q. asks s b (plan s.limit s.top q b) ≡ true) at h in
+      let (a, c, e, (u, v, i, j, colon), w) = subst (λ q. claims.front s.limit s.top s.literals q t) at f in
+      let asks_it : literals_automaton.asks s.literals b ≡ true = subst (λ q. asks s b (plan s.limit s.top q b) ≡ true) at h in
       let front : bytes a ≡ bytes u ++ 58 ∷ [] = ap bytes i ∙ (bytes-append u v ∙ ap (λ (y : List ℕ). bytes u ++ y) (ap bytes colon)) in
-      (bytes u, bytes c, ap bytes e ∙ (bytes-append a c ∙ (ap (λ (y : List ℕ). y ++ bytes c) front ∙ append_assoc (bytes u) (58 ∷ []) (bytes c))), literals_asked true c s.inner b w asks_it)
+      (bytes u, bytes c, ap bytes e ∙ (bytes-append a c ∙ (ap (λ (y : List ℕ). y ++ bytes c) front ∙ append_assoc (bytes u) (58 ∷ []) (bytes c))), literals_asked true c s.literals b w asks_it)
 
   pub claim_asked : (t rest : List Letter) (l : Letter) (s next : ClaimState) (c : Conclusion) → Walks claim_automaton (claim_first limit top) t s → Reads claim_automaton s (l ∷ rest) c next
       → claim_automaton.asks s l.byte ≡ true → AsksClaim c (bytes t) l.byte

@@ -67,7 +67,7 @@ front limit top inner (phase.Shown x) = Colon limit top (Claimed limit top (clai
 front limit top inner phase.Done = λ p. ⊥
 
 abbrev pub Front : ClaimState → Language
-Front s = front s.limit s.top s.inner s.phase
+Front s = front s.limit s.top s.literals s.phase
 
 abbrev pub Told : Conclusion → ClaimState → Language
 Told e after = SpellsClaim after.limit after.top e
@@ -271,20 +271,20 @@ module _ (s : ClaimState) (l : Letter) (p : List Letter) where
       chosen After (nat_eq n 0) _ _ (λ _. tt) (λ z. in_after_id x (signed negative n) (id_of x negative n (positive n z) i h)))
 
   -- literals
-  in_shown : (x : Showing) → s.phase ≡ phase.Shown x → (Colon s.limit s.top (ClaimOf (claim.Shows x)) ⋅ Walked s.inner) p
-      → (n : Next LiteralsState (List Literal)) → literals_automaton.step s.inner l.byte ≡ n → Leaves (over s x n)
+  in_shown : (x : Showing) → s.phase ≡ phase.Shown x → (Colon s.limit s.top (ClaimOf (claim.Shows x)) ⋅ Walked s.literals) p
+      → (n : Next LiteralsState (List Literal)) → literals_automaton.step s.literals l.byte ≡ n → Leaves (over s x n)
   in_shown x at h (Go inner) e = λ u n.
       let m : l.numeral ≡ literals_automaton.in_number inner = n ∙ ap (is_in_number (giving s inner)) at in
       subst (λ q. front s.limit s.top inner q (p ++ l ∷ [])) (sym at)
-      (grown (Colon s.limit s.top (ClaimOf (claim.Shows x))) (Walked s.inner) (Walked inner) p l
-      (λ q r. walks_more literals_automaton q l (literals_first true) s.inner inner r e (literals_of_one.begins s.inner inner l.byte e) m) h)
+      (grown (Colon s.limit s.top (ClaimOf (claim.Shows x))) (Walked s.literals) (Walked inner) p l
+      (λ q r. walks_more literals_automaton q l (literals_first true) s.literals inner r e (literals_of_one.begins s.literals inner l.byte e) m) h)
   in_shown x at h (End ls inner) e = λ n.
       showing_line s.limit s.top x ls (p ++ l ∷ [])
-      (grown (Colon s.limit s.top (ClaimOf (claim.Shows x))) (Walked s.inner) (SpellsJoined true ls) p l
-      (λ q r. ((literals_reads true (q ++ l ∷ []) ls inner).0 (ends_walk literals_automaton q l (literals_first true) s.inner inner ls r e n)).0) h)
+      (grown (Colon s.limit s.top (ClaimOf (claim.Shows x))) (Walked s.literals) (SpellsJoined true ls) p l
+      (λ q r. ((literals_reads true (q ++ l ∷ []) ls inner).0 (ends_walk literals_automaton q l (literals_first true) s.literals inner ls r e n)).0) h)
   in_shown x at h Refuse e = tt
 
-  sound : (q : Phase) → s.phase ≡ q → PhaseFits s.limit s.top q → front s.limit s.top s.inner q p → After (plan s.limit s.top q l.byte)
+  sound : (q : Phase) → s.phase ≡ q → PhaseFits s.limit s.top q → front s.limit s.top s.literals q p → After (plan s.limit s.top q l.byte)
   sound phase.Start at f h =
       chosen After (is_blank l.byte) _ _ (λ e u n. subst (λ x. Blanks1 (x ++ l ∷ [])) (sym h) (some-one IsBlank l.byte l (as_unmarked l l.byte n refl) e)) (λ _. tt)
   sound phase.Before at f h =
@@ -302,7 +302,7 @@ module _ (s : ClaimState) (l : Letter) (p : List Letter) where
   sound (phase.BeforeId x) at f h = before_id x h
   sound (phase.IdSigned x) at f h = first_id_digit x true h
   sound (phase.IdDigits x negative n) at f h = in_id x negative n f h
-  sound (phase.Shown x) at f h = in_shown x at h (literals_automaton.step s.inner l.byte) refl
+  sound (phase.Shown x) at f h = in_shown x at h (literals_automaton.step s.literals l.byte) refl
   sound phase.Done at f h = absurd h
 
 -- with what is known of the phase

@@ -26,28 +26,28 @@ refuse_end : (s : ClaimState) (c : Conclusion) → ◌≡◌ {A = Next ClaimStat
 refuse_end s c h = cc
 
 module _ (s : ClaimState) (h : IsClaimInOrder s) (b : ℕ) (x : Showing) (planned : plan s.limit s.top s.phase b ≡ Give x) where
-  given : (n : Next LiteralsState (List Literal)) → literals_automaton.step s.inner b ≡ n → claim_automaton.step s b ≡ over s x n
+  given : (n : Next LiteralsState (List Literal)) → literals_automaton.step s.literals b ≡ n → claim_automaton.step s b ≡ over s x n
   given n e = ap (act s b) planned ∙ ap (over s x) e
 
-  pub give_order : (inner : LiteralsState) → literals_automaton.step s.inner b ≡ Go inner → IsClaimInOrder (giving s inner)
+  pub give_order : (inner : LiteralsState) → literals_automaton.step s.literals b ≡ Go inner → IsClaimInOrder (giving s inner)
   give_order inner e = (goes s (giving s inner) b (given (Go inner) e)).keeps h
 
-  pub give_refused : literals_automaton.step s.inner b ≡ Refuse → (claim_automaton.step s b ≡ Refuse) × (is_large claim_automaton s b ≡ false)
+  pub give_refused : literals_automaton.step s.literals b ≡ Refuse → (claim_automaton.step s b ≡ Refuse) × (is_large claim_automaton s b ≡ false)
   give_refused e = (given Refuse e, ap (λ q. is_in_number s q && is_digit b) (give_phase s b x planned))
 
-  taken : (n : Next LiteralsState (List Literal)) → literals_automaton.step s.inner b ≡ n → Admits literals_automaton s.inner b → over s x n ≡ Refuse → ⊥
+  taken : (n : Next LiteralsState (List Literal)) → literals_automaton.step s.literals b ≡ n → Admits literals_automaton s.literals b → over s x n ≡ Refuse → ⊥
   taken (Go inner) e a i = refuse_go _ i
   taken (End ls inner) e a i = refuse_end _ _ i
-  taken Refuse e a i = refuses literals_automaton s.inner s.inner b e a.0 a.1 (a.2, a.3)
+  taken Refuse e a i = refuses literals_automaton s.literals s.literals b e a.0 a.1 (a.2, a.3)
 
-  pub give_admits : IsTrue (literals_automaton.asks s.inner b) → Admits literals_automaton s.inner b → IsTrue (claim_automaton.asks s b) × Admits claim_automaton s b
+  pub give_admits : IsTrue (literals_automaton.asks s.literals b) → Admits literals_automaton s.literals b → IsTrue (claim_automaton.asks s b) × Admits claim_automaton s b
   give_admits asking a =
-      let n : Next LiteralsState (List Literal) = literals_automaton.step s.inner b in (
+      let n : Next LiteralsState (List Literal) = literals_automaton.step s.literals b in (
         subst (λ (m : Move). IsTrue (asks s b m)) (sym planned) asking,
         admits claim_automaton IsClaimInOrder _ claim_of_one s b (over s x n) h (given n refl) (taken n refl a),
       )
 
-pub same_inner : (s : ClaimState) (inner : LiteralsState) → inner ≡ s.inner → giving s inner ≡ s
+pub same_inner : (s : ClaimState) (inner : LiteralsState) → inner ≡ s.literals → giving s inner ≡ s
 same_inner s inner e = ap (λ i. giving s i) e
 
 -- a new machine

@@ -170,20 +170,20 @@ Stepped s Refuse = Unit {0}
 
 -- a byte that the machine of literals takes
 module _ (s : ClaimState) (shows : Showing) (p : s.phase ≡ phase.Shown shows) (b : ℕ) where
-  given_order : (inner : LiteralsState) → literals_automaton.step s.inner b ≡ Go inner → IsClaimInOrder s → IsClaimInOrder (giving s inner)
+  given_order : (inner : LiteralsState) → literals_automaton.step s.literals b ≡ Go inner → IsClaimInOrder s → IsClaimInOrder (giving s inner)
   given_order inner e h = record {
     limit = h.limit;
     top = h.top;
     some = h.some;
     fits = h.fits;
-    holds = subst (λ q. Holds (giving s inner) q) (sym p) (literals_of_one.owes inner (literals_of_one.begins s.inner inner b e));
-    inner = literals_of_one.keeps s.inner inner b h.inner e;
+    holds = subst (λ q. Holds (giving s inner) q) (sym p) (literals_of_one.owes inner (literals_of_one.begins s.literals inner b e));
+    literals = literals_of_one.keeps s.literals inner b h.literals e;
   }
 
-  given_grows : (inner : LiteralsState) → literals_automaton.step s.inner b ≡ Go inner → spent (giving s inner) s.phase ≤ spent s s.phase + 1
-  given_grows inner e = subst (λ q. spent (giving s inner) q ≤ spent s q + 1) (sym p) (literals_of_one.grows s.inner inner b e)
+  given_grows : (inner : LiteralsState) → literals_automaton.step s.literals b ≡ Go inner → spent (giving s inner) s.phase ≤ spent s s.phase + 1
+  given_grows inner e = subst (λ q. spent (giving s inner) q ≤ spent s q + 1) (sym p) (literals_of_one.grows s.literals inner b e)
 
-  given : (n : Next LiteralsState (List Literal)) → literals_automaton.step s.inner b ≡ n → Stepped s (over s shows n)
+  given : (n : Next LiteralsState (List Literal)) → literals_automaton.step s.literals b ≡ n → Stepped s (over s shows n)
   given (Go inner) e = record { fits = λ f. f; within = ap is_within p; limits = refl; keeps = given_order inner e; grows = given_grows inner e }
   given (End literals inner) e = refl
   given Refuse e = tt
@@ -229,7 +229,7 @@ idle_spent limit top phase.Done = omega arith
 
 -- a state in which no literal is read
 pub idle_order : (limit top : ℕ) (p : Phase) → limit < 2 ^ 127 → top < 2 ^ 63 → 0 < top → PhaseFits limit top p → IsClaimInOrder (claim_at limit top p)
-idle_order limit top p l t z f = record { limit = l; top = t; some = z; fits = f; holds = idle_holds limit top p; inner = λ i. (refl, refl) }
+idle_order limit top p l t z f = record { limit = l; top = t; some = z; fits = f; holds = idle_holds limit top p; literals = λ i. (refl, refl) }
 
 acted : (s : ClaimState) (b : ℕ) (m : Move) → OnMove s s.phase m → Stepped s (act s b m)
 acted s b (To p) h = record {
@@ -240,7 +240,7 @@ acted s b (To p) h = record {
   grows = omega (arith, idle_spent s.limit s.top p);
 }
 acted s b (Finish c) h = refl
-acted s b (Give shows) h = given s shows h b (literals_automaton.step s.inner b) refl
+acted s b (Give shows) h = given s shows h b (literals_automaton.step s.literals b) refl
 acted s b Stop h = tt
 
 pub stepped : (s : ClaimState) (b : ℕ) → Stepped s (claim_automaton.step s b)

@@ -124,24 +124,24 @@ module _ (limit top : ℕ) where
   some_text phase.Done z f d = absurd (false≢true (sym d))
 
 -- literals are shown, or none is read
-shown_or_idle : (s : ClaimState) (p : Phase) → Holds s p → ((x : Showing) × (p ≡ phase.Shown x)) ⊎ (s.inner ≡ literals_first true)
+shown_or_idle : (s : ClaimState) (p : Phase) → Holds s p → ((x : Showing) × (p ≡ phase.Shown x)) ⊎ (s.literals ≡ literals_first true)
 shown_or_idle s (phase.Shown x) h = inl (x, refl)
 shown_or_idle s _ h = inr h
 
-same_shown : (s : ClaimState) (x : Showing) → s.phase ≡ phase.Shown x → shown_at s.limit s.top x s.inner ≡ s
+same_shown : (s : ClaimState) (x : Showing) → s.phase ≡ phase.Shown x → shown_at s.limit s.top x s.literals ≡ s
 same_shown s x e = rw e refl
 
-same_idle : (s : ClaimState) → s.inner ≡ literals_first true → claim_at s.limit s.top s.phase ≡ s
+same_idle : (s : ClaimState) → s.literals ≡ literals_first true → claim_at s.limit s.top s.phase ≡ s
 same_idle s e = rw e refl
 
 goes_on : (s : ClaimState) → IsClaimInOrder s → claim_automaton.done s ≡ false → SomeText s
 goes_on s h d = elim (shown_or_idle s s.phase h.holds) [
-  | inl k ↦ subst SomeText (same_shown s k.0 k.1) (shown_text s.limit s.top k.0 s.inner h.inner (subst (Holds s) k.1 h.holds))
+  | inl k ↦ subst SomeText (same_shown s k.0 k.1) (shown_text s.limit s.top k.0 s.literals h.literals (subst (Holds s) k.1 h.holds))
   | inr k ↦ subst SomeText (same_idle s k) (some_text s.limit s.top s.phase h.some h.fits d)
 ]
 
 bounded : (s : ClaimState) (p : Phase) → kept s p ≤ spent s p
-bounded s (phase.Shown x) = literals_of_one.bounds s.inner
+bounded s (phase.Shown x) = literals_of_one.bounds s.literals
 bounded s phase.Start = omega arith
 bounded s phase.Before = omega arith
 bounded s (phase.Word w k) = omega arith

@@ -224,7 +224,7 @@ module _ (limit top : ℕ) where
       (λ _ k. absurd (false≢true (sym (ap (λ (x : SumState). sums.asks x b) inner ∙ first_asks_nothing BlankSpaces part.TheVariants.AtLeast limit b) ∙ k)))
   rup_at s rup.Inside t b (linear, (a, c, e, h, w)) = λ k.
       subst (λ (x : List ℕ). AsksLiteral x b) (sym (ap bytes e ∙ bytes-append a c))
-      (asks_behind (bytes a) (bytes c) b (sums_asked BlankSpaces part.TheVariants.AtLeast limit c s.inner b w k))
+      (asks_behind (bytes a) (bytes c) b (sums_asked BlankSpaces part.TheVariants.AtLeast limit c s.sums b w k))
   rup_at s rup.Tail t b h =
       chosen (λ m. rup_asks s b m ≡ true → AsksLiteral (bytes t) b) (is_blank b) _ _ (λ _ k. absurd (false≢true k))
       (λ _. chosen (λ m. rup_asks s b m ≡ true → AsksLiteral (bytes t) b) (nat_eq b 10) _ _ (λ _ k. absurd (false≢true k)) (λ _ k. absurd (false≢true k)))

@@ -119,4 +119,4 @@ module _ (limit top : ℕ) where
   line_first_state l t some Soli = state_in _ _ _ _ soli_carries (literals_first false) (literals_is_state (literals_first false) (λ i. (refl, refl)))
   line_first_state l t some Solx = state_in _ _ _ _ solx_carries (literals_first false) (literals_is_state (literals_first false) (λ i. (refl, refl)))
   line_first_state l t some Delete = state_in _ _ _ _ delete_carries (ids_first top) (ids_is_state (ids_first top) (t, some, tt, λ i. refl))
-  line_first_state l t some Conclusion = state_in _ _ _ _ conclusion_carries (claim_first limit top) (claim_is_state (claim_first limit top) (record { limit = l; top = t; some = some; fits = tt; holds = refl; inner = λ i. (refl, refl) }))
+  line_first_state l t some Conclusion = state_in _ _ _ _ conclusion_carries (claim_first limit top) (claim_is_state (claim_first limit top) (record { limit = l; top = t; some = some; fits = tt; holds = refl; literals = λ i. (refl, refl) }))

@@ -169,10 +169,10 @@ module _ (limit top : ℕ) where
         (spelling_on f (take k (words_of f)) (drop (suc k) (words_of f)) (slice_index (words_of f) k) (split_at (words_of f) k 0 h))
 
 -- the state, where no machine stands behind the words
-is_at : (s : ProofState) (p : Phase) → s.phase ≡ p → s.inner ≡ None → s ≡ at s.limit s.top p
+is_at : (s : ProofState) (p : Phase) → s.phase ≡ p → s.line ≡ None → s ≡ at s.limit s.top p
 is_at s p e h = rw (e, h) refl
 
-at_accepts : (s : ProofState) (p : Phase) → s.phase ≡ p → s.inner ≡ None → IsAlive proofs (at s.limit s.top p) → (items : List (Item Statement)) × Accepts proofs s items
+at_accepts : (s : ProofState) (p : Phase) → s.phase ≡ p → s.line ≡ None → IsAlive proofs (at s.limit s.top p) → (items : List (Item Statement)) × Accepts proofs s items
 at_accepts s p e h alive = accepted proofs s (subst (IsAlive proofs) (sym (is_at s p e h)) alive)
 
 -- behind a comment's line feed
@@ -205,7 +205,7 @@ by_phase s order (phase.OutputEnd may) e fits h = at_accepts s (phase.OutputEnd 
 by_phase s order (phase.Inside r) e fits (i, g, d, state) =
     accepted proofs s (subst (IsAlive proofs) (sym (is_giving s r i e g)) (inside_alive s.limit s.top r i state d))
   where
-    is_giving : (s : ProofState) (r : LineKind) (i : LineMachine) → s.phase ≡ phase.Inside r → s.inner ≡ Some i → s ≡ giving s.limit s.top r i
+    is_giving : (s : ProofState) (r : LineKind) (i : LineMachine) → s.phase ≡ phase.Inside r → s.line ≡ Some i → s ≡ giving s.limit s.top r i
     is_giving s r i e h = rw (e, h) refl
 
 -- each state in order accepts something

@@ -91,7 +91,7 @@ module _ (limit top : ℕ) where
   first_word kind.Conclusion _ t word text b h k a = absurd h
 
   -- Behind the first word, what is read is read by the machine there.
-  line_step : (s : ProofState) (b : ℕ) (r : LineKind) (i : LineMachine) → s.phase ≡ phase.Inside r → s.inner ≡ Some i → proofs.step s b ≡ over s r (line_automaton.step i b)
+  line_step : (s : ProofState) (b : ℕ) (r : LineKind) (i : LineMachine) → s.phase ≡ phase.Inside r → s.line ≡ Some i → proofs.step s b ≡ over s r (line_automaton.step i b)
   line_step s b r i e f = ap (λ q. act s b (plan q b)) e ∙ ap (λ x. over s r (step_line x b)) f
 
   went : (s next : ProofState) (r : LineKind) (x : Next LineMachine Statement) → ◌≡◌ {A = Next ProofState Statement} (over s r x) (Go next) → (i : LineMachine) × (x ≡ Go i) × (next ≡ giving s.limit s.top r i)
@@ -104,14 +104,14 @@ module _ (limit top : ℕ) where
   ended s next r e (End v i) h = (i, (let f : v ≡ e = cc in ap (λ (y : Statement). let z : Next LineMachine Statement = End y i in z) f))
   ended s next r e Refuse h = absurd (let f : ⊥ = cc in f)
 
-  inside_reads : (t : List Letter) (s : ProofState) (r : LineKind) (i : LineMachine) (e : Statement) (next : ProofState) → s.phase ≡ phase.Inside r → s.inner ≡ Some i → Reads proofs s t e next
+  inside_reads : (t : List Letter) (s : ProofState) (r : LineKind) (i : LineMachine) (e : Statement) (next : ProofState) → s.phase ≡ phase.Inside r → s.line ≡ Some i → Reads proofs s t e next
       → (last : LineMachine) × Reads line_automaton i t e last
   inside_reads [] s r i e next p o h = absurd h
   inside_reads (l ∷ []) s r i e next p o (h, n) =
       let (last, k) = ended s next r e (line_automaton.step i l.byte) (sym (line_step s l.byte r i p o) ∙ h) in (last, (k, n))
   inside_reads (l ∷ d ∷ t) s r i e next p o (mid, h, w, n, k) =
       let (j, g, same) = went s mid r (line_automaton.step i l.byte) (sym (line_step s l.byte r i p o) ∙ h) in
-      let (last, v) = inside_reads (d ∷ t) mid r j e next (ap (λ x. x.phase) same) (ap (λ x. x.inner) same) k in
+      let (last, v) = inside_reads (d ∷ t) mid r j e next (ap (λ x. x.phase) same) (ap (λ x. x.line) same) k in
       (last, (j, g, line_begins i j l.byte g, n ∙ ap proofs.in_number same, v))
 
   -- ---- between two statements
@@ -167,7 +167,7 @@ module _ (limit top : ℕ) where
       (λ st is. (phase.Between (stage_after e), (sound.statement_only limit top st t e next (subst (λ q. Reads proofs (at limit top q) t e next) is h)).2, refl))
 
   -- where no machine reads behind a first word, nothing asks
-  quiet : (s : ProofState) (b : ℕ) (m : Move) → s.inner ≡ None → asks s b m ≡ false
+  quiet : (s : ProofState) (b : ℕ) (m : Move) → s.line ≡ None → asks s b m ≡ false
   quiet s b (To p) e = refl
   quiet s b (Begin r) e = refl
   quiet s b (Give r) e = ap (state.asked false (λ i. line_automaton.asks i b)) e
@@ -177,7 +177,7 @@ module _ (limit top : ℕ) where
   quiet s b Stop e = refl
 
   module _ (st : Stage) (s next : ProofState) (p more : List Letter) (l : Letter) (e : Statement) (r : Reads proofs s (l ∷ more) e next) where
-    silent : {A : Type 0} (q : Phase) → s.inner ≡ None → asks s l.byte (plan q l.byte) ≡ true → A
+    silent : {A : Type 0} (q : Phase) → s.line ≡ None → asks s l.byte (plan q l.byte) ≡ true → A
     silent q o h = absurd (false≢true (sym (quiet s l.byte (plan q l.byte) o) ∙ h))
 
     by_phase : (q : Phase) → s.phase ≡ q → sound.front_of limit top st s q p → asks s l.byte (plan q l.byte) ≡ true → Asks e (bytes p) l.byte

@@ -79,14 +79,14 @@ further k size h e = grind (arith, nat_tests)
 module _ (limit top : ℕ) (here : Stage) where
   -- What has been read, by phase.
   abbrev pub front_of : ProofState → Phase → Language
-  front_of s (phase.Between at) = λ p. (at ≡ here) × (p ≡ []) × (s.inner ≡ None)
+  front_of s (phase.Between at) = λ p. (at ≡ here) × (p ≡ []) × (s.line ≡ None)
   front_of s (phase.Comment at) = λ p. ⊥
-  front_of s (phase.Spelling f k) = λ p. (stage_keyword f ≡ here) × (0 < k) × (k < length (words_of f)) × Spaced (take k (words_of f)) p × (s.inner ≡ None)
-  front_of s phase.Solution = λ p. (Steps ≡ here) × Bytes sol_word p × (s.inner ≡ None)
-  front_of s phase.HeaderEnd = λ p. (Opening ≡ here) × Gapped (KeywordWords keyword.Header) p × (s.inner ≡ None)
-  front_of s (phase.OutputEnd true) = λ p. (Steps ≡ here) × Gapped (KeywordWords keyword.Output) p × (s.inner ≡ None)
-  front_of s (phase.OutputEnd false) = λ p. (Steps ≡ here) × Closed (KeywordWords keyword.Output) p × (s.inner ≡ None)
-  front_of s (phase.Inside r) = λ p. (stage_rest r ≡ here) × ((i : LineMachine) × (s.inner ≡ Some i) × (Before r ⋅ (λ q. Walks line_automaton (line_first limit top r) q i)) p)
+  front_of s (phase.Spelling f k) = λ p. (stage_keyword f ≡ here) × (0 < k) × (k < length (words_of f)) × Spaced (take k (words_of f)) p × (s.line ≡ None)
+  front_of s phase.Solution = λ p. (Steps ≡ here) × Bytes sol_word p × (s.line ≡ None)
+  front_of s phase.HeaderEnd = λ p. (Opening ≡ here) × Gapped (KeywordWords keyword.Header) p × (s.line ≡ None)
+  front_of s (phase.OutputEnd true) = λ p. (Steps ≡ here) × Gapped (KeywordWords keyword.Output) p × (s.line ≡ None)
+  front_of s (phase.OutputEnd false) = λ p. (Steps ≡ here) × Closed (KeywordWords keyword.Output) p × (s.line ≡ None)
+  front_of s (phase.Inside r) = λ p. (stage_rest r ≡ here) × ((i : LineMachine) × (s.line ≡ Some i) × (Before r ⋅ (λ q. Walks line_automaton (line_first limit top r) q i)) p)
 
   abbrev pub Known : ProofState → Type 0
   Known s = (s.limit ≡ limit) × (s.top ≡ top)
@@ -127,7 +127,7 @@ module _ (limit top : ℕ) (here : Stage) where
     abbrev After : Move → Type 0
     After m = Leaves (act s l.byte m)
 
-    plain_letter : s.inner ≡ None → l.numeral ≡ asked false line_automaton.in_number s.inner → l.numeral ≡ false
+    plain_letter : s.line ≡ None → l.numeral ≡ asked false line_automaton.in_number s.line → l.numeral ≡ false
     plain_letter e n = n ∙ ap (asked false line_automaton.in_number) e
 
     -- a machine of what stands behind the words begins
@@ -147,7 +147,7 @@ module _ (limit top : ℕ) (here : Stage) where
         )
 
     -- all words have been read
-    whole : s.inner ≡ None → (f : Keyword) → stage_keyword f ≡ here → (l.numeral ≡ false → KeywordWords f (p ++ l ∷ [])) → After (behind f)
+    whole : s.line ≡ None → (f : Keyword) → stage_keyword f ≡ here → (l.numeral ≡ false → KeywordWords f (p ++ l ∷ [])) → After (behind f)
     whole o keyword.Header at h = λ w n. (k, (at, none_yet (KeywordWords keyword.Header) Blanks0 (p ++ l ∷ []) ([], tt, refl) (h (plain_letter o n)), o))
     whole o keyword.Formula at h = begins kind.Count at h
     whole o keyword.Pol at h = begins kind.Pol at h
@@ -159,7 +159,7 @@ module _ (limit top : ℕ) (here : Stage) where
     whole o keyword.End at h = λ n. (at, h n, same_idle s.limit s.top Complete Complete k.0 k.1 refl)
 
     -- the next byte of the words
-    spells : s.inner ≡ None → (f : Keyword) → stage_keyword f ≡ here → (j : ℕ) → j < length (words_of f) → Spaced (take j (words_of f)) p → (other : Move) → After other
+    spells : s.line ≡ None → (f : Keyword) → stage_keyword f ≡ here → (j : ℕ) → j < length (words_of f) → Spaced (take j (words_of f)) p → (other : Move) → After other
         → After (spell f j l.byte other)
     spells o f at j h q other else = chosen After (meets (slice_index (words_of f) j) l.byte) _ _
         (λ e. chosen After (nat_eq (j + 1) (length (words_of f))) _ _
@@ -168,7 +168,7 @@ module _ (limit top : ℕ) (here : Stage) where
         (λ g w n. (k, (at, omega arith, further j (length (words_of f)) h g, word_further (words_of f) j l p h e (plain_letter o n) q, o))))
         (λ _. else)
 
-    spelling : (f : Keyword) (j : ℕ) → stage_keyword f ≡ here → 0 < j → j < length (words_of f) → Spaced (take j (words_of f)) p → s.inner ≡ None
+    spelling : (f : Keyword) (j : ℕ) → stage_keyword f ≡ here → 0 < j → j < length (words_of f) → Spaced (take j (words_of f)) p → s.line ≡ None
         → After (plan (phase.Spelling f j) l.byte)
     spelling f j at some h q o = spells o f at j h q _
         (chosen After (is_blank l.byte && nat_eq (slice_index (words_of f) (j - 1)) 32) _ _
@@ -177,7 +177,7 @@ module _ (limit top : ℕ) (here : Stage) where
         (k, (at, some, h, word_blank (words_of f) j l p some h g.1 g.0 (plain_letter o n) q, o)))
         (λ _. tt))
 
-    first : s.inner ≡ None → p ≡ [] → (f : Keyword) → stage_keyword f ≡ here → After (spell f 0 l.byte move.Stop)
+    first : s.line ≡ None → p ≡ [] → (f : Keyword) → stage_keyword f ≡ here → After (spell f 0 l.byte move.Stop)
     first o e f at = spells o f at 0 (some_byte f) e move.Stop tt
       where
         some_byte : (g : Keyword) → 0 < length (words_of g)
@@ -197,7 +197,7 @@ module _ (limit top : ℕ) (here : Stage) where
         P : Keyword → Type 0
         P f = stage_keyword f ≡ Steps
 
-    enters : (at : Stage) → at ≡ here → p ≡ [] → s.inner ≡ None → After (enter at l.byte)
+    enters : (at : Stage) → at ≡ here → p ≡ [] → s.line ≡ None → After (enter at l.byte)
     enters Opening at e o = first o e keyword.Header at
     enters Formula at e o = first o e keyword.Formula at
     enters Steps at e o = first o e (step_keyword l.byte) (step_stage l.byte ∙ at)
@@ -205,12 +205,12 @@ module _ (limit top : ℕ) (here : Stage) where
     enters Closing at e o = first o e keyword.End at
     enters Complete at e o = tt
 
-    passes : (at : Stage) → at ≡ here → p ≡ [] → s.inner ≡ None → After (pass at l.byte)
+    passes : (at : Stage) → at ≡ here → p ≡ [] → s.line ≡ None → After (pass at l.byte)
     passes at same e o = chosen After (is_white l.byte) _ _
         (λ _ w. never false w refl)
         (λ _. chosen After (nat_eq l.byte 42) _ _ (λ _ w. never false w refl) (λ _. enters at same e o))
 
-    between_two : (at : Stage) → at ≡ here → p ≡ [] → s.inner ≡ None → After (between at l.byte)
+    between_two : (at : Stage) → at ≡ here → p ≡ [] → s.line ≡ None → After (between at l.byte)
     between_two Opening at e o = enters Opening at e o
     between_two Formula at e o = passes Formula at e o
     between_two Steps at e o = passes Steps at e o
@@ -226,7 +226,7 @@ module _ (limit top : ℕ) (here : Stage) where
         (λ h. begins kind.Solx at (λ n. ap (λ x. x ++ l ∷ []) e ∙ ap (λ x. plain sol_word ++ x ∷ []) (as_unmarked l 120 (eqb-true l.byte 120 h) n)))
         (λ _. tt))
 
-    header_ends : Opening ≡ here → Gapped (KeywordWords keyword.Header) p → s.inner ≡ None → After (plan phase.HeaderEnd l.byte)
+    header_ends : Opening ≡ here → Gapped (KeywordWords keyword.Header) p → s.line ≡ None → After (plan phase.HeaderEnd l.byte)
     header_ends at h o = chosen After (is_blank l.byte) _ _
         (λ e w n. (k, (at, blank_more (KeywordWords keyword.Header) l p e (plain_letter o n) h, o)))
         (λ _. chosen After (nat_eq l.byte 10) _ _
@@ -252,15 +252,15 @@ module _ (limit top : ℕ) (here : Stage) where
     -- what the machine behind the words does
     given : (r : LineKind) → stage_rest r ≡ here → (i : LineMachine) → (Before r ⋅ (λ q. Walks line_automaton (line_first limit top r) q i)) p → (x : Next LineMachine Statement)
         → line_automaton.step i l.byte ≡ x → Leaves (over s r x)
-    given r at i h (Go inner) e = λ w n. (
+    given r at i h (Go line) e = λ w n. (
       k,
       (
         at,
         (
-          inner,
+          line,
           refl,
-          grown (Before r) (λ q. Walks line_automaton (line_first limit top r) q i) (λ q. Walks line_automaton (line_first limit top r) q inner) p l
-              (λ q g. walks_more line_automaton q l (line_first limit top r) i inner g e (line_begins i inner l.byte e) n) h,
+          grown (Before r) (λ q. Walks line_automaton (line_first limit top r) q i) (λ q. Walks line_automaton (line_first limit top r) q line) p l
+              (λ q g. walks_more line_automaton q l (line_first limit top r) i line g e (line_begins i line l.byte e) n) h,
         ),
       ),
     )
@@ -272,7 +272,7 @@ module _ (limit top : ℕ) (here : Stage) where
         (z.0 ∙ at, z.1, same_idle s.limit s.top (stage_behind r) (stage_after e) k.0 k.1 z.2)
     given r at i h Refuse e = tt
 
-    inside : (r : LineKind) → stage_rest r ≡ here → (i : LineMachine) → s.inner ≡ Some i → (Before r ⋅ (λ q. Walks line_automaton (line_first limit top r) q i)) p → After (plan (phase.Inside r) l.byte)
+    inside : (r : LineKind) → stage_rest r ≡ here → (i : LineMachine) → s.line ≡ Some i → (Before r ⋅ (λ q. Walks line_automaton (line_first limit top r) q i)) p → After (plan (phase.Inside r) l.byte)
     inside r at i e h =
         subst (λ x. Leaves (over s r (step_line x l.byte))) (sym e) (given r at i h (line_automaton.step i l.byte) refl)
 

@@ -130,7 +130,7 @@ on_plan (phase.OutputEnd may) b h = chosen (OnMove (phase.OutputEnd may)) (is_bl
 on_plan (phase.Inside r) b h = refl
 
 -- where no machine stands behind the words nothing is kept, and no number is read
-pub plain_holds : (s : ProofState) (p : Phase) → IsPlain p → Holds s p → s.inner ≡ None
+pub plain_holds : (s : ProofState) (p : Phase) → IsPlain p → Holds s p → s.line ≡ None
 plain_holds s (phase.Between at) o h = h
 plain_holds s (phase.Comment at) o h = h
 plain_holds s (phase.Spelling f k) o h = h
@@ -139,7 +139,7 @@ plain_holds s phase.HeaderEnd o h = h
 plain_holds s (phase.OutputEnd may) o h = h
 plain_holds s (phase.Inside r) o h = absurd o
 
-holds_plain : (s : ProofState) (p : Phase) → IsPlain p → s.inner ≡ None → Holds s p
+holds_plain : (s : ProofState) (p : Phase) → IsPlain p → s.line ≡ None → Holds s p
 holds_plain s (phase.Between at) o h = h
 holds_plain s (phase.Comment at) o h = h
 holds_plain s (phase.Spelling f k) o h = h
@@ -171,13 +171,13 @@ On s Refuse = Unit {0}
 first_spent : (s : ProofState) → IsInOrder s → (r : LineKind) → line_automaton.spent (line_first s.limit s.top r) ≡ 0
 first_spent s h r = (line_first_state s.limit s.top h.limit h.top h.some r).empties (line_fresh s.limit s.top r).1
 
-on_given : (s : ProofState) (r : LineKind) (b : ℕ) (i : LineMachine) → s.inner ≡ Some i → IsState line_automaton i → (n : Next LineMachine Statement) → line_automaton.step i b ≡ n → On s (over s r n)
-on_given s r b i h state (Go inner) e = record { owes = refl; stays = λ w. refl; grows = rw h (state.grows b inner e) }
+on_given : (s : ProofState) (r : LineKind) (b : ℕ) (i : LineMachine) → s.line ≡ Some i → IsState line_automaton i → (n : Next LineMachine Statement) → line_automaton.step i b ≡ n → On s (over s r n)
+on_given s r b i h state (Go line) e = record { owes = refl; stays = λ w. refl; grows = rw h (state.grows b line e) }
 on_given s r b i h state (End x last) e = refl
 on_given s r b i h state Refuse e = tt
 
 -- what stands behind the words, where it is given a byte
-pub inside_of : (s : ProofState) (p : Phase) (r : LineKind) → p ≡ phase.Inside r → Holds s p → (i : LineMachine) × (s.inner ≡ Some i) × (line_automaton.done i ≡ false) × IsState line_automaton i
+pub inside_of : (s : ProofState) (p : Phase) (r : LineKind) → p ≡ phase.Inside r → Holds s p → (i : LineMachine) × (s.line ≡ Some i) × (line_automaton.done i ≡ false) × IsState line_automaton i
 inside_of s p r e h = subst (Holds s) e h
 
 on_act : (s : ProofState) → IsInOrder s → (b : ℕ) (m : Move) → OnMove s.phase m → On s (act s b m)
@@ -225,13 +225,13 @@ module _ (s : ProofState) (h : IsInOrder s) (b : ℕ) where
   known m e = subst (OnMove s.phase) e (on_plan s.phase b h.fits)
 
   -- with no machine behind the words
-  pub at_order : (p : Phase) → IsPlain p → PhaseFits p → (i : Option LineMachine) → i ≡ None → IsInOrder (record { limit = s.limit; top = s.top; phase = p; inner = i })
-  at_order p o f i e = record { limit = h.limit; top = h.top; some = h.some; fits = f; holds = holds_plain (record { limit = s.limit; top = s.top; phase = p; inner = i }) p o e }
+  pub at_order : (p : Phase) → IsPlain p → PhaseFits p → (i : Option LineMachine) → i ≡ None → IsInOrder (record { limit = s.limit; top = s.top; phase = p; line = i })
+  at_order p o f i e = record { limit = h.limit; top = h.top; some = h.some; fits = f; holds = holds_plain (record { limit = s.limit; top = s.top; phase = p; line = i }) p o e }
 
   pub to_order : (p : Phase) → plan s.phase b ≡ move.To p → IsInOrder (record s { phase = p })
   to_order p e =
       let k = known (move.To p) e in
-      at_order p k.1.plain k.1.fits s.inner (plain_holds s s.phase k.0 h.holds)
+      at_order p k.1.plain k.1.fits s.line (plain_holds s s.phase k.0 h.holds)
 
   pub begin_order : (r : LineKind) → IsInOrder (giving s.limit s.top r (line_first s.limit s.top r))
   begin_order r = record {
@@ -243,11 +243,11 @@ module _ (s : ProofState) (h : IsInOrder s) (b : ℕ) where
   }
 
   module _ (r : LineKind) (planned : plan s.phase b ≡ move.Give r) where
-    pub given : (i : LineMachine) × (s.inner ≡ Some i) × (line_automaton.done i ≡ false) × IsState line_automaton i
+    pub given : (i : LineMachine) × (s.line ≡ Some i) × (line_automaton.done i ≡ false) × IsState line_automaton i
     given = inside_of s s.phase r (known (move.Give r) planned) h.holds
 
-    pub give_order : (i inner : LineMachine) → s.inner ≡ Some i → line_automaton.step i b ≡ Go inner → IsState line_automaton inner → IsInOrder (giving s.limit s.top r inner)
-    give_order i inner e g state =
+    pub give_order : (i line : LineMachine) → s.line ≡ Some i → line_automaton.step i b ≡ Go line → IsState line_automaton line → IsInOrder (giving s.limit s.top r line)
+    give_order i line e g state =
         let (j, f, d, old) = given in
         let same : i ≡ j = (let z : i ≡ j = some_same i j (sym e ∙ f) in z) in
         record {
@@ -255,23 +255,23 @@ module _ (s : ProofState) (h : IsInOrder s) (b : ℕ) where
           top = h.top;
           some = h.some;
           fits = tt;
-          holds = (inner, refl, old.owes b inner (ap (λ x. line_automaton.step x b) (sym same) ∙ g), state);
+          holds = (line, refl, old.owes b line (ap (λ x. line_automaton.step x b) (sym same) ∙ g), state);
         }
       where
         some_same : (x y : LineMachine) → ◌≡◌ {A = Option LineMachine} (Some x) (Some y) → x ≡ y
         some_same x y e = cc
 
-    stepped : (i : LineMachine) → s.inner ≡ Some i → (n : Next LineMachine Statement) → line_automaton.step i b ≡ n → proofs.step s b ≡ over s r n
+    stepped : (i : LineMachine) → s.line ≡ Some i → (n : Next LineMachine Statement) → line_automaton.step i b ≡ n → proofs.step s b ≡ over s r n
     stepped i e n g = ap (act s b) planned ∙ (ap (λ x. over s r (step_line x b)) e ∙ ap (over s r) g)
 
-    by_step : (i : LineMachine) → s.inner ≡ Some i → IsState line_automaton i → (n : Next LineMachine Statement) → line_automaton.step i b ≡ n → Admits line_automaton i b → Admits proofs s b
-    by_step i e old (Go inner) g a =
-        admits_before proofs s (giving s.limit s.top r inner) b (stepped i e (Go inner) g) refl
-        (reading_alive s.limit s.top r inner (admitted_on line_automaton line_begins i inner b g a))
+    by_step : (i : LineMachine) → s.line ≡ Some i → IsState line_automaton i → (n : Next LineMachine Statement) → line_automaton.step i b ≡ n → Admits line_automaton i b → Admits proofs s b
+    by_step i e old (Go line) g a =
+        admits_before proofs s (giving s.limit s.top r line) b (stepped i e (Go line) g) refl
+        (reading_alive s.limit s.top r line (admitted_on line_automaton line_begins i line b g a))
     by_step i e old (End x last) g a = admits_final proofs s (idle s.limit s.top (stage_behind r)) b x (stepped i e (End x last) g) (example (stage_behind r)) (stage_accepts s.limit s.top (stage_behind r))
     by_step i e old Refuse g a = absurd (refuses line_automaton i i b g a.0 a.1 (a.2, a.3))
 
-    pub give_admits : (i : LineMachine) → s.inner ≡ Some i → IsTrue (line_automaton.asks i b) → Admits line_automaton i b → IsTrue (proofs.asks s b) × Admits proofs s b
+    pub give_admits : (i : LineMachine) → s.line ≡ Some i → IsTrue (line_automaton.asks i b) → Admits line_automaton i b → IsTrue (proofs.asks s b) × Admits proofs s b
     give_admits i e asking a =
         let (j, f, d, old) = given in (
           subst (λ m. IsTrue (asks s b m)) (sym planned) (subst (λ x. IsTrue (asked false (λ y. line_automaton.asks y b) x)) (sym e) asking),

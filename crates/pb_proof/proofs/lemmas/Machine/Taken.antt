@@ -29,7 +29,7 @@ within limit top r old h (b ∷ text) new (mid, goes, state, rest) =
     ((giving limit top r mid, ap (over s r) goes, states.is_state (giving limit top r mid) k, runs), order)
 
 -- where such a machine is kept, it reads
-reading : (s : ProofState) (p : Phase) → Holds s p → (i : LineMachine) → s.inner ≡ Some i → (r : LineKind) × (p ≡ phase.Inside r)
+reading : (s : ProofState) (p : Phase) → Holds s p → (i : LineMachine) → s.line ≡ Some i → (r : LineKind) × (p ≡ phase.Inside r)
 reading s (phase.Inside r) h i e = (r, refl)
 reading s (phase.Between at) h i e = absurd (let f : ⊥ = cc in f)
 reading s (phase.Comment at) h i e = absurd (let f : ⊥ = cc in f)
@@ -39,17 +39,17 @@ reading s phase.HeaderEnd h i e = absurd (let f : ⊥ = cc in f)
 reading s (phase.OutputEnd may) h i e = absurd (let f : ⊥ = cc in f)
 
 abbrev put : ProofState → Phase → Option LineMachine → ProofState
-put s p i = record { limit = s.limit; top = s.top; phase = p; inner = i }
+put s p i = record { limit = s.limit; top = s.top; phase = p; line = i }
 
 -- the run, and the order behind it
-pub runs_given : (s : ProofState) → IsInOrder s → (old : LineMachine) → s.inner ≡ Some old → (text : List ℕ) (new : LineMachine) → Runs line_automaton old text new
-    → Runs proofs s text (record s { inner = Some new }) × IsInOrder (record s { inner = Some new })
+pub runs_given : (s : ProofState) → IsInOrder s → (old : LineMachine) → s.line ≡ Some old → (text : List ℕ) (new : LineMachine) → Runs line_automaton old text new
+    → Runs proofs s text (record s { line = Some new }) × IsInOrder (record s { line = Some new })
 runs_given s h old e text new runs =
     let (r, at) = reading s s.phase h.holds old e in
     let same : s ≡ giving s.limit s.top r old = ap₂ (put s) at e in
-    let further : giving s.limit s.top r new ≡ record s { inner = Some new } = ap (λ p. put s p (Some new)) (sym at) in
+    let further : giving s.limit s.top r new ≡ record s { line = Some new } = ap (λ p. put s p (Some new)) (sym at) in
     let k = within s.limit s.top r old (subst IsInOrder same h) text new runs in (
-      subst (λ x. Runs proofs x text (record s { inner = Some new })) (sym same) (subst (λ x. Runs proofs (giving s.limit s.top r old) text x) further k.0),
+      subst (λ x. Runs proofs x text (record s { line = Some new })) (sym same) (subst (λ x. Runs proofs (giving s.limit s.top r old) text x) further k.0),
       subst IsInOrder further k.1,
     )
 
@@ -61,32 +61,32 @@ goes_on s new e Refuse h = cc
 -- where a byte is given and not taken, nothing changes
 pub unmoved : (s new : RupState) (b : ℕ) (answer : Push Linear) → rup_plan s.phase b ≡ Give → Pushes rup_automaton s b answer new → (answer ≡ push.Go → ⊥) → new ≡ s
 unmoved s new b push.Go planned h k = absurd (k refl)
-unmoved s new b (push.Event e) planned h k = absurd (goes_on s new e (sums.step s.inner b) (sym (ap (rup_act s b) planned) ∙ h))
+unmoved s new b (push.Event e) planned h k = absurd (goes_on s new e (sums.step s.sums b) (sym (ap (rup_act s b) planned) ∙ h))
 unmoved s new b push.No planned h k = h.2
 unmoved s new b push.Large planned h k = h.2
 unmoved s new b push.Memory planned h k = h.2
 
 -- within a constraint
-within_rup : (o : Option Linear) (old : SumState) → IsRupInOrder (record { phase = InsideRup; inner = old; linear = o }) → (text : List ℕ) (new : SumState) → Runs sums old text new
-    → Runs rup_automaton (record { phase = InsideRup; inner = old; linear = o }) text (record { phase = InsideRup; inner = new; linear = o })
-    × IsRupInOrder (record { phase = InsideRup; inner = new; linear = o })
+within_rup : (o : Option Linear) (old : SumState) → IsRupInOrder (record { phase = InsideRup; sums = old; linear = o }) → (text : List ℕ) (new : SumState) → Runs sums old text new
+    → Runs rup_automaton (record { phase = InsideRup; sums = old; linear = o }) text (record { phase = InsideRup; sums = new; linear = o })
+    × IsRupInOrder (record { phase = InsideRup; sums = new; linear = o })
 within_rup o old h [] new same = (
-  ap (λ i. let s : RupState = record { phase = InsideRup; inner = i; linear = o } in s) same,
-  subst (λ i. IsRupInOrder (record { phase = InsideRup; inner = i; linear = o })) (sym same) h,
+  ap (λ i. let s : RupState = record { phase = InsideRup; sums = i; linear = o } in s) same,
+  subst (λ i. IsRupInOrder (record { phase = InsideRup; sums = i; linear = o })) (sym same) h,
 )
 within_rup o old h (b ∷ text) new (mid, goes, state, rest) =
-    let s : RupState = record { phase = InsideRup; inner = old; linear = o } in
-    let next : RupState = record { phase = InsideRup; inner = mid; linear = o } in
+    let s : RupState = record { phase = InsideRup; sums = old; linear = o } in
+    let next : RupState = record { phase = InsideRup; sums = mid; linear = o } in
     let k = rup_states.give_order s h b mid refl goes state in
     let (runs, order) = within_rup o mid k text new rest in
     ((next, ap (rup_over s) goes, rup_states.rup_is_state next k, runs), order)
 
-pub rup_runs_given : (s : RupState) → IsRupInOrder s → s.phase ≡ InsideRup → (text : List ℕ) (new : SumState) → Runs sums s.inner text new
-    → Runs rup_automaton s text (record s { inner = new }) × IsRupInOrder (record s { inner = new })
+pub rup_runs_given : (s : RupState) → IsRupInOrder s → s.phase ≡ InsideRup → (text : List ℕ) (new : SumState) → Runs sums s.sums text new
+    → Runs rup_automaton s text (record s { sums = new }) × IsRupInOrder (record s { sums = new })
 rup_runs_given s h at text new runs =
     let same : s ≡ record s { phase = InsideRup } = ap (λ p. let x : RupState = record s { phase = p } in x) at in
-    let further : (let x : RupState = record s { phase = InsideRup; inner = new } in x) ≡ record s { inner = new } = ap (λ p. let x : RupState = record s { phase = p; inner = new } in x) (sym at) in
-    let k = within_rup s.linear s.inner (subst IsRupInOrder same h) text new runs in (
-      subst (λ x. Runs rup_automaton x text (record s { inner = new })) (sym same) (subst (λ x. Runs rup_automaton (record s { phase = InsideRup }) text x) further k.0),
+    let further : (let x : RupState = record s { phase = InsideRup; sums = new } in x) ≡ record s { sums = new } = ap (λ p. let x : RupState = record s { phase = p; sums = new } in x) (sym at) in
+    let k = within_rup s.linear s.sums (subst IsRupInOrder same h) text new runs in (
+      subst (λ x. Runs rup_automaton x text (record s { sums = new })) (sym same) (subst (λ x. Runs rup_automaton (record s { phase = InsideRup }) text x) further k.0),
       subst IsRupInOrder further k.1,
     )

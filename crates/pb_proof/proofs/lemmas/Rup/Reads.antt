@@ -40,10 +40,10 @@ module _ (limit top : ℕ) where
 
   -- What has been read, by phase.
   abbrev pub front : RupState → RupPhase → Language
-  front s Start = λ p. (p ≡ []) × (s.inner ≡ sum_first limit) × (s.linear ≡ None)
-  front s Gap = λ p. Blanks1 p × (s.inner ≡ sum_first limit) × (s.linear ≡ None)
-  front s Inside = λ p. (s.linear ≡ None) × (Blanks1 ⋅ SumFront s.inner) p
-  front s Tail = λ p. (s.inner ≡ sum_last limit)
+  front s Start = λ p. (p ≡ []) × (s.sums ≡ sum_first limit) × (s.linear ≡ None)
+  front s Gap = λ p. Blanks1 p × (s.sums ≡ sum_first limit) × (s.linear ≡ None)
+  front s Inside = λ p. (s.linear ≡ None) × (Blanks1 ⋅ SumFront s.sums) p
+  front s Tail = λ p. (s.sums ≡ sum_last limit)
       × ((c : Linear) × (s.linear ≡ Some c) × (c.relation ≡ AtLeast) × (Blanks1 ⋅ SpellsLinear Blank limit c ⋅ Blanks0) p)
   front s Done = λ p. ⊥
 
@@ -57,7 +57,7 @@ module _ (limit top : ℕ) where
     abbrev After : RupMove → Type 0
     After m = Leaves (rup_act s l.byte m)
 
-    at_start : p ≡ [] → s.inner ≡ sum_first limit → s.linear ≡ None → After (rup_plan Start l.byte)
+    at_start : p ≡ [] → s.sums ≡ sum_first limit → s.linear ≡ None → After (rup_plan Start l.byte)
     at_start e i n = chosen After (is_blank l.byte) _ _
         (λ h w f. (subst Blanks1 (ap (λ x. x ++ l ∷ []) (sym e)) (some-one IsBlank l.byte l (as_unmarked l l.byte refl f) h), i, n))
         (λ h. tt)
@@ -72,26 +72,26 @@ module _ (limit top : ℕ) where
     spelled (sum.TheVariants.Linear c) (a, b, e, h, k) =
         (allowed c.relation k.0, none_yet (Blanks1 ⋅ SpellsLinear Blank limit c) Blanks0 (p ++ l ∷ []) ([], tt, refl) (a, b, e, h, k.1))
 
-    given : s.linear ≡ None → (Blanks1 ⋅ SumFront s.inner) p → (x : Next SumState SumEvent) → sums.step s.inner l.byte ≡ x → Leaves (rup_over s x)
+    given : s.linear ≡ None → (Blanks1 ⋅ SumFront s.sums) p → (x : Next SumState SumEvent) → sums.step s.sums l.byte ≡ x → Leaves (rup_over s x)
     given n h (Go inner) e = λ w f. (
       n,
-      grown Blanks1 (SumFront s.inner) (SumFront inner) p l
-          (λ q r. walks_more sums q l (sum_first limit) s.inner inner r e (goes-midway s.inner inner l.byte e) f) h,
+      grown Blanks1 (SumFront s.sums) (SumFront inner) p l
+          (λ q r. walks_more sums q l (sum_first limit) s.sums inner r e (goes-midway s.sums inner l.byte e) f) h,
     )
     given n h (End e new) i = λ w f.
         let (a, b, j, g, r) = h in
         let k : Spells Blank limit part.TheVariants.AtLeast e (b ++ l ∷ []) × (new ≡ sum_last limit) =
-        (reads_grammar Blank part.TheVariants.AtLeast limit (b ++ l ∷ []) e new).0 (ends_walk sums b l (sum_first limit) s.inner new e r i f) in
+        (reads_grammar Blank part.TheVariants.AtLeast limit (b ++ l ∷ []) e new).0 (ends_walk sums b l (sum_first limit) s.sums new e r i f) in
         let t : (Blanks1 ⋅ Spells Blank limit part.TheVariants.AtLeast e) (p ++ l ∷ []) = grown Blanks1 (λ q. q ≡ b) (Spells Blank limit part.TheVariants.AtLeast e) p l (λ q z. subst (λ x. Spells Blank limit part.TheVariants.AtLeast e (x ++ l ∷ [])) (sym z) k.0) (a, b, j, g, refl) in
         (k.1, (linear_of e, refl, (spelled e t).0, (spelled e t).1))
     given n h Refuse i = tt
 
-    in_gap : Blanks1 p → s.inner ≡ sum_first limit → s.linear ≡ None → After (rup_plan Gap l.byte)
+    in_gap : Blanks1 p → s.sums ≡ sum_first limit → s.linear ≡ None → After (rup_plan Gap l.byte)
     in_gap h i n = chosen After (is_blank l.byte) _ _
         (λ k w f. (some-grown IsBlank l.byte l (as_unmarked l l.byte refl f) k p h, i, n))
-        (λ k. given n (none_yet Blanks1 (SumFront s.inner) p i h) (sums.step s.inner l.byte) refl)
+        (λ k. given n (none_yet Blanks1 (SumFront s.sums) p i h) (sums.step s.sums l.byte) refl)
 
-    in_tail : s.inner ≡ sum_last limit → (c : Linear) → s.linear ≡ Some c → c.relation ≡ AtLeast → (Blanks1 ⋅ SpellsLinear Blank limit c ⋅ Blanks0) p → After (rup_plan Tail l.byte)
+    in_tail : s.sums ≡ sum_last limit → (c : Linear) → s.linear ≡ Some c → c.relation ≡ AtLeast → (Blanks1 ⋅ SpellsLinear Blank limit c ⋅ Blanks0) p → After (rup_plan Tail l.byte)
     in_tail i c k r h = chosen After (is_blank l.byte) _ _
         (λ g w f. (i, (c, k, r, grown (Blanks1 ⋅ SpellsLinear Blank limit c) Blanks0 Blanks0 p l (many-grown IsBlank l.byte l (as_unmarked l l.byte refl f) g) h)))
         (λ _. chosen After (nat_eq l.byte 10) _ _
@@ -109,7 +109,7 @@ module _ (limit top : ℕ) where
     sound : (q : RupPhase) → front s q p → After (rup_plan q l.byte)
     sound Start h = at_start h.0 h.1 h.2
     sound Gap h = in_gap h.0 h.1 h.2
-    sound Inside h = given h.0 h.1 (sums.step s.inner l.byte) refl
+    sound Inside h = given h.0 h.1 (sums.step s.sums l.byte) refl
     sound Tail h = in_tail h.0 h.1.0 h.1.1 h.1.2 h.1.3
     sound Done h = absurd h
 
@@ -122,13 +122,13 @@ module _ (limit top : ℕ) where
 
   -- The other way: each part of a text leads on.
   abbrev in_phase : RupPhase → RupState
-  in_phase p = record { phase = p; inner = sum_first limit; linear = None }
+  in_phase p = record { phase = p; sums = sum_first limit; linear = None }
 
   abbrev inside : SumState → RupState
-  inside inner = record { phase = Inside; inner = inner; linear = None }
+  inside inner = record { phase = Inside; sums = inner; linear = None }
 
   abbrev behind : SumEvent → SumState → RupState
-  behind e inner = record { phase = Tail; inner = inner; linear = Some (linear_of e) }
+  behind e inner = record { phase = Tail; sums = inner; linear = Some (linear_of e) }
 
   gap_blanks : TakesBlanks rup_automaton (in_phase Start) (in_phase Gap)
   gap_blanks = record {

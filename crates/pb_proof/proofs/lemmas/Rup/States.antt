@@ -85,7 +85,7 @@ given_none s Tail b h e = absurd (not_given (is_blank b) (nat_eq b 10) e)
     not_given false false e = cc
 given_none s Done b h e = h.0
 
-finish_empty : (s : RupState) (p : RupPhase) (b : ℕ) → RupHolds s p → rup_plan p b ≡ Finish → sums.spent s.inner ≡ 0
+finish_empty : (s : RupState) (p : RupPhase) (b : ℕ) → RupHolds s p → rup_plan p b ≡ Finish → sums.spent s.sums ≡ 0
 finish_empty s Start b h e = absurd (not_finished (is_blank b) e)
   where
     not_finished : (x : Bool) → cond x (To Gap) Stop ≡ Finish → ⊥
@@ -100,18 +100,18 @@ finish_empty s Inside b h e = absurd (let f : ⊥ = cc in f)
 finish_empty s Tail b h e = h.1
 finish_empty s Done b h e = h.1
 
-on_given : (s : RupState) → IsState sums s.inner → s.linear ≡ None → (b : ℕ) (n : Next SumState SumEvent) → sums.step s.inner b ≡ n → On s (rup_over s n)
+on_given : (s : RupState) → IsState sums s.sums → s.linear ≡ None → (b : ℕ) (n : Next SumState SumEvent) → sums.step s.sums b ≡ n → On s (rup_over s n)
 on_given s state h b (Go inner) e = record { begins = refl; grows = omega (arith, state.grows b inner e) }
-on_given s state h b (End x inner) e = record { begins = refl; grows = rw (ended_empty s.inner inner b x e) (omega (arith, ended_units s.inner inner b x e)) }
+on_given s state h b (End x inner) e = record { begins = refl; grows = rw (ended_empty s.sums inner b x e) (omega (arith, ended_units s.sums inner b x e)) }
 on_given s state h b Refuse e = tt
 
-on_finish : (s : RupState) → sums.spent s.inner ≡ 0 → (o : Option Linear) → On s (rup_finish s o)
+on_finish : (s : RupState) → sums.spent s.sums ≡ 0 → (o : Option Linear) → On s (rup_finish s o)
 on_finish s h None = tt
 on_finish s h (Some c) = (refl, ap (λ (n : ℕ). 0 + n) h)
 
 on_act : (s : RupState) → IsRupInOrder s → (b : ℕ) (m : RupMove) → rup_plan s.phase b ≡ m → OnMove m → On s (rup_act s b m)
 on_act s h b (To p) e k = record { begins = k; grows = omega arith }
-on_act s h b Give e k = on_given s h.state (given_none s s.phase b h.holds e) b (sums.step s.inner b) refl
+on_act s h b Give e k = on_given s h.state (given_none s s.phase b h.holds e) b (sums.step s.sums b) refl
 on_act s h b Finish e k = on_finish s (finish_empty s s.phase b h.holds e) s.linear
 on_act s h b Stop e k = tt
 
@@ -140,7 +140,7 @@ begun_finish s (Some c) = tt
 
 begun_act : (s : RupState) (b : ℕ) (m : RupMove) → OnMove m → OnGo (rup_act s b m)
 begun_act s b (To p) k = k
-begun_act s b Give k = begun_given s (sums.step s.inner b)
+begun_act s b Give k = begun_given s (sums.step s.sums b)
 begun_act s b Finish k = begun_finish s s.linear
 begun_act s b Stop k = tt
 
@@ -187,16 +187,16 @@ finishing : (s : RupState) (c : Linear) → s.phase ≡ Tail → s.linear ≡ So
 finishing s c p e =
     final rup_automaton s (record s { phase = Done; linear = None }) 10 c (ap (λ x. rup_act s 10 (rup_plan x 10)) p ∙ ap (rup_finish s) e) [] refl
 
-inside_alive : (s : RupState) → s.phase ≡ Inside → sums.done s.inner ≡ false → IsAlive rup_automaton s
+inside_alive : (s : RupState) → s.phase ≡ Inside → sums.done s.sums ≡ false → IsAlive rup_automaton s
 inside_alive s p d =
-    let (text, e, last, r) = reads_something s.inner.spaces s.inner.part s.inner.limit s.inner.work d in
-    let tail = finishing (record { phase = Tail; inner = last; linear = Some (linear_of e) }) (linear_of e) refl refl in
+    let (text, e, last, r) = reads_something s.sums.spaces s.sums.part s.sums.limit s.sums.work d in
+    let tail = finishing (record { phase = Tail; sums = last; linear = Some (linear_of e) }) (linear_of e) refl refl in
     subst (IsAlive rup_automaton) (sym (same s p)) (record {
       text = text ++ tail.text;
       event = tail.event;
       after = tail.after;
-      reads = reads_behind rup_automaton text tail.text (record s { phase = Inside }) (record { phase = Tail; inner = last; linear = Some (linear_of e) }) tail.after tail.event
-          (walks s.linear text s.inner last e r) tail.reads;
+      reads = reads_behind rup_automaton text tail.text (record s { phase = Inside }) (record { phase = Tail; sums = last; linear = Some (linear_of e) }) tail.after tail.event
+          (walks s.linear text s.sums last e r) tail.reads;
       rest = tail.rest;
       accepts = tail.accepts;
     })
@@ -205,25 +205,25 @@ inside_alive s p d =
     same s p = rw p refl
 
     at : Option Linear → SumState → RupState
-    at o inner = record { phase = Inside; inner = inner; linear = o }
+    at o inner = record { phase = Inside; sums = inner; linear = o }
 
     walks : (o : Option Linear) (t : List Letter) (inner new : SumState) (e : SumEvent) → Reads sums inner t e new
-        → Walks rup_automaton (at o inner) t (record { phase = Tail; inner = new; linear = Some (linear_of e) })
+        → Walks rup_automaton (at o inner) t (record { phase = Tail; sums = new; linear = Some (linear_of e) })
     walks o [] inner new e r = absurd r
-    walks o (l ∷ []) inner new e (g, n) = (record { phase = Tail; inner = new; linear = Some (linear_of e) }, ap (rup_over (at o inner)) g, refl, n, refl)
+    walks o (l ∷ []) inner new e (g, n) = (record { phase = Tail; sums = new; linear = Some (linear_of e) }, ap (rup_over (at o inner)) g, refl, n, refl)
     walks o (l ∷ k ∷ t) inner new e (mid, g, i, n, r) =
         (at o mid, ap (rup_over (at o inner)) g, refl, n, walks o (k ∷ t) mid new e r)
 
 -- behind blanks, with `>`
-gap_alive : (s : RupState) → s.phase ≡ Gap → s.inner ≡ sum_first s.inner.limit → IsAlive rup_automaton s
+gap_alive : (s : RupState) → s.phase ≡ Gap → s.sums ≡ sum_first s.sums.limit → IsAlive rup_automaton s
 gap_alive s p i =
-    let mid : RupState = record s { phase = Inside; inner = record { spaces = s.inner.spaces; part = s.inner.part; limit = s.inner.limit; work = record { terms = []; name = []; phase = sum_phase.TheVariants.Greater } } } in
+    let mid : RupState = record s { phase = Inside; sums = record { spaces = s.sums.spaces; part = s.sums.part; limit = s.sums.limit; work = record { terms = []; name = []; phase = sum_phase.TheVariants.Greater } } } in
     before rup_automaton s mid 62 (ap (λ x. rup_act s 62 (rup_plan x 62)) p ∙ stepped s i) refl (inside_alive mid refl refl)
   where
-    stepped : (s : RupState) → s.inner ≡ sum_first s.inner.limit → rup_over s (sums.step s.inner 62) ≡ Go (record s { phase = Inside; inner = record { spaces = s.inner.spaces; part = s.inner.part; limit = s.inner.limit; work = record { terms = []; name = []; phase = sum_phase.TheVariants.Greater } } })
+    stepped : (s : RupState) → s.sums ≡ sum_first s.sums.limit → rup_over s (sums.step s.sums 62) ≡ Go (record s { phase = Inside; sums = record { spaces = s.sums.spaces; part = s.sums.part; limit = s.sums.limit; work = record { terms = []; name = []; phase = sum_phase.TheVariants.Greater } } })
     stepped s i = rw i refl
 
-start_alive : (s : RupState) → s.phase ≡ Start → s.inner ≡ sum_first s.inner.limit → IsAlive rup_automaton s
+start_alive : (s : RupState) → s.phase ≡ Start → s.sums ≡ sum_first s.sums.limit → IsAlive rup_automaton s
 start_alive s p i =
     let mid : RupState = record s { phase = Gap } in
     before rup_automaton s mid 32 (ap (λ x. rup_act s 32 (rup_plan x 32)) p) refl (gap_alive mid refl i)
@@ -276,20 +276,20 @@ to_order s h b p e = record { holds = held s.phase h.holds e; state = h.state }
     held Tail h e = subst (RupHolds s) (sym (at_tail (is_blank b) (nat_eq b 10) e)) h
     held Done h e = absurd (let f : ⊥ = cc in f)
 
-pub give_order : (s : RupState) → IsRupInOrder s → (b : ℕ) (inner : SumState) → rup_plan s.phase b ≡ Give → sums.step s.inner b ≡ Go inner → IsState sums inner → IsRupInOrder (record s { phase = Inside; inner = inner })
+pub give_order : (s : RupState) → IsRupInOrder s → (b : ℕ) (inner : SumState) → rup_plan s.phase b ≡ Give → sums.step s.sums b ≡ Go inner → IsState sums inner → IsRupInOrder (record s { phase = Inside; sums = inner })
 give_order s h b inner e g state = record {
-  holds = (given_none s s.phase b h.holds e, midway-not-done inner.work.phase (goes-midway s.inner inner b g));
+  holds = (given_none s s.phase b h.holds e, midway-not-done inner.work.phase (goes-midway s.sums inner b g));
   state = state;
 }
 
-pub tail_order : (s : RupState) (b : ℕ) (e : SumEvent) (inner : SumState) → sums.step s.inner b ≡ End e inner → IsState sums inner → IsRupInOrder (record { phase = Tail; inner = inner; linear = Some (linear_of e) })
-tail_order s b e inner g state = record { holds = ((linear_of e, refl), ended_empty s.inner inner b e g); state = state }
+pub tail_order : (s : RupState) (b : ℕ) (e : SumEvent) (inner : SumState) → sums.step s.sums b ≡ End e inner → IsState sums inner → IsRupInOrder (record { phase = Tail; sums = inner; linear = Some (linear_of e) })
+tail_order s b e inner g state = record { holds = ((linear_of e, refl), ended_empty s.sums inner b e g); state = state }
 
 pub done_order : (s : RupState) → IsRupInOrder s → (b : ℕ) → rup_plan s.phase b ≡ Finish → IsRupInOrder (record s { phase = Done; linear = None })
 done_order s h b e = record { holds = (refl, finish_empty s s.phase b h.holds e); state = h.state }
 
 -- where bytes are given the numbers are those of the machine of sums
-given_number : (s : RupState) (p : RupPhase) (b : ℕ) → RupHolds s p → rup_plan p b ≡ Give → rup_in_number s p ≡ sums.in_number s.inner
+given_number : (s : RupState) (p : RupPhase) (b : ℕ) → RupHolds s p → rup_plan p b ≡ Give → rup_in_number s p ≡ sums.in_number s.sums
 given_number s Inside b h e = refl
 given_number s Gap b h e = sym (ap sums.in_number h.1)
 given_number s Start b h e = sym (ap sums.in_number h.1)
@@ -302,23 +302,23 @@ given_number s Tail b h e = absurd (not_given (is_blank b) (nat_eq b 10) e)
 given_number s Done b h e = absurd (let f : ⊥ = cc in f)
 
 module _ (s : RupState) (h : IsRupInOrder s) (b : ℕ) (planned : rup_plan s.phase b ≡ Give) where
-  pub give_refused : sums.step s.inner b ≡ Refuse → (rup_automaton.step s b ≡ Refuse) × (is_large rup_automaton s b ≡ is_large sums s.inner b)
+  pub give_refused : sums.step s.sums b ≡ Refuse → (rup_automaton.step s b ≡ Refuse) × (is_large rup_automaton s b ≡ is_large sums s.sums b)
   give_refused stops = (
     ap (rup_act s b) planned ∙ ap (rup_over s) stops,
     ap (λ (x : Bool). x && is_digit b) (given_number s s.phase b h.holds planned),
   )
 
-  by_step : (n : Next SumState SumEvent) → sums.step s.inner b ≡ n → Admits sums s.inner b → Admits rup_automaton s b
+  by_step : (n : Next SumState SumEvent) → sums.step s.sums b ≡ n → Admits sums s.sums b → Admits rup_automaton s b
   by_step (Go inner) e a =
-      admits_before rup_automaton s (record s { phase = Inside; inner = inner }) b (ap (rup_act s b) planned ∙ ap (rup_over s) e) refl
-      (inside_alive (record s { phase = Inside; inner = inner }) refl (midway-not-done inner.work.phase (goes-midway s.inner inner b e)))
+      admits_before rup_automaton s (record s { phase = Inside; sums = inner }) b (ap (rup_act s b) planned ∙ ap (rup_over s) e) refl
+      (inside_alive (record s { phase = Inside; sums = inner }) refl (midway-not-done inner.work.phase (goes-midway s.sums inner b e)))
   by_step (End x inner) e a =
-      admits_before rup_automaton s (record { phase = Tail; inner = inner; linear = Some (linear_of x) }) b (ap (rup_act s b) planned ∙ ap (rup_over s) e) refl
-      (finishing (record { phase = Tail; inner = inner; linear = Some (linear_of x) }) (linear_of x) refl refl)
-  by_step Refuse e a = absurd (refuses sums s.inner s.inner b e a.0 a.1 (a.2, a.3))
+      admits_before rup_automaton s (record { phase = Tail; sums = inner; linear = Some (linear_of x) }) b (ap (rup_act s b) planned ∙ ap (rup_over s) e) refl
+      (finishing (record { phase = Tail; sums = inner; linear = Some (linear_of x) }) (linear_of x) refl refl)
+  by_step Refuse e a = absurd (refuses sums s.sums s.sums b e a.0 a.1 (a.2, a.3))
 
-  pub give_admits : IsTrue (sums.asks s.inner b) → Admits sums s.inner b → IsTrue (rup_automaton.asks s b) × Admits rup_automaton s b
-  give_admits asking a = (subst (λ (m : RupMove). IsTrue (rup_asks s b m)) (sym planned) asking, by_step (sums.step s.inner b) refl a)
+  pub give_admits : IsTrue (sums.asks s.sums b) → Admits sums s.sums b → IsTrue (rup_automaton.asks s b) × Admits rup_automaton s b
+  give_admits asking a = (subst (λ (m : RupMove). IsTrue (rup_asks s b m)) (sym planned) asking, by_step (sums.step s.sums b) refl a)
 
 -- Each state in order that has not ended reads some text.
 pub rup_goes_on : (s : RupState) → IsRupInOrder s → rup_automaton.done s ≡ false → ReadsOn rup_automaton s

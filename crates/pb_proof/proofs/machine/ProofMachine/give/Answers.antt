@@ -12,14 +12,14 @@ pub invariant_of-self-in-Go : goal.invariant_of-self-in-Go
 invariant_of-self-in-Go c =
     let s : ProofState = the_view c.self.inside in
     let planned : plan s.phase c.args.byte ≡ Give c.args.kind = subst (λ (x : ProofState). plan x.phase c.args.byte ≡ Give c.args.kind) (sym c.self.view_is) c.requires in
-    let order = give_order s c.self.invariant c.args.byte c.args.kind planned c.in-Some.inner c.push.new.self c.in-Some.is c.in-Go.ensures.pushes c.in-Go.ensures.state in
-    subst (λ p. IsInOrder (record { limit = s.limit; top = s.top; phase = p; inner = Some c.push.new.self }))
+    let order = give_order s c.self.invariant c.args.byte c.args.kind planned c.in-Some.line c.push.new.self c.in-Some.is c.in-Go.ensures.pushes c.in-Go.ensures.state in
+    subst (λ p. IsInOrder (record { limit = s.limit; top = s.top; phase = p; line = Some c.push.new.self }))
     (sym (known s c.self.invariant c.args.byte (Give c.args.kind) planned)) order
 
-same_view : (s : ProofState) (old new : LineMachine) → s.inner ≡ Some old → new ≡ old → record s { inner = Some new } ≡ s
+same_view : (s : ProofState) (old new : LineMachine) → s.line ≡ Some old → new ≡ old → record s { line = Some new } ≡ s
 same_view s old new e h = rw (h, ← e) (same s)
   where
-    same : (s : ProofState) → record s { inner = s.inner } ≡ s
+    same : (s : ProofState) → record s { line = s.line } ≡ s
     same s = refl
 
 pub returns-in-Memory : goal.returns-in-Memory
@@ -27,6 +27,6 @@ returns-in-Memory c =
     let s : ProofState = the_view c.self.inside in
     let planned : plan s.phase c.args.byte ≡ Give c.args.kind = subst (λ (x : ProofState). plan x.phase c.args.byte ≡ Give c.args.kind) (sym c.self.view_is) c.requires in
     let p = c.in-Memory.ensures.pushes in
-    let k = give_admits s c.self.invariant c.args.byte c.args.kind planned c.in-Some.inner c.in-Some.is p.0 p.1 in
-    subst (λ (x : ProofState). IsTrue (proofs.asks x c.args.byte) × Admits proofs x c.args.byte × (record s { inner = Some c.push.new.self } ≡ x)) c.self.view_is
-    (k.0, k.1, same_view s c.in-Some.inner c.push.new.self c.in-Some.is p.2)
+    let k = give_admits s c.self.invariant c.args.byte c.args.kind planned c.in-Some.line c.in-Some.is p.0 p.1 in
+    subst (λ (x : ProofState). IsTrue (proofs.asks x c.args.byte) × Admits proofs x c.args.byte × (record s { line = Some c.push.new.self } ≡ x)) c.self.view_is
+    (k.0, k.1, same_view s c.in-Some.line c.push.new.self c.in-Some.is p.2)

@@ -11,5 +11,5 @@ invariant_of-self c = to_order (the_view c.self.inside) c.self.invariant c.args.
 pub invariant_of-self-in-Begin : goal.invariant_of-self-in-Begin
 invariant_of-self-in-Begin c =
     let s : ProofState = the_view c.self.inside in
-    subst (λ x. IsInOrder (record { limit = s.limit; top = s.top; phase = Inside c.in-Begin.kind; inner = x }))
-    (ap Some (sym c.line_first-inner.ensures) ∙ sym c.replace.ensures) (begin_order s c.self.invariant c.args.byte c.in-Begin.kind)
+    subst (λ x. IsInOrder (record { limit = s.limit; top = s.top; phase = Inside c.in-Begin.kind; line = x }))
+    (ap Some (sym c.line_first-line.ensures) ∙ sym c.replace.ensures) (begin_order s c.self.invariant c.args.byte c.in-Begin.kind)

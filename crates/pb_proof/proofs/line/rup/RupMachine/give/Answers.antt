@@ -19,10 +19,10 @@ pub invariant_of-self-in-Event : goal.invariant_of-self-in-Event
 invariant_of-self-in-Event c =
     let s : RupState = the_view c.self.inside in
     let order = tail_order s c.args.byte c.in-Event.event c.push.new.self c.in-Event.ensures.pushes c.in-Event.ensures.state in
-    subst (λ x. IsRupInOrder (record { phase = Tail; inner = c.push.new.self; linear = Some x })) (sym c.linear_of.ensures) order
+    subst (λ x. IsRupInOrder (record { phase = Tail; sums = c.push.new.self; linear = Some x })) (sym c.linear_of.ensures) order
 
-same_view : (s : RupState) (inner : SumState) → inner ≡ s.inner → record s { inner = inner } ≡ s
-same_view s inner e = ap (λ (i : SumState). let t : RupState = record s { inner = i } in t) e
+same_view : (s : RupState) (inner : SumState) → inner ≡ s.sums → record s { sums = inner } ≡ s
+same_view s inner e = ap (λ (i : SumState). let t : RupState = record s { sums = i } in t) e
 
 pub returns-in-Large : goal.returns-in-Large
 returns-in-Large c =
@@ -30,7 +30,7 @@ returns-in-Large c =
     let planned : rup_plan s.phase c.args.byte ≡ Give = subst (λ (x : RupState). rup_plan x.phase c.args.byte ≡ Give) (sym c.self.view_is) c.requires in
     let p = c.in-Large.ensures.pushes in
     let k = give_refused s c.self.invariant c.args.byte planned p.0 in
-    subst (λ (x : RupState). (rup_automaton.step x c.args.byte ≡ Refuse) × (is_large rup_automaton x c.args.byte ≡ true) × (record s { inner = c.push.new.self } ≡ x)) c.self.view_is (k.0, k.1 ∙ p.1, same_view s c.push.new.self p.2)
+    subst (λ (x : RupState). (rup_automaton.step x c.args.byte ≡ Refuse) × (is_large rup_automaton x c.args.byte ≡ true) × (record s { sums = c.push.new.self } ≡ x)) c.self.view_is (k.0, k.1 ∙ p.1, same_view s c.push.new.self p.2)
 
 pub returns-in-No : goal.returns-in-No
 returns-in-No c =
@@ -38,7 +38,7 @@ returns-in-No c =
     let planned : rup_plan s.phase c.args.byte ≡ Give = subst (λ (x : RupState). rup_plan x.phase c.args.byte ≡ Give) (sym c.self.view_is) c.requires in
     let p = c.in-No.ensures.pushes in
     let k = give_refused s c.self.invariant c.args.byte planned p.0 in
-    subst (λ (x : RupState). (rup_automaton.step x c.args.byte ≡ Refuse) × (is_large rup_automaton x c.args.byte ≡ false) × (record s { inner = c.push.new.self } ≡ x)) c.self.view_is (k.0, k.1 ∙ p.1, same_view s c.push.new.self p.2)
+    subst (λ (x : RupState). (rup_automaton.step x c.args.byte ≡ Refuse) × (is_large rup_automaton x c.args.byte ≡ false) × (record s { sums = c.push.new.self } ≡ x)) c.self.view_is (k.0, k.1 ∙ p.1, same_view s c.push.new.self p.2)
 
 pub returns-in-Memory : goal.returns-in-Memory
 returns-in-Memory c =
@@ -46,4 +46,4 @@ returns-in-Memory c =
     let planned : rup_plan s.phase c.args.byte ≡ Give = subst (λ (x : RupState). rup_plan x.phase c.args.byte ≡ Give) (sym c.self.view_is) c.requires in
     let p = c.in-Memory.ensures.pushes in
     let k = give_admits s c.self.invariant c.args.byte planned p.0 p.1 in
-    subst (λ (x : RupState). IsTrue (rup_automaton.asks x c.args.byte) × Admits rup_automaton x c.args.byte × (record s { inner = c.push.new.self } ≡ x)) c.self.view_is (k.0, k.1, same_view s c.push.new.self p.2)
+    subst (λ (x : RupState). IsTrue (rup_automaton.asks x c.args.byte) × Admits rup_automaton x c.args.byte × (record s { sums = c.push.new.self } ≡ x)) c.self.view_is (k.0, k.1, same_view s c.push.new.self p.2)
