@@ -12,22 +12,21 @@ use Rattle.pb_text.specs.declared.Limits.{Limits}
 use Rattle.pb_text.specs.declared.Place.{Place}
 use Rattle.pb_text.specs.declared.Spanned.{Spanned}
 use Rattle.pb_text.specs.declared.Stop.{Stop}
-use Rattle.pb_text.specs.ValueRead.{ReadsValue, Reading}
+use Rattle.pb_text.specs.ValueRead.{IsRead, ReadsValue, Reading}
 use Rattle.pb_text.proofs.Writing.{writes_nothing}
 use Rattle.pb_opb.specs.Canonical.{event_bytes}
 use Rattle.pb_opb.specs.Values.{IsValueOf}
-use Rattle.pb_opb.specs.declared.Instance.{Instance}
 use Rattle.pb_proof.specs.Canonical.{statement_bytes}
 use Rattle.pb_proof.specs.Proofs.{IsProof, IsProofOf}
-use Rattle.pb_proof.specs.declared.Proof.{Proof}
-use Rattle.pb_tool.specs.Files.{MayBeProof, MayBeInstance, IsVeri, IsNoProofFile, ShowsFile, TidiesFile, TidiesProof}
+use Rattle.pb_tool.specs.Files.{tidied_proof, MayBeProof, MayBeInstance, IsVeri, ShowsFile, TidiesFile, TidiesProof}
 use Rattle.pb_tool.specs.Show.{IsSpelling, IsRefusedAfter, InText, InRest, Shows}
-use Rattle.pb_tool.specs.Tidy.{IsFile, IsOpb, IsRefused, IsNoOpbFile, Tidies}
+use Rattle.pb_tool.specs.Tidy.{tidied, IsFile, IsOpb, IsRefused, Tidies, TidiesAs}
 use Rattle.pb_tool.specs.Tidy.IsRefused.{InText as in_text, InRest as in_rest}
 use Rattle.pb_tool.specs.declared.fault.ToolFault.{ToolFault}
 use Rattle.pb_tool.specs.declared.fault.ToolFault.TheVariants.{Text, Open, Overflow, Memory, Write, Step}
 use Rattle.pb_tool.specs.declared.fault.Input.TheVariants.{File}
 use Rattle.pb_tool.specs.declared.fault.Input.TheVariants as input
+use Rattle.pb_tool.proofs.Restated.{written_so}
 
 -- the limit on a statement, given or not, is no 0
 pub some_of : (longest : Option ℕ) (n : ℕ) → n ≡ unwrap_or longest (2 ^ 40) → IfSome longest (λ m. 0 < m) → 0 < n
@@ -91,65 +90,28 @@ module _ {E : Type 0} (format : List (Item E) → Type 0) (longest : ℕ) (befor
 
 -- ---- what is tidied
 
-module _ (before mid : Option (List ℕ)) (k : Keeps before mid) where
-  module _ {V : Type 0} where
-    file_before : (IsReadOf : List ℕ → Spanned V → Type 0) (after : Option (List ℕ)) (v : V) → IsFile IsReadOf mid after v → IsFile IsReadOf before after v
-    file_before IsReadOf after v f =
-        record { used = f.used; rest = f.rest; took = took_before before mid after (f.used ++ f.rest) [] k f.took; read = f.read; spelled = f.spelled; blank = f.blank; within = f.within; value = f.value }
+module _ (before mid : Option (List ℕ)) (k : Keeps before mid) {V : Type 0} where
+  file_before : (IsReadOf : List ℕ → Spanned V → Type 0) (after : Option (List ℕ)) (v : V) → IsFile IsReadOf mid after v → IsFile IsReadOf before after v
+  file_before IsReadOf after v f =
+      record { used = f.used; rest = f.rest; took = took_before before mid after (f.used ++ f.rest) [] k f.took; read = f.read; spelled = f.spelled; blank = f.blank; within = f.within; value = f.value }
 
-    no_file_before : (Reads : Option (List ℕ) → Result (Spanned V) Stop → Option (List ℕ) → Type 0) → ((result : Result (Spanned V) Stop) (after : Option (List ℕ)) → Reads mid result after → Reads before result after)
-        → (after : Option (List ℕ)) (s : Stop) → IsRefused Reads mid after s → IsRefused Reads before after s
-    no_file_before Reads to after s (in_text r) = in_text (to (Err s) after r)
-    no_file_before Reads to after s (in_rest m next r b) = in_rest m next (to (Ok m) next r) b
+  module _ {E : Type 0} (format : List (Item E) → Type 0) (longest : ℕ) (IsValue : List E → V → Type 0) where
+    no_file_before : (after : Option (List ℕ)) (s : Stop) → IsRefused (ReadsValue format longest IsValue) mid after s → IsRefused (ReadsValue format longest IsValue) before after s
+    no_file_before after s (in_text (used, seen, took, r)) = in_text (used, seen, took_before before mid after used seen k took, r)
+    no_file_before after s (in_rest m next (used, seen, took, r) b) = in_rest m next (used, seen, took_before before mid next used seen k took, r) b
 
-  module _ (limits : Limits) (longest : ℕ) where
-    opb_before : (result : Result (Spanned Instance) Stop) (after : Option (List ℕ)) → ReadsValue (IsOpb limits) longest IsValueOf mid result after → ReadsValue (IsOpb limits) longest IsValueOf before result after
-    opb_before (Ok m) after (used, seen, took, r) = (used, seen, took_before before mid after used seen k took, r)
-    opb_before (Err s) after (used, seen, took, r) = (used, seen, took_before before mid after used seen k took, r)
-
-    veri_before : (result : Result (Spanned Proof) Stop) (after : Option (List ℕ)) → ReadsValue (IsVeri limits) longest IsProofOf mid result after → ReadsValue (IsVeri limits) longest IsProofOf before result after
-    veri_before (Ok m) after (used, seen, took, r) = (used, seen, took_before before mid after used seen k took, r)
-    veri_before (Err s) after (used, seen, took, r) = (used, seen, took_before before mid after used seen k took, r)
-
-    no_instance : ReadsNothing (IsOpb limits) longest → IsNoOpbFile limits longest before mid first_fault
-    no_instance reads = let t = took_nothing before mid k in in_text ([], t.0, t.1, Reading [] (reads t.0))
-
-    no_proof_file : ReadsNothing (IsVeri limits) longest → IsNoProofFile limits longest before mid first_fault
-    no_proof_file reads = let t = took_nothing before mid k in in_text ([], t.0, t.1, Reading [] (reads t.0))
-
-    module _ {W : Type 0} (contents : W → Option (List ℕ)) (faults : W → ℕ) where
-      pub tidies_proof_before : (old : W) (result : Result Unit ToolFault) (after : Option (List ℕ)) (new : W) → TidiesProof limits longest contents faults mid old result after new → TidiesProof limits longest contents faults before old result after new
-      tidies_proof_before old (Ok u) after new (v, f, w) = (v, file_before _ after v f, w)
-      tidies_proof_before old (Err Write) after new (v, f, w) = (v, file_before _ after v f, w)
-      tidies_proof_before old (Err (Text File s)) after new (r, e) = (no_file_before _ veri_before after s r, e)
-      tidies_proof_before old (Err (Text input.Instance s)) after new h = h
-      tidies_proof_before old (Err (Text input.Proof s)) after new h = h
-      tidies_proof_before old (Err (Open i)) after new h = h
-      tidies_proof_before old (Err (Overflow i)) after new h = h
-      tidies_proof_before old (Err (Memory i)) after new h = h
-      tidies_proof_before old (Err (Step place e name)) after new h = h
-
-      pub tidies_before : (old : W) (result : Result Unit ToolFault) (after : Option (List ℕ)) (new : W) → Tidies limits longest false contents faults mid old result after new → Tidies limits longest false contents faults before old result after new
-      tidies_before old (Ok u) after new (v, f, w, a, o) = (v, file_before _ after v f, w, a, o)
-      tidies_before old (Err Write) after new (v, f, w, a, o) = (v, file_before _ after v f, w, a, o)
-      tidies_before old (Err (Text File s)) after new (r, e) = (no_file_before _ opb_before after s r, e)
-      tidies_before old (Err (Overflow File)) after new (v, f, d, e) = (v, file_before _ after v f, d, e)
-      tidies_before old (Err (Memory File)) after new (v, f, d, e) = (v, file_before _ after v f, d, e)
-      tidies_before old (Err (Text input.Instance s)) after new h = h
-      tidies_before old (Err (Text input.Proof s)) after new h = h
-      tidies_before old (Err (Overflow input.Instance)) after new h = h
-      tidies_before old (Err (Overflow input.Proof)) after new h = h
-      tidies_before old (Err (Memory input.Instance)) after new h = h
-      tidies_before old (Err (Memory input.Proof)) after new h = h
-      tidies_before old (Err (Open i)) after new h = h
-      tidies_before old (Err (Step place e name)) after new h = h
+    module _ (text : V → List ℕ) {W : Type 0} (contents : W → Option (List ℕ)) (faults : W → ℕ) where
+      pub tidies_before : (old : W) (result : Result Unit ToolFault) (after : Option (List ℕ)) (new : W) → TidiesAs (IsRead format longest IsValue) (ReadsValue format longest IsValue) text contents faults mid old result after new
+          → TidiesAs (IsRead format longest IsValue) (ReadsValue format longest IsValue) text contents faults before old result after new
+      tidies_before old result after new t =
+          written_so (IsFile (IsRead format longest IsValue) mid after) text (IsRefused (ReadsValue format longest IsValue) mid after) contents faults
+          (IsFile (IsRead format longest IsValue) before after) text (IsRefused (ReadsValue format longest IsValue) before after) (λ v f. (v, file_before (IsRead format longest IsValue) after v f, refl)) (no_file_before after) old result new t
 
       -- nothing, where the source failed at its first byte
-      pub tidies_no_proof : ReadsNothing (IsVeri limits) longest → (old : W) → TidiesProof limits longest contents faults before old (Err (Text File first_fault)) mid old
-      tidies_no_proof reads old = (no_proof_file reads, refl)
-
-      pub tidies_no_instance : ReadsNothing (IsOpb limits) longest → (old : W) → Tidies limits longest false contents faults before old (Err (Text File first_fault)) mid old
-      tidies_no_instance reads old = (no_instance reads, refl)
+      pub tidies_nothing : ReadsNothing format longest → (old : W) → TidiesAs (IsRead format longest IsValue) (ReadsValue format longest IsValue) text contents faults before old (Err (Text File first_fault)) mid old
+      tidies_nothing reads old =
+          let t = took_nothing before mid k in
+          (in_text ([], t.0, t.1, Reading [] (reads t.0)), refl)
 
 -- ---- which it is
 
@@ -174,11 +136,11 @@ module _ (limits : Limits) (longest n : ℕ) (is : longest ≡ n) {W : Type 0} (
 
     pub tidies_proof : MayBeProof before → TidiesProof limits longest contents faults mid old result after new → TidiesFile limits n contents faults false before old result after new
     tidies_proof may t =
-        subst (λ (m : ℕ). TidiesFile limits m contents faults false before old result after new) is (inl (may, tidies_proof_before before mid k limits longest contents faults old result after new t))
+        subst (λ (m : ℕ). TidiesFile limits m contents faults false before old result after new) is (inl (may, tidies_before before mid k (IsVeri limits) longest IsProofOf tidied_proof contents faults old result after new t))
 
     pub tidies_instance : MayBeInstance before → Tidies limits longest false contents faults mid old result after new → TidiesFile limits n contents faults false before old result after new
     tidies_instance may t =
-        subst (λ (m : ℕ). TidiesFile limits m contents faults false before old result after new) is (inr (may, tidies_before before mid k limits longest contents faults old result after new t))
+        subst (λ (m : ℕ). TidiesFile limits m contents faults false before old result after new) is (inr (may, tidies_before before mid k (IsOpb limits) longest IsValueOf tidied contents faults old result after new t))
 
   module _ (some : 0 < longest) (instance : (m : ℕ) → 0 < m → ReadsNothing (IsOpb limits) m) (proof : (m : ℕ) → 0 < m → ReadsNothing (IsVeri limits) m) (f : ToolFault) (fault : f ≡ Text File first_fault) where
     shows_either : MayBeProof before ⊎ MayBeInstance before → ShowsFile limits longest contents faults before old (Err (Text File first_fault)) mid old
@@ -186,8 +148,8 @@ module _ (limits : Limits) (longest n : ℕ) (is : longest ≡ n) {W : Type 0} (
     shows_either (inr may) = inr (may, shows_nothing (IsOpb limits) longest before mid k event_bytes contents faults (instance longest some) old)
 
     tidies_either : MayBeProof before ⊎ MayBeInstance before → TidiesFile limits longest contents faults false before old (Err (Text File first_fault)) mid old
-    tidies_either (inl may) = inl (may, tidies_no_proof before mid k limits longest contents faults (proof longest some) old)
-    tidies_either (inr may) = inr (may, tidies_no_instance before mid k limits longest contents faults (instance longest some) old)
+    tidies_either (inl may) = inl (may, tidies_nothing before mid k (IsVeri limits) longest IsProofOf tidied_proof contents faults (proof longest some) old)
+    tidies_either (inr may) = inr (may, tidies_nothing before mid k (IsOpb limits) longest IsValueOf tidied contents faults (instance longest some) old)
 
     pub shows_unread : ShowsFile limits n contents faults before old (Err f) mid old
     shows_unread =

@@ -1,24 +1,23 @@
 -- The text of an instance whose statements are put together one by one is its canonical text.
-use Rattle.std.proofs.Common.{◌≡◌, ◌↔◌, ℕ, suc, zero, List, [], ◌∷◌, ◌++◌, map, Bool, true, false, IsTrue, Option, None, Result, Ok, Err, refl, sym, ap, ap₂, subst, ◌∙◌, append_assoc, append-nil}
+use Rattle.std.proofs.Common.{◌≡◌, ◌↔◌, ℕ, suc, zero, List, [], ◌∷◌, ◌++◌, Bool, true, false, IsTrue, Option, None, Result, refl, sym, ap, ap₂, ◌∙◌, append_assoc, append-nil}
+use Rattle.pb_text.specs.Limits.{largest, top_of}
 use Rattle.pb_text.specs.Spelling.{Item, Letter}
-use Rattle.pb_text.specs.Whole.{gathered, events_of, IsWhole, IsAsking, StopsAfter, ReadsWhole, Reading as reading, Keeping as keeping}
-use Rattle.pb_text.specs.declared.Spanned.{Spanned}
-use Rattle.pb_text.specs.declared.Stop.{Stop}
-use Rattle.pb_text.specs.declared.Why.{Why}
-use Rattle.pb_text.specs.declared.place.Why.TheVariants.{Memory}
-use Rattle.pb_text.specs.ValueRead.{IsRead, StopsIn, ReadsValue, WantsMemory, WantsIn, Reading, Keeping, Asking, Ending}
-use Rattle.pb_text.proofs.Formats as formats
-use Rattle.pb_text.proofs.Unkept.{unkept_viable, unkept_place}
+use Rattle.pb_text.specs.Whole.{gathered, events_of}
+use Rattle.pb_text.specs.declared.Limits.{Limits}
 use Rattle.pb_opb.specs.Building.{MayKeep}
 use Rattle.pb_opb.specs.Instances.{IsEntry, IsBody, IsBegun, IsInstance}
 use Rattle.pb_opb.specs.Values.{IsValueOf, last_or}
 use Rattle.pb_opb.specs.declared.Instance.{Instance}
 use Rattle.pb_opb.specs.declared.OpbEvent.{OpbEvent}
 use Rattle.pb_opb.specs.declared.OpbEvent.TheVariants.{Header, Comment, Objective, Constraint}
+use Rattle.pb_tool.specs.Gathered.{TidiesEach}
 use Rattle.pb_tool.specs.InstanceText.{line, line_if, with, asks, text_of, IsTextOf}
-use Rattle.pb_tool.specs.Tidy.{tidied}
+use Rattle.pb_tool.specs.Tidy.{tidied, IsOpb, Tidies}
+use Rattle.pb_tool.specs.Wants.{AsksOpb, IfStopped, WantsInstance}
+use Rattle.pb_tool.specs.declared.fault.ToolFault.{ToolFault}
 use Rattle.pb_tool.specs.declared.instance_text.InstanceText.{InstanceText}
 use Rattle.pb_tool.proofs.Ordered.{line_more, value_of, Follows, follows, text_behind}
+use Rattle.pb_tool.proofs.TextFile.{tidies_value, wants_value}
 
 -- ---- the text so far, and a statement more
 
@@ -85,60 +84,15 @@ may_keep events (Comment x) h = h
 may_keep events (Objective terms) h = cc
 may_keep events (Constraint l) h = h
 
--- ---- whole reads
+-- ---- what is written for an instance
 
-module _ (limit top longest : ℕ) (accepted : List (Item OpbEvent) → Type 0) (same : (items : List (Item OpbEvent)) → accepted items ↔ IsInstance limit top items) (empty : InstanceText) (no_page : empty.page.text ≡ []) (no_objective : empty.objective ≡ None) where
-  only : (items : List (Item OpbEvent)) → accepted items → IsInstance limit top items
-  only items h = (same items).0 h
+module _ (limits : Limits) (longest : ℕ) (accepted : List (Item OpbEvent) → Type 0) (same : (items : List (Item OpbEvent)) → accepted items ↔ IsOpb limits items) (empty : InstanceText) (no_page : empty.page.text ≡ []) (no_objective : empty.objective ≡ None) (may_ask : List ℕ → ℕ → Type 0) where
+  pub tidies_text : {W : Type 0} (contents : W → Option (List ℕ)) (faults : W → ℕ) (before : Option (List ℕ)) (old : W) (result : Result (Unit {0}) ToolFault) (after : Option (List ℕ)) (new : W)
+      → TidiesEach accepted longest with empty may_ask (λ t e. asks e) text_of contents faults before old result after new → Tidies limits longest false contents faults before old result after new
+  tidies_text contents faults before old result after new t =
+      tidies_value accepted (IsOpb limits) same longest with empty text_of IsValueOf tidied (instance_text (largest limits) (top_of limits) empty no_page no_objective) may_ask (λ t e. asks e) contents faults before old result after new t
 
-  each : (items : List (Item OpbEvent)) → IsInstance limit top items → accepted items
-  each items h = (same items).1 h
-
-  abbrev keeps : InstanceText → OpbEvent → Bool
-  keeps t e = asks e
-
-  pub is_text : (used : List ℕ) (m : Spanned InstanceText) → IsWhole accepted longest with empty used m → IsRead (IsInstance limit top) longest IsTextOf used m
-  is_text used m w = record {
-    marks = w.marks;
-    spelled = formats.is_spelled accepted (IsInstance limit top) only each longest used w.marks w.spelled;
-    value = subst (IsTextOf (events_of w.spelled.items)) (sym w.value_is) (instance_text limit top empty no_page no_objective w.spelled.items (only w.spelled.items w.spelled.spelled));
-    first = w.first_is;
-    past = w.past_is;
-  }
-
-  module _ (may_ask : List ℕ → ℕ → Type 0) where
-    stops_text : (used seen : List ℕ) (s : Stop) → StopsAfter accepted longest with empty may_ask keeps used seen s → StopsIn (IsInstance limit top) longest used seen s
-    stops_text used seen s (reading marks r a) = Reading marks (formats.reads accepted (IsInstance limit top) only each longest _ used marks s.place _ _ r)
-    stops_text used seen s (keeping u) =
-        Keeping (formats.viable accepted (IsInstance limit top) only each longest used (unkept_viable accepted longest with empty may_ask keeps used s u))
-        (unkept_place accepted longest with empty may_ask keeps used s u)
-
-    pub reads_text : (before : Option (List ℕ)) (result : Result (Spanned InstanceText) Stop) (after : Option (List ℕ)) → ReadsWhole accepted longest with empty may_ask keeps before result after
-        → ReadsValue (IsInstance limit top) longest IsTextOf before result after
-    reads_text before (Ok m) after (used, seen, took, w) = (used, seen, took, is_text used m w)
-    reads_text before (Err s) after (used, seen, took, w) = (used, seen, took, stops_text used seen s w)
-
-    -- a stop for want of memory
-    module _ (may : List ℕ → ℕ → Type 0) (to : (used : List ℕ) (b : ℕ) → may_ask used b → may used b) where
-      wants_stop : (used seen : List ℕ) (s : Stop) → StopsAfter accepted longest with empty may_ask keeps used seen s → s.why ≡ Memory → WantsIn (IsInstance limit top) longest may MayKeep used seen s
-      wants_stop used seen s (reading marks r a) e =
-          let k = subst (λ (x : Why). IsAsking accepted longest with empty may_ask used seen x) e a in
-          Asking marks (formats.reads accepted (IsInstance limit top) only each longest _ used marks s.place _ _ r) k.0 k.1 k.2 (to used k.0 k.3)
-      wants_stop used seen s (keeping u) e =
-          Ending u.marks u.last u.done (formats.reads accepted (IsInstance limit top) only each longest used used (u.marks ++ u.last ∷ []) u.last.past u.done None u.reads)
-          (may_keep (map (λ m. m.event) u.marks) u.last.event u.asking) (ap (λ (t : Stop). t.place) u.stop_is)
-
-      pub wants_text : (before : Option (List ℕ)) (result : Result (Spanned InstanceText) Stop) (after : Option (List ℕ)) → ReadsWhole accepted longest with empty may_ask keeps before result after
-          → WantsMemory (IsInstance limit top) longest may MayKeep before result after
-      wants_text before (Ok m) after w = tt
-      wants_text before (Err s) after (used, seen, took, w) = λ e. (used, seen, took, wants_stop used seen s w e)
-
--- what was read with the text of an instance was read with the instance
-module _ (format : List (Item OpbEvent) → Type 0) (longest : ℕ) where
-  abbrev pub whole : Instance → Spanned InstanceText → Spanned Instance
-  whole v m = record { event = v; first = m.first; past = m.past }
-
-  pub with_instance : (used : List ℕ) (m : Spanned InstanceText) → IsRead format longest IsTextOf used m → (v : Instance) × IsRead format longest IsValueOf used (whole v m) × (text_of m.event ≡ tidied v)
-  with_instance used m r =
-      let (v, are, text) = r.value in
-      (v, record { marks = r.marks; spelled = r.spelled; value = are; first = r.first; past = r.past }, text)
+  pub wants_tidied : ((used : List ℕ) (b : ℕ) → may_ask used b → AsksOpb limits used b) → {W : Type 0} (contents : W → Option (List ℕ)) (faults : W → ℕ) (before : Option (List ℕ)) (old : W) (result : Result (Unit {0}) ToolFault) (after : Option (List ℕ)) (new : W)
+      → TidiesEach accepted longest with empty may_ask (λ t e. asks e) text_of contents faults before old result after new → IfStopped result (WantsInstance limits longest before after)
+  wants_tidied to contents faults before old result after new t =
+      wants_value accepted (IsOpb limits) same longest with empty text_of IsValueOf tidied (instance_text (largest limits) (top_of limits) empty no_page no_objective) may_ask (λ t e. asks e) (AsksOpb limits) to MayKeep may_keep contents faults before old result after new t

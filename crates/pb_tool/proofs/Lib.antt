@@ -3,11 +3,11 @@ mod Named
 mod Parsed
 mod Sequence
 mod Feeds
+mod Restated
+mod TextFile
 mod ProofLines
-mod ProofFile
 mod Ordered
 mod InstanceLines
-mod InstanceFile
 mod Shown
 mod ShownLine
 mod Chosen

@@ -1,24 +1,22 @@
 -- The text of a proof whose statements are put together one by one is its canonical text.
-use Rattle.std.proofs.Common.{◌≡◌, ◌↔◌, ℕ, List, [], ◌∷◌, ◌++◌, Bool, Option, None, Result, Ok, Err, refl, sym, ap, ◌∙◌, subst, append_assoc, append-nil, All}
-use Rattle.std.proofs.lemmas.List.Elements.{All-head, All-tail}
+use Rattle.std.proofs.Common.{◌≡◌, ◌↔◌, ℕ, List, [], ◌∷◌, ◌++◌, Option, Result, refl, sym, ap, ◌∙◌, append_assoc, append-nil, All}
 use Rattle.pb_text.specs.Spelling.{Item}
-use Rattle.pb_text.specs.Whole.{gathered, events_of, IsWhole, IsAsking, StopsAfter, ReadsWhole, Reading as reading, Keeping as keeping}
-use Rattle.pb_text.specs.declared.Spanned.{Spanned}
-use Rattle.pb_text.specs.declared.Stop.{Stop}
-use Rattle.pb_text.specs.declared.Why.{Why}
-use Rattle.pb_text.specs.declared.place.Why.TheVariants.{Memory}
-use Rattle.pb_text.specs.ValueRead.{IsRead, StopsIn, ReadsValue, WantsMemory, WantsIn, Reading, Keeping, Asking, Ending}
-use Rattle.pb_text.proofs.Formats as formats
-use Rattle.pb_text.proofs.Unkept.{unkept_viable, unkept_place}
+use Rattle.pb_text.specs.Whole.{gathered, events_of}
+use Rattle.pb_text.specs.declared.Limits.{Limits}
+use Rattle.std.proofs.lemmas.List.Elements.{All-head, All-tail}
 use Rattle.pb_proof.specs.Gather.{asks, MayKeep}
 use Rattle.pb_proof.specs.Canonical.{statement_bytes, lines}
-use Rattle.pb_proof.specs.Proofs.{IsStep, statements_of, IsProof, IsProofOf}
+use Rattle.pb_proof.specs.Proofs.{IsStep, statements_of, IsProofOf}
 use Rattle.pb_proof.specs.declared.Proof.{Proof}
 use Rattle.pb_proof.specs.declared.Statement.{Statement}
 use Rattle.pb_proof.specs.declared.Statement.TheVariants.{Header, F, Pol, Rup, Soli, Solx, Delete, Output, Conclude, End}
-use Rattle.pb_tool.specs.Files.{tidied_proof}
+use Rattle.pb_tool.specs.Files.{tidied_proof, IsVeri, TidiesProof}
+use Rattle.pb_tool.specs.Gathered.{TidiesEach}
 use Rattle.pb_tool.specs.ProofText.{line, with, text_of, IsTextOf}
+use Rattle.pb_tool.specs.Wants.{AsksVeri, IfStopped, WantsProof}
+use Rattle.pb_tool.specs.declared.fault.ToolFault.{ToolFault}
 use Rattle.pb_tool.specs.declared.proof_text.ProofText.{ProofText}
+use Rattle.pb_tool.proofs.TextFile.{tidies_value, wants_value}
 
 -- lines, each with its line feed
 abbrev each_line : List Statement → List ℕ
@@ -69,61 +67,17 @@ proof_text empty n v h =
     ∙ (ap (λ (x : List ℕ). line Header ++ (line (F v.count) ++ x)) (ap (λ (x : List ℕ). each_line v.steps ++ x) (sym back_is) ∙ sym (each_append v.steps behind))
     ∙ sym (ended Header (F v.count ∷ (v.steps ++ behind))))))
 
-module _ (limit top longest : ℕ) (accepted : List (Item Statement) → Type 0) (same : (items : List (Item Statement)) → accepted items ↔ IsProof limit top items) (empty : ProofText) (n : empty.steps.text ≡ []) where
-  only : (items : List (Item Statement)) → accepted items → IsProof limit top items
-  only items h = (same items).0 h
+-- ---- what is written for a proof
 
-  each : (items : List (Item Statement)) → IsProof limit top items → accepted items
-  each items h = (same items).1 h
+module _ (limits : Limits) (longest : ℕ) (accepted : List (Item Statement) → Type 0) (same : (items : List (Item Statement)) → accepted items ↔ IsVeri limits items) (empty : ProofText) (none : empty.steps.text ≡ []) (may_ask : List ℕ → ℕ → Type 0) where
+  has_text : (items : List (Item Statement)) → IsVeri limits items → IsTextOf (events_of items) (gathered with empty (events_of items))
+  has_text items (v, (steps, are, first, spelled)) = (v, are, ap (λ (x : List Statement). text_of (gathered with empty x)) are ∙ proof_text empty none v steps)
 
-  abbrev keeps : ProofText → Statement → Bool
-  keeps t s = asks s
+  pub tidies_text : {W : Type 0} (contents : W → Option (List ℕ)) (faults : W → ℕ) (before : Option (List ℕ)) (old : W) (result : Result (Unit {0}) ToolFault) (after : Option (List ℕ)) (new : W)
+      → TidiesEach accepted longest with empty may_ask (λ t s. asks s) text_of contents faults before old result after new → TidiesProof limits longest contents faults before old result after new
+  tidies_text contents faults before old result after new t = tidies_value accepted (IsVeri limits) same longest with empty text_of IsProofOf tidied_proof has_text may_ask (λ t s. asks s) contents faults before old result after new t
 
-  of_items : (t : ProofText) (items : List (Item Statement)) → t ≡ gathered with empty (events_of items) → IsProof limit top items → IsTextOf (events_of items) t
-  of_items t items e (v, (steps, are, first, spelled)) = (v, are, ap text_of (e ∙ ap (gathered with empty) are) ∙ proof_text empty n v steps)
-
-  pub is_text : (used : List ℕ) (m : Spanned ProofText) → IsWhole accepted longest with empty used m → IsRead (IsProof limit top) longest IsTextOf used m
-  is_text used m w = record {
-    marks = w.marks;
-    spelled = formats.is_spelled accepted (IsProof limit top) only each longest used w.marks w.spelled;
-    value = of_items m.event w.spelled.items w.value_is (only w.spelled.items w.spelled.spelled);
-    first = w.first_is;
-    past = w.past_is;
-  }
-
-  module _ (may_ask : List ℕ → ℕ → Type 0) where
-    stops_text : (used seen : List ℕ) (s : Stop) → StopsAfter accepted longest with empty may_ask keeps used seen s → StopsIn (IsProof limit top) longest used seen s
-    stops_text used seen s (reading marks r a) = Reading marks (formats.reads accepted (IsProof limit top) only each longest _ used marks s.place _ _ r)
-    stops_text used seen s (keeping u) =
-        Keeping (formats.viable accepted (IsProof limit top) only each longest used (unkept_viable accepted longest with empty may_ask keeps used s u))
-        (unkept_place accepted longest with empty may_ask keeps used s u)
-
-    pub reads_text : (before : Option (List ℕ)) (result : Result (Spanned ProofText) Stop) (after : Option (List ℕ)) → ReadsWhole accepted longest with empty may_ask keeps before result after
-        → ReadsValue (IsProof limit top) longest IsTextOf before result after
-    reads_text before (Ok m) after (used, seen, took, w) = (used, seen, took, is_text used m w)
-    reads_text before (Err s) after (used, seen, took, w) = (used, seen, took, stops_text used seen s w)
-
-    -- a stop for want of memory
-    module _ (may : List ℕ → ℕ → Type 0) (to : (used : List ℕ) (b : ℕ) → may_ask used b → may used b) where
-      wants_stop : (used seen : List ℕ) (s : Stop) → StopsAfter accepted longest with empty may_ask keeps used seen s → s.why ≡ Memory → WantsIn (IsProof limit top) longest may MayKeep used seen s
-      wants_stop used seen s (reading marks r a) e =
-          let k = subst (λ (x : Why). IsAsking accepted longest with empty may_ask used seen x) e a in
-          Asking marks (formats.reads accepted (IsProof limit top) only each longest _ used marks s.place _ _ r) k.0 k.1 k.2 (to used k.0 k.3)
-      wants_stop used seen s (keeping u) e =
-          Ending u.marks u.last u.done (formats.reads accepted (IsProof limit top) only each longest used used (u.marks ++ u.last ∷ []) u.last.past u.done None u.reads)
-          u.asking (ap (λ (t : Stop). t.place) u.stop_is)
-
-      pub wants_text : (before : Option (List ℕ)) (result : Result (Spanned ProofText) Stop) (after : Option (List ℕ)) → ReadsWhole accepted longest with empty may_ask keeps before result after
-          → WantsMemory (IsProof limit top) longest may MayKeep before result after
-      wants_text before (Ok m) after w = tt
-      wants_text before (Err s) after (used, seen, took, w) = λ e. (used, seen, took, wants_stop used seen s w e)
-
--- what was read with the text of a proof was read with the proof
-module _ (format : List (Item Statement) → Type 0) (longest : ℕ) where
-  abbrev pub whole : Proof → Spanned ProofText → Spanned Proof
-  whole v m = record { event = v; first = m.first; past = m.past }
-
-  pub with_proof : (used : List ℕ) (m : Spanned ProofText) → IsRead format longest IsTextOf used m → (v : Proof) × IsRead format longest IsProofOf used (whole v m) × (text_of m.event ≡ tidied_proof v)
-  with_proof used m r =
-      let (v, are, text) = r.value in
-      (v, record { marks = r.marks; spelled = r.spelled; value = are; first = r.first; past = r.past }, text)
+  pub wants_tidied : ((used : List ℕ) (b : ℕ) → may_ask used b → AsksVeri limits used b) → {W : Type 0} (contents : W → Option (List ℕ)) (faults : W → ℕ) (before : Option (List ℕ)) (old : W) (result : Result (Unit {0}) ToolFault) (after : Option (List ℕ)) (new : W)
+      → TidiesEach accepted longest with empty may_ask (λ t s. asks s) text_of contents faults before old result after new → IfStopped result (WantsProof limits longest before after)
+  wants_tidied to contents faults before old result after new t =
+      wants_value accepted (IsVeri limits) same longest with empty text_of IsProofOf tidied_proof has_text may_ask (λ t s. asks s) (AsksVeri limits) to MayKeep (λ events s h. h) contents faults before old result after new t

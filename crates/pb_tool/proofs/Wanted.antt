@@ -18,7 +18,12 @@ use Rattle.pb_text.specs.declared.Spanned.{Spanned}
 use Rattle.pb_text.specs.declared.Stop.{Stop}
 use Rattle.pb_text.specs.declared.Why.{Why}
 use Rattle.pb_text.specs.declared.place.Why.TheVariants as why
+use Rattle.pb_text.specs.ValueRead.{WantsMemory}
 use Rattle.pb_text.proofs.Wholes.{lost_all, whole_stopped}
+use Rattle.pb_opb.specs.Building as opb_keeping
+use Rattle.pb_opb.specs.declared.Instance.{Instance}
+use Rattle.pb_proof.specs.Gather as veri_keeping
+use Rattle.pb_proof.specs.declared.Proof.{Proof}
 use Rattle.pb_tool.specs.Files.{MayBeProof, MayBeInstance, IsVeri}
 use Rattle.pb_tool.specs.Show.{EndsAt}
 use Rattle.pb_tool.specs.Tidy.{IsOpb}
@@ -42,11 +47,8 @@ stopped_to One Other to (Err (Step place e name)) h = tt
 -- ---- behind a look at the first byte
 
 module _ (before mid : Option (List ℕ)) (k : Keeps before mid) (after : Option (List ℕ)) (s : Stop) where
-  instance_before : (limits : Limits) (longest : ℕ) → WantsInstance limits longest mid after s → WantsInstance limits longest before after s
-  instance_before limits longest w e = let (used, seen, took, at) = w e in (used, seen, took_before before mid after used seen k took, at)
-
-  proof_before : (limits : Limits) (longest : ℕ) → WantsProof limits longest mid after s → WantsProof limits longest before after s
-  proof_before limits longest w e = let (used, seen, took, at) = w e in (used, seen, took_before before mid after used seen k took, at)
+  value_before : (V : Type 0) {E : Type 0} (format : List (Item E) → Type 0) (longest : ℕ) (May : List ℕ → ℕ → Type 0) (MayKeep : List E → E → Type 0) → WantsMemory format longest May MayKeep {V = V} mid (Err s) after → WantsMemory format longest May MayKeep {V = V} before (Err s) after
+  value_before V format longest May MayKeep w e = let (used, seen, took, at) = w e in (used, seen, took_before before mid after used seen k took, at)
 
   each_before : {E : Type 0} (format : List (Item E) → Type 0) (longest : ℕ) (May : List ℕ → ℕ → Type 0) → WantsEach format longest May mid after s → WantsEach format longest May before after s
   each_before format longest May w e =
@@ -58,12 +60,12 @@ module _ (limits : Limits) (longest n : ℕ) (is : longest ≡ n) (before mid : 
     pub tidying_proof : MayBeProof before → IfStopped result (WantsProof limits longest mid after) → IfStopped result (WantsTidying limits n false before after)
     tidying_proof may h =
         subst (λ (m : ℕ). IfStopped result (WantsTidying limits m false before after)) is
-        (stopped_to (WantsProof limits longest mid after) (WantsTidying limits longest false before after) (λ s w. inl (may, proof_before before mid k after s limits longest w)) result h)
+        (stopped_to (WantsProof limits longest mid after) (WantsTidying limits longest false before after) (λ s w. inl (may, value_before before mid k after s Proof (IsVeri limits) longest (AsksVeri limits) veri_keeping.MayKeep w)) result h)
 
     pub tidying_instance : MayBeInstance before → IfStopped result (WantsInstance limits longest mid after) → IfStopped result (WantsTidying limits n false before after)
     tidying_instance may h =
         subst (λ (m : ℕ). IfStopped result (WantsTidying limits m false before after)) is
-        (stopped_to (WantsInstance limits longest mid after) (WantsTidying limits longest false before after) (λ s w. inr (may, instance_before before mid k after s limits longest w)) result h)
+        (stopped_to (WantsInstance limits longest mid after) (WantsTidying limits longest false before after) (λ s w. inr (may, value_before before mid k after s Instance (IsOpb limits) longest (AsksOpb limits) opb_keeping.MayKeep w)) result h)
 
     pub showing_proof : MayBeProof before → IfStopped result (WantsEach (IsVeri limits) longest (AsksVeri limits) mid after) → IfStopped result (WantsShowing limits n before after)
     showing_proof may h =

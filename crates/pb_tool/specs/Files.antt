@@ -12,7 +12,7 @@ use Rattle.pb_proof.specs.Proofs.{IsProof, IsProofOf}
 use Rattle.pb_proof.specs.declared.Proof.{Proof}
 use Rattle.pb_proof.specs.declared.Statement.{Statement}
 use Rattle.pb_tool.specs.Show.{Shows}
-use Rattle.pb_tool.specs.Tidy.{IsFile, IsOpb, IsRefused, Tidies}
+use Rattle.pb_tool.specs.Tidy.{IsFile, IsOpb, IsRefused, Tidies, TidiesAs}
 use Rattle.pb_tool.specs.declared.fault.ToolFault.{ToolFault}
 use Rattle.pb_tool.specs.declared.fault.ToolFault.TheVariants.{Text, Open, Overflow, Memory, Write, Step}
 use Rattle.pb_tool.specs.declared.fault.Input.TheVariants.{File}
@@ -48,14 +48,7 @@ module _ (limits : Limits) (longest : ℕ) where
   module _ {W : Type 0} (contents : W → Option (List ℕ)) (faults : W → ℕ) where
     -- What was read of the source as a proof, and what was written: nothing before the whole input was accepted.
     abbrev pub TidiesProof : Option (List ℕ) → W → Result Unit ToolFault → Option (List ℕ) → W → Type 0
-    TidiesProof before old (Ok u) after new = (v : Proof) × IsProofFile before after v × Wrote contents faults old (tidied_proof v) new
-    TidiesProof before old (Err Write) after new = (v : Proof) × IsProofFile before after v × Broke contents faults old (tidied_proof v) new
-    TidiesProof before old (Err (Text File s)) after new = IsNoProofFile before after s × (new ≡ old)
-    TidiesProof before old (Err (Text i s)) after new = ⊥
-    TidiesProof before old (Err (Overflow i)) after new = ⊥
-    TidiesProof before old (Err (Memory i)) after new = ⊥
-    TidiesProof before old (Err (Open i)) after new = ⊥
-    TidiesProof before old (Err (Step place e name)) after new = ⊥
+    TidiesProof = TidiesAs (IsRead (IsVeri limits) longest IsProofOf) (ReadsValue (IsVeri limits) longest IsProofOf) tidied_proof contents faults
 
     -- With `normal` the source is read as an instance, whatever its text begins with.
     abbrev pub TidiesFile : Bool → Option (List ℕ) → W → Result Unit ToolFault → Option (List ℕ) → W → Type 0

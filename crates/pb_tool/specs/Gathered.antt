@@ -4,7 +4,7 @@ use Rattle.pb_text.specs.Spelling.{Item}
 use Rattle.pb_text.specs.Whole.{IsWhole, ReadsWhole}
 use Rattle.pb_text.specs.Writing.{Wrote, Broke}
 use Rattle.pb_text.specs.declared.Stop.{Stop}
-use Rattle.pb_tool.specs.Tidy.{IsFile, IsRefused}
+use Rattle.pb_tool.specs.Tidy.{IsFile, IsRefused, TidiesAs}
 use Rattle.pb_tool.specs.declared.fault.ToolFault.{ToolFault}
 use Rattle.pb_tool.specs.declared.fault.ToolFault.TheVariants.{Text, Open, Overflow, Memory, Write, Step}
 use Rattle.pb_tool.specs.declared.fault.Input.TheVariants.{File}
@@ -22,11 +22,4 @@ module _ {V E : Type 0} (format : List (Item E) → Type 0) (longest : ℕ) (wit
       -- What was read of the source, and what was written: the text of the value, and nothing before the whole input
       -- was accepted.
       abbrev pub TidiesEach : Option (List ℕ) → W → Result Unit ToolFault → Option (List ℕ) → W → Type 0
-      TidiesEach before old (Ok u) after new = (v : V) × IsGathered before after v × Wrote contents faults old (text v) new
-      TidiesEach before old (Err Write) after new = (v : V) × IsGathered before after v × Broke contents faults old (text v) new
-      TidiesEach before old (Err (Text File s)) after new = IsNotGathered before after s × (new ≡ old)
-      TidiesEach before old (Err (Text i s)) after new = ⊥
-      TidiesEach before old (Err (Overflow i)) after new = ⊥
-      TidiesEach before old (Err (Memory i)) after new = ⊥
-      TidiesEach before old (Err (Open i)) after new = ⊥
-      TidiesEach before old (Err (Step place e name)) after new = ⊥
+      TidiesEach = TidiesAs (IsWhole format longest with empty) (ReadsWhole format longest with empty MayAsk asks) text contents faults

@@ -46,17 +46,15 @@ is_bare (Some terms) constraints = false
 abbrev pub IsOpb : Limits → List (Item OpbEvent) → Type 0
 IsOpb limits = IsInstance (largest limits) (top_of limits)
 
--- What is to be written for v: v itself, or with `normal` its normal form, where no constraint passes the limit.
-abbrev pub IsAsked : Bool → ℕ → Instance → Instance → Type 0
-IsAsked false limit v w = w ≡ v
-IsAsked true limit v w = IsNormalised v w × ¬ Overflows limit v
+-- what is written with `normal`: the normal form of v, where no constraint passes the limit
+abbrev pub IsAsked : ℕ → Instance → Instance → Type 0
+IsAsked limit v w = IsNormalised v w × ¬ Overflows limit v
 
--- Why there is no such instance: with `normal` a constraint of v passes the limit, or none does and memory ran out.
-abbrev pub IsDenied : Bool → ℕ → Instance → ToolFault → Type 0
-IsDenied false limit v e = ⊥
-IsDenied true limit v (Overflow File) = Overflows limit v
-IsDenied true limit v (Memory File) = ¬ Overflows limit v
-IsDenied true limit v _ = ⊥
+-- Why there is none: a constraint of v passes the limit, or none does and memory ran out.
+abbrev pub IsDenied : ℕ → Instance → ToolFault → Type 0
+IsDenied limit v (Overflow File) = Overflows limit v
+IsDenied limit v (Memory File) = ¬ Overflows limit v
+IsDenied limit v _ = ⊥
 
 module _ {V : Type 0} where
   -- The input was a spelling of v and a blank rest, and ended there.
@@ -75,6 +73,23 @@ module _ {V : Type 0} where
     InText : Reads before (Err s) after → IsRefused Reads before after s
     InRest : (m : Spanned V) (mid : Option (List ℕ)) → Reads before (Ok m) mid → ReadsBlank m.past mid (Err s) after → IsRefused Reads before after s
 
+-- What was written: the text of a value that the input has, or nothing, where the fault says why.
+module _ {V : Type 0} (Has : V → Type 0) (IsWhy : ToolFault → Type 0) (text : V → List ℕ) {W : Type 0} (contents : W → Option (List ℕ)) (faults : W → ℕ) where
+  abbrev pub WritesText : W → Result Unit ToolFault → W → Type 0
+  WritesText old (Ok u) new = (v : V) × Has v × Wrote contents faults old (text v) new
+  WritesText old (Err Write) new = (v : V) × Has v × Broke contents faults old (text v) new
+  WritesText old (Err e) new = IsWhy e × (new ≡ old)
+
+-- the fault is that the text of the file stopped its reader
+abbrev pub IsStopped : (Stop → Type 0) → ToolFault → Type 0
+IsStopped Holds (Text File s) = Holds s
+IsStopped Holds _ = ⊥
+
+-- What was read of the source, in one way of reading, and what was written: nothing before the whole input was accepted.
+module _ {V : Type 0} (IsReadOf : List ℕ → Spanned V → Type 0) (Reads : Option (List ℕ) → Result (Spanned V) Stop → Option (List ℕ) → Type 0) (text : V → List ℕ) {W : Type 0} (contents : W → Option (List ℕ)) (faults : W → ℕ) where
+  abbrev pub TidiesAs : Option (List ℕ) → W → Result Unit ToolFault → Option (List ℕ) → W → Type 0
+  TidiesAs before old result after new = WritesText (IsFile IsReadOf before after) (IsStopped (IsRefused Reads before after)) text contents faults old result new
+
 module _ (limits : Limits) (longest : ℕ) where
   -- the input was an instance and a blank rest
   abbrev pub IsOpbFile : Option (List ℕ) → Option (List ℕ) → Instance → Type 0
@@ -83,21 +98,16 @@ module _ (limits : Limits) (longest : ℕ) where
   abbrev pub IsNoOpbFile : Option (List ℕ) → Option (List ℕ) → Stop → Type 0
   IsNoOpbFile = IsRefused (ReadsValue (IsOpb limits) longest IsValueOf)
 
-  module _ (normal : Bool) {W : Type 0} (contents : W → Option (List ℕ)) (faults : W → ℕ) where
-    -- What was read of the source, and what was written: nothing before the whole input was accepted and, with
-    -- `normal`, every constraint normalised.
-    abbrev pub Tidies : Option (List ℕ) → W → Result Unit ToolFault → Option (List ℕ) → W → Type 0
-    Tidies before old (Ok u) after new =
-        (v : Instance) × IsOpbFile before after v × (w : Instance) × IsAsked normal (largest limits) v w × Wrote contents faults old (tidied w) new
-    Tidies before old (Err Write) after new =
-        (v : Instance) × IsOpbFile before after v × (w : Instance) × IsAsked normal (largest limits) v w × Broke contents faults old (tidied w) new
-    Tidies before old (Err (Text File s)) after new = IsNoOpbFile before after s × (new ≡ old)
-    Tidies before old (Err (Overflow File)) after new =
-        (v : Instance) × IsOpbFile before after v × IsDenied normal (largest limits) v (Overflow File) × (new ≡ old)
-    Tidies before old (Err (Memory File)) after new =
-        (v : Instance) × IsOpbFile before after v × IsDenied normal (largest limits) v (Memory File) × (new ≡ old)
-    Tidies before old (Err (Text i s)) after new = ⊥
-    Tidies before old (Err (Overflow i)) after new = ⊥
-    Tidies before old (Err (Memory i)) after new = ⊥
-    Tidies before old (Err (Open i)) after new = ⊥
-    Tidies before old (Err (Step place e name)) after new = ⊥
+  -- with `normal`: the normal form of the instance that the input was, or why there is none
+  abbrev pub IsNormalFile : Option (List ℕ) → Option (List ℕ) → Instance → Type 0
+  IsNormalFile before after w = (v : Instance) × IsOpbFile before after v × IsAsked (largest limits) v w
+
+  abbrev pub IsNoNormalFile : Option (List ℕ) → Option (List ℕ) → ToolFault → Type 0
+  IsNoNormalFile before after (Text File s) = IsNoOpbFile before after s
+  IsNoNormalFile before after e = (v : Instance) × IsOpbFile before after v × IsDenied (largest limits) v e
+
+  -- What was read of the source, and what was written: nothing before the whole input was accepted and, with
+  -- `normal`, every constraint normalised.
+  abbrev pub Tidies : Bool → {W : Type 0} → (W → Option (List ℕ)) → (W → ℕ) → Option (List ℕ) → W → Result Unit ToolFault → Option (List ℕ) → W → Type 0
+  Tidies false contents faults before old result after new = TidiesAs (IsRead (IsOpb limits) longest IsValueOf) (ReadsValue (IsOpb limits) longest IsValueOf) tidied contents faults before old result after new
+  Tidies true contents faults before old result after new = WritesText (IsNormalFile before after) (IsNoNormalFile before after) tidied contents faults old result new

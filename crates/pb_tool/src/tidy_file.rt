@@ -191,8 +191,8 @@ fn normal_form(
     instance: Instance,
     limits: Limits,
 ) -> Result<Instance, ToolFault>
-    ensures asked { IfOk result (IsAsked true (largest limits) instance) }
-    ensures denied { IfErr result (IsDenied true (largest limits) instance) }
+    ensures asked { IfOk result (IsAsked (largest limits) instance) }
+    ensures denied { IfErr result (IsDenied (largest limits) instance) }
 {
     if overflows(instance.constraints.as_slice(), limits) {
         return Err(ToolFault::Overflow(Input::File));

@@ -1,7 +1,7 @@
 use Rattle.std.proofs.Common.{Some, ◌++◌}
 use Rattle.pb_text.specs.Automaton.{Accepts, MayAsk}
 use Rattle.pb_proof.specs.Machine.State.{proofs}
-use Rattle.pb_tool.proofs.ProofFile.{tidies_text, wants_tidied}
+use Rattle.pb_tool.proofs.ProofLines.{tidies_text, wants_tidied}
 use Rattle.pb_tool.proofs.tidy_file.tidy_proof.Goals as goal
 
 pub returns-clause-tidies : goal.returns-clause-tidies

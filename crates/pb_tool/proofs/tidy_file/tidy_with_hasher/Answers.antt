@@ -38,6 +38,9 @@ returns-in-Err-clause-given g c =
     let u = c.unread_file.ensures in
     rw c.if-normal.false (given_unread c.args.limits _ _ c.unwrap_or-longest.ensures g.W.Sink.contents g.W.Sink.faults _ _ t.history c.args.out.now (some_of c.args.longest _ c.unwrap_or-longest.ensures c.requires) u.proof _ u.fault)
 
+pub returns-then-normal-clause-given : goal.returns-then-normal-clause-given
+returns-then-normal-clause-given g c = rw (c.if-normal.true, ← c.unwrap_or-longest.ensures) c.tidy_normal.ensures.given
+
 pub returns-then-normal-clause-memory : goal.returns-then-normal-clause-memory
 returns-then-normal-clause-memory g c = rw (c.if-normal.true, ← c.unwrap_or-longest.ensures) c.tidy_normal.ensures.memory
 

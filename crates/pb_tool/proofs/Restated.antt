@@ -1,0 +1,33 @@
+-- What was written and why, where the readings that it speaks of are readings of another kind too.
+use Rattle.std.proofs.Common.{◌≡◌, ℕ, List, Option, Result, Ok, Err, subst}
+use Rattle.pb_text.specs.Writing.{Wrote, Broke}
+use Rattle.pb_text.specs.declared.Stop.{Stop}
+use Rattle.pb_tool.specs.Tidy.{IsStopped, WritesText}
+use Rattle.pb_tool.specs.Wants.{IfStopped}
+use Rattle.pb_tool.specs.declared.fault.ToolFault.{ToolFault}
+use Rattle.pb_tool.specs.declared.fault.ToolFault.TheVariants.{Text, Open, Overflow, Memory, Write, Step}
+use Rattle.pb_tool.specs.declared.fault.Input.TheVariants.{File, Instance, Proof}
+
+module _ {V : Type 0} (Has : V → Type 0) (text : V → List ℕ) (No : Stop → Type 0) {W : Type 0} (contents : W → Option (List ℕ)) (faults : W → ℕ) where
+  pub written_so : {U : Type 0} (Shows : U → Type 0) (spelling : U → List ℕ) (Not : Stop → Type 0) → ((v : V) → Has v → (u : U) × Shows u × (text v ≡ spelling u)) → ((s : Stop) → No s → Not s)
+      → (old : W) (result : Result (Unit {0}) ToolFault) (new : W) → WritesText Has (IsStopped No) text contents faults old result new → WritesText Shows (IsStopped Not) spelling contents faults old result new
+  written_so Shows spelling Not has deny old (Ok u) new (v, h, w) = let (x, is, same) = has v h in (x, is, subst (λ (y : List ℕ). Wrote contents faults old y new) same w)
+  written_so Shows spelling Not has deny old (Err Write) new (v, h, w) = let (x, is, same) = has v h in (x, is, subst (λ (y : List ℕ). Broke contents faults old y new) same w)
+  written_so Shows spelling Not has deny old (Err (Text File s)) new (h, e) = (deny s h, e)
+  written_so Shows spelling Not has deny old (Err (Text Instance s)) new h = h
+  written_so Shows spelling Not has deny old (Err (Text Proof s)) new h = h
+  written_so Shows spelling Not has deny old (Err (Open i)) new h = h
+  written_so Shows spelling Not has deny old (Err (Overflow i)) new h = h
+  written_so Shows spelling Not has deny old (Err (Memory i)) new h = h
+  written_so Shows spelling Not has deny old (Err (Step place e name)) new h = h
+
+  pub stopped_so : (Not : Stop → Type 0) → ((s : Stop) → No s → Not s) → (old : W) (result : Result (Unit {0}) ToolFault) (new : W) → WritesText Has (IsStopped No) text contents faults old result new → IfStopped result Not
+  stopped_so Not deny old (Ok u) new h = tt
+  stopped_so Not deny old (Err Write) new h = tt
+  stopped_so Not deny old (Err (Text File s)) new (h, e) = deny s h
+  stopped_so Not deny old (Err (Text Instance s)) new (h, e) = absurd h
+  stopped_so Not deny old (Err (Text Proof s)) new (h, e) = absurd h
+  stopped_so Not deny old (Err (Open i)) new h = tt
+  stopped_so Not deny old (Err (Overflow i)) new h = tt
+  stopped_so Not deny old (Err (Memory i)) new h = tt
+  stopped_so Not deny old (Err (Step place e name)) new h = tt
