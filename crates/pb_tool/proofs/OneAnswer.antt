@@ -12,20 +12,16 @@ use Rattle.pb_text.specs.declared.Limits.{Limits}
 use Rattle.pb_text.specs.declared.Place.{Place}
 use Rattle.pb_text.specs.declared.Spanned.{Spanned}
 use Rattle.pb_text.specs.declared.Stop.{Stop}
-use Rattle.pb_text.specs.ValueRead.{Reading, Keeping}
+use Rattle.pb_text.specs.ValueRead.{IsRead, Reading, Keeping}
 use Rattle.pb_sums.specs.declared.Linear.{Linear}
 use Rattle.pb_sums.specs.declared.Term.{Term}
-use Rattle.pb_opb.specs.Formats as opb_laws
 use Rattle.pb_opb.specs.Values.{IsValueOf}
 use Rattle.pb_opb.specs.declared.Comment.{Comment}
 use Rattle.pb_opb.specs.declared.Instance.{Instance}
 use Rattle.pb_opb.specs.declared.OpbEvent.{OpbEvent}
-use Rattle.pb_proof.specs.Formats as veri_laws
 use Rattle.pb_proof.specs.Proofs.{IsProofOf, statements_of}
-use Rattle.pb_proof.specs.ValueLaws.{OneValue}
 use Rattle.pb_proof.specs.declared.Proof.{Proof}
 use Rattle.pb_proof.specs.declared.Statement.{Statement}
-use Rattle.pb_replay.specs.Laws.{OpeningsAreSingle, OutcomesAreSingle}
 use Rattle.pb_replay.specs.Problem.{Problem, Opened}
 use Rattle.pb_replay.specs.Replay.{State, first_state}
 use Rattle.pb_replay.specs.Statements.{Accepts}
@@ -35,7 +31,8 @@ use Rattle.pb_replay.specs.declared.verdict.Verdict.{Verdict}
 use Rattle.pb_tool.specs.Checks.{statements_at}
 use Rattle.pb_tool.specs.Decided.{AnswersExactly, AreVerified, IsDecided, IsOfText, IsSame, OneAnswer}
 use Rattle.pb_tool.specs.Files.{IsProofFile, IsVeri}
-use Rattle.pb_tool.specs.Tidy.{IsOpb, IsOpbFile, IsNoOpbFile}
+use Rattle.pb_tool.specs.Single.{AllSingle}
+use Rattle.pb_tool.specs.Tidy.{IsFile, IsOpb, IsOpbFile, IsNoOpbFile}
 use Rattle.pb_tool.specs.Tidy.IsRefused.{InText, InRest}
 use Rattle.pb_tool.specs.Verified.{ChecksFiles, IsRefusedStep, IsRefusedText, IsVerified, InProof, BehindProof}
 use Rattle.pb_tool.specs.declared.fault.ToolFault.{ToolFault}
@@ -66,26 +63,38 @@ some_same a b h = cc
 all_taken : (input used : List ℕ) → input ≡ used ++ [] → input ≡ used
 all_taken input used e = e ∙ append-nil used
 
--- ---- the instance
+-- ---- an input, in one way of reading
 
-module _ (one : opb_laws.OneInstance) (front : opb_laws.NoFront) (limits : Limits) (longest : ℕ) (i : List ℕ) where
-  one_opb : OneSpelling (IsOpb limits)
-  one_opb items items' h k e = one (largest limits) (top_of limits) items items' h k e
+module _ {V E : Type 0} (format : List (Item E) → Type 0) (IsValue : List E → V → Type 0) (longest : ℕ) (input : List ℕ) where
+  abbrev Has : Option (List ℕ) → V → Type 0
+  Has after v = IsFile (IsRead format longest IsValue) (Some input) after v
 
-  front_opb : NoneGoesOn (IsOpb limits)
-  front_opb items items' more h k e = front (largest limits) (top_of limits) items items' more h k e
-
-  one_instance : (i' i'' : Option (List ℕ)) (v w : Instance) → IsOpbFile limits longest (Some i) i' v → IsOpbFile limits longest (Some i) i'' w → v ≡ w
-  one_instance i' i'' v w f g =
-      let both : f.used ++ f.rest ≡ g.used ++ g.rest = sym (all_taken i (f.used ++ f.rest) f.took.0) ∙ all_taken i (g.used ++ g.rest) g.took.0 in
+  one_file : OneSpelling format → NoneGoesOn format → ((events : List E) (v w : V) → IsValue events v → IsValue events w → v ≡ w) → (after other : Option (List ℕ)) (v w : V) → Has after v → Has other w → v ≡ w
+  one_file one front value after other v w f g =
+      let both : f.used ++ f.rest ≡ g.used ++ g.rest = sym (all_taken input (f.used ++ f.rest) f.took.0) ∙ all_taken input (g.used ++ g.rest) g.took.0 in
       let s = f.spelled.spelled in
       let t = g.spelled.spelled in
-      let items : s.items ≡ t.items = (one_spelled (IsOpb limits) longest one_opb front_opb f.used f.rest g.used g.rest f.spelled.marks g.spelled.marks both s t).1 in
-      sym f.value ∙ (one_value (events_of t.items) f.read.event g.read.event (subst (λ (x : List (Item OpbEvent)). IsValueOf (events_of x) f.read.event) items f.spelled.value) g.spelled.value ∙ g.value)
+      let items : s.items ≡ t.items = (one_spelled format longest one front f.used f.rest g.used g.rest f.spelled.marks g.spelled.marks both s t).1 in
+      sym f.value ∙ (value (events_of t.items) f.read.event g.read.event (subst (λ (x : List (Item E)). IsValue (events_of x) f.read.event) items f.spelled.value) g.spelled.value ∙ g.value)
 
-  whole_instance : (i' : Option (List ℕ)) (v : Instance) → IsOpbFile limits longest (Some i) i' v → Whole (IsOpb limits) longest i
-  whole_instance i' v f =
-      record { used = f.used; rest = f.rest; marks = f.spelled.marks; input_is = all_taken i (f.used ++ f.rest) f.took.0; spelled = f.spelled.spelled; blank = f.blank; within = f.within }
+  whole_of : (after : Option (List ℕ)) (v : V) → Has after v → Whole format longest input
+  whole_of after v f = record { used = f.used; rest = f.rest; marks = f.spelled.marks; input_is = all_taken input (f.used ++ f.rest) f.took.0; spelled = f.spelled.spelled; blank = f.blank; within = f.within }
+
+  -- a file that was taken leaves nothing
+  taken : (after : Option (List ℕ)) (v : V) → Has after v → Has (Some []) v
+  taken after v f = record { used = f.used; rest = f.rest; took = (f.took.0, refl); read = f.read; spelled = f.spelled; blank = f.blank; within = f.within; value = f.value }
+
+-- ---- the instance
+
+module _ (laws : AllSingle) (limits : Limits) (longest : ℕ) (i : List ℕ) where
+  one_opb : OneSpelling (IsOpb limits)
+  one_opb items items' h k e = laws.one_instance (largest limits) (top_of limits) items items' h k e
+
+  front_opb : NoneGoesOn (IsOpb limits)
+  front_opb items items' more h k e = laws.instance_front (largest limits) (top_of limits) items items' more h k e
+
+  one_instance : (i' i'' : Option (List ℕ)) (v w : Instance) → IsOpbFile limits longest (Some i) i' v → IsOpbFile limits longest (Some i) i'' w → v ≡ w
+  one_instance = one_file (IsOpb limits) IsValueOf longest i one_opb front_opb one_value
 
   instance_refusal : (i' : Option (List ℕ)) (s : Stop) → IsNoOpbFile limits longest (Some i) i' s → IsOfText s.why → Refusal (IsOpb limits) longest i s
   instance_refusal i' s (InText (used, seen, took, Reading marks r)) d = AtStop used r.left marks (took.0 ∙ r.input_is) r.answer.0 r.place_is r.answer.2
@@ -95,34 +104,25 @@ module _ (one : opb_laws.OneInstance) (front : opb_laws.NoFront) (limits : Limit
       AtRest used seen read.marks took.0 read.spelled rest more t'.0 blank (place ∙ ap (λ (x : Place). place_from x rest) read.past) (subst (λ (x : Place). IsStray x rest more s.why) read.past stray)
 
   no_instance : (i' i'' : Option (List ℕ)) (v : Instance) (s : Stop) → IsOpbFile limits longest (Some i) i' v → IsNoOpbFile limits longest (Some i) i'' s → IsOfText s.why → ⊥
-  no_instance i' i'' v s f r d = no_refusal (IsOpb limits) longest one_opb front_opb i s (whole_instance i' v f) (instance_refusal i'' s r d) d
+  no_instance i' i'' v s f r d = no_refusal (IsOpb limits) longest one_opb front_opb i s (whole_of (IsOpb limits) IsValueOf longest i i' v f) (instance_refusal i'' s r d) d
 
   one_stop_of_instance : (i' i'' : Option (List ℕ)) (s t : Stop) → IsNoOpbFile limits longest (Some i) i' s → IsOfText s.why → IsNoOpbFile limits longest (Some i) i'' t → IsOfText t.why → t ≡ s
   one_stop_of_instance i' i'' s t h d k d' = sym (one_refusal (IsOpb limits) longest one_opb front_opb i s t (instance_refusal i' s h d) (instance_refusal i'' t k d') d d')
 
 -- ---- the proof
 
-module _ (one : veri_laws.OneProof) (front : veri_laws.NoFront) (fixed : veri_laws.FixedMarks) (value : OneValue) (single : OutcomesAreSingle) (limits : Limits) (longest : ℕ) (p : List ℕ) where
+module _ (laws : AllSingle) (limits : Limits) (longest : ℕ) (p : List ℕ) where
   one_veri : OneSpelling (IsVeri limits)
-  one_veri items items' h k e = one (largest limits) (top_of limits) items items' h k e
+  one_veri items items' h k e = laws.one_proof (largest limits) (top_of limits) items items' h k e
 
   front_veri : NoneGoesOn (IsVeri limits)
-  front_veri items items' more h k e = front (largest limits) (top_of limits) items items' more h k e
+  front_veri items items' more h k e = laws.proof_front (largest limits) (top_of limits) items items' more h k e
 
   fixed_veri : HasFixedMarks (IsVeri limits)
-  fixed_veri = fixed (largest limits) (top_of limits)
+  fixed_veri = laws.fixed (largest limits) (top_of limits)
 
   one_proof : (p' p'' : Option (List ℕ)) (q r : Proof) → IsProofFile limits longest (Some p) p' q → IsProofFile limits longest (Some p) p'' r → q ≡ r
-  one_proof p' p'' q r f g =
-      let both : f.used ++ f.rest ≡ g.used ++ g.rest = sym (all_taken p (f.used ++ f.rest) f.took.0) ∙ all_taken p (g.used ++ g.rest) g.took.0 in
-      let s = f.spelled.spelled in
-      let t = g.spelled.spelled in
-      let items : s.items ≡ t.items = (one_spelled (IsVeri limits) longest one_veri front_veri f.used f.rest g.used g.rest f.spelled.marks g.spelled.marks both s t).1 in
-      sym f.value ∙ (value (events_of t.items) f.read.event g.read.event (subst (λ (x : List (Item Statement)). IsProofOf (events_of x) f.read.event) items f.spelled.value) g.spelled.value ∙ g.value)
-
-  whole_proof : (p' : Option (List ℕ)) (q : Proof) → IsProofFile limits longest (Some p) p' q → Whole (IsVeri limits) longest p
-  whole_proof p' q f =
-      record { used = f.used; rest = f.rest; marks = f.spelled.marks; input_is = all_taken p (f.used ++ f.rest) f.took.0; spelled = f.spelled.spelled; blank = f.blank; within = f.within }
+  one_proof = one_file (IsVeri limits) IsProofOf longest p one_veri front_veri laws.value
 
   module _ (v : Problem) (first : State) where
     proof_refusal : (p' : Option (List ℕ)) (s : Stop) → IsRefusedText limits longest v first (Some p) p' s → Refusal (IsVeri limits) longest p s
@@ -133,7 +133,7 @@ module _ (one : veri_laws.OneProof) (front : veri_laws.NoFront) (fixed : veri_la
         AtRest a.took.used a.took.seen a.marks a.took.took.0 r.answer.0 rest more t'.0 blank (at ∙ ap (λ (x : Place). place_from x rest) r.place_is) (subst (λ (x : Place). IsStray x rest more s.why) r.place_is stray)
 
     abbrev HasPassed : Type 0
-    HasPassed = Passed single limits v fixed_veri longest first p
+    HasPassed = Passed laws.outcomes limits v fixed_veri longest first p
 
     -- the statements of a spelling, accepted
     spelled_passed : (used left : List ℕ) (marks : List (Spanned Statement)) (last : State) → p ≡ used ++ left → IsSpelled (IsVeri limits) longest used marks → Accepts (largest limits) (top_of limits) v first (statements_at marks) last → HasPassed
@@ -169,22 +169,12 @@ module _ (one : veri_laws.OneProof) (front : veri_laws.NoFront) (fixed : veri_la
 
 -- ---- both
 
-pub record Laws : Type 0 where
-  pub one_instance_law : opb_laws.OneInstance
-  pub instance_front : opb_laws.NoFront
-  pub one_proof_law : veri_laws.OneProof
-  pub proof_front : veri_laws.NoFront
-  pub fixed : veri_laws.FixedMarks
-  pub value : OneValue
-  pub openings : OpeningsAreSingle
-  pub outcomes : OutcomesAreSingle
-
-module _ (laws : Laws) (limits : Limits) (longest : ℕ) (i p : List ℕ) where
+module _ (laws : AllSingle) (limits : Limits) (longest : ℕ) (i p : List ℕ) where
   instances : (i' i'' : Option (List ℕ)) (v w : Instance) → IsOpbFile limits longest (Some i) i' v → IsOpbFile limits longest (Some i) i'' w → v ≡ w
-  instances = one_instance laws.one_instance_law laws.instance_front limits longest i
+  instances = one_instance laws limits longest i
 
   refused_instance : (i' i'' : Option (List ℕ)) (v : Instance) (s : Stop) → IsOpbFile limits longest (Some i) i' v → IsNoOpbFile limits longest (Some i) i'' s → IsOfText s.why → ⊥
-  refused_instance = no_instance laws.one_instance_law laws.instance_front limits longest i
+  refused_instance = no_instance laws limits longest i
 
   -- the problem that the first bytes open as
   problems : (i' i'' : Option (List ℕ)) (v w : Instance) (a b : Problem) → IsOpbFile limits longest (Some i) i' v → Opened (largest limits) v (Ok a) → IsOpbFile limits longest (Some i) i'' w → Opened (largest limits) w (Ok b) → a ≡ b
@@ -195,7 +185,7 @@ module _ (laws : Laws) (limits : Limits) (longest : ℕ) (i p : List ℕ) where
   opens i' i'' v w a f h g k = ok_err a over (laws.openings (largest limits) w (Ok a) (Err over) (subst (λ (x : Instance). Opened (largest limits) x (Ok a)) (instances i' i'' v w f g) h) k)
 
   abbrev Went : Problem → Type 0
-  Went v = HasPassed laws.one_proof_law laws.proof_front laws.fixed laws.value laws.outcomes limits longest p v (first_state v)
+  Went v = HasPassed laws limits longest p v (first_state v)
 
   module _ {W : Type 0} (contents : W → Option (List ℕ)) (faults : W → ℕ) where
     abbrev Answers : Result Verdict ToolFault → W → Option (List ℕ) → Option (List ℕ) → W → Type 0
@@ -206,7 +196,7 @@ module _ (laws : Laws) (limits : Limits) (longest : ℕ) (i p : List ℕ) where
         → (result : Result Verdict ToolFault) (old new : W) (i' p' : Option (List ℕ)) → Answers result old i' p' new → IsDecided result → result ≡ Ok w
     settled i1 p1 v q w f g h (Ok x) old new i' p' (v', f', q', g', h', wrote) d =
         let problem : h'.problem ≡ h.problem = problems i' i1 v' v h'.problem h.problem f' h'.opened f h.opened in
-        let proof : q' ≡ q = one_proof laws.one_proof_law laws.proof_front laws.fixed laws.value laws.outcomes limits longest p p' p1 q' q g' g in
+        let proof : q' ≡ q = one_proof laws limits longest p p' p1 q' q g' g in
         let here : Accepts (largest limits) (top_of limits) h.problem (first_state h.problem) (statements_of q) h'.last =
         subst (λ (y : Problem). Accepts (largest limits) (top_of limits) y (first_state y) (statements_of q) h'.last) problem (subst (λ (y : Proof). Accepts (largest limits) (top_of limits) h'.problem (first_state h'.problem) (statements_of y) h'.last) proof h'.accepted) in
         let last : h'.last ≡ h.last = one_state laws.outcomes limits h.problem (statements_of q) (first_state h.problem) h'.last h.last here h.accepted in
@@ -215,11 +205,11 @@ module _ (laws : Laws) (limits : Limits) (longest : ℕ) (i p : List ℕ) where
     settled i1 p1 v q w f g h (Err (Overflow of_instance)) old new i' p' (v', f', k, kept, same) d = absurd (opens i1 i' v v' h.problem f h.opened f' k)
     settled i1 p1 v q w f g h (Err (Step place e name)) old new i' p' (v', f', problem, opened, r, x) d =
         let same : h.problem ≡ problem = problems i1 i' v v' h.problem problem f h.opened f' opened in
-        let went : Went problem = subst Went same (proof_passed laws.one_proof_law laws.proof_front laws.fixed laws.value laws.outcomes limits longest p h.problem (first_state h.problem) p1 q h.last g h.accepted) in
-        absurd (no_step laws.outcomes limits problem (fixed_veri laws.one_proof_law laws.proof_front laws.fixed laws.value laws.outcomes limits longest p) longest (first_state problem) p p' place e (string_bytes name) went r d)
+        let went : Went problem = subst Went same (proof_passed laws limits longest p h.problem (first_state h.problem) p1 q h.last g h.accepted) in
+        absurd (no_step laws.outcomes limits problem (fixed_veri laws limits longest p) longest (first_state problem) p p' place e (string_bytes name) went r d)
     settled i1 p1 v q w f g h (Err (Text of_proof s)) old new i' p' (v', f', problem, opened, r, x) d =
-        absurd (no_refusal (IsVeri limits) longest (one_veri laws.one_proof_law laws.proof_front laws.fixed laws.value laws.outcomes limits longest p) (front_veri laws.one_proof_law laws.proof_front laws.fixed laws.value laws.outcomes limits longest p) p s
-        (whole_proof laws.one_proof_law laws.proof_front laws.fixed laws.value laws.outcomes limits longest p p1 q g) (proof_refusal laws.one_proof_law laws.proof_front laws.fixed laws.value laws.outcomes limits longest p problem (first_state problem) p' s r) d)
+        absurd (no_refusal (IsVeri limits) longest (one_veri laws limits longest p) (front_veri laws limits longest p) p s
+        (whole_of (IsVeri limits) IsProofOf longest p p1 q g) (proof_refusal laws limits longest p problem (first_state problem) p' s r) d)
     settled i1 p1 v q w f g h (Err (Text File s)) old new i' p' a d = absurd a
     settled i1 p1 v q w f g h (Err (Overflow File)) old new i' p' a d = absurd a
     settled i1 p1 v q w f g h (Err (Overflow of_proof)) old new i' p' a d = absurd a
@@ -227,15 +217,8 @@ module _ (laws : Laws) (limits : Limits) (longest : ℕ) (i p : List ℕ) where
     settled i1 p1 v q w f g h (Err (Open input)) old new i' p' a d = absurd d
     settled i1 p1 v q w f g h (Err Write) old new i' p' a d = absurd d
 
-    -- a file that was taken leaves nothing
-    first_taken : (i' : Option (List ℕ)) (v : Instance) → IsOpbFile limits longest (Some i) i' v → IsOpbFile limits longest (Some i) (Some []) v
-    first_taken i' v f = record { used = f.used; rest = f.rest; took = (f.took.0, refl); read = f.read; spelled = f.spelled; blank = f.blank; within = f.within; value = f.value }
-
-    second_taken : (p' : Option (List ℕ)) (q : Proof) → IsProofFile limits longest (Some p) p' q → IsProofFile limits longest (Some p) (Some []) q
-    second_taken p' q f = record { used = f.used; rest = f.rest; took = (f.took.0, refl); read = f.read; spelled = f.spelled; blank = f.blank; within = f.within; value = f.value }
-
     verified_by : (w : Verdict) (old new : W) (i' p' : Option (List ℕ)) → Answers (Ok w) old i' p' new → AreVerified limits longest i p w
-    verified_by w old new i' p' (v, f, q, g, h, wrote) = record { instance = v; first = first_taken i' v f; proof = q; second = second_taken p' q g; verified = h }
+    verified_by w old new i' p' (v, f, q, g, h, wrote) = record { instance = v; first = taken (IsOpb limits) IsValueOf longest i i' v f; proof = q; second = taken (IsVeri limits) IsProofOf longest p p' q g; verified = h }
 
     exactly : (i' p' : Option (List ℕ)) (old new : W) (result : Result Verdict ToolFault) (w : Verdict) → Answers result old i' p' new → IsDecided result → (result ≡ Ok w) ↔ AreVerified limits longest i p w
     exactly i' p' old new result w a d = (
@@ -276,8 +259,8 @@ module _ (laws : Laws) (limits : Limits) (longest : ℕ) (i p : List ℕ) where
         → IsRefusedText limits longest a (first_state a) (Some p) p' s → IsOfText s.why → IsOpbFile limits longest (Some i) i'' w → Opened (largest limits) w (Ok b) → IsRefusedStep limits longest b (first_state b) (Some p) p'' place e (string_bytes name) → e ≢ no_memory → ⊥
     text_or_step v w i' i'' a b s place e name p' p'' f h r d g k x m =
         let same : a ≡ b = problems i' i'' v w a b f h g k in
-        let went : Went b = subst Went same (refused_passed laws.one_proof_law laws.proof_front laws.fixed laws.value laws.outcomes limits longest p a (first_state a) p' s r d) in
-        no_step laws.outcomes limits b (fixed_veri laws.one_proof_law laws.proof_front laws.fixed laws.value laws.outcomes limits longest p) longest (first_state b) p p'' place e (string_bytes name) went x m
+        let went : Went b = subst Went same (refused_passed laws limits longest p a (first_state a) p' s r d) in
+        no_step laws.outcomes limits b (fixed_veri laws limits longest p) longest (first_state b) p p'' place e (string_bytes name) went x m
 
     two_steps : (v w : Instance) (i' i'' : Option (List ℕ)) (a b : Problem) (place place' : Place) (e e' : Fault) (name name' : String Global) (p' p'' : Option (List ℕ)) → IsOpbFile limits longest (Some i) i' v → Opened (largest limits) v (Ok a)
         → IsRefusedStep limits longest a (first_state a) (Some p) p' place e (string_bytes name) → e ≢ no_memory → IsOpbFile limits longest (Some i) i'' w → Opened (largest limits) w (Ok b)
@@ -285,17 +268,17 @@ module _ (laws : Laws) (limits : Limits) (longest : ℕ) (i p : List ℕ) where
     two_steps v w i' i'' a b place place' e e' name name' p' p'' f h r d g k r' d' =
         let same : b ≡ a = problems i'' i' w v b a g k f h in
         let (places, faults, names) =
-        one_step laws.outcomes limits a (fixed_veri laws.one_proof_law laws.proof_front laws.fixed laws.value laws.outcomes limits longest p) longest (first_state a) p p' p'' place place' e e' (string_bytes name) (string_bytes name') r d
+        one_step laws.outcomes limits a (fixed_veri laws limits longest p) longest (first_state a) p p' p'' place place' e e' (string_bytes name) (string_bytes name') r d
         (subst (λ (x : Problem). IsRefusedStep limits longest x (first_state x) (Some p) p'' place' e' (string_bytes name')) same r') d' in
         (name', ap (λ (x : Place). let t : Result Verdict ToolFault = Err (Step x e' name') in t) places ∙ ap (λ (x : Fault). let t : Result Verdict ToolFault = Err (Step place x name') in t) faults, names)
 
     two_texts : (v w : Instance) (i' i'' : Option (List ℕ)) (a b : Problem) (s t : Stop) (p' p'' : Option (List ℕ)) → IsRefusedText limits longest a (first_state a) (Some p) p' s → IsOfText s.why → IsRefusedText limits longest b (first_state b) (Some p) p'' t → IsOfText t.why → t ≡ s
     two_texts v w i' i'' a b s t p' p'' r d r' d' =
-        one_refusal (IsVeri limits) longest (one_veri laws.one_proof_law laws.proof_front laws.fixed laws.value laws.outcomes limits longest p) (front_veri laws.one_proof_law laws.proof_front laws.fixed laws.value laws.outcomes limits longest p) p t s
-        (proof_refusal laws.one_proof_law laws.proof_front laws.fixed laws.value laws.outcomes limits longest p b (first_state b) p'' t r') (proof_refusal laws.one_proof_law laws.proof_front laws.fixed laws.value laws.outcomes limits longest p a (first_state a) p' s r) d' d
+        one_refusal (IsVeri limits) longest (one_veri laws limits longest p) (front_veri laws limits longest p) p t s
+        (proof_refusal laws limits longest p b (first_state b) p'' t r') (proof_refusal laws limits longest p a (first_state a) p' s r) d' d
 
     one_stop_instance : (i' i'' : Option (List ℕ)) (s t : Stop) → IsNoOpbFile limits longest (Some i) i' s → IsOfText s.why → IsNoOpbFile limits longest (Some i) i'' t → IsOfText t.why → t ≡ s
-    one_stop_instance = one_stop_of_instance laws.one_instance_law laws.instance_front limits longest i
+    one_stop_instance = one_stop_of_instance laws limits longest i
 
     same_refusals : (one other : Result Verdict ToolFault) → ((w : Verdict) → other ≡ Ok w → AreVerified limits longest i p w → one ≡ Ok w) → ((w : Verdict) → one ≡ Ok w → AreVerified limits longest i p w → other ≡ Ok w) → Shown one → Shown other → IsSame one other
     same_refusals one other to from (Accepted w e v) y = to_same one other (Ok w) (Ok w) e (from w e v) refl
@@ -329,8 +312,8 @@ module _ (laws : Laws) (limits : Limits) (longest : ℕ) (i p : List ℕ) where
         (λ w e v. settled (Some []) (Some []) v.instance v.proof w v.first v.second v.verified other old' new' i'' p'' b d')
         (shown one old new i' p' a d) (shown other old' new' i'' p'' b d')
 
-pub answers_exactly : {W : Type 0} (contents : W → Option (List ℕ)) (faults : W → ℕ) → Laws → AnswersExactly contents faults
+pub answers_exactly : {W : Type 0} (contents : W → Option (List ℕ)) (faults : W → ℕ) → AllSingle → AnswersExactly contents faults
 answers_exactly contents faults laws limits longest i p i' p' old new result w a d = exactly laws limits longest i p contents faults i' p' old new result w a d
 
-pub one_answer : {W : Type 0} (contents : W → Option (List ℕ)) (faults : W → ℕ) → Laws → OneAnswer contents faults
+pub one_answer : {W : Type 0} (contents : W → Option (List ℕ)) (faults : W → ℕ) → AllSingle → OneAnswer contents faults
 one_answer contents faults laws limits longest i p i' p' i'' p'' old new old' new' one other a d b d' = alike laws limits longest i p contents faults i' p' i'' p'' old new old' new' one other a d b d'

@@ -1,9 +1,13 @@
 -- What is read of a canonical text, with a line feed behind it or none.
 use Rattle.std.proofs.Common.{◌≡◌, ◌≢◌, ◌⊎◌, inl, inr, ℕ, ◌<◌, ◌≤◌, ◌^◌, List, [], ◌∷◌, ◌++◌, length, Bool, true, false, cond, Option, Some, Err, refl, sym, ap, ◌∙◌, subst, append-nil, append_assoc, arith, length-append}
+use Rattle.std.proofs.Math.Pow.{pow_mono}
 use Rattle.pb_text.specs.Blank.{ReadsBlank, IsStray, passes}
+use Rattle.pb_text.specs.Limits.{largest}
 use Rattle.pb_text.specs.Pulling.{Took}
 use Rattle.pb_text.specs.Reading.{Explains, IsBad, IsFull, IsUnderWay, Overruns, Reads, byte_limit}
 use Rattle.pb_text.specs.Spelling.{Item, bytes_of, marks_of, place_after}
+use Rattle.pb_text.specs.ValueRead.{IsRead, ReadsValue, Reading, Keeping}
+use Rattle.pb_text.specs.declared.Limits.{Limits}
 use Rattle.pb_text.specs.declared.Place.{Place}
 use Rattle.pb_text.specs.declared.Spanned.{Spanned}
 use Rattle.pb_text.specs.declared.Stop.{Stop}
@@ -12,9 +16,13 @@ use Rattle.pb_text.specs.declared.Why.TheVariants.{Byte, TooLarge, Ended, TooLon
 use Rattle.pb_opb.specs.Canonical.{instance_bytes}
 use Rattle.pb_opb.specs.declared.Instance.{Instance}
 use Rattle.pb_tool.specs.Stays.{IsOutside}
-use Rattle.pb_tool.specs.Tidy.{ends_in_feed, tidied}
+use Rattle.pb_tool.specs.Tidy.{ends_in_feed, tidied, IsFile, IsRefused}
+use Rattle.pb_tool.specs.Tidy.IsRefused.{InText, InRest}
 use Rattle.pb_tool.proofs.Fronts.{Compared, same_rest, two_fronts}
 use Rattle.pb_tool.proofs.Shown.{after_offset}
+
+pub low : (limits : Limits) → largest limits < 2 ^ 127
+low limits = omega (arith, pow_mono limits.most_bits)
 
 -- nothing, or a line feed
 abbrev IsFeed : List ℕ → Type 0
@@ -63,7 +71,7 @@ strays used more left rest place Memory feed e o h = tt
 module _ {E : Type 0} (format : List (Item E) → Type 0) (text : List ℕ) (own : List (Item E)) (spells : format own) (bytes : bytes_of own ≡ text)
     (front : (items items' : List (Item E)) (more : List ℕ) → format items → format items' → bytes_of items' ≡ bytes_of items ++ more → more ≡ []) where
   -- a spelling that begins the text, or that this begins, is it
-  pub same_used : (used seen rest : List ℕ) (items : List (Item E)) → format items → bytes_of items ≡ used → used ++ seen ≡ text ++ rest → used ≡ text
+  same_used : (used seen rest : List ℕ) (items : List (Item E)) → format items → bytes_of items ≡ used → used ++ seen ≡ text ++ rest → used ≡ text
   same_used used seen rest items h e k = by_length (two_fronts text rest used seen (sym k))
     where
       by_length : Compared text used → used ≡ text
@@ -114,14 +122,14 @@ module _ {E : Type 0} (format : List (Item E) → Type 0) (text : List ℕ) (own
   explained used left rest marks Memory u h k = tt
 
   -- no fault of the text itself
-  pub in_text : (used seen rest : List ℕ) (marks : List (Spanned E)) (s : Stop) → Reads format (2 ^ 40) (used ++ seen) used marks s.place false (Some s) → used ++ seen ≡ text ++ rest
+  in_text : (used seen rest : List ℕ) (marks : List (Spanned E)) (s : Stop) → Reads format (2 ^ 40) (used ++ seen) used marks s.place false (Some s) → used ++ seen ≡ text ++ rest
       → IsOutside (length (used ++ seen)) s.why
   in_text used seen rest marks s r k =
       let (under, place, why) = r.answer in
       subst (λ (t : List ℕ). IsOutside (length t) s.why) (sym r.input_is) (explained used r.left rest marks s.why under why (sym r.input_is ∙ k))
 
   -- nor of the line feed behind it
-  pub in_rest : (used seen rest : List ℕ) (items : List (Item E)) (past : Place) (mid after : Option (List ℕ)) (s : Stop) → format items → bytes_of items ≡ used → past ≡ place_after used
+  in_rest : (used seen rest : List ℕ) (items : List (Item E)) (past : Place) (mid after : Option (List ℕ)) (s : Stop) → format items → bytes_of items ≡ used → past ≡ place_after used
       → used ++ seen ≡ text ++ rest → IsFeed rest → mid ≡ Some seen → ReadsBlank past mid (Err s) after → IsOutside (length (used ++ seen)) s.why
   in_rest used seen rest items past mid after s h e at k feed is (more, left, took, blank, place, stray) =
       let same : used ≡ text = same_used used seen rest items h e k in
@@ -129,3 +137,18 @@ module _ {E : Type 0} (format : List (Item E) → Type 0) (text : List ℕ) (own
       let now : Took (Some seen) more left after = subst (λ (z : Option (List ℕ)). Took z more left after) is took in
       let offset : past.offset ≡ length used = ap (λ (p : Place). p.offset) at ∙ after_offset used in
       subst (λ (t : List ℕ). IsOutside (length (used ++ t)) s.why) (sym now.0) (strays used more left rest past s.why feed (sym behind ∙ now.0) offset stray)
+
+  -- the text with nothing behind it, or a line feed
+  module _ {V : Type 0} (IsValue : List E → V → Type 0) (whole rest : List ℕ) (is : whole ≡ text ++ rest) (feed : IsFeed rest) (after : Option (List ℕ)) where
+    pub read_alone : (longest : ℕ) (w : V) (file : IsFile (IsRead format longest IsValue) (Some whole) after w) → IsRead format longest IsValue text file.read
+    read_alone longest w file =
+        let s = file.spelled.spelled in
+        let same : file.used ≡ text = same_used file.used file.rest rest s.items s.spelled s.used_are (sym (append-nil _) ∙ (sym file.took.0 ∙ is)) in
+        subst (λ (u : List ℕ). IsRead format longest IsValue u file.read) same file.spelled
+
+    pub faultless : (s : Stop) → IsRefused (ReadsValue format (2 ^ 40) IsValue) (Some whole) after s → IsOutside (length whole) s.why
+    faultless s (InText (used, seen, took, Reading marks r)) = subst (λ (t : List ℕ). IsOutside (length t) s.why) (sym took.0) (in_text used seen rest marks s r (sym took.0 ∙ is))
+    faultless s (InText (used, seen, took, Keeping viable e)) = rw e tt
+    faultless s (InRest m mid (used, seen, took, read) blank) =
+        subst (λ (t : List ℕ). IsOutside (length t) s.why) (sym took.0)
+        (in_rest used seen rest read.spelled.items m.past mid after s read.spelled.spelled read.spelled.used_are read.past (sym took.0 ∙ is) feed took.1 blank)

@@ -14,6 +14,7 @@ pub mod ProofText
 pub mod Refusals
 pub mod Runs
 pub mod Show
+pub mod Single
 pub mod Stays
 pub mod Tidy
 pub mod Verified

@@ -1,11 +1,9 @@
 //! Laws of checks. These functions do nothing: what they ensure are the laws.
 
-ghost use Rattle.pb_opb.specs.Formats.{OneInstance, NoFront as NoInstanceFront};
-ghost use Rattle.pb_proof.specs.Formats.{FixedMarks, OneProof, NoFront as NoProofFront};
-ghost use Rattle.pb_proof.specs.ValueLaws.{OneValue};
 ghost use Rattle.pb_tool.specs.Decided.{AnswersExactly, OneAnswer};
 ghost use Rattle.pb_tool.specs.Headline.{UnsatIsExact, UnsatIsTrue, VerdictsAreTrue};
 ghost use Rattle.pb_tool.specs.Pieces.{AnyCutting};
+ghost use Rattle.pb_tool.specs.Single.{AllSingle};
 
 use crate::checker::texts_are_read;
 use pb_proof::laws::values::{one_value, proofs_are_values};
@@ -40,10 +38,7 @@ pub fn unsat_is_true<W: Sink>()
 pub fn answers_are_exact<W: Sink>()
     ensures { AnswersExactly W.contents W.faults }
 {
-    instances_are_single();
-    proofs_are_single();
-    one_value();
-    outcomes_are_single();
+    all_is_single();
 }
 
 /// Where nothing fails to be read or written and memory does not run out, `check` answers `verified UNSAT` exactly where the bytes
@@ -59,28 +54,18 @@ pub fn unsat_is_exact<W: Sink>()
 pub fn one_answer<W: Sink>()
     ensures { OneAnswer W.contents W.faults }
 {
-    instances_are_single();
-    proofs_are_single();
-    one_value();
-    outcomes_are_single();
+    all_is_single();
 }
 
-/// A text spells one instance, and none is a front of another.
-fn instances_are_single()
-    ensures one { OneInstance }
-    ensures front { NoInstanceFront }
+/// What the laws say that is single.
+fn all_is_single()
+    ensures { AllSingle }
 {
     pb_opb::laws::one_instance();
     pb_opb::laws::no_front();
-}
-
-/// A text spells one proof, none is a front of another, and the statements of a front are the same in each.
-fn proofs_are_single()
-    ensures one { OneProof }
-    ensures front { NoProofFront }
-    ensures fixed { FixedMarks }
-{
     pb_proof::laws::one_proof();
     pb_proof::laws::no_front();
     pb_proof::laws::fixed_marks();
+    one_value();
+    outcomes_are_single();
 }
