@@ -5,12 +5,13 @@ use Rattle.pb_opb.specs.Values.{IsValueOf}
 use Rattle.pb_opb.specs.declared.Instance.{Instance}
 use Rattle.pb_opb.specs.declared.OpbEvent.{OpbEvent}
 use Rattle.pb_opb.specs.declared.OpbEvent.TheVariants.{Header, Objective}
+use Rattle.pb_tool.specs.Show.{line_of}
 use Rattle.pb_tool.specs.Tidy.{tidied}
 use Rattle.pb_tool.specs.declared.instance_text.InstanceText.{InstanceText}
 
 -- the line of a statement
 abbrev pub line : OpbEvent → List ℕ
-line e = event_bytes e ++ 10 ∷ []
+line = line_of event_bytes
 
 -- the line of a statement that may be there
 abbrev pub line_if : Option OpbEvent → List ℕ

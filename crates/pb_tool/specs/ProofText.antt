@@ -6,11 +6,12 @@ use Rattle.pb_proof.specs.declared.proof.Proof.{Proof}
 use Rattle.pb_proof.specs.declared.statement.Statement.{Statement}
 use Rattle.pb_proof.specs.declared.statement.Statement.TheVariants.{Header, F, Output, Conclude, End}
 use Rattle.pb_tool.specs.Files.{tidied_proof}
+use Rattle.pb_tool.specs.Show.{line_of}
 use Rattle.pb_tool.specs.declared.proof_text.ProofText.{ProofText}
 
 -- the line of a statement
 abbrev pub line : Statement → List ℕ
-line s = statement_bytes s ++ 10 ∷ []
+line = line_of statement_bytes
 
 -- The statements with one more. Steps are kept as text, and the count of `f` and the conclusion as they are.
 abbrev pub with : ProofText → Statement → ProofText

@@ -14,9 +14,13 @@ use Rattle.pb_tool.specs.declared.fault.ToolFault.TheVariants.{Text, Open, Overf
 use Rattle.pb_tool.specs.declared.fault.Input.TheVariants.{File, Instance, Proof}
 
 module _ {E : Type 0} (text : E → List ℕ) where
-  -- the line of a statement: `L:C `, the line and the column of its first byte, and then its canonical text and a line feed
+  -- the canonical text of a statement and a line feed
+  abbrev pub line_of : E → List ℕ
+  line_of e = text e ++ 10 ∷ []
+
+  -- the line of a statement that is shown: `L:C `, the line and the column of its first byte, and then its line
   abbrev pub shown_line : Spanned E → List ℕ
-  shown_line m = decimal m.first.line ++ (58 ∷ (decimal m.first.column ++ (32 ∷ (text m.event ++ (10 ∷ [])))))
+  shown_line m = decimal m.first.line ++ (58 ∷ (decimal m.first.column ++ (32 ∷ line_of m.event)))
 
   -- the lines of statements, in their order
   abbrev pub shown : List (Spanned E) → List ℕ

@@ -4,10 +4,11 @@ ghost use Rattle.std.specs.Prelude.{ℕ, List};
 ghost use Rattle.pb_text.specs.Writing.{Writes};
 ghost use Rattle.pb_opb.specs.Canonical.{event_bytes};
 ghost use Rattle.pb_proof.specs.Canonical.{statement_bytes};
+ghost use Rattle.pb_tool.specs.Show.{line_of};
 
 use pb_opb::{OpbEvent, write_event};
 use pb_proof::{Statement, write_statement};
-use pb_text::{Failed, Sink};
+use pb_text::{Failed, Sink, write_bytes};
 
 /// A value with a canonical text. That of a statement has no line feed behind it.
 pub trait Canonical {
@@ -33,4 +34,12 @@ impl Canonical for Statement {
     fn write_text<W: Sink>(&self, out: &mut W) -> Result<(), Failed> {
         write_statement(self, out)
     }
+}
+
+/// Writes the canonical text of a statement, and a line feed.
+pub(crate) fn write_line<W: Sink, E: Canonical>(statement: &E, out: &mut W) -> Result<(), Failed>
+    ensures { Writes W.contents W.faults out.old (line_of E.text statement.now) result out.new }
+{
+    statement.write_text(out)?;
+    write_bytes(b"\n", out)
 }

@@ -4,9 +4,9 @@ ghost use Rattle.std.specs.Prelude.{◌≡◌, ◌++◌, None, OnErr, OnOk};
 ghost use Rattle.pb_text.specs.Writing.{Writes};
 ghost use Rattle.pb_tool.specs.InstanceText.{line, line_if, text_of};
 
-use crate::canonical::Canonical;
+use crate::canonical::{Canonical, write_line};
 use crate::page::Page;
-use pb_opb::{OpbEvent, write_event};
+use pb_opb::OpbEvent;
 use pb_text::{Failed, Gather, Sink, write_bytes};
 use std::alloc::{AllocError, Global};
 
@@ -54,15 +54,7 @@ impl InstanceText {
     }
 }
 
-/// Writes the line of a statement.
-fn write_line<W: Sink>(event: &OpbEvent, out: &mut W) -> Result<(), Failed>
-    ensures { Writes W.contents W.faults out.old (line event.now) result out.new }
-{
-    write_event(event, out)?;
-    write_bytes(b"\n", out)
-}
-
-/// The same of a statement that may be there.
+/// Writes the line of a statement that may be there.
 fn write_line_if<W: Sink>(event: &Option<OpbEvent>, out: &mut W) -> Result<(), Failed>
     ensures { Writes W.contents W.faults out.old (line_if event.now) result out.new }
 {

@@ -4,9 +4,9 @@ ghost use Rattle.std.specs.Prelude.{◌≡◌, ◌++◌, OnErr, OnOk};
 ghost use Rattle.pb_text.specs.Writing.{Writes};
 ghost use Rattle.pb_tool.specs.ProofText.{back_of, front_of, line, text_of};
 
-use crate::canonical::Canonical;
+use crate::canonical::{Canonical, write_line};
 use crate::page::Page;
-use pb_proof::{Conclusion, Statement, write_statement};
+use pb_proof::{Conclusion, Statement};
 use pb_text::{Failed, Gather, Sink, write_bytes};
 use std::alloc::{AllocError, Global};
 
@@ -63,14 +63,6 @@ impl ProofText {
             }
         }
     }
-}
-
-/// Writes the line of a statement.
-fn write_line<W: Sink>(statement: &Statement, out: &mut W) -> Result<(), Failed>
-    ensures { Writes W.contents W.faults out.old (line statement.now) result out.new }
-{
-    write_statement(statement, out)?;
-    write_bytes(b"\n", out)
 }
 
 impl Canonical for ProofText {

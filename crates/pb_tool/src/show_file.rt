@@ -13,7 +13,7 @@ ghost use Rattle.pb_tool.specs.Show.{shown_line, EndsAt, Shows};
 ghost use Rattle.pb_tool.specs.Tidy.{IsOpb};
 ghost use Rattle.pb_tool.specs.Wants.{AsksOpb, AsksVeri, IfStopped, WantsEach, WantsShowing};
 
-use crate::canonical::Canonical;
+use crate::canonical::{Canonical, write_line};
 use crate::fault::{ToolFault, refused};
 use crate::file::{Format, format_of, unread_file};
 use pb_opb::OpbMachine;
@@ -21,7 +21,6 @@ use pb_proof::ProofMachine;
 use pb_sums::write_place;
 use pb_text::{
     BYTE_LIMIT, Failed, Feeder, Limits, Machine, Place, Sink, Source, Spanned, pull, rest_is_blank,
-    write_bytes,
 };
 use std::alloc::Global;
 
@@ -142,6 +141,5 @@ fn write_shown<W: Sink, E: Canonical>(read: &Spanned<E>, out: &mut W) -> Result<
     ensures { Writes W.contents W.faults out.old (shown_line E.text read.now) result out.new }
 {
     write_place(read.first, out)?;
-    read.event.write_text(out)?;
-    write_bytes(b"\n", out)
+    write_line(&read.event, out)
 }

@@ -1,4 +1,3 @@
-use Rattle.std.proofs.Common.{refl}
 use Rattle.pb_text.proofs.Parts.{part_then, part_broke}
 use Rattle.pb_tool.proofs.ShownLine.{line_parts}
 use Rattle.pb_tool.proofs.show_file.write_shown.Goals as goal
@@ -7,12 +6,6 @@ pub returns-in_err-write_place : goal.returns-in_err-write_place
 returns-in_err-write_place g c =
     part_broke g.W.Sink.contents g.W.Sink.faults _ _ _ _ _ _ (line_parts g.E.Canonical.text c.args.read.now) c.from_residual.ensures.0 c.in_err-write_place.ensures
 
-pub returns-in_err-write_text : goal.returns-in_err-write_text
-returns-in_err-write_text g c =
-    part_then g.W.Sink.contents g.W.Sink.faults _ _ _ _ _ _ _ (line_parts g.E.Canonical.text c.args.read.now) c.in_ok-write_place.ensures
-    (part_broke g.W.Sink.contents g.W.Sink.faults _ _ _ _ _ _ refl c.from_residual-in_err-write_text.ensures.0 c.in_err-write_text.ensures)
-
 pub returns : goal.returns
 returns g c =
-    part_then g.W.Sink.contents g.W.Sink.faults _ _ _ _ _ _ _ (line_parts g.E.Canonical.text c.args.read.now) c.in_ok-write_place.ensures
-    (part_then g.W.Sink.contents g.W.Sink.faults _ _ _ _ _ _ _ refl c.in_ok-write_text.ensures c.write_bytes.ensures)
+    part_then g.W.Sink.contents g.W.Sink.faults _ _ _ _ _ _ _ (line_parts g.E.Canonical.text c.args.read.now) c.in_ok-write_place.ensures c.write_line.ensures
