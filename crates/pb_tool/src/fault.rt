@@ -73,14 +73,11 @@ pub fn status(fault: &ToolFault) -> u8
     }
 }
 
-/// The fault of a file whose text was refused.
-pub fn refused(stop: Stop) -> ToolFault
-    ensures { result ≡ ToolFault.Text (Input.File) stop }
+/// The fault of an input whose text was refused.
+pub(crate) fn refused(input: Input, stop: Stop) -> ToolFault
+    ensures { result ≡ ToolFault.Text input stop }
 {
-    ToolFault::Text {
-        input: Input::File,
-        stop,
-    }
+    ToolFault::Text { stop, input }
 }
 
 /// Writes the line of a fault, with its line feed. It fails where the sink does, and what went out
@@ -112,8 +109,7 @@ fn write_stop<S: Sink>(input: Input, stop: Stop, out: &mut S) -> Result<(), Fail
         (prefix_of input ++ place_text stop.place ++ reason_of stop.why ++ 10 ∷ [])
         result out.new }
 {
-    write_bytes(prefix(input), out)?;
-    write_place(stop.place, out)?;
+    write_place(input, stop.place, out)?;
     write_reason(stop.why, out)?;
     write_bytes(b"\n", out)
 }
@@ -129,15 +125,18 @@ fn prefix(input: Input) -> &'static [u8]
     }
 }
 
-/// The place, as far as its colon and space.
-pub(crate) fn write_place<S: Sink>(place: Place, out: &mut S) -> Result<(), Failed>
-    ensures { Writes S.contents S.faults out.old (place_text place) result out.new }
+/// The word before a fault of the input, and a place in it, as far as its colon and space.
+pub(crate) fn write_place<S: Sink>(input: Input, place: Place, out: &mut S) -> Result<(), Failed>
+    ensures { Writes S.contents S.faults out.old (prefix_of input ++ place_text place) result out.new }
 {
     let mut line = Buffer::new();
     let mut column = Buffer::new();
     let line = line.format(place.line).as_bytes();
     let column = column.format(place.column).as_bytes();
-    write_parts(&[b"line ", line, b" column ", column, b": "], out)
+    write_parts(
+        &[prefix(input), b"line ", line, b" column ", column, b": "],
+        out,
+    )
 }
 
 /// Why a reader stopped.

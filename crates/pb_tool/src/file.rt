@@ -14,7 +14,7 @@ ghost use Rattle.pb_tool.specs.Tidy.{IsNoOpbFile, IsOpb, IsOpbFile};
 ghost use Rattle.pb_tool.specs.Wants.{WantsInstance};
 ghost use Rattle.pb_tool.specs.declared.fault.Input.TheVariants.{File};
 
-use crate::fault::{ToolFault, refused};
+use crate::fault::{Input, ToolFault, refused};
 use pb_opb::{Instance, OpbMachine, read_instance_within};
 use pb_proof::ProofMachine;
 use pb_text::{Failed, Gather, Limits, Machine, Source, Stop, read_whole, rest_is_blank, unread};
@@ -50,7 +50,7 @@ pub(crate) fn unread_file(alloc: Global, limits: Limits) -> ToolFault
 {
     let stop = unread(&OpbMachine::new(alloc, limits));
     let _ = unread(&ProofMachine::new(alloc, limits));
-    refused(stop)
+    refused(Input::File, stop)
 }
 
 /// Reads a text by a machine, behind which only white space and comments may stand, and puts its statements together,

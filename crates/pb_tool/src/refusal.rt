@@ -6,7 +6,7 @@ ghost use Rattle.pb_text.specs.Writing.{Writes};
 ghost use Rattle.pb_text.specs.Reasons.{place_text};
 ghost use Rattle.pb_tool.specs.Refusals.{refusal_text};
 
-use crate::fault::{write_parts, write_place};
+use crate::fault::{Input, write_parts, write_place};
 use itoa::Buffer;
 use pb_replay::Fault;
 use pb_text::{Failed, Place, Sink, write_bytes};
@@ -21,8 +21,7 @@ pub(crate) fn write_step<S: Sink>(
     ensures { Writes S.contents S.faults out.old
         (codes "proof: " ++ place_text place ++ refusal_text fault name.now ++ 10 ∷ []) result out.new }
 {
-    write_bytes(b"proof: ", out)?;
-    write_place(place, out)?;
+    write_place(Input::Proof, place, out)?;
     write_refusal(fault, name, out)?;
     write_bytes(b"\n", out)
 }

@@ -14,7 +14,7 @@ ghost use Rattle.pb_tool.specs.Tidy.{IsOpb};
 ghost use Rattle.pb_tool.specs.Wants.{AsksOpb, AsksVeri, IfStopped, WantsEach, WantsShowing};
 
 use crate::canonical::{Canonical, write_line};
-use crate::fault::{ToolFault, refused};
+use crate::fault::{Input, ToolFault, refused};
 use crate::file::{Format, format_of, unread_file};
 use pb_opb::OpbMachine;
 use pb_proof::ProofMachine;
@@ -110,7 +110,7 @@ fn show_each<S: Source, W: Sink, E: Canonical + Drop, M: Machine<Event = E> + Dr
                 Err(Failed) => return Err(ToolFault::Write),
             },
             Ok(None) => break,
-            Err(stop) => return Err(refused(stop)),
+            Err(stop) => return Err(refused(Input::File, stop)),
         }
     }
     end_of(input, feeder.place())
@@ -125,7 +125,7 @@ fn end_of<S: Source>(input: &mut S, place: Place) -> Result<(), ToolFault>
 {
     match rest_is_blank(input, place) {
         Ok(()) => Ok(()),
-        Err(stop) => Err(refused(stop)),
+        Err(stop) => Err(refused(Input::File, stop)),
     }
 }
 

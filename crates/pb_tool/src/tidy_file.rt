@@ -146,7 +146,7 @@ fn tidy_each<S: Source, W: Sink, M: Machine + Drop, G: Gather<Event = M::Event> 
 {
     let text = match read_file(input, machine, longest, empty) {
         Ok(text) => text,
-        Err(stop) => return Err(refused(stop)),
+        Err(stop) => return Err(refused(Input::File, stop)),
     };
     match text.write_text(out) {
         Ok(()) => Ok(()),
@@ -172,7 +172,7 @@ fn tidy_normal<S: Source, W: Sink>(
 {
     let instance = match read_instance_file(alloc, input, longest, limits) {
         Ok(instance) => instance,
-        Err(refusal) => return Err(refused(refusal)),
+        Err(refusal) => return Err(refused(Input::File, refusal)),
     };
     let form = match normal_form(alloc, keys, instance, limits) {
         Ok(form) => form,

@@ -14,7 +14,7 @@ ghost use Rattle.pb_tool.specs.Verified.{ChecksFiles, IsTold};
 ghost use Rattle.pb_tool.specs.Wants.{IfInstanceStopped, IfProofStopped, IfTextStopped, WantsInstance, WantsSteps};
 
 use crate::checker::{CheckFault, step_through};
-use crate::fault::{Input, ToolFault};
+use crate::fault::{Input, ToolFault, refused};
 use crate::file::read_instance_file;
 use crate::verdict::write_verdict;
 use pb_normal::HashKeys;
@@ -23,7 +23,7 @@ use pb_proof::laws::proofs_are_exact;
 use pb_proof::laws::values::reads_are_of_proofs;
 use pb_replay::laws::{replays_have_states, whole_proofs_conclude};
 use pb_replay::{Fault, Replay, Verdict};
-use pb_text::{BYTE_LIMIT, Failed, Feeder, Limits, Place, Sink, Source, Stop, pull, rest_is_blank};
+use pb_text::{BYTE_LIMIT, Failed, Feeder, Limits, Place, Sink, Source, pull, rest_is_blank};
 use std::alloc::{AllocError, Global};
 
 /// Reads an instance and then a proof of it, takes each statement of the proof as soon as it is complete, and writes
@@ -120,12 +120,7 @@ fn opened<S: Source>(
 {
     let instance = match read_instance_file(alloc, input, longest, limits) {
         Ok(instance) => instance,
-        Err(stop) => {
-            return Err(ToolFault::Text {
-                input: Input::Instance,
-                stop,
-            });
-        }
+        Err(stop) => return Err(refused(Input::Instance, stop)),
     };
     match Replay::with_hasher(alloc, keys, &instance, limits) {
         Ok(replay) => Ok(replay),
@@ -151,21 +146,13 @@ fn replayed<S: Source>(
 {
     let (verdict, place) = match run(alloc, &mut replay, input, longest) {
         Ok(ended) => ended,
-        Err(CheckFault::Text(stop)) => return Err(in_proof(stop)),
+        Err(CheckFault::Text(stop)) => return Err(refused(Input::Proof, stop)),
         Err(CheckFault::Step(place, fault)) => return Err(refusal(alloc, &replay, place, fault)),
     };
     match rest_is_blank(input, place) {
         Ok(()) => Ok(verdict),
-        Err(stop) => Err(in_proof(stop)),
+        Err(stop) => Err(refused(Input::Proof, stop)),
     }
-}
-
-/// The fault of a proof whose text was refused.
-fn in_proof(stop: Stop) -> ToolFault
-    ensures { result ≡ ToolFault.Text (Input.Proof) stop }
-{
-    let input = Input::Proof;
-    ToolFault::Text { input, stop }
 }
 
 /// The fault of a statement that was refused, with a copy of the name that it tells by its number. Where there is no

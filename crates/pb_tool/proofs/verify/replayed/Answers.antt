@@ -11,7 +11,7 @@ pub returns-in-Err-Text-clause-replayed : goal.returns-in-Err-Text-clause-replay
 returns-in-Err-Text-clause-replayed g c first at =
     let t = rw (c.in-Err-Text.is, c.in-Err-Text.field-0-is) at c.run.ensures in
     let (last, accepted) = t.runs first at in
-    subst (λ (f : ToolFault). Replays c.args.replay.limits c.args.longest c.args.replay.problem first (g.S.Source.left c.args.input.now) (Err f) (g.S.Source.left c.run.new.input)) (sym c.in_proof.ensures) (InProof last accepted)
+    subst (λ (f : ToolFault). Replays c.args.replay.limits c.args.longest c.args.replay.problem first (g.S.Source.left c.args.input.now) (Err f) (g.S.Source.left c.run.new.input)) (sym c.refused.ensures) (InProof last accepted)
 
 pub returns-in-Err-Step-clause-replayed : goal.returns-in-Err-Step-clause-replayed
 returns-in-Err-Step-clause-replayed g c first at =
@@ -28,7 +28,7 @@ pub returns-clause-replayed : goal.returns-clause-replayed
 returns-clause-replayed g c first at =
     let t = rw c.in-Ok.is at c.run.ensures in
     let (last, accepted, claimed) = t.runs first at in
-    subst (λ (f : ToolFault). Replays c.args.replay.limits c.args.longest c.args.replay.problem first (g.S.Source.left c.args.input.now) (Err f) (g.S.Source.left c.rest_is_blank.new.source)) (sym c.in_proof-in-Err.ensures)
+    subst (λ (f : ToolFault). Replays c.args.replay.limits c.args.longest c.args.replay.problem first (g.S.Source.left c.args.input.now) (Err f) (g.S.Source.left c.rest_is_blank.new.source)) (sym c.refused-in-Err.ensures)
     (BehindProof (g.S.Source.left c.run.new.input) c.in-Ok.ended.1 last c.in-Ok.ended.0 accepted claimed c.in-Err.ensures.blank)
 
 -- ---- of what the calls gave
@@ -36,7 +36,7 @@ returns-clause-replayed g c first at =
 pub returns-in-Err-Text-clause-given : goal.returns-in-Err-Text-clause-given
 returns-in-Err-Text-clause-given g c first at =
     let t = rw (c.in-Err-Text.is, c.in-Err-Text.field-0-is) at c.run.ensures in
-    given_text c.args.replay.limits c.args.longest c.args.replay.problem first (g.S.Source.history c.args.input.now) (g.S.Source.history c.run.new.input) c.run.new.replay c.in_proof.result c.in-Err-Text.stop c.in_proof.ensures (t.given first at)
+    given_text c.args.replay.limits c.args.longest c.args.replay.problem first (g.S.Source.history c.args.input.now) (g.S.Source.history c.run.new.input) c.run.new.replay c.refused.result c.in-Err-Text.stop c.refused.ensures (t.given first at)
 
 pub returns-in-Err-Step-clause-given : goal.returns-in-Err-Step-clause-given
 returns-in-Err-Step-clause-given g c first at =
@@ -51,18 +51,18 @@ returns-in-Ok-rest_is_blank-clause-given g c first at =
 pub returns-clause-given : goal.returns-clause-given
 returns-clause-given g c first at =
     let t = rw c.in-Ok.is at c.run.ensures in
-    given_behind c.args.replay.limits c.args.longest c.args.replay.problem first (g.S.Source.history c.args.input.now) (g.S.Source.history c.run.new.input) (g.S.Source.history c.rest_is_blank.new.source) c.run.new.replay c.in-Ok.ended c.in-Err.stop c.in_proof-in-Err.result c.in_proof-in-Err.ensures (t.given first at) c.in-Err.ensures.given
+    given_behind c.args.replay.limits c.args.longest c.args.replay.problem first (g.S.Source.history c.args.input.now) (g.S.Source.history c.run.new.input) (g.S.Source.history c.rest_is_blank.new.source) c.run.new.replay c.in-Ok.ended c.in-Err.stop c.refused-in-Err.result c.refused-in-Err.ensures (t.given first at) c.in-Err.ensures.given
 
 -- ---- where memory is wanted
 
 pub returns-in-Err-Text-clause-wants : goal.returns-in-Err-Text-clause-wants
 returns-in-Err-Text-clause-wants g c =
     let t = rw (c.in-Err-Text.is, c.in-Err-Text.field-0-is) at c.run.ensures in
-    rw c.in_proof.ensures t.wants
+    rw c.refused.ensures t.wants
 
 pub returns-in-Err-Step-clause-wants : goal.returns-in-Err-Step-clause-wants
 returns-in-Err-Step-clause-wants g c = told_no_text c.run.new.replay.names c.in-Err-Step.place c.in-Err-Step.fault _ c.refusal.result c.refusal.ensures
 
 pub returns-clause-wants : goal.returns-clause-wants
 returns-clause-wants g c =
-    rw c.in_proof-in-Err.ensures (rest_wants c.args.replay.limits c.args.longest c.in-Ok.ended.1 (g.S.Source.left c.args.input.now) (g.S.Source.left c.run.new.input) (g.S.Source.left c.rest_is_blank.new.source) c.in-Err.stop c.in-Err.ensures.blank)
+    rw c.refused-in-Err.ensures (rest_wants c.args.replay.limits c.args.longest c.in-Ok.ended.1 (g.S.Source.left c.args.input.now) (g.S.Source.left c.run.new.input) (g.S.Source.left c.rest_is_blank.new.source) c.in-Err.stop c.in-Err.ensures.blank)
