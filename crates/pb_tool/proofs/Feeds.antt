@@ -99,11 +99,3 @@ took_join None b c x y s t h k = tt
 took_join (Some bytes) b c x y s t h k =
     let now : Took (Some s) y t c = subst (λ (z : Option (List ℕ)). Took z y t c) h.1 k in
     (h.0 ∙ ap (λ (z : List ℕ). x ++ z) now.0 ∙ sym (append_assoc x y t), now.1)
-
--- What is written is the canonical spelling, and perhaps more.
-pub tidied_parts : (v : Instance) → (rest : List ℕ) × (tidied v ≡ instance_bytes v ++ rest)
-tidied_parts v = by_end (ends_in_feed (instance_bytes v))
-  where
-    by_end : (b : Bool) → (rest : List ℕ) × (cond b (instance_bytes v) (instance_bytes v ++ 10 ∷ []) ≡ instance_bytes v ++ rest)
-    by_end true = ([], sym (append-nil (instance_bytes v)))
-    by_end false = (10 ∷ [], refl)

@@ -16,7 +16,3 @@ two_fronts (x ∷ a) b (y ∷ c) d e =
     let same : x ≡ y = cc in
     let rest : a ++ b ≡ c ++ d = cc in
     one_longer x y a c same (two_fronts a b c d rest)
-
-pub same_rest : (a b c : List ℕ) → a ++ b ≡ a ++ c → b ≡ c
-same_rest [] b c e = e
-same_rest (x ∷ a) b c e = let rest : a ++ b ≡ a ++ c = cc in same_rest a b c rest

@@ -1,5 +1,6 @@
 -- The same bytes are read in one way.
 use Rattle.std.proofs.Common.{◌≡◌, ◌⊎◌, inl, inr, ℕ, ◌<◌, ◌≤◌, List, [], ◌∷◌, ◌++◌, length, nat_le, Bool, true, false, cond, IsTrue, Option, None, refl, sym, ap, ◌∙◌, subst, append-nil, append_assoc, arith, length-append, le-leb}
+use Rattle.std.proofs.lemmas.List.{append_cancel_left}
 use Rattle.std.proofs.lemmas.Bool.{lt-leb}
 use Rattle.std.proofs.lemmas.Bool.Decides.{leb_tells}
 use Rattle.pb_text.specs.Classes.{is_digit}
@@ -12,7 +13,7 @@ use Rattle.pb_text.specs.declared.Why.TheVariants.{Byte, TooLarge, Ended, TooLon
 use Rattle.pb_text.proofs.Lists.{bytes-append, bytes-plain}
 use Rattle.pb_text.proofs.Short.{place_after-offset}
 use Rattle.pb_tool.specs.Decided.{IsOfText}
-use Rattle.pb_tool.proofs.Fronts.{Compared, two_fronts, same_rest}
+use Rattle.pb_tool.proofs.Fronts.{Compared, two_fronts}
 
 -- ---- marks within fronts
 
@@ -117,7 +118,7 @@ module _ {E : Type 0} (format : List (Item E) → Type 0) (longest : ℕ) where
   -- ---- nothing is read behind a stop
   module _ (used left used' left' : List ℕ) (marks' : List (Spanned E)) (input_is : used ++ left ≡ used' ++ left') (r : Reached used' marks') where
     next : (x : ℕ) (m : List ℕ) → used' ≡ used ++ x ∷ m → left ≡ x ∷ (m ++ left')
-    next x m p = same_rest used left (x ∷ (m ++ left')) (input_is ∙ (ap (λ (y : List ℕ). y ++ left') p ∙ append_assoc used (x ∷ m) left'))
+    next x m p = append_cancel_left used left (x ∷ (m ++ left')) (input_is ∙ (ap (λ (y : List ℕ). y ++ left') p ∙ append_assoc used (x ∷ m) left'))
 
     goes_on : (m : List ℕ) → used' ≡ used ++ m → bytes_of r.items ≡ used ++ (m ++ r.more)
     goes_on m p = r.begins ∙ (ap (λ (y : List ℕ). y ++ r.more) p ∙ append_assoc used m r.more)
@@ -192,7 +193,7 @@ module _ {E : Type 0} (format : List (Item E) → Type 0) (longest : ℕ) where
       → IsUnderWay format longest used' marks' → IsOfText why' → Explains format longest used' left' why' → (used ≡ used') × (why ≡ why')
   one_stop used left used' left' marks marks' why why' e u d x u' d' x' =
       let same : used ≡ used' = by (two_fronts used left used' left' e) in
-      let rest : left ≡ left' = same_rest used left left' (e ∙ ap (λ (y : List ℕ). y ++ left') (sym same)) in
+      let rest : left ≡ left' = append_cancel_left used left left' (e ∙ ap (λ (y : List ℕ). y ++ left') (sym same)) in
       (same, one_why used left why why' d d' x (subst (λ (y : List ℕ). Explains format longest used y why') (sym rest) (subst (λ (y : List ℕ). Explains format longest y left' why') (sym same) x')))
     where
       by_rest : (m : List ℕ) → used' ≡ used ++ m → used ≡ used'

@@ -1,5 +1,6 @@
 -- The rest behind a text is blank or not.
 use Rattle.std.proofs.Common.{◌≡◌, ◌≢◌, inl, inr, ℕ, ◌+◌, ◌<◌, ◌≤◌, List, [], ◌∷◌, ◌++◌, length, false, IsTrue, refl, sym, ap, ap₂, ◌∙◌, subst, append-nil, append_assoc, arith, length-append}
+use Rattle.std.proofs.lemmas.List.{append_cancel_left}
 use Rattle.std.proofs.Math.Seq.{get_or-append_seam, take-append_seam}
 use Rattle.pb_text.specs.Blank.{IsBlank, IsStray, passes}
 use Rattle.pb_text.specs.Reading.{byte_limit}
@@ -7,7 +8,7 @@ use Rattle.pb_text.specs.declared.Place.{Place}
 use Rattle.pb_text.specs.declared.Why.{Why}
 use Rattle.pb_text.specs.declared.Why.TheVariants.{Byte, TooLarge, Ended, TooLong, Read, Memory}
 use Rattle.pb_tool.specs.Decided.{IsOfText}
-use Rattle.pb_tool.proofs.Fronts.{Compared, two_fronts, same_rest}
+use Rattle.pb_tool.proofs.Fronts.{Compared, two_fronts}
 
 -- a byte within a blank text passes
 passes_in : (text used more : List ℕ) (b : ℕ) → IsBlank text → text ≡ used ++ b ∷ more → IsTrue (passes used b)
@@ -35,7 +36,7 @@ module _ (place : Place) where
   -- no blank text goes on behind a stray byte
   no_more : (used left used' left' : List ℕ) (why : Why) → used ++ left ≡ used' ++ left' → IsBlank used' → place.offset + length used' ≤ byte_limit → IsOfText why → IsStray place used left why → (x : ℕ) (m : List ℕ) → used' ≡ used ++ x ∷ m → ⊥
   no_more used left used' left' (Byte b) e blank within d (more, is, bad, room) x m p =
-      let next : left ≡ x ∷ (m ++ left') = same_rest used left (x ∷ (m ++ left')) (e ∙ (ap (λ (y : List ℕ). y ++ left') p ∙ append_assoc used (x ∷ m) left')) in
+      let next : left ≡ x ∷ (m ++ left') = append_cancel_left used left (x ∷ (m ++ left')) (e ∙ (ap (λ (y : List ℕ). y ++ left') p ∙ append_assoc used (x ∷ m) left')) in
       let k : b ∷ more ≡ x ∷ (m ++ left') = sym is ∙ next in
       let same : x ≡ b = cc in
       no_flag used b (passes_in used' used m b blank (p ∙ ap (λ (y : ℕ). used ++ y ∷ m) same)) bad
@@ -78,7 +79,7 @@ module _ (place : Place) where
   pub one_stray : (used left used' left' : List ℕ) (why why' : Why) → used ++ left ≡ used' ++ left' → IsBlank used → IsBlank used' → IsOfText why → IsOfText why' → IsStray place used left why → IsStray place used' left' why' → (used ≡ used') × (why ≡ why')
   one_stray used left used' left' why why' e blank blank' d d' h h' =
       let same : used ≡ used' = by (two_fronts used left used' left' e) in
-      let rest : left ≡ left' = same_rest used left left' (e ∙ ap (λ (y : List ℕ). y ++ left') (sym same)) in
+      let rest : left ≡ left' = append_cancel_left used left left' (e ∙ ap (λ (y : List ℕ). y ++ left') (sym same)) in
       (same, one_why used left why why' d d' h (subst (λ (y : List ℕ). IsStray place used y why') (sym rest) (subst (λ (y : List ℕ). IsStray place y left' why') (sym same) h')))
     where
       by_rest : (m : List ℕ) → used' ≡ used ++ m → used ≡ used'

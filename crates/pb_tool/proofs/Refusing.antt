@@ -1,5 +1,6 @@
 -- A text, with the rest behind it, is refused in one way or not at all.
 use Rattle.std.proofs.Common.{◌≡◌, ℕ, ◌≤◌, List, ◌++◌, length, sym, ap, ◌∙◌, subst, arith, length-append}
+use Rattle.std.proofs.lemmas.List.{append_cancel_left}
 use Rattle.pb_text.specs.Blank.{IsBlank, IsStray, place_from}
 use Rattle.pb_text.specs.Reading.{Explains, IsSpelled, IsUnderWay, byte_limit}
 use Rattle.pb_text.specs.Spelling.{Item, place_after}
@@ -9,7 +10,6 @@ use Rattle.pb_text.specs.declared.Stop.{Stop}
 use Rattle.pb_text.specs.declared.Why.{Why}
 use Rattle.pb_text.proofs.Short.{place_after-offset}
 use Rattle.pb_tool.specs.Decided.{IsOfText}
-use Rattle.pb_tool.proofs.Fronts.{same_rest}
 use Rattle.pb_tool.proofs.OneRead.{NoneGoesOn, OneSpelling, not_both, one_spelled, one_stop}
 use Rattle.pb_tool.proofs.OneRest.{not_stray, one_stray}
 
@@ -42,7 +42,7 @@ module _ {E : Type 0} (format : List (Item E) → Type 0) (longest : ℕ) where
     no_refusal s w (AtRest used left marks is spelled rest more e blank place x) d =
         let both : used ++ left ≡ w.used ++ w.rest = sym is ∙ w.input_is in
         let same : used ≡ w.used = (one_spelled format longest one front used left w.used w.rest marks w.marks both spelled w.spelled).0 in
-        let behind : w.rest ≡ rest ++ more = sym (same_rest used left w.rest (both ∙ ap (λ (y : List ℕ). y ++ w.rest) (sym same))) ∙ e in
+        let behind : w.rest ≡ rest ++ more = sym (append_cancel_left used left w.rest (both ∙ ap (λ (y : List ℕ). y ++ w.rest) (sym same))) ∙ e in
         not_stray (place_after used) rest more s.why (subst IsBlank behind w.blank)
         (omega (arith, place_after-offset used, ap (λ (y : List ℕ). length y) same, ap (λ (y : List ℕ). length y) behind, w.within, length-append w.used w.rest)) d x
 
@@ -55,7 +55,7 @@ module _ {E : Type 0} (format : List (Item E) → Type 0) (longest : ℕ) where
     one_refusal s t (AtRest used left marks is spelled rest more e blank place x) (AtRest used' left' marks' is' spelled' rest' more' e' blank' place' x') d d' =
         let both : used ++ left ≡ used' ++ left' = sym is ∙ is' in
         let same : used ≡ used' = (one_spelled format longest one front used left used' left' marks marks' both spelled spelled').0 in
-        let behind : left ≡ left' = same_rest used left left' (both ∙ ap (λ (y : List ℕ). y ++ left') (sym same)) in
+        let behind : left ≡ left' = append_cancel_left used left left' (both ∙ ap (λ (y : List ℕ). y ++ left') (sym same)) in
         let (rests, why) =
         one_stray (place_after used) rest more rest' more' s.why t.why (sym e ∙ (behind ∙ e')) blank blank' d d' x (subst (λ (y : List ℕ). IsStray (place_after y) rest' more' t.why) (sym same) x') in
         same_stop s t (place ∙ (ap (λ (y : List ℕ). place_from (place_after y) rest) same ∙ (ap (λ (y : List ℕ). place_from (place_after used') y) rests ∙ sym place'))) why

@@ -1,5 +1,6 @@
 -- What is read of a canonical text, with a line feed behind it or none.
 use Rattle.std.proofs.Common.{◌≡◌, ◌≢◌, ◌⊎◌, inl, inr, ℕ, ◌<◌, ◌≤◌, ◌^◌, List, [], ◌∷◌, ◌++◌, length, Bool, true, false, cond, Option, Some, Err, refl, sym, ap, ◌∙◌, subst, append-nil, append_assoc, arith, length-append}
+use Rattle.std.proofs.lemmas.List.{append_cancel_left}
 use Rattle.std.proofs.Math.Pow.{pow_mono}
 use Rattle.pb_text.specs.Blank.{ReadsBlank, IsStray, passes}
 use Rattle.pb_text.specs.Limits.{largest}
@@ -18,7 +19,7 @@ use Rattle.pb_opb.specs.declared.Instance.{Instance}
 use Rattle.pb_tool.specs.Stays.{IsOutside}
 use Rattle.pb_tool.specs.Tidy.{ends_in_feed, tidied, IsFile, IsRefused}
 use Rattle.pb_tool.specs.Tidy.IsRefused.{InText, InRest}
-use Rattle.pb_tool.proofs.Fronts.{Compared, same_rest, two_fronts}
+use Rattle.pb_tool.proofs.Fronts.{Compared, two_fronts}
 use Rattle.pb_tool.proofs.Shown.{after_offset}
 
 pub low : (limits : Limits) → largest limits < 2 ^ 127
@@ -91,7 +92,7 @@ module _ {E : Type 0} (format : List (Item E) → Type 0) (text : List ℕ) (own
       by_length (inr h) = h
 
   next_is : (used left rest m : List ℕ) (x : ℕ) → used ++ left ≡ text ++ rest → text ≡ used ++ x ∷ m → left ≡ x ∷ (m ++ rest)
-  next_is used left rest m x k p = same_rest used left (x ∷ (m ++ rest)) (k ∙ (ap (λ (y : List ℕ). y ++ rest) p ∙ append_assoc used (x ∷ m) rest))
+  next_is used left rest m x k p = append_cancel_left used left (x ∷ (m ++ rest)) (k ∙ (ap (λ (y : List ℕ). y ++ rest) p ∙ append_assoc used (x ∷ m) rest))
 
   not_bad : (used more rest : List ℕ) (b : ℕ) (marks : List (Spanned E)) → IsUnderWay format (2 ^ 40) used marks → IsBad format (2 ^ 40) used b → used ++ b ∷ more ≡ text ++ rest → ⊥
   not_bad used more rest b marks u bad k =
@@ -133,7 +134,7 @@ module _ {E : Type 0} (format : List (Item E) → Type 0) (text : List ℕ) (own
       → used ++ seen ≡ text ++ rest → IsFeed rest → mid ≡ Some seen → ReadsBlank past mid (Err s) after → IsOutside (length (used ++ seen)) s.why
   in_rest used seen rest items past mid after s h e at k feed is (more, left, took, blank, place, stray) =
       let same : used ≡ text = same_used used seen rest items h e k in
-      let behind : seen ≡ rest = same_rest used seen rest (k ∙ ap (λ (x : List ℕ). x ++ rest) (sym same)) in
+      let behind : seen ≡ rest = append_cancel_left used seen rest (k ∙ ap (λ (x : List ℕ). x ++ rest) (sym same)) in
       let now : Took (Some seen) more left after = subst (λ (z : Option (List ℕ)). Took z more left after) is took in
       let offset : past.offset ≡ length used = ap (λ (p : Place). p.offset) at ∙ after_offset used in
       subst (λ (t : List ℕ). IsOutside (length (used ++ t)) s.why) (sym now.0) (strays used more left rest past s.why feed (sym behind ∙ now.0) offset stray)

@@ -1,12 +1,13 @@
 use Rattle.std.proofs.Common.{◌∙◌, sym, subst, List, ℕ}
 use Rattle.pb_text.specs.Writing.{Wrote}
 use Rattle.pb_text.proofs.Parts.{part_then, part_broke}
-use Rattle.pb_tool.proofs.Feeds.{tidied_bare, tidied_more, tidied_parts}
+use Rattle.pb_tool.proofs.Feeds.{tidied_bare, tidied_more}
+use Rattle.pb_tool.proofs.Stays.{written}
 use Rattle.pb_tool.proofs.tidy_file.write_tidied.Goals as goal
 
 pub returns-in_err-write_instance : goal.returns-in_err-write_instance
 returns-in_err-write_instance g c =
-    let parts = tidied_parts c.args.instance.now in
+    let parts = written c.args.instance.now in
     part_broke g.W.Sink.contents g.W.Sink.faults c.args.out.now _ _ parts.0 _ c.from_residual.result parts.1 c.from_residual.ensures.0 c.in_err-write_instance.ensures
 
 pub returns-then-is_bare : goal.returns-then-is_bare
