@@ -1,5 +1,5 @@
 -- What is owed of the bytes that a source's calls have given.
-use Rattle.std.proofs.Common.{◌≡◌, ℕ, ◌≤◌, ◌<◌, ◌++◌, Bool, true, false, List, [], Option, Some, Result, Ok, Err, inl, inr, refl, sym, ap, subst, ◌∙◌, append_assoc, append-nil, length, length-append, arith}
+use Rattle.std.proofs.Common.{◌≡◌, ℕ, ◌≤◌, ◌<◌, ◌++◌, true, false, List, [], Option, Some, Result, Ok, Err, inl, inr, refl, sym, ap, subst, ◌∙◌, append_assoc, append-nil, length, length-append, arith}
 use Rattle.pb_text.specs.Blank.{GivesBlank, ReadsBlank}
 use Rattle.pb_text.specs.Limits.{largest}
 use Rattle.pb_text.specs.NothingRead.{ReadsNothing, first_fault}

@@ -7,7 +7,6 @@ use Rattle.pb_text.specs.declared.Limits.{Limits}
 use Rattle.pb_opb.specs.Building.{MayKeep}
 use Rattle.pb_opb.specs.Instances.{IsEntry, IsBody, IsBegun, IsInstance}
 use Rattle.pb_opb.specs.Values.{IsValueOf, last_or}
-use Rattle.pb_opb.specs.declared.Instance.{Instance}
 use Rattle.pb_opb.specs.declared.OpbEvent.{OpbEvent}
 use Rattle.pb_opb.specs.declared.OpbEvent.TheVariants.{Header, Comment, Objective, Constraint}
 use Rattle.pb_tool.specs.Gathered.{TidiesEach}

@@ -1,5 +1,5 @@
 -- A file whose statements are put together as text is one with a value, where the text is what is written for that value.
-use Rattle.std.proofs.Common.{◌≡◌, ◌↔◌, ℕ, List, [], ◌∷◌, ◌++◌, map, Bool, IsTrue, Option, None, Result, Ok, Err, refl, sym, ap, ◌∙◌, subst}
+use Rattle.std.proofs.Common.{◌≡◌, ◌↔◌, ℕ, List, [], ◌∷◌, ◌++◌, map, Bool, IsTrue, Option, None, Result, Err, refl, sym, ap, ◌∙◌, subst}
 use Rattle.pb_text.specs.Blank.{IsStray}
 use Rattle.pb_text.specs.Spelling.{Item}
 use Rattle.pb_text.specs.Whole.{gathered, events_of, IsWhole, IsAsking, StopsAfter, ReadsWhole, Reading as reading, Keeping as keeping}

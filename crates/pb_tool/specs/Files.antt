@@ -1,8 +1,7 @@
 -- What `pb show` and `pb tidy` owe of a file: it is a proof or an instance.
-use Rattle.std.specs.Prelude.{◌≡◌, ◌⊎◌, ℕ, Bool, true, false, List, [], ◌∷◌, ◌++◌, Option, Result, Ok, Err, IfSome}
+use Rattle.std.specs.Prelude.{◌≡◌, ◌⊎◌, ℕ, Bool, true, false, List, [], ◌∷◌, ◌++◌, Option, Result, IfSome}
 use Rattle.pb_text.specs.Limits.{largest, top_of}
 use Rattle.pb_text.specs.Spelling.{Item}
-use Rattle.pb_text.specs.Writing.{Wrote, Broke}
 use Rattle.pb_text.specs.declared.Limits.{Limits}
 use Rattle.pb_text.specs.declared.Stop.{Stop}
 use Rattle.pb_text.specs.ValueRead.{IsRead, ReadsValue}
@@ -14,8 +13,6 @@ use Rattle.pb_proof.specs.declared.Statement.{Statement}
 use Rattle.pb_tool.specs.Show.{Shows}
 use Rattle.pb_tool.specs.Tidy.{IsFile, IsOpb, IsRefused, Tidies, TidiesAs}
 use Rattle.pb_tool.specs.declared.fault.ToolFault.{ToolFault}
-use Rattle.pb_tool.specs.declared.fault.ToolFault.TheVariants.{Text, Open, Overflow, Memory, Write, Step}
-use Rattle.pb_tool.specs.declared.fault.Input.TheVariants.{File}
 
 -- the first byte of the text is `p`
 abbrev pub BeginsWithP : List ℕ → Type 0

@@ -1,5 +1,5 @@
 -- The text of an instance, as its statements come.
-use Rattle.std.specs.Prelude.{◌≡◌, ℕ, Bool, true, false, List, [], ◌∷◌, ◌++◌, Option, Some, None}
+use Rattle.std.specs.Prelude.{◌≡◌, ℕ, Bool, true, false, List, [], ◌++◌, Option, Some, None}
 use Rattle.pb_opb.specs.Canonical.{event_bytes}
 use Rattle.pb_opb.specs.Values.{IsValueOf}
 use Rattle.pb_opb.specs.declared.Instance.{Instance}

@@ -1,5 +1,5 @@
 -- The text of a proof, as its statements come.
-use Rattle.std.specs.Prelude.{◌≡◌, ℕ, List, [], ◌∷◌, ◌++◌}
+use Rattle.std.specs.Prelude.{◌≡◌, ℕ, List, ◌++◌}
 use Rattle.pb_proof.specs.Canonical.{statement_bytes}
 use Rattle.pb_proof.specs.Proofs.{IsProofOf}
 use Rattle.pb_proof.specs.declared.proof.Proof.{Proof}

@@ -19,7 +19,7 @@ use Rattle.pb_opb.specs.declared.Instance.{Instance}
 use Rattle.pb_opb.specs.declared.OpbEvent.{OpbEvent}
 use Rattle.pb_tool.specs.Normalised.{IsNormalised, Overflows}
 use Rattle.pb_tool.specs.declared.fault.ToolFault.{ToolFault}
-use Rattle.pb_tool.specs.declared.fault.ToolFault.TheVariants.{Text, Open, Overflow, Memory, Write, Step}
+use Rattle.pb_tool.specs.declared.fault.ToolFault.TheVariants.{Text, Overflow, Memory, Write}
 use Rattle.pb_tool.specs.declared.fault.Input.TheVariants.{File}
 
 -- the last byte is a line feed

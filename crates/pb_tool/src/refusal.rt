@@ -1,7 +1,7 @@
 //! The line of a refused statement.
 
 ghost use Rattle.std.specs.Fmt.{signed_decimal};
-ghost use Rattle.std.specs.Prelude.{◌≡◌, ◌++◌, ◌∷◌, [], codes, decimal};
+ghost use Rattle.std.specs.Prelude.{◌++◌, ◌∷◌, [], codes, decimal};
 ghost use Rattle.pb_text.specs.Writing.{Writes};
 ghost use Rattle.pb_text.specs.Reasons.{place_text};
 ghost use Rattle.pb_tool.specs.Refusals.{refusal_text};

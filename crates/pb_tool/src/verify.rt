@@ -2,13 +2,9 @@
 
 ghost use Rattle.std.specs.Prelude.{◌≡◌, ◌<◌, ◌^◌, None, unwrap_or, string_bytes, get_or, [], IfErr, IfOk, IfSome};
 ghost use Rattle.pb_text.specs.Blank.{IsInReach};
-ghost use Rattle.pb_text.specs.Limits.{largest};
-ghost use Rattle.pb_replay.specs.Problem.{Opened};
-ghost use Rattle.pb_replay.specs.Replay.{State, first_state};
-ghost use Rattle.pb_opb.specs.declared.Instance.{Instance as AnInstance};
+ghost use Rattle.pb_replay.specs.Replay.{State};
 ghost use Rattle.pb_replay.specs.Kept.{StandsFor};
 ghost use Rattle.pb_tool.specs.Given.{ChecksGiven, OfGiven};
-ghost use Rattle.pb_tool.specs.Tidy.{IsOpbFile};
 ghost use Rattle.pb_tool.specs.Runs.{IsNoReplay, IsReplayOf, IsToldAs, Replays, Runs, faults_of_instance, faults_of_proof, faults_of_text};
 ghost use Rattle.pb_tool.specs.Verified.{ChecksFiles, IsTold};
 ghost use Rattle.pb_tool.specs.Wants.{IfInstanceStopped, IfProofStopped, IfTextStopped, WantsInstance, WantsSteps};
