@@ -66,3 +66,10 @@ returns-in-Err-Step-clause-wants g c = told_no_text c.run.new.replay.names c.in-
 pub returns-clause-wants : goal.returns-clause-wants
 returns-clause-wants g c =
     rw c.refused-in-Err.ensures (rest_wants c.args.replay.limits c.args.longest c.in-Ok.ended.1 (g.S.Source.left c.args.input.now) (g.S.Source.left c.run.new.input) (g.S.Source.left c.rest_is_blank.new.source) c.in-Err.stop c.in-Err.ensures.blank)
+
+-- ---- how often the source has failed
+
+pub returns-in-Err-Text-clause-faults : goal.returns-in-Err-Text-clause-faults
+returns-in-Err-Text-clause-faults g c =
+    let t = rw (c.in-Err-Text.is, c.in-Err-Text.field-0-is) at c.run.ensures in
+    rw c.refused.ensures t.faults
