@@ -14,17 +14,21 @@ use Rattle.pb_tool.specs.declared.words.WordsFault.TheVariants.{Words, Memory}
 -- ---- the command: `pb show` and `pb tidy`, each with FILE, `--longest` and `--bits`, and `tidy` with `--normal`;
 -- ---- `pb check` with INSTANCE, PROOF, `--longest` and `--bits`
 
+-- an argument that takes a value
+abbrev pub value_rule : Text → Rule
+value_rule name = record (new_rule name) { value_names = 1 }
+
 abbrev pub file_rule : Rule
-file_rule = record (new_rule (codes "file")) { value_names = 1 }
+file_rule = value_rule (codes "file")
 
 abbrev pub instance_rule : Rule
-instance_rule = record (new_rule (codes "instance")) { value_names = 1; required = true }
+instance_rule = record (value_rule (codes "instance")) { required = true }
 
 abbrev pub proof_rule : Rule
-proof_rule = record (new_rule (codes "proof")) { value_names = 1 }
+proof_rule = value_rule (codes "proof")
 
 abbrev pub flag_rule : Text → Rule
-flag_rule name = record (new_rule name) { long = Some name; value_names = 1 }
+flag_rule name = record (value_rule name) { long = Some name }
 
 abbrev pub normal_rule : Rule
 normal_rule = record (new_rule (codes "normal")) { long = Some (codes "normal"); action = Some SetTrue }
@@ -41,8 +45,12 @@ show_command = reader_command (codes "show")
 abbrev pub tidy_command : App
 tidy_command = with_rule (reader_command (codes "tidy")) normal_rule
 
+-- `check` without its flags
+abbrev pub files_command : App
+files_command = with_rule (with_rule (new_app (codes "check")) instance_rule) proof_rule
+
 abbrev pub check_command : App
-check_command = with_numbers (with_rule (with_rule (new_app (codes "check")) instance_rule) proof_rule)
+check_command = with_numbers files_command
 
 -- the program without its subcommands
 abbrev pub pb_program : App

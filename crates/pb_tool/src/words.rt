@@ -1,6 +1,6 @@
 //! The words of the command line.
 
-ghost use Rattle.std.specs.Prelude.{◌≡◌, IfErr, IfOk, OnOk, [], Some, codes, option_map, false};
+ghost use Rattle.std.specs.Prelude.{◌≡◌, ◌^◌, IfErr, IfOk, OnOk, [], Some, codes, option_map, false};
 ghost use Rattle.std.specs.Prelude.{string_bytes};
 ghost use Rattle.std.specs.Option.{SomeIff};
 ghost use Rattle.std.specs.Str.Parse.{digits_value, without_leading_plus};
@@ -10,9 +10,9 @@ ghost use Rattle.clap.specs.Walk.{texts};
 ghost use Rattle.clap.specs.declared.builder.Command.TheViews.{out-Command as fields_of};
 ghost use Rattle.pb_tool.specs.Words.{AreFilesOf, AreInRange, AreNumbersOf, AsksFor, ExplainsWords};
 ghost use Rattle.pb_tool.specs.Words.{HasRanges, IsEntryFault, IsFlag, IsFlagFault, IsInstanceFault};
-ghost use Rattle.pb_tool.specs.Words.{IsNumberFault, IsReader, IsSwitch, check_command, file_rule};
-ghost use Rattle.pb_tool.specs.Words.{flag_rule, instance_rule, normal_rule, pb_command, pb_program};
-ghost use Rattle.pb_tool.specs.Words.{proof_rule, reader_command, show_command, tidy_command};
+ghost use Rattle.pb_tool.specs.Words.{IsNumberFault, IsReader, IsSwitch, check_command};
+ghost use Rattle.pb_tool.specs.Words.{files_command, flag_rule, instance_rule, normal_rule, pb_command, pb_program};
+ghost use Rattle.pb_tool.specs.Words.{reader_command, show_command, tidy_command, value_rule};
 ghost use Rattle.pb_tool.specs.Words.{with_numbers as with_number_rules};
 
 use clap::error::ErrorKind;
@@ -209,9 +209,19 @@ fn numbers_of(
     ensures ranges { IfOk result (λ r. AreInRange r.0 r.1) }
     ensures err { IfErr result (IsNumberFault (rows_of (found_of given.now))) }
 {
-    let longest = number(alloc, name, given, "longest", 1, MOST_BYTES)?;
+    let longest = longest_of(alloc, name, given)?;
     let bits = number(alloc, name, given, "bits", 31, 127)?;
     Ok((longest, bits.unwrap_or(127) as u32))
+}
+
+/// The number of the flag `--longest`.
+fn longest_of(alloc: Global, name: &str, given: &ArgMatches<'_>) -> Result<Option<u64>, WordsFault>
+    ensures ok { IfOk result
+        (IsFlag 1 (2 ^ 40) (first_of (codes "longest") (rows_of (found_of given.now)))) }
+    ensures err { IfErr result
+        (IsFlagFault 1 (2 ^ 40) (first_of (codes "longest") (rows_of (found_of given.now)))) }
+{
+    number(alloc, name, given, "longest", 1, MOST_BYTES)
 }
 
 /// The names of the instance and, where one is given, of the proof.
@@ -276,11 +286,25 @@ fn number(
     if let Some(number) = number_within(text, low, high) {
         return Ok(Some(number));
     }
+    let error = wrong_number(alloc, name, flag, text, low, high)?;
+    Err(WordsFault::Words(error))
+}
+
+/// The error of a flag whose text is no number from `low` to `high`.
+fn wrong_number(
+    alloc: Global,
+    name: &str,
+    flag: &str,
+    text: &str,
+    low: u64,
+    high: u64,
+) -> Result<clap::Error, AllocError>
+    ensures { IfOk result (λ e. kind_of e ≡ ErrorKind.ValueValidation) }
+{
     let message = format!(in alloc;
         "invalid value '{text}' for '--{flag}': it takes a number from {low} to {high}"
     )?;
-    let error = wrong_words(alloc, name, ErrorKind::ValueValidation, message.as_str())?;
-    Err(WordsFault::Words(error))
+    wrong_words(alloc, name, ErrorKind::ValueValidation, message.as_str())
 }
 
 /// The error of wrong words of a kind, with the usage of the subcommand.
@@ -292,12 +316,26 @@ fn wrong_words(
 ) -> Result<clap::Error, AllocError>
     ensures { IfOk result (λ e. kind_of e ≡ kind) }
 {
-    let mut subcommand = match name {
-        "show" => show(alloc)?.bin_name("pb show")?,
-        "tidy" => tidy(alloc)?.bin_name("pb tidy")?,
-        _ => check(alloc)?.bin_name("pb check")?,
-    };
+    let mut subcommand = subcommand(alloc, name)?.bin_name(shown_name(name))?;
     subcommand.error(kind, message)
+}
+
+/// The subcommand with a name.
+fn subcommand<'a>(alloc: Global, name: &str) -> Result<Command<'a>, AllocError> {
+    match name {
+        "show" => show(alloc),
+        "tidy" => tidy(alloc),
+        _ => check(alloc),
+    }
+}
+
+/// The name of a subcommand behind that of the program.
+fn shown_name(name: &str) -> &'static str {
+    match name {
+        "show" => "pb show",
+        "tidy" => "pb tidy",
+        _ => "pb check",
+    }
 }
 
 /// The number that a text spells, where it lies from `low` to `high`.
@@ -373,12 +411,25 @@ fn check<'a>(alloc: Global) -> Result<Command<'a>, AllocError>
     ensures app { IfOk result (λ c. app_of c ≡ check_command) }
     ensures local { IfOk result (λ c. (fields_of c).has_globals ≡ false) }
 {
-    let command = Command::new(alloc, "check")
+    let command = checks_files(alloc)?;
+    with_numbers(alloc, command)
+}
+
+/// The subcommand `check` without its flags.
+fn checks_files<'a>(alloc: Global) -> Result<Command<'a>, AllocError>
+    ensures app { IfOk result (λ c. app_of c ≡ files_command) }
+    ensures local { IfOk result (λ c. (fields_of c).has_globals ≡ false) }
+{
+    Command::new(alloc, "check")
         .about("Check a proof of an instance, and print what it shows")
         .after_help(CHECK_HELP)
         .arg(instance(alloc))?
-        .arg(proof(alloc))?;
-    with_numbers(alloc, command)
+        .arg(taking(
+            alloc,
+            "proof",
+            "PROOF",
+            "The proof, in VeriPB 2.0; standard input if absent",
+        ))
 }
 
 /// A subcommand that reads one file.
@@ -394,7 +445,12 @@ fn reader<'a>(
     let command = Command::new(alloc, name)
         .about(about)
         .after_help(help)
-        .arg(file(alloc))?;
+        .arg(taking(
+            alloc,
+            "file",
+            "FILE",
+            "The file to read; standard input if absent",
+        ))?;
     with_numbers(alloc, command)
 }
 
@@ -419,35 +475,18 @@ fn with_numbers<'a>(alloc: Global, command: Command<'a>) -> Result<Command<'a>, 
         ))
 }
 
-/// The file that a subcommand reads.
-fn file<'a>(alloc: Global) -> Arg<'a>
-    ensures rule { rule_of result ≡ file_rule }
-    ensures local { result.global ≡ false }
-{
-    Arg::new(alloc, "file")
-        .value_name("FILE")
-        .help("The file to read; standard input if absent")
-}
-
 /// The instance that `check` reads.
 fn instance<'a>(alloc: Global) -> Arg<'a>
     ensures rule { rule_of result ≡ instance_rule }
     ensures local { result.global ≡ false }
 {
-    Arg::new(alloc, "instance")
-        .value_name("INSTANCE")
-        .required(true)
-        .help("The instance, in the OPB format")
-}
-
-/// The proof that `check` reads.
-fn proof<'a>(alloc: Global) -> Arg<'a>
-    ensures rule { rule_of result ≡ proof_rule }
-    ensures local { result.global ≡ false }
-{
-    Arg::new(alloc, "proof")
-        .value_name("PROOF")
-        .help("The proof, in VeriPB 2.0; standard input if absent")
+    taking(
+        alloc,
+        "instance",
+        "INSTANCE",
+        "The instance, in the OPB format",
+    )
+    .required(true)
 }
 
 /// The flag of `tidy` that asks for normal forms.
@@ -468,8 +507,13 @@ fn flag<'a>(alloc: Global, name: &'a str, value: &'a str, help: &'a str) -> Arg<
     ensures rule { rule_of result ≡ flag_rule name.entry.now }
     ensures local { result.global ≡ false }
 {
-    Arg::new(alloc, name)
-        .long(name)
-        .value_name(value)
-        .help(help)
+    taking(alloc, name, value, help).long(name)
+}
+
+/// An argument that takes a value.
+fn taking<'a>(alloc: Global, name: &'a str, value: &'a str, help: &'a str) -> Arg<'a>
+    ensures rule { rule_of result ≡ value_rule name.entry.now }
+    ensures local { result.global ≡ false }
+{
+    Arg::new(alloc, name).value_name(value).help(help)
 }
