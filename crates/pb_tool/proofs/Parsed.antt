@@ -2,10 +2,12 @@
 use Rattle.std.proofs.Common.{◌≡◌, List, [], Option, Some, None, Result, Ok, Err, IfErr, IfOk, true, option_map, sym, ap, ◌∙◌, subst, inl, inr}
 use Rattle.std.specs.Prelude.{IsErrAnd, IsSomeAnd}
 use Rattle.clap.specs.declared.Error.{Error}
-use Rattle.clap.specs.Words.{App, HasKind, Row, Text, fault_of, is_simple, is_simple_and_free, subcommand_of}
+use Rattle.clap.specs.Words.{App, HasKind, Row, Text, fault_of, is_simple, is_simple_and_free, kind_of, subcommand_of}
+use Rattle.clap.specs.declared.error.ErrorKind.TheVariants.{OutOfMemory}
+use Rattle.pb_tool.specs.declared.words.Job.{Job}
 use Rattle.pb_tool.specs.declared.words.WordsFault.{WordsFault}
 use Rattle.pb_tool.specs.declared.words.WordsFault.TheVariants.{Words, Memory}
-use Rattle.pb_tool.specs.Words.{ExplainsWords, IsEntryFault, pb_command}
+use Rattle.pb_tool.specs.Words.{AsksFor, ExplainsWords, IsEntryFault, pb_command}
 
 pub right_words : (a : App) (words : List Text) → a ≡ pb_command → (is_simple_and_free a ≡ true → fault_of a words ≡ []) → fault_of pb_command words ≡ []
 right_words a words app right = subst (λ (x : App). fault_of x words ≡ []) app (right (ap is_simple_and_free app))
@@ -42,3 +44,13 @@ explained_by_entry words n rows (Ok x) right named is = tt
 explained_by_entry words n rows (Err Memory) right named is = right
 explained_by_entry words n rows (Err (Words e)) right named is =
     inr (right, subst (λ (o : Option (Text × List Row)). IsSomeAnd o (λ entry. IsEntryFault entry (Words e))) (sym named) is)
+
+-- the job of the entries of right words
+pub asked_by_entry : (words : List Text) (n : Text) (rows : List Row) (r : Result Job WordsFault) → subcommand_of pb_command words ≡ Some (n, rows) → IfOk r (AsksFor (Some (n, rows)))
+    → IfOk r (AsksFor (subcommand_of pb_command words))
+asked_by_entry words n rows r named is = subst (λ (o : Option (Text × List Row)). IfOk r (AsksFor o)) (sym named) is
+
+-- memory ran out while the command was made
+pub explained_by_memory : {T : Type 0} (words : List Text) (e : Error) (r : Result T WordsFault) → kind_of e ≡ OutOfMemory → IsErrAnd r (λ fault. fault ≡ Words e) → IfErr r (ExplainsWords words)
+explained_by_memory words e (Ok x) kind is = absurd is
+explained_by_memory words e (Err fault) kind is = subst (ExplainsWords words) (sym is) (inl (inl kind))

@@ -158,8 +158,8 @@ pub fn read_words(alloc: Global, words: &[&str]) -> Result<Job, WordsFault>
     ensures ranges { IfOk result HasRanges }
     ensures fault { IfErr result (ExplainsWords (texts words.now)) }
 {
-    let mut command = command(alloc)?;
-    let matches = command.try_get_matches_from_mut(words)?;
+    let command = command(alloc)?;
+    let matches = command.try_get_matches_from(words)?;
     let Some((name, given)) = matches.subcommand() else {
         unreachable!()
     };
