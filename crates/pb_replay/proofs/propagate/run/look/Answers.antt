@@ -115,3 +115,123 @@ pub returns-in_err-try_put-clause-bounded : goal.returns-in_err-try_put-clause-b
 returns-in_err-try_put-clause-bounded c =
     let same = ap (λ (v : Vec ℕ Global). sum v.items) c.try_put.ensures.candidates in
     omega (arith, same, sum-bounded (shapes_of c.args.store.now.kept.items) c.terms.run.candidates.items c.terms.invariant.looking.candidate_sizes c.terms.invariant.looking.tidy.bounded)
+
+pub returns-then-falsified-clause-values : goal.returns-then-falsified-clause-values
+returns-then-falsified-clause-values c = c.terms.invariant.values
+
+pub returns-then-falsified-clause-opens : goal.returns-then-falsified-clause-opens
+returns-then-falsified-clause-opens c = c.terms.invariant.looking.open_sizes ∙ length-map c.args.store.now.kept.items kept_shape ∙ sym c.requires.opens
+
+pub returns-then-falsified-clause-candidates : goal.returns-then-falsified-clause-candidates
+returns-then-falsified-clause-candidates c = c.terms.invariant.looking.candidate_sizes ∙ length-map c.args.store.now.kept.items kept_shape ∙ sym c.requires.candidates
+
+pub returns-then-falsified-clause-next : goal.returns-then-falsified-clause-next
+returns-then-falsified-clause-next c = c.terms.invariant.next
+
+pub returns-then-falsified-clause-within : goal.returns-then-falsified-clause-within
+returns-then-falsified-clause-within c = c.terms.invariant.looking.within
+
+pub returns-then-falsified-clause-derived : goal.returns-then-falsified-clause-derived
+returns-then-falsified-clause-derived c = c.terms.invariant.looking.derived
+
+pub returns-then-falsified-clause-counted : goal.returns-then-falsified-clause-counted
+returns-then-falsified-clause-counted c = c.terms.invariant.looking.counted
+
+pub returns-then-falsified-clause-undone : goal.returns-then-falsified-clause-undone
+returns-then-falsified-clause-undone c = record { clean = c.terms.invariant.looking.tidy.clean; named = c.terms.invariant.looking.tidy.marked }
+
+pub returns-then-falsified-clause-tidy : goal.returns-then-falsified-clause-tidy
+returns-then-falsified-clause-tidy c = λ found. absurd cc
+
+pub returns-then-falsified-clause-covered : goal.returns-then-falsified-clause-covered
+returns-then-falsified-clause-covered c = omega (arith, c.terms.invariant.looking.paid.upper)
+
+pub returns-then-falsified-clause-paid : goal.returns-then-falsified-clause-paid
+returns-then-falsified-clause-paid c =
+    let p = c.terms.invariant.looking.paid in
+    record { upper = omega (arith, p.upper); work = p.work; rising = p.rising }
+
+pub returns-then-falsified-clause-found : goal.returns-then-falsified-clause-found
+returns-then-falsified-clause-found c = c.terms.invariant.looking.found
+
+pub returns-then-candidate-len-clause-values : goal.returns-then-candidate-len-clause-values
+returns-then-candidate-len-clause-values c = c.terms.invariant.values
+
+pub returns-then-candidate-len-clause-opens : goal.returns-then-candidate-len-clause-opens
+returns-then-candidate-len-clause-opens c = c.terms.invariant.looking.open_sizes ∙ length-map c.args.store.now.kept.items kept_shape ∙ sym c.requires.opens
+
+pub returns-then-candidate-len-clause-candidates : goal.returns-then-candidate-len-clause-candidates
+returns-then-candidate-len-clause-candidates c = c.terms.invariant.looking.candidate_sizes ∙ length-map c.args.store.now.kept.items kept_shape ∙ sym c.requires.candidates
+
+pub returns-then-candidate-len-clause-next : goal.returns-then-candidate-len-clause-next
+returns-then-candidate-len-clause-next c = c.terms.invariant.next
+
+pub returns-then-candidate-len-clause-within : goal.returns-then-candidate-len-clause-within
+returns-then-candidate-len-clause-within c = c.terms.invariant.looking.within
+
+pub returns-then-candidate-len-clause-derived : goal.returns-then-candidate-len-clause-derived
+returns-then-candidate-len-clause-derived c = c.terms.invariant.looking.derived
+
+pub returns-then-candidate-len-clause-counted : goal.returns-then-candidate-len-clause-counted
+returns-then-candidate-len-clause-counted c = c.terms.invariant.looking.counted
+
+pub returns-then-candidate-len-clause-undone : goal.returns-then-candidate-len-clause-undone
+returns-then-candidate-len-clause-undone c = record { clean = c.terms.invariant.looking.tidy.clean; named = c.terms.invariant.looking.tidy.marked }
+
+pub returns-then-candidate-len-clause-conflict : goal.returns-then-candidate-len-clause-conflict
+returns-then-candidate-len-clause-conflict c = λ found. absurd cc
+
+pub returns-then-candidate-len-clause-covered : goal.returns-then-candidate-len-clause-covered
+returns-then-candidate-len-clause-covered c = omega (arith, c.terms.invariant.looking.paid.upper)
+
+pub returns-then-candidate-len-clause-paid : goal.returns-then-candidate-len-clause-paid
+returns-then-candidate-len-clause-paid c =
+    let p = c.terms.invariant.looking.paid in
+    record { upper = omega (arith, p.upper); work = p.work; rising = p.rising }
+
+pub returns-then-candidate-len-clause-found : goal.returns-then-candidate-len-clause-found
+returns-then-candidate-len-clause-found c = c.terms.invariant.looking.found
+
+pub returns-then-not-demands-clause-values : goal.returns-then-not-demands-clause-values
+returns-then-not-demands-clause-values c = c.terms.invariant.values
+
+pub returns-then-not-demands-clause-opens : goal.returns-then-not-demands-clause-opens
+returns-then-not-demands-clause-opens c = c.terms.invariant.looking.open_sizes ∙ length-map c.args.store.now.kept.items kept_shape ∙ sym c.requires.opens
+
+pub returns-then-not-demands-clause-candidates : goal.returns-then-not-demands-clause-candidates
+returns-then-not-demands-clause-candidates c = c.terms.invariant.looking.candidate_sizes ∙ length-map c.args.store.now.kept.items kept_shape ∙ sym c.requires.candidates
+
+pub returns-then-not-demands-clause-next : goal.returns-then-not-demands-clause-next
+returns-then-not-demands-clause-next c = c.terms.invariant.next
+
+pub returns-then-not-demands-clause-within : goal.returns-then-not-demands-clause-within
+returns-then-not-demands-clause-within c = c.terms.invariant.looking.within
+
+pub returns-then-not-demands-clause-derived : goal.returns-then-not-demands-clause-derived
+returns-then-not-demands-clause-derived c = c.terms.invariant.looking.derived
+
+pub returns-then-not-demands-clause-counted : goal.returns-then-not-demands-clause-counted
+returns-then-not-demands-clause-counted c = c.terms.invariant.looking.counted
+
+pub returns-then-not-demands-clause-undone : goal.returns-then-not-demands-clause-undone
+returns-then-not-demands-clause-undone c = record { clean = c.terms.invariant.looking.tidy.clean; named = c.terms.invariant.looking.tidy.marked }
+
+pub returns-then-not-demands-clause-conflict : goal.returns-then-not-demands-clause-conflict
+returns-then-not-demands-clause-conflict c = λ found. absurd cc
+
+pub returns-then-not-demands-clause-covered : goal.returns-then-not-demands-clause-covered
+returns-then-not-demands-clause-covered c = omega (arith, c.terms.invariant.looking.paid.upper, c.visit_term-term.ensures.count)
+
+pub returns-then-not-demands-clause-paid : goal.returns-then-not-demands-clause-paid
+returns-then-not-demands-clause-paid c =
+    let p = c.terms.invariant.looking.paid in
+    record { upper = omega (arith, p.upper, c.visit_term-term.ensures.count); work = p.work; rising = omega (arith, p.rising, c.visit_term-term.ensures.rising) }
+
+pub returns-then-not-demands-clause-found : goal.returns-then-not-demands-clause-found
+returns-then-not-demands-clause-found c = λ small.
+    let rising = c.visit_term-term.ensures.rising in
+    let before = c.terms.invariant.looking.found (omega (arith, small, rising)) in
+    omega (arith, before, rising)
+
+pub returns-in_err-try_put-clause-covered : goal.returns-in_err-try_put-clause-covered
+returns-in_err-try_put-clause-covered c = omega (arith, c.terms.invariant.looking.paid.upper, c.visit_term-term.ensures.count, c.try_put.ensures.covered)
