@@ -397,3 +397,69 @@ returns-in_err-found-clause-forms c =
     let both = c.self.invariant (ap (λ (v : Standing). v.spent) c.self.view_is ∙ c.requires.ready) in
     let h = c.in_ok-enter.ensures.entered in
     numbered-entered e.store.kept.items c.enter.new.store.kept.items h.kept e.places.items h.keeps (omega (arith, e.store.kept.ok.0, e.store.kept.ok.1)) both.1 ∙ ap (λ (v : Standing). v.forms) c.self.view_is
+
+pub invariant_of-self-in_default : goal.invariant_of-self-in_default
+invariant_of-self-in_default c = λ ready. absurd cc
+
+pub invariant_of-self-in_err-enter : goal.invariant_of-self-in_err-enter
+invariant_of-self-in_err-enter c = λ ready. absurd cc
+
+pub invariant_of-self-in_err-choose : goal.invariant_of-self-in_err-choose
+invariant_of-self-in_err-choose c = λ ready. absurd cc
+
+pub invariant_of-self-in_err-choose-2 : goal.invariant_of-self-in_err-choose-2
+invariant_of-self-in_err-choose-2 c = λ ready. absurd cc
+
+pub invariant_of-self-in_err-found : goal.invariant_of-self-in_err-found
+invariant_of-self-in_err-found c = λ ready. absurd cc
+
+pub returns-in_err-enter-clause-unasked : goal.returns-in_err-enter-clause-unasked
+returns-in_err-enter-clause-unasked c = λ nothing. absurd (c.if-degree-eq0.false (ap (of_z w128) (c.degree.ensures.degree ∙ ap pos nothing)))
+
+pub returns-in_err-choose-clause-unasked : goal.returns-in_err-choose-clause-unasked
+returns-in_err-choose-clause-unasked c = λ nothing. absurd (c.if-degree-eq0.false (ap (of_z w128) (c.degree.ensures.degree ∙ ap pos nothing)))
+
+pub returns-in_err-choose-2-clause-unasked : goal.returns-in_err-choose-2-clause-unasked
+returns-in_err-choose-2-clause-unasked c = λ nothing. absurd (c.if-degree-eq0.false (ap (of_z w128) (c.degree.ensures.degree ∙ ap pos nothing)))
+
+pub returns-in_err-found-clause-unasked : goal.returns-in_err-found-clause-unasked
+returns-in_err-found-clause-unasked c = λ nothing. absurd (c.if-degree-eq0.false (ap (of_z w128) (c.degree.ensures.degree ∙ ap pos nothing)))
+
+pub returns-then-found-clause-unasked : goal.returns-then-found-clause-unasked
+returns-then-found-clause-unasked c = λ nothing. absurd (c.if-degree-eq0.false (ap (of_z w128) (c.degree.ensures.degree ∙ ap pos nothing)))
+
+pub returns-clause-unasked : goal.returns-clause-unasked
+returns-clause-unasked c = λ nothing. absurd (c.if-degree-eq0.false (ap (of_z w128) (c.degree.ensures.degree ∙ ap pos nothing)))
+
+pub returns-in_err-enter-clause-most : goal.returns-in_err-enter-clause-most
+returns-in_err-enter-clause-most c = omega (arith, c.enter.ensures.rest.3)
+
+pub returns-in_err-choose-clause-most : goal.returns-in_err-choose-clause-most
+returns-in_err-choose-clause-most c = omega (arith, c.enter.ensures.rest.3)
+
+pub returns-in_err-choose-2-clause-most : goal.returns-in_err-choose-2-clause-most
+returns-in_err-choose-2-clause-most c = omega (arith, c.enter.ensures.rest.3)
+
+pub returns-then-degree-eq0-clause-not_implied : goal.returns-then-degree-eq0-clause-not_implied
+returns-then-degree-eq0-clause-not_implied c = λ found. absurd cc
+
+pub returns-then-degree-eq0-clause-completion : goal.returns-then-degree-eq0-clause-completion
+returns-then-degree-eq0-clause-completion c = λ found. absurd cc
+
+pub returns-then-found-clause-not_implied : goal.returns-then-found-clause-not_implied
+returns-then-found-clause-not_implied c = λ found. absurd cc
+
+pub returns-then-found-clause-completion : goal.returns-then-found-clause-completion
+returns-then-found-clause-completion c = λ found. absurd cc
+
+pub returns-clause-implied : goal.returns-clause-implied
+returns-clause-implied c = λ found. absurd cc
+
+pub returns-clause-conflict : goal.returns-clause-conflict
+returns-clause-conflict c = λ found. absurd cc
+
+pub returns-then-found-clause-variables : goal.returns-then-found-clause-variables
+returns-then-found-clause-variables c = c.leave.ensures.variables ∙ c.in_ok-enter.ensures.variables ∙ ap (λ (v : Standing). v.variables) c.self.view_is
+
+pub returns-clause-variables : goal.returns-clause-variables
+returns-clause-variables c = c.leave.ensures.variables ∙ c.in_ok-enter.ensures.variables ∙ ap (λ (v : Standing). v.variables) c.self.view_is
