@@ -140,3 +140,67 @@ work-preserved c =
       state = Propagating-choose (waits store.kept.items) c.args.waiting.now (shapes_of store.kept.items) (entries_of (shapes_of store.kept.items) store.occurrences.items) (length store.kept.items) start.assignment.list.items start.candidates.items start.work.items start.next start.visits c.work.taken run.opens.items run.candidates.items run.assignment.list.items run.work.items run.trail.items run.next run.visits (get_or c.args.waiting.now c.work.taken 0) c.choose-then-taken-waiting.new.work.items c.choose.new.work.items less (get_or_default c.args.waiting.now c.work.taken 0 _ less)
           (omega (arith, c.requires.waiting c.work.taken 0 less, length-map store.kept.items kept_shape)) c.in_ok-choose-2.ensures c.in_ok-choose.ensures c.work.invariant.state;
     }
+
+pub returns-else-taken-waiting-clause-values : goal.returns-else-taken-waiting-clause-values
+returns-else-taken-waiting-clause-values c = c.work.invariant.values
+
+pub returns-else-taken-waiting-clause-opens : goal.returns-else-taken-waiting-clause-opens
+returns-else-taken-waiting-clause-opens c = c.work.invariant.state.open_sizes
+
+pub returns-else-taken-waiting-clause-candidates : goal.returns-else-taken-waiting-clause-candidates
+returns-else-taken-waiting-clause-candidates c = c.work.invariant.state.candidate_sizes
+
+pub returns-else-taken-waiting-clause-derived : goal.returns-else-taken-waiting-clause-derived
+returns-else-taken-waiting-clause-derived c = c.work.invariant.state.derived
+
+pub returns-else-taken-waiting-clause-undone : goal.returns-else-taken-waiting-clause-undone
+returns-else-taken-waiting-clause-undone c = record { clean = c.work.invariant.state.tidy.clean; named = c.work.invariant.state.tidy.marked }
+
+pub returns-else-taken-waiting-clause-conflict : goal.returns-else-taken-waiting-clause-conflict
+returns-else-taken-waiting-clause-conflict c = λ found. absurd cc
+
+pub returns-else-taken-waiting-clause-found : goal.returns-else-taken-waiting-clause-found
+returns-else-taken-waiting-clause-found c = c.work.invariant.state.found
+
+pub returns-then-branch-clause-values : goal.returns-then-branch-clause-values
+returns-then-branch-clause-values c = c.in_ok-look.ensures.values ∙ c.work.invariant.values
+
+pub returns-then-branch-clause-opens : goal.returns-then-branch-clause-opens
+returns-then-branch-clause-opens c = c.in_ok-look.ensures.opens ∙ c.work.invariant.state.open_sizes
+
+pub returns-then-branch-clause-candidates : goal.returns-then-branch-clause-candidates
+returns-then-branch-clause-candidates c = c.in_ok-look.ensures.candidates ∙ c.work.invariant.state.candidate_sizes
+
+pub returns-then-branch-clause-bounded : goal.returns-then-branch-clause-bounded
+returns-then-branch-clause-bounded c = c.look.ensures.bounded
+
+pub returns-then-branch-clause-undone : goal.returns-then-branch-clause-undone
+returns-then-branch-clause-undone c = c.in_ok-look.ensures.undone
+
+pub returns-then-branch-clause-settled : goal.returns-then-branch-clause-settled
+returns-then-branch-clause-settled c = λ found. absurd cc
+
+pub returns-then-branch-clause-found : goal.returns-then-branch-clause-found
+returns-then-branch-clause-found c = λ small.
+    let told = c.in_ok-look.ensures.found small in
+    let rising = c.in_ok-look.ensures.paid.rising in
+    let before = c.work.invariant.state.found (omega (arith, small, rising)) in
+    omega (arith, told, before)
+
+pub returns-in_err-look-clause-bounded : goal.returns-in_err-look-clause-bounded
+returns-in_err-look-clause-bounded c = c.look.ensures.bounded
+
+pub look-requires-clause-store : goal.look-requires-clause-store
+look-requires-clause-store c = c.requires.store
+
+pub look-requires-clause-values : goal.look-requires-clause-values
+look-requires-clause-values c = c.work.invariant.values ∙ c.requires.values
+
+pub look-requires-clause-opens : goal.look-requires-clause-opens
+look-requires-clause-opens c = c.work.invariant.state.open_sizes
+
+pub look-requires-clause-candidates : goal.look-requires-clause-candidates
+look-requires-clause-candidates c = c.work.invariant.state.candidate_sizes
+
+pub look-requires-clause-counted : goal.look-requires-clause-counted
+look-requires-clause-counted c = c.work.invariant.state.counted

@@ -98,3 +98,30 @@ returns-clause-completed c =
     let shapes = shapes_of e.store.kept.items in
     let done = c.settle.new.run.assignment in
     rw (← c.self.view_is) (ended-completion (Live (numbered (forms_of e.store.kept.items) e.places.items)) shapes c.args.given.now done.list.items done.values.items _ (placed-kept (forms_of e.store.kept.items) e.places.items shapes both.1 (slots-kept (forms_of e.store.kept.items) shapes r.slots)) done.agrees (c.in_ok-extend_from_slice.ensures.items ∙ ap (λ xs. xs ++ c.as_slice-2.result.now) c.new-values.ensures.items ∙ c.as_slice-2.ensures.value) (c.in_ok-found.ensures.ended c.if-found.false))
+
+pub invariant_of-self-in_err-extend_from_slice : goal.invariant_of-self-in_err-extend_from_slice
+invariant_of-self-in_err-extend_from_slice c = λ ready. absurd cc
+
+pub returns-in_err-found-clause-forms : goal.returns-in_err-found-clause-forms
+returns-in_err-found-clause-forms c = ap (λ (v : Standing). v.forms) c.self.view_is
+
+pub returns-in_err-extend_from_slice-clause-forms : goal.returns-in_err-extend_from_slice-clause-forms
+returns-in_err-extend_from_slice-clause-forms c = ap (λ (v : Standing). v.forms) c.self.view_is
+
+pub returns-then-found-clause-forms : goal.returns-then-found-clause-forms
+returns-then-found-clause-forms c = ap (λ (v : Standing). v.forms) c.self.view_is
+
+pub returns-clause-forms : goal.returns-clause-forms
+returns-clause-forms c = ap (λ (v : Standing). v.forms) c.self.view_is
+
+pub returns-then-found-clause-variables : goal.returns-then-found-clause-variables
+returns-then-found-clause-variables c = ap (λ (v : Standing). v.variables) c.self.view_is
+
+pub returns-then-found-clause-visits : goal.returns-then-found-clause-visits
+returns-then-found-clause-visits c = ap (λ (v : Standing). v.visits) c.self.view_is
+
+pub returns-clause-variables : goal.returns-clause-variables
+returns-clause-variables c = ap (λ (v : Standing). v.variables) c.self.view_is
+
+pub returns-clause-visits : goal.returns-clause-visits
+returns-clause-visits c = ap (λ (v : Standing). v.visits) c.self.view_is
