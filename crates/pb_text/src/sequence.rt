@@ -6,7 +6,7 @@ ghost use Rattle.std.specs.Slice.Iter.{iter_rest};
 ghost use Rattle.std.specs.Cmp.Lexicographic.{pointwise, lists_per, nat_list_eq_equiv};
 ghost use Rattle.std.specs.Cmp.{partial_equiv_from_equiv};
 
-use std::alloc::{AllocFailed, Global};
+use std::alloc::{AllocError, AllocFailed, Global};
 use std::marker::Model;
 use std::slice::Iter;
 
@@ -157,6 +157,13 @@ impl Bytes {
         ensures { self.new ≡ (if is_ok result then self.old ++ byte ∷ [] else self.old) }
     {
         self.bytes.push(byte)
+    }
+
+    /// Adds bytes at the end. Where memory ran out the text is unchanged.
+    pub fn push_slice(&mut self, more: &[u8]) -> Result<(), AllocError>
+        ensures { self.new ≡ (if is_ok result then self.old ++ more.now else self.old) }
+    {
+        self.bytes.extend_from_slice(more)
     }
 
     /// How many bytes there are.
