@@ -1,5 +1,5 @@
 -- What is written reads as the same value.
-use Rattle.std.proofs.Common.{◌≡◌, ℕ, List, Option, refl, sym, ap, ◌∙◌, subst}
+use Rattle.std.proofs.Common.{◌≡◌, ℕ, List, Option, refl, sym, ◌∙◌, subst}
 use Rattle.pb_text.specs.Spelling.{Item}
 use Rattle.pb_text.specs.Whole.{events_of}
 use Rattle.pb_text.proofs.Deterministic.{one_spelling}

@@ -7,6 +7,7 @@ mod Fronts
 mod HeaderFront
 mod HeaderWalk
 mod Inners
+mod Lines
 mod Objectives
 mod Stands
 pub mod Again

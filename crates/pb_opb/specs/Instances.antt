@@ -1,5 +1,5 @@
 -- Instances in OPB: their statements, with the gaps before them, and the texts of these.
-use Rattle.std.specs.Prelude.{◌≡◌, ℕ, zero, suc, ◌≤◌, Bool, true, false, not, nat_eq, List, [], ◌∷◌, IsTrue}
+use Rattle.std.specs.Prelude.{◌≡◌, ℕ, zero, suc, Bool, true, false, not, nat_eq, List, [], ◌∷◌, IsTrue}
 use Rattle.pb_text.specs.Classes.{is_blank, is_white}
 use Rattle.pb_text.specs.Spelling.{Item, Letter}
 use Rattle.pb_text.specs.Languages.{Language, ◌⋅◌, Byte, Bytes, Each, Many, Blanks0, Blanks1}

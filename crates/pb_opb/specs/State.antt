@@ -116,6 +116,12 @@ abbrev pub is_done : Phase → Bool
 is_done phase.TheVariants.Done = true
 is_done _ = false
 
+-- bytes up to a line feed are kept
+abbrev pub keeps_line : Phase → Bool
+keeps_line phase.TheVariants.Tail = true
+keeps_line (phase.TheVariants.Comment may) = true
+keeps_line _ = false
+
 abbrev pub is_in_number : OpbState → Phase → Bool
 is_in_number s (phase.TheVariants.Count f n) = true
 is_in_number s phase.TheVariants.Objective = sums.in_number s.inner

@@ -5,6 +5,7 @@ mod building;
 mod event;
 mod instance;
 pub mod laws;
+mod line;
 mod machine;
 mod phase;
 mod plan;

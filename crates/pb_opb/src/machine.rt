@@ -1,10 +1,11 @@
 //! The machine of instances.
 
-ghost use Rattle.std.specs.Prelude.{◌≡◌, false};
+ghost use Rattle.std.specs.Prelude.{◌≡◌, ◌<◌, ◌≤◌, true, false, IfSome, None, get_or, length, take};
 ghost use Rattle.pb_text.specs.Limits.{largest, top_of};
 ghost use Rattle.pb_opb.specs.State.{phase_owing, owed_after, statement_of};
 
 use crate::event::OpbEvent;
+use crate::line::line_prefix;
 use crate::phase::{Field, Move, Phase};
 use crate::plan::{is_done, is_within, plan};
 use pb_sums::{Part, Spaces, SumEvent, SumMachine};
@@ -186,6 +187,29 @@ impl OpbMachine {
     }
 }
 
+impl OpbMachine {
+    ghost use Rattle.pb_text.specs.Automaton.{IsState, Runs};
+    ghost use Rattle.pb_opb.specs.State.{opb, keeps_line};
+
+    /// Keeps the bytes at the front that stand before a line feed, and answers how many, or keeps none where memory ran out.
+    fn keep_line(&mut self, piece: &[u8]) -> Option<usize>
+        requires { keeps_line self.old.phase ≡ true }
+        ensures bound { IfSome result (λ n. n ≤ length piece.now) }
+        ensures runs { IfSome result (λ n. Runs opb self.old (take n piece.now) self.new) }
+        // It stops only where the line does.
+        ensures stops { IfSome result (λ n. n < length piece.now → get_or piece.now n 0 ≡ 10) }
+        ensures none { result ≡ None → self.new ≡ self.old }
+        ensures state { IsState opb self.new }
+    {
+        let _ = self.is_done();
+        let length = line_prefix(piece);
+        if self.text.push_slice(&piece[..length]).is_err() {
+            return None;
+        }
+        Some(length)
+    }
+}
+
 /// Where so many constraints are to come.
 fn phase_owing(may: bool, owed: u64) -> Phase
     ensures { result ≡ phase_owing may owed }
@@ -227,6 +251,7 @@ impl Machine for OpbMachine {
     fn run(&mut self, piece: &[u8]) -> usize {
         let taken = match self.phase {
             Phase::Constraint | Phase::Objective => self.inner.run(piece),
+            Phase::Tail | Phase::Comment(_) => self.keep_line(piece).unwrap_or(0),
             _ => 0,
         };
         let _ = self.is_done();

@@ -1,8 +1,9 @@
 use Rattle.std.proofs.Common.{take, refl}
 use Rattle.pb_opb.specs.contracts.machine.OpbMachine.{the_view}
+use Rattle.pb_opb.proofs.Lines.{kept_or_none}
 use Rattle.pb_opb.proofs.Taken.{runs_given}
 use Rattle.pb_opb.proofs.machine.OpbMachineMachine.run.Goals as goal
-use Rattle.pb_opb.proofs.machine.OpbMachineMachine.run.Goals.{in-Constraint, in_default}
+use Rattle.pb_opb.proofs.machine.OpbMachineMachine.run.Goals.{in-Constraint, in-Tail, in_default}
 
 pub invariant_of-self : goal.invariant_of-self
 invariant_of-self c =
@@ -12,5 +13,7 @@ pub returns-clause-runs : goal.returns-clause-runs
 returns-clause-runs c = elim c.match-self.branch [
   | in-Constraint w ↦ rw (w.self-is, w.taken-is, ← c.self.view_is)
       (runs_given (the_view c.self.inside) c.self.invariant w.in-Constraint.is (take w.run-taken.result c.args.piece.now) w.run-taken.new.self w.run-taken.ensures.runs).0
+  | in-Tail w ↦ rw (w.self-is, w.taken-is, w.unwrap_or-taken.ensures)
+      (kept_or_none c.args.self.now w.keep_line.new.self c.args.piece.now w.keep_line.result w.keep_line.ensures.runs w.keep_line.ensures.none)
   | in_default w ↦ rw (w.self-is, w.taken-is, ← c.self.view_is) refl
 ]
