@@ -188,8 +188,28 @@ impl OpbMachine {
 }
 
 impl OpbMachine {
-    ghost use Rattle.pb_text.specs.Automaton.{IsState, Runs};
+    ghost use Rattle.pb_text.specs.Automaton.{Goes, IsState, Runs};
     ghost use Rattle.pb_opb.specs.State.{opb, keeps_line};
+
+    /// Takes a byte where none is kept and no statement ends, as far as that is soon told, and answers whether it did.
+    fn advance(&mut self, byte: u8) -> bool
+        ensures { Goes opb self.old byte result self.new }
+    {
+        match plan(self.limits.top(), self.phase, byte) {
+            Move::To(next) => {
+                self.phase = next;
+                true
+            }
+            Move::Give(next) => {
+                if !self.inner.goes(byte) {
+                    return false;
+                }
+                self.phase = next;
+                true
+            }
+            _ => false,
+        }
+    }
 
     /// Keeps the bytes at the front that stand before a line feed, and answers how many, or keeps none where memory ran out.
     fn keep_line(&mut self, piece: &[u8]) -> Option<usize>
@@ -247,6 +267,12 @@ impl Machine for OpbMachine {
     type Event = OpbEvent;
 
     ghost automaton = { opb };
+
+    fn goes(&mut self, byte: u8) -> bool {
+        let went = self.advance(byte);
+        let _ = self.is_done();
+        went
+    }
 
     fn run(&mut self, piece: &[u8]) -> usize {
         let taken = match self.phase {

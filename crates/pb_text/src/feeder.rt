@@ -1,6 +1,6 @@
 //! Takes a text in pieces.
 
-ghost use Rattle.std.specs.Prelude.{true, false, ◌≡◌, ◌≢◌, ℕ, Some, None, Ok, Err, ◌+◌, ◌-◌, ◌^◌, ◌<◌, ◌≤◌, List, [], ◌∷◌, ◌++◌, take, OnOk, OnErr, IfOk, IfErr, length, slice_get};
+ghost use Rattle.std.specs.Prelude.{true, false, ◌≡◌, ◌≢◌, ℕ, Some, None, Ok, Err, ◌+◌, ◌-◌, ◌^◌, ◌<◌, ◌≤◌, List, [], ◌∷◌, ◌++◌, take, if◌then◌else◌, OnOk, OnErr, IfOk, IfErr, length, slice_get};
 ghost use Rattle.pb_text.specs.Limit.{end_of};
 ghost use Rattle.pb_text.specs.Standing.{opened};
 
@@ -200,9 +200,80 @@ impl<M: Machine> Feeder<M> {
         stop
     }
 
-    /// Takes bytes at the front of a piece as long as the statement goes on that has begun, and answers how many.
+    /// Takes bytes at the front of a piece that are soon taken, none of which ends a statement, and answers how many.
     #[inline(always)]
     pub(crate) fn run(&mut self, piece: &[u8]) -> usize
+        requires unfinished { is_complete self.old ≡ false }
+        requires running { halt_of self.old ≡ None }
+        requires state { IsState M.automaton (state_of self.old) }
+        ensures bound { result ≤ length piece.now }
+        ensures stands { (longest : ℕ) (start : M) (input : List ℕ) (marks : List (Spanned M.Event))
+            → StandsAt longest start input marks self.old
+            → StandsAt longest start (input ++ take result piece.now) marks self.new }
+        ensures offset { (place_of self.new).offset ≡ (place_of self.old).offset + result }
+        ensures running { halt_of self.new ≡ None }
+        ensures unfinished { is_complete self.new ≡ false }
+        ensures state { IsState M.automaton (state_of self.new) }
+    {
+        let entered = self.enter(piece);
+        entered + self.go_on(&piece[entered..])
+    }
+
+    /// Takes bytes at the front of a piece through the first one of a statement, where none has begun, and answers how many.
+    #[inline(always)]
+    fn enter(&mut self, piece: &[u8]) -> usize
+        requires unfinished { is_complete self.old ≡ false }
+        requires running { halt_of self.old ≡ None }
+        requires state { IsState M.automaton (state_of self.old) }
+        ensures bound { result ≤ length piece.now }
+        ensures stands { (longest : ℕ) (start : M) (input : List ℕ) (marks : List (Spanned M.Event))
+            → StandsAt longest start input marks self.old
+            → StandsAt longest start (input ++ take result piece.now) marks self.new }
+        ensures offset { (place_of self.new).offset ≡ (place_of self.old).offset + result }
+        ensures running { halt_of self.new ≡ None }
+        ensures unfinished { is_complete self.new ≡ false }
+        ensures state { IsState M.automaton (state_of self.new) }
+    {
+        let mut used: usize = 0;
+        while used < piece.len() {
+            if !self.goes(piece[used]) {
+                return used;
+            }
+            used += 1;
+        }
+        used
+    }
+
+    /// Takes a byte where no statement has begun, that is done soon, and it ends none, and answers whether it did.
+    #[inline(always)]
+    fn goes(&mut self, byte: u8) -> bool
+        requires unfinished { is_complete self.old ≡ false }
+        requires running { halt_of self.old ≡ None }
+        requires state { IsState M.automaton (state_of self.old) }
+        ensures stands { (longest : ℕ) (start : M) (input : List ℕ) (marks : List (Spanned M.Event))
+            → StandsAt longest start input marks self.old
+            → StandsAt longest start (input ++ (if result then byte ∷ [] else [])) marks self.new }
+        ensures offset { (place_of self.new).offset ≡ (place_of self.old).offset + (if result then 1 else 0) }
+        ensures running { halt_of self.new ≡ None }
+        ensures unfinished { is_complete self.new ≡ false }
+        ensures state { IsState M.automaton (state_of self.new) }
+    {
+        if self.first.is_some() || self.place.offset == self.end {
+            return false;
+        }
+        let starts = self.machine.starts(byte);
+        if !self.machine.goes(byte) {
+            return false;
+        }
+        self.first = opened_at(self.first, starts, self.place);
+        self.end = end_at(self.longest, self.first);
+        self.place = self.place.after(byte);
+        true
+    }
+
+    /// Takes bytes at the front of a piece as long as the statement goes on that has begun, and answers how many.
+    #[inline(always)]
+    fn go_on(&mut self, piece: &[u8]) -> usize
         requires unfinished { is_complete self.old ≡ false }
         requires running { halt_of self.old ≡ None }
         requires state { IsState M.automaton (state_of self.old) }

@@ -1,0 +1,25 @@
+use Rattle.std.proofs.Common.{◌≡◌, ◌∙◌, ℕ, ap, sym, subst}
+use Rattle.pb_opb.specs.Machine.{plan}
+use Rattle.pb_opb.specs.Order.{PhaseFits}
+use Rattle.pb_opb.specs.State.{OpbState}
+use Rattle.pb_opb.specs.contracts.machine.OpbMachine.{the_view}
+use Rattle.pb_opb.specs.declared.phase.Move.{Move}
+use Rattle.pb_opb.specs.declared.phase.Phase.{Phase}
+use Rattle.pb_opb.specs.declared.phase.Move.TheVariants.{To, Give}
+use Rattle.pb_opb.proofs.Pushed.{to_order, give_order}
+use Rattle.pb_opb.proofs.machine.OpbMachine.advance.Goals as goal
+
+planned_at : (n top : ℕ) (p : Phase) (b : ℕ) (m : Move) → n ≡ top → m ≡ plan n p b → plan top p b ≡ m
+planned_at n top p b m e h = ap (λ (k : ℕ). plan k p b) (sym e) ∙ sym h
+
+pub invariant_of-self : goal.invariant_of-self
+invariant_of-self c =
+    let s : OpbState = the_view c.self.inside in
+    to_order s c.self.invariant c.args.byte c.in-To.next (planned_at c.top.result s.top s.phase c.args.byte (To c.in-To.next) c.top.ensures.value c.in-To.ensures.plan)
+    (subst (λ (n : ℕ). PhaseFits n c.in-To.next) c.top.ensures.value c.in-To.ensures.fits)
+
+pub invariant_of-self-in-Give : goal.invariant_of-self-in-Give
+invariant_of-self-in-Give c =
+    let s : OpbState = the_view c.self.inside in
+    give_order s c.self.invariant c.args.byte c.in-Give.next c.goes.new.self
+    (planned_at c.top.result s.top s.phase c.args.byte (Give c.in-Give.next) c.top.ensures.value c.in-Give.ensures.plan) c.if-not-goes.ensures.goes c.goes.ensures.state
