@@ -244,7 +244,7 @@ impl<M: Machine> Feeder<M> {
         used
     }
 
-    /// Takes a byte where no statement has begun, that is done soon, and it ends none, and answers whether it did.
+    /// Takes a byte between two statements, or the first one of a statement, where that is done soon, and answers whether it did.
     #[inline(always)]
     fn goes(&mut self, byte: u8) -> bool
         requires unfinished { is_complete self.old ≡ false }

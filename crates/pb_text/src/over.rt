@@ -125,7 +125,7 @@ fn next_of<T: BufRead>(reader: &mut T) -> Result<Option<u8>, Failed>
     }
 }
 
-/// Feeds what a reader has at hand to a feeder as long as the statement goes on that has begun, and takes that.
+/// Feeds what a reader has at hand to a feeder as long as none of it ends a statement, and takes that.
 fn pour_from<T: BufRead, M: Machine>(
     reader: &mut T,
     history: &mut History,

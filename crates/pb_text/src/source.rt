@@ -49,7 +49,7 @@ pub trait Source {
         requires { (b : ℕ) × (shown self.old ≡ Some b) }
         ensures { Skips left shown history faults self.old self.new };
 
-    /// Feeds bytes at hand to a feeder as long as the statement goes on that has begun, and takes those. It may take
+    /// Feeds bytes at hand to a feeder as long as none of them ends a statement, and takes those. It may take
     /// none, as it does where it is not written otherwise.
     fn pour<M: Machine>(&mut self, feeder: &mut Feeder<M>) -> Result<(), Failed>
         requires unfinished { is_complete feeder.old ≡ false }
