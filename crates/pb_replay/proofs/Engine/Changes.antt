@@ -1,9 +1,8 @@
 -- The store after a form came, left, or was made empty.
-use Rattle.std.specs.Prelude.{map, option_map, slice_get, Option, Some, None}
+use Rattle.std.specs.Prelude.{map, Option, None}
 use Rattle.std.proofs.Common.{◌≡◌, ℕ, ◌+◌, ◌<◌, ◌≤◌, ◌++◌, ◌∷◌, [], List, Vec, Global, refl, sym, ◌∙◌, ap, subst, arith, inl, inr, length, get_or, take, set, length-set, length-append, get_or-set_same, get_or-set_other, zero, suc}
 use Rattle.std.proofs.Math.Seq.{set-append_seam}
 use Rattle.std.proofs.lemmas.Bool.{cases_eq, cases_lt}
-use Rattle.std.proofs.lemmas.Option.{slice_get-map}
 use Rattle.pb_normal.specs.Form.{Form}
 use Rattle.std.proofs.lemmas.List.{map-append, length-map, get_or_past, take_more, take_all, length-take-le, get_or_append_left, map-set}
 use Rattle.std.proofs.lemmas.List.Elements.{All-push, All-set, All-take}
@@ -211,9 +210,6 @@ forms-widened keep keep' k same e = ap forms_of same ∙ map-append (λ (x : Kep
 
 pub forms-filled : (keep keep' : List Kept) (k : Kept) (s : ℕ) (o : Option Form) → keep' ≡ set keep s k → k.terms.form ≡ o → forms_of keep' ≡ set (forms_of keep) s o
 forms-filled keep keep' k s o same e = ap forms_of same ∙ map-set (λ (x : Kept). x.terms.form) keep s k ∙ ap (set (forms_of keep) s) e
-
-pub forms-get : (keep : List Kept) (s : ℕ) (k : Kept) → slice_get keep s ≡ Some k → slice_get (forms_of keep) s ≡ Some k.terms.form
-forms-get keep s k h = slice_get-map (λ (x : Kept). x.terms.form) keep s ∙ ap (option_map (λ (x : Kept). x.terms.form)) h
 
 pub forms-length : (keep : List Kept) → length (forms_of keep) ≡ length keep
 forms-length keep = length-map keep (λ (k : Kept). k.terms.form)

@@ -1,6 +1,6 @@
 -- A conclusion goes on behind its tests
 use Rattle.std.specs.Prelude.{Result, Ok, Err, Option, Some, None, Contains, ℤ, option_map}
-use Rattle.std.proofs.Common.{◌≡◌, ◌⊎◌, ℕ, ◌<◌, ◌≤ℤ◌, List, [], refl, sym, ◌∙◌, ap, arith, inl, inr, subst}
+use Rattle.std.proofs.Common.{◌≡◌, ◌⊎◌, ℕ, ◌≤ℤ◌, List, [], refl, sym, ◌∙◌, ap, arith, inl, inr, subst}
 use Rattle.std.proofs.lemmas.Int.{ints}
 use Rattle.pb_text.specs.Limits.{largest}
 use Rattle.pb_sums.specs.declared.Linear.{Linear}
@@ -21,10 +21,9 @@ use Rattle.pb_replay.specs.declared.state.Running.{Running}
 use Rattle.pb_replay.specs.declared.verdict.Verdict.TheVariants as verdict
 use Rattle.pb_replay.specs.Answer.{Answer, gives, need}
 use Rattle.pb_replay.specs.Bounds.{Both, HasObjective, IsBelow, IsNamed, IsReached, Lower, ObjectiveShown, Reached, Refutes, ShownAs, ShownReaches, Upper, objective_at_least, upper_of}
-use Rattle.pb_replay.specs.Conclusions.{IsShownBy, contradicted, contradiction, lower_bound, named, none_left, objective_with, propagated, sum, trivial, upper_bound}
+use Rattle.pb_replay.specs.Conclusions.{IsShownBy, contradicted, contradiction, lower_bound, named, none_left, objective_with, sum, upper_bound}
 use Rattle.pb_replay.specs.Problem.{Problem}
-use Rattle.pb_replay.specs.Propagation.{IsRup}
-use Rattle.pb_replay.specs.Replay.{IsLive, Live, Logged, State, normal_form, numbered}
+use Rattle.pb_replay.specs.Replay.{IsLive, Logged, State, normal_form, numbered}
 use Rattle.pb_replay.specs.Kept.{GoesAt, HasNamed, IsBest, IsProper, Keeps, problem_of, state_of}
 use Rattle.pb_replay.proofs.lemmas.Best.{below}
 use Rattle.pb_replay.proofs.lemmas.Concluded.{contains-none}
@@ -89,12 +88,6 @@ named-missing live id i next e none = subst (λ (o : Option ℤ). named live o n
 pub refuted-shown : (live : List (Option Form)) (f : Option Form) (goal : Form) → Refutes f goal → IsShownBy live f goal
 refuted-shown live f goal (g, e, inl h) = contradiction g e h
 refuted-shown live f goal (g, e, inr h) = sum g e h
-
-pub shown-otherwise : (live : List (Option Form)) (f : Option Form) (goal : Form) → 0 < goal.degree → (Refutes f goal → ⊥) → IsShownBy live f goal → IsRup (Live live) goal
-shown-otherwise live f goal some late (trivial e) = absurd (omega (arith, some, e))
-shown-otherwise live f goal some late (contradiction g e h) = absurd (late (g, e, inl h))
-shown-otherwise live f goal some late (sum g e h) = absurd (late (g, e, inr h))
-shown-otherwise live f goal some late (propagated h) = h
 
 module _ (r : Running) (b : ℤ) where
   pub objective-ok : (f : Option Form) (goal : Form) (result : Result Unit Fault) → HasObjective (largest r.limits) r.names (problem_of r).objective least b (Ok goal) → ShownAs r.engine.forms f goal result → ObjectiveShown r f b result

@@ -1,5 +1,5 @@
 -- `rup`, and what stays
-use Rattle.std.specs.Prelude.{Result, Ok, Err, OnErr, ◌↔◌, take}
+use Rattle.std.specs.Prelude.{Result, Ok, Err, ◌↔◌}
 use Rattle.std.proofs.Common.{◌≡◌, ◌⊎◌, ℕ, ◌<◌, ◌≤◌, List, refl, sym, ◌∙◌, ap, inl, inr, ◌++◌, append_assoc, Bool, true, false, rules, IsTrue}
 use Rattle.std.proofs.lemmas.Bool.{cases_lt}
 use Rattle.pb_text.specs.Limits.{largest, top_of}
@@ -13,11 +13,11 @@ use Rattle.pb_normal.specs.declared.NormalFault.TheVariants as normal
 use Rattle.pb_normal.specs.declared.Side.TheVariants.{AtLeast as least}
 use Rattle.pb_normal.specs.Constraints.{Fits}
 use Rattle.pb_normal.specs.Form.{Form}
-use Rattle.pb_normal.specs.Names.{AfterFront, with_names}
+use Rattle.pb_normal.specs.Names.{with_names}
 use Rattle.pb_normal.specs.Written.{names_of, IsSideOf}
 use Rattle.pb_normal.proofs.Appearing.{front}
 use Rattle.pb_replay.specs.declared.fault.Fault.{Fault}
-use Rattle.pb_replay.specs.declared.fault.Fault.TheVariants.{Memory, NotImplied, Order, Overflow}
+use Rattle.pb_replay.specs.declared.fault.Fault.TheVariants.{Memory, NotImplied, Overflow}
 use Rattle.std.specs.Prelude.{Option, Some}
 use Rattle.std.proofs.Common.{subst, map, length}
 use Rattle.pb_text.specs.declared.Limits.{Limits}
@@ -98,11 +98,6 @@ rup_unmade old linear e new (Err d) same (inr (is, none)) =
 pub front_after : (old new others : List (List ℕ)) → new ≡ with_names old others → IsFront old new
 front_after old new others e = let f = front old others in (f.0, e ∙ f.1)
 
-pub front_err : {A : Type 0} (r : Result A NormalFault) (d : NormalFault) (old new others : List (List ℕ)) → r ≡ Err d → OnErr r (AfterFront old others new) → IsFront old new
-front_err r d old new others e h =
-    let some : AfterFront old others new = rw e at h in
-    front_after old new (take some.0 others) some.1
-
 pub front_then : (a b c : List (List ℕ)) → IsFront a b → IsFront b c → IsFront a c
 front_then a b c (more, e) (last, k) = (more ++ last, k ∙ ap (λ (ns : List (List ℕ)). ns ++ last) e ∙ append_assoc a more last)
 
@@ -125,9 +120,6 @@ pub came-counted : (old : Running) (visits : ℕ) (st : Statement) (result : Res
 came-counted old visits st (Ok u) new next g = λ logged best. let h = g logged best in (h.0, h.1, inl (next, h.2))
 came-counted old visits st (Err d) new next (inl memory) = inl memory
 came-counted old visits st (Err d) new next (inr g) = inr (λ logged best. inl (next, g logged best))
-
-pub came-not : (old : Running) (st : Statement) (new : Running) → (old.next ≡ stage_of st → ⊥) → Comes old st (Err Order) new
-came-not old st new late = inr (λ logged best. inr (late, refl))
 
 pub not_so : (b : Bool) (P : Type 0) → b ≡ false → IsTrue b ↔ P → P → ⊥
 not_so true P e h p = cc

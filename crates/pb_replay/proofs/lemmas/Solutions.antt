@@ -1,6 +1,6 @@
 -- Logged and shown solutions
-use Rattle.std.specs.Prelude.{Contains, Ok}
-use Rattle.std.proofs.Common.{◌≡◌, ℕ, ◌<◌, Bool, true, false, not, List, [], ◌∷◌, length, get_or, refl, sym, ◌∙◌, arith, inl, inr, cond}
+use Rattle.std.specs.Prelude.{Ok}
+use Rattle.std.proofs.Common.{◌≡◌, ℕ, ◌<◌, Bool, true, false, not, List, length, get_or, refl, sym, ◌∙◌, arith, inl, inr, cond}
 use Rattle.std.proofs.lemmas.Bool.{cases_Bool}
 use Rattle.std.proofs.lemmas.List.{get_or_default}
 use Rattle.pb_normal.specs.Form.{Form, Holds, total, true_at}
@@ -92,8 +92,3 @@ clause-fails given r a c low x n h =
   where
     at_other : (w : ℕ) (m : Bool) → w ≡ x → m ≡ not n → true_at a x n ≡ false → true_at a w m ≡ true
     at_other w m e f gone = rw (e, f) (true_at-not a x n ∙ not_false (true_at a x n) gone)
-
--- a list that is not empty has a first one
-pub some_logged : (gs : List Logged) → 0 < length gs → (g : Logged) × Contains gs g
-some_logged [] lt = absurd (omega arith)
-some_logged (g ∷ gs) lt = (g, (0, omega arith, refl))
