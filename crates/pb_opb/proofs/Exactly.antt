@@ -13,7 +13,7 @@ use Rattle.pb_opb.specs.Instances.{IsInstance}
 use Rattle.pb_opb.specs.State.{opb, begin}
 use Rattle.pb_opb.specs.Values.{IsValueOf}
 use Rattle.pb_opb.specs.Asking.{Asks}
-use Rattle.pb_opb.specs.Building.{MayKeep}
+use Rattle.pb_opb.specs.Gather.{MayKeep}
 use Rattle.pb_opb.specs.declared.instance.Instance.{Instance}
 use Rattle.pb_opb.specs.declared.event.OpbEvent.{OpbEvent}
 use Rattle.pb_opb.proofs.Asked.{asks_only}

@@ -8,25 +8,25 @@ use Rattle.pb_text.specs.Whole.{gathered, events_of, IsWhole, StopsAfter, IsAski
 use Rattle.pb_text.specs.declared.Spanned.{Spanned}
 use Rattle.pb_text.specs.declared.Stop.{Stop}
 use Rattle.pb_text.specs.ValueRead.{IsRead, StopsIn, Reading, Keeping, WantsIn, Asking, Ending}
-use Rattle.pb_opb.specs.Building.{with, ended_with, asks, counted, MayKeep, nothing}
+use Rattle.pb_opb.specs.Gather.{with, ended_with, asks, counted, MayKeep, nothing}
 use Rattle.pb_opb.specs.Values.{IsValueOf, last_or, variables_in, tails_in, objectives_in, constraints_in, comments_in, comment_at}
-use Rattle.pb_opb.specs.declared.building.Building.{Building}
+use Rattle.pb_opb.specs.declared.gather.InstanceSoFar.{InstanceSoFar}
 use Rattle.pb_opb.specs.declared.instance.Instance.{Instance}
 use Rattle.pb_opb.specs.declared.event.OpbEvent.{OpbEvent}
 use Rattle.pb_opb.specs.declared.event.OpbEvent.TheVariants.{Header, Comment, Objective, Constraint}
 
-abbrev pub one_more : Building → OpbEvent → Building
+abbrev pub one_more : InstanceSoFar → OpbEvent → InstanceSoFar
 one_more b e = record { instance = with b.ended b.instance e; ended = ended_with b.ended e }
 
 -- what comes of more statements
-pub record Adds (b : Building) (events : List OpbEvent) (v : Instance) : Type 0 where
+pub record Adds (b : InstanceSoFar) (events : List OpbEvent) (v : Instance) : Type 0 where
   pub variables : v.variables ≡ last_or b.instance.variables (variables_in events)
   pub tail : v.tail ≡ last_or b.instance.tail (tails_in events)
   pub objective : v.objective ≡ last_or b.instance.objective (objectives_in events)
   pub comments : v.comments ≡ b.instance.comments ++ comments_in b.ended events
   pub constraints : v.constraints ≡ b.instance.constraints ++ constraints_in events
 
-pub adds : (events : List OpbEvent) (b : Building) → Adds b events (gathered one_more b events).instance
+pub adds : (events : List OpbEvent) (b : InstanceSoFar) → Adds b events (gathered one_more b events).instance
 adds [] b = record { variables = refl; tail = refl; objective = refl; comments = sym (append-nil b.instance.comments); constraints = sym (append-nil b.instance.constraints) }
 adds (Header variables constraints tail ∷ events) b =
     let k = adds events (one_more b (Header variables constraints tail)) in
@@ -41,18 +41,18 @@ adds (Constraint linear ∷ events) b =
     let k = adds events (one_more b (Constraint linear)) in
     record { variables = k.variables; tail = k.tail; objective = k.objective; comments = k.comments; constraints = k.constraints ∙ append_assoc b.instance.constraints (linear ∷ []) (constraints_in events) }
 
-ended_after : (events : List OpbEvent) (b : Building) → (gathered one_more b events).ended ≡ b.ended + counted events
+ended_after : (events : List OpbEvent) (b : InstanceSoFar) → (gathered one_more b events).ended ≡ b.ended + counted events
 ended_after [] b = omega arith
 ended_after (Header variables constraints tail ∷ events) b = ended_after events (one_more b (Header variables constraints tail))
 ended_after (Comment text ∷ events) b = ended_after events (one_more b (Comment text))
 ended_after (Objective terms ∷ events) b = let k = ended_after events (one_more b (Objective terms)) in omega (arith, k)
 ended_after (Constraint linear ∷ events) b = let k = ended_after events (one_more b (Constraint linear)) in omega (arith, k)
 
-value_of : (events : List OpbEvent) (b v : Building) → b.instance ≡ nothing → b.ended ≡ 0 → v ≡ gathered one_more b events → IsValueOf events v.instance
+value_of : (events : List OpbEvent) (b v : InstanceSoFar) → b.instance ≡ nothing → b.ended ≡ 0 → v ≡ gathered one_more b events → IsValueOf events v.instance
 value_of events b v i n e =
     let k = adds events (record { instance = nothing; ended = 0 }) in
     let same : b ≡ record { instance = nothing; ended = 0 } = rw (i, n) refl in
-    let is : v.instance ≡ (gathered one_more (record { instance = nothing; ended = 0 }) events).instance = ap (λ (x : Building). x.instance) (e ∙ ap (λ (x : Building). gathered one_more x events) same) in
+    let is : v.instance ≡ (gathered one_more (record { instance = nothing; ended = 0 }) events).instance = ap (λ (x : InstanceSoFar). x.instance) (e ∙ ap (λ (x : InstanceSoFar). gathered one_more x events) same) in
     record {
       variables = ap (λ (x : Instance). x.variables) is ∙ k.variables;
       tail = ap (λ (x : Instance). x.tail) is ∙ k.tail;
@@ -61,8 +61,8 @@ value_of events b v i n e =
       constraints = ap (λ (x : Instance). x.constraints) is ∙ k.constraints;
     }
 
-module _ (format : List (Item OpbEvent) → Type 0) (longest : ℕ) (b : Building) (i : b.instance ≡ nothing) (n : b.ended ≡ 0) (used : List ℕ) where
-  pub is_read : (m : Spanned Building) → IsWhole format longest one_more b used m → (let r : Spanned Instance = record { event = m.event.instance; first = m.first; past = m.past } in IsRead format longest IsValueOf used r)
+module _ (format : List (Item OpbEvent) → Type 0) (longest : ℕ) (b : InstanceSoFar) (i : b.instance ≡ nothing) (n : b.ended ≡ 0) (used : List ℕ) where
+  pub is_read : (m : Spanned InstanceSoFar) → IsWhole format longest one_more b used m → (let r : Spanned Instance = record { event = m.event.instance; first = m.first; past = m.past } in IsRead format longest IsValueOf used r)
   is_read m w = record {
     marks = w.marks;
     spelled = w.spelled;
@@ -71,7 +71,7 @@ module _ (format : List (Item OpbEvent) → Type 0) (longest : ℕ) (b : Buildin
     past = w.past_is;
   }
 
-  abbrev keeps : Building → OpbEvent → Bool
+  abbrev keeps : InstanceSoFar → OpbEvent → Bool
   keeps c e = asks c.ended e
 
   pub stops_in : (may_ask : List ℕ → ℕ → Type 0) (seen : List ℕ) (s : Stop) → StopsAfter format longest one_more b may_ask keeps used seen s → StopsIn format longest used seen s

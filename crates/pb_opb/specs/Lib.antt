@@ -1,5 +1,5 @@
 pub mod Asking
-pub mod Building
+pub mod Gather
 pub mod Canonical
 pub mod Fields
 pub mod Formats

@@ -1,21 +1,21 @@
 //! Instances in OPB, read one byte at a time and written.
 #![tactic(auto)]
 
-mod building;
+mod gather;
 mod event;
 mod instance;
 pub mod laws;
 mod line;
 mod machine;
 mod phase;
-mod plan;
+mod transition;
 mod read;
-mod rules;
+mod validity;
 mod write;
 
 pub use event::OpbEvent;
 pub use instance::{Comment, Instance};
 pub use machine::OpbMachine;
 pub use read::{read_instance, read_instance_within};
-pub use rules::instance_is_value;
+pub use validity::instance_is_value;
 pub use write::{write_event, write_instance};

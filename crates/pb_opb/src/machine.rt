@@ -7,7 +7,7 @@ ghost use Rattle.pb_opb.specs.State.{phase_owing, owed_after, statement_of};
 use crate::event::OpbEvent;
 use crate::line::line_prefix;
 use crate::phase::{Field, Move, Phase};
-use crate::plan::{is_done, is_within, plan};
+use crate::transition::{is_done, is_within, plan};
 use pb_sums::{Part, Spaces, SumEvent, SumMachine};
 use pb_text::bytes::is_digit;
 use pb_text::{Bytes, Limits, Machine, Push};

@@ -7,11 +7,11 @@ ghost use Rattle.pb_text.specs.Limits.{largest, top_of};
 ghost use Rattle.pb_text.specs.Pulling.{faults_after};
 ghost use Rattle.pb_text.specs.ValueRead.{ReadsValue, GivesValue, WantsMemory};
 ghost use Rattle.pb_opb.specs.Asking.{Asks};
-ghost use Rattle.pb_opb.specs.Building.{MayKeep};
+ghost use Rattle.pb_opb.specs.Gather.{MayKeep};
 ghost use Rattle.pb_opb.specs.Instances.{IsInstance};
 ghost use Rattle.pb_opb.specs.Values.{IsValueOf};
 
-use crate::building::Building;
+use crate::gather::InstanceSoFar;
 use crate::instance::Instance;
 use crate::machine::OpbMachine;
 use pb_text::{BYTE_LIMIT, Limits, Source, Spanned, Stop, read_whole};
@@ -61,7 +61,7 @@ pub fn read_instance_within<S: Source>(
     ensures faults { S.faults input.new ≡ faults_after None result (S.faults input.old) }
 {
     let machine = OpbMachine::new(alloc, limits);
-    match read_whole(input, machine, longest, Building::new(alloc)) {
+    match read_whole(input, machine, longest, InstanceSoFar::new(alloc)) {
         Ok(read) => Ok(Spanned {
             event: read.event.instance,
             first: read.first,

@@ -16,7 +16,7 @@ mod gather;
 
 use crate::machine::ProofMachine;
 use crate::proof::Proof;
-use crate::read::gather::Building;
+use crate::read::gather::ProofSoFar;
 use crate::statement::Statement;
 use pb_text::{BYTE_LIMIT, Limits, Machine, Source, Spanned, Stop, read_whole};
 use std::alloc::Global;
@@ -87,7 +87,7 @@ fn read_by<S: Source, M: Machine<Event = Statement> + Drop>(
     ensures past { IfOk result (λ m. IsInReach m.past) }
     ensures faults { S.faults input.new ≡ faults_after None result (S.faults input.old) }
 {
-    match read_whole(input, machine, longest, Building::new(alloc)) {
+    match read_whole(input, machine, longest, ProofSoFar::new(alloc)) {
         Ok(read) => Ok(Spanned {
             event: read.event.proof,
             first: read.first,

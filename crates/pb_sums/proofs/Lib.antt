@@ -17,5 +17,5 @@ mod Digits
 mod Names
 mod Behind
 mod Shorts
-mod WholeTerms
+mod TermParts
 pub mod Within

@@ -7,4 +7,4 @@ pub mod State
 pub mod Canonical
 pub mod Statements
 pub mod Names
-pub mod WholeTerms
+pub mod TermParts

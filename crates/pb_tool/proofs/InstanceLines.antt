@@ -4,7 +4,7 @@ use Rattle.pb_text.specs.Limits.{largest, top_of}
 use Rattle.pb_text.specs.Spelling.{Item, Letter}
 use Rattle.pb_text.specs.Whole.{gathered, events_of}
 use Rattle.pb_text.specs.declared.Limits.{Limits}
-use Rattle.pb_opb.specs.Building.{MayKeep}
+use Rattle.pb_opb.specs.Gather.{MayKeep}
 use Rattle.pb_opb.specs.Instances.{IsEntry, IsBody, IsBegun, IsInstance}
 use Rattle.pb_opb.specs.Values.{IsValueOf, last_or}
 use Rattle.pb_opb.specs.declared.OpbEvent.{OpbEvent}

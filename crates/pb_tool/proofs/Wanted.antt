@@ -20,7 +20,7 @@ use Rattle.pb_text.specs.declared.Why.{Why}
 use Rattle.pb_text.specs.declared.place.Why.TheVariants as why
 use Rattle.pb_text.specs.ValueRead.{WantsMemory}
 use Rattle.pb_text.proofs.Wholes.{lost_all, whole_stopped}
-use Rattle.pb_opb.specs.Building as opb_keeping
+use Rattle.pb_opb.specs.Gather as opb_keeping
 use Rattle.pb_opb.specs.declared.Instance.{Instance}
 use Rattle.pb_proof.specs.Gather as veri_keeping
 use Rattle.pb_proof.specs.declared.Proof.{Proof}

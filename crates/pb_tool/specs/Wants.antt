@@ -11,7 +11,7 @@ use Rattle.pb_text.specs.declared.Stop.{Stop}
 use Rattle.pb_text.specs.declared.place.Why.TheVariants.{Memory}
 use Rattle.pb_text.specs.ValueRead.{WantsMemory}
 use Rattle.pb_opb.specs.Asking as opb_bytes
-use Rattle.pb_opb.specs.Building as opb_keeping
+use Rattle.pb_opb.specs.Gather as opb_keeping
 use Rattle.pb_opb.specs.declared.Instance.{Instance}
 use Rattle.pb_proof.specs.Asking as veri_bytes
 use Rattle.pb_proof.specs.Gather as veri_keeping

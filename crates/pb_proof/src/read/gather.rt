@@ -10,18 +10,18 @@ use std::alloc::{AllocError, Global};
 
 /// The proof of the statements so far.
 #[derive(Drop)]
-pub struct Building {
+pub struct ProofSoFar {
     pub proof: Proof,
 }
 
-impl Building {
+impl ProofSoFar {
     ghost use Rattle.pb_proof.specs.Gather.{nothing};
 
     /// Before any statement.
     pub fn new(alloc: Global) -> Self
         ensures { result.proof ≡ nothing }
     {
-        Building {
+        ProofSoFar {
             proof: Proof {
                 count: None,
                 steps: Sequence::new(alloc),
@@ -31,7 +31,7 @@ impl Building {
     }
 }
 
-impl Gather for Building {
+impl Gather for ProofSoFar {
     ghost use Rattle.pb_proof.specs.Gather.{with, asks};
 
     type Event = Statement;

@@ -12,12 +12,12 @@ use Rattle.pb_text.specs.ValueRead.{IsRead, StopsIn, Reading, Keeping, WantsIn, 
 use Rattle.pb_text.proofs.Formats as formats
 use Rattle.pb_proof.specs.Gather.{with, asks, MayKeep, nothing}
 use Rattle.pb_proof.specs.Proofs.{IsStep, statements_of, IsProof, IsProofOf}
-use Rattle.pb_proof.specs.declared.read.gather.Building.{Building}
+use Rattle.pb_proof.specs.declared.read.gather.ProofSoFar.{ProofSoFar}
 use Rattle.pb_proof.specs.declared.proof.Proof.{Proof}
 use Rattle.pb_proof.specs.declared.statement.Statement.{Statement}
 use Rattle.pb_proof.specs.declared.statement.Statement.TheVariants.{Header, F, Pol, Rup, Soli, Solx, Delete, Output, Conclude, End}
 
-abbrev pub one_more : Building → Statement → Building
+abbrev pub one_more : ProofSoFar → Statement → ProofSoFar
 one_more b e = record { proof = with b.proof e }
 
 -- the proof with more steps
@@ -46,13 +46,13 @@ steps_behind (s ∷ steps) rest v h =
 proof_gathered : (v : Proof) → All IsStep v.steps → gathered with nothing (statements_of v) ≡ v
 proof_gathered v h = steps_behind v.steps (Output ∷ Conclude v.conclusion ∷ End ∷ []) (record nothing { count = v.count }) h
 
-proof_of : (events : List Statement) (b : Building) → (gathered one_more b events).proof ≡ gathered with b.proof events
+proof_of : (events : List Statement) (b : ProofSoFar) → (gathered one_more b events).proof ≡ gathered with b.proof events
 proof_of [] b = refl
 proof_of (e ∷ events) b = proof_of events (one_more b e)
 
-gathered_is : (events : List Statement) (b c : Building) (v : Proof) → b.proof ≡ nothing → c ≡ gathered one_more b events → All IsStep v.steps → events ≡ statements_of v → c.proof ≡ v
+gathered_is : (events : List Statement) (b c : ProofSoFar) (v : Proof) → b.proof ≡ nothing → c ≡ gathered one_more b events → All IsStep v.steps → events ≡ statements_of v → c.proof ≡ v
 gathered_is events b c v n e h k =
-    ap (λ (x : Building). x.proof) e ∙ (proof_of events b ∙ (ap (λ (x : Proof). gathered with x events) n ∙ (ap (gathered with nothing) k ∙ proof_gathered v h)))
+    ap (λ (x : ProofSoFar). x.proof) e ∙ (proof_of events b ∙ (ap (λ (x : Proof). gathered with x events) n ∙ (ap (gathered with nothing) k ∙ proof_gathered v h)))
 
 module _ (limit top longest : ℕ) (accepted : List (Item Statement) → Type 0) (same : (items : List (Item Statement)) → accepted items ↔ IsProof limit top items) (used : List ℕ) where
   only : (items : List (Item Statement)) → accepted items → IsProof limit top items
@@ -61,10 +61,10 @@ module _ (limit top longest : ℕ) (accepted : List (Item Statement) → Type 0)
   each : (items : List (Item Statement)) → IsProof limit top items → accepted items
   each items h = (same items).1 h
 
-  value_of : (b c : Building) (items : List (Item Statement)) → b.proof ≡ nothing → c ≡ gathered one_more b (events_of items) → IsProof limit top items → IsProofOf (events_of items) c.proof
+  value_of : (b c : ProofSoFar) (items : List (Item Statement)) → b.proof ≡ nothing → c ≡ gathered one_more b (events_of items) → IsProof limit top items → IsProofOf (events_of items) c.proof
   value_of b c items n e (v, (steps, are, first, spelled)) = are ∙ ap statements_of (sym (gathered_is (events_of items) b c v n e steps are))
 
-  pub is_read : (b : Building) → b.proof ≡ nothing → (m : Spanned Building) → IsWhole accepted longest one_more b used m
+  pub is_read : (b : ProofSoFar) → b.proof ≡ nothing → (m : Spanned ProofSoFar) → IsWhole accepted longest one_more b used m
       → (let r : Spanned Proof = record { event = m.event.proof; first = m.first; past = m.past } in IsRead (IsProof limit top) longest IsProofOf used r)
   is_read b n m w = record {
     marks = w.marks;
@@ -74,17 +74,17 @@ module _ (limit top longest : ℕ) (accepted : List (Item Statement) → Type 0)
     past = w.past_is;
   }
 
-  abbrev keeps : Building → Statement → Bool
+  abbrev keeps : ProofSoFar → Statement → Bool
   keeps c e = asks e
 
-  pub stops_in : (b : Building) (may_ask : List ℕ → ℕ → Type 0) (seen : List ℕ) (s : Stop) → StopsAfter accepted longest one_more b may_ask keeps used seen s → StopsIn (IsProof limit top) longest used seen s
+  pub stops_in : (b : ProofSoFar) (may_ask : List ℕ → ℕ → Type 0) (seen : List ℕ) (s : Stop) → StopsAfter accepted longest one_more b may_ask keeps used seen s → StopsIn (IsProof limit top) longest used seen s
   stops_in b may_ask seen s (reading marks r a) = Reading marks (formats.reads accepted (IsProof limit top) only each longest _ used marks s.place _ _ r)
   stops_in b may_ask seen s (keeping u) =
       Keeping (formats.viable accepted (IsProof limit top) only each longest used (unkept_viable accepted longest one_more b may_ask keeps used s u))
       (unkept_place accepted longest one_more b may_ask keeps used s u)
 
   -- a stop for want of memory
-  pub wants_in : (b : Building) (may_ask may_ask' : List ℕ → ℕ → Type 0) → ((c : ℕ) → may_ask used c → may_ask' used c) → (seen : List ℕ) (s : Stop)
+  pub wants_in : (b : ProofSoFar) (may_ask may_ask' : List ℕ → ℕ → Type 0) → ((c : ℕ) → may_ask used c → may_ask' used c) → (seen : List ℕ) (s : Stop)
       → StopsAfter accepted longest one_more b may_ask keeps used seen s → s.why ≡ Memory → WantsIn (IsProof limit top) longest may_ask' MayKeep used seen s
   wants_in b may_ask may_ask' to seen s (reading marks r a) e =
       let k = subst (λ (x : Why). IsAsking accepted longest one_more b may_ask used seen x) e a in

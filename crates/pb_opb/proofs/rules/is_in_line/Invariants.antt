@@ -1,6 +1,0 @@
-use Rattle.std.proofs.Common.{take}
-use Rattle.pb_opb.specs.Instances.{IsInLine}
-use Rattle.pb_opb.proofs.rules.is_in_line.Given as goal
-
-abbrev pub invariant-loop-byte : goal.invariant-loop-byte
-invariant-loop-byte l = IsInLine (take l.byte-index l.bytes)

@@ -1,0 +1,8 @@
+use Rattle.std.proofs.Common.{drop, ◌↔◌}
+use Rattle.pb_text.specs.Limits.{largest}
+use Rattle.pb_opb.specs.Values.{AreLinears}
+use Rattle.pb_opb.proofs.validity.are_linears.Given as goal
+
+-- all are, where the rest are
+abbrev pub invariant-loop-linear : goal.invariant-loop-linear
+invariant-loop-linear l = AreLinears (largest l.limits) l.constraints ↔ AreLinears (largest l.limits) (drop l.linear-index l.constraints)

@@ -1,7 +1,0 @@
-use Rattle.std.proofs.Common.{take}
-use Rattle.pb_text.specs.Limits.{largest}
-use Rattle.pb_sums.specs.Canonical.{AreTerms}
-use Rattle.pb_sums.proofs.rules.sum_is_value.Given as goal
-
-abbrev pub invariant-loop-term : goal.invariant-loop-term
-invariant-loop-term l = AreTerms (largest l.limits) (take l.term-index l.terms)

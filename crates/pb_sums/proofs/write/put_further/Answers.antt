@@ -1,0 +1,18 @@
+use Rattle.std.proofs.Common.{ℕ, List, ◌++◌, ◌∷◌, length, drop, arith, sym, ap, append_assoc, ◌∙◌}
+use Rattle.pb_sums.specs.Canonical.{term_bytes, further_bytes}
+use Rattle.pb_sums.proofs.Written.{further_past, further_from}
+use Rattle.pb_sums.proofs.write.put_further.Goals as goal
+
+pub loop-left-init : goal.loop-left-init
+loop-left-init c = (omega arith, ap (λ (z : List ℕ). z ++ c.args.piece.now) (sym (further_past c.args.terms.now (length c.args.terms.now) (omega arith))))
+
+pub loop-left-preserved : goal.loop-left-preserved
+loop-left-preserved c =
+    let l = c.loop-left in
+    let x = c.index-terms-left.result in (
+      omega arith,
+      c.if-put_further_term.ensures
+          ∙ (ap (λ (z : List ℕ). (32 ∷ term_bytes x) ++ z) l.invariant.1
+          ∙ (sym (append_assoc (32 ∷ term_bytes x) (further_bytes (drop l.left c.args.terms.now)) c.args.piece.now)
+          ∙ ap (λ (z : List ℕ). z ++ c.args.piece.now) (sym (further_from c.args.terms.now l.left x c.loop-left-test.true l.invariant.0 c.index-terms-left.is)))),
+    )

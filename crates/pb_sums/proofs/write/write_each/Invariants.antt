@@ -1,0 +1,7 @@
+use Rattle.std.proofs.Common.{take}
+use Rattle.pb_text.specs.Writing.{Wrote}
+use Rattle.pb_sums.specs.Canonical.{further_bytes}
+use Rattle.pb_sums.proofs.write.write_each.Given as goal
+
+abbrev pub invariant-loop-term : goal.invariant-loop-term
+invariant-loop-term g l = Wrote g.S.Sink.contents g.S.Sink.faults l.initial.out (further_bytes (take l.term-index l.terms)) l.out

@@ -1,9 +1,0 @@
-use Rattle.std.proofs.Common.{◌≡◌, ◌≤◌, ◌++◌, length, drop}
-use Rattle.pb_sums.specs.Canonical.{further_bytes}
-use Rattle.pb_sums.proofs.writing.put_further.Given as goal
-
-abbrev pub invariant-loop-left : goal.invariant-loop-left
-invariant-loop-left l = (l.left ≤ length l.terms) × (l.piece ≡ further_bytes (drop l.left l.terms) ++ l.fn.piece)
-
-abbrev pub decreases-loop-left : goal.decreases-loop-left
-decreases-loop-left l = l.left

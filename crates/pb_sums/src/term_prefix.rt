@@ -1,0 +1,82 @@
+//! Parts of a term at the front of a text.
+
+ghost use Rattle.std.specs.Prelude.{◌≡◌, ◌≢◌, ◌≤◌, ◌<◌, ◌^◌, IfSome, None, get_or, length, take};
+ghost use Rattle.pb_sums.specs.Prefix.{LacksCoefficient, LacksLiteral};
+ghost use Rattle.pb_sums.specs.TermParts.{begins_term, IsTilde, IsCoefficient, IsLiteral};
+
+use crate::name::Name;
+use crate::phase::Phase;
+use crate::prefix::{name_prefix, number_prefix, sign_prefix};
+use crate::values::Literal;
+use pb_text::bytes::is_letter;
+use pb_text::decimal::signed;
+use std::alloc::Global;
+
+/// Whether a term may begin.
+#[inline(always)]
+pub fn begins_term(phase: Phase) -> bool
+    ensures { result ≡ begins_term phase }
+{
+    match phase {
+        Phase::Start | Phase::Between => true,
+        _ => false,
+    }
+}
+
+/// The length of the `~` at the front, and whether there is one.
+#[inline(always)]
+pub fn tilde_prefix(text: &[u8]) -> (usize, bool)
+    ensures bound { result.0 ≤ length text.now }
+    ensures tilde { IsTilde result.1 (take result.0 text.now) }
+    ensures one { result.0 ≤ 1 }
+    ensures none { result.0 ≡ 0 → 0 < length text.now → get_or text.now 0 0 ≢ 126 }
+    ensures some { result.0 ≡ 1 → get_or text.now 0 0 ≡ 126 }
+{
+    if text.is_empty() {
+        return (0, false);
+    }
+    match text[0] {
+        b'~' => (1, true),
+        _ => (0, false),
+    }
+}
+
+/// A coefficient and a space behind it at the front, and their length, where they are soon read.
+#[inline(always)]
+pub fn coefficient_prefix(limit: u128, text: &[u8]) -> Option<(usize, i128)>
+    requires { limit < 2 ^ 127 }
+    ensures bound { IfSome result (λ r. r.0 ≤ length text.now) }
+    ensures runs { IfSome result (λ r. IsCoefficient limit (take r.0 text.now) r.1) }
+    ensures none { result ≡ None → LacksCoefficient limit text.now }
+{
+    let (sign, negative) = sign_prefix(text);
+    let (count, value) = number_prefix(&text[sign..]);
+    let magnitude = value as u128;
+    if count == 0 || magnitude > limit {
+        return None;
+    }
+    let end = sign + count;
+    if end >= text.len() || text[end] != b' ' {
+        return None;
+    }
+    Some((end + 1, signed(negative, magnitude)))
+}
+
+/// A literal at the front, and its length, where it is soon read and there is memory for it.
+#[inline(always)]
+pub fn literal_prefix(alloc: Global, text: &[u8]) -> Option<(usize, Literal)>
+    ensures bound { IfSome result (λ r. r.0 ≤ length text.now) }
+    ensures runs { IfSome result (λ r. IsLiteral (take r.0 text.now) r.1) }
+    ensures none { result ≡ None → LacksLiteral text.now }
+{
+    let (tilde, negated) = tilde_prefix(text);
+    let rest = &text[tilde..];
+    let length = name_prefix(rest);
+    if length < 2 || !is_letter(rest[0]) {
+        return None;
+    }
+    let Ok(name) = Name::from_front(alloc, rest, length) else {
+        return None;
+    };
+    Some((tilde + length, Literal { negated, name }))
+}
