@@ -1,8 +1,8 @@
 -- The laws of the format of proofs.
-use Rattle.std.specs.Prelude.{◌≡◌, ℕ, ◌≤◌, List, [], ◌++◌, ◌↔◌}
+use Rattle.std.specs.Prelude.{ℕ, List, ◌↔◌}
 use Rattle.pb_text.specs.Automaton.{Accepts}
-use Rattle.pb_text.specs.Reading.{HasFixedMarks}
-use Rattle.pb_text.specs.Spelling.{Item, bytes_of}
+use Rattle.pb_text.specs.FormatLaws.{IsOneText, FixesMarks, HasNoFront, Widens}
+use Rattle.pb_text.specs.Spelling.{Item}
 use Rattle.pb_proof.specs.Proofs.{IsProof}
 use Rattle.pb_proof.specs.Machine.State.{proofs, begin}
 use Rattle.pb_proof.specs.declared.statement.Statement.{Statement}
@@ -13,19 +13,16 @@ ReadsProofs = (limit top : ℕ) (items : List (Item Statement)) → Accepts proo
 
 -- A text spells one proof.
 abbrev pub OneProof : Type 0
-OneProof = (limit top : ℕ) (items items' : List (Item Statement)) →
-    IsProof limit top items → IsProof limit top items' → bytes_of items ≡ bytes_of items' → items ≡ items'
+OneProof = IsOneText IsProof
 
 -- In all spellings that begin with a front, the marks that end within it are the same.
 abbrev pub FixedMarks : Type 0
-FixedMarks = (limit top : ℕ) → HasFixedMarks (IsProof limit top)
+FixedMarks = FixesMarks IsProof
 
 -- No proof is a front of another.
 abbrev pub NoFront : Type 0
-NoFront = (limit top : ℕ) (items items' : List (Item Statement)) (more : List ℕ) →
-    IsProof limit top items → IsProof limit top items' → bytes_of items' ≡ bytes_of items ++ more → more ≡ []
+NoFront = HasNoFront IsProof
 
 -- A proof stays one under larger limits.
 abbrev pub LargerLimits : Type 0
-LargerLimits = (limit limit' top top' : ℕ) (items : List (Item Statement)) → limit ≤ limit' → top ≤ top' →
-    IsProof limit top items → IsProof limit' top' items
+LargerLimits = Widens IsProof

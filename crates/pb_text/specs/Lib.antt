@@ -4,6 +4,7 @@ pub mod Blank
 pub mod Classes
 pub mod Events
 pub mod Feeding
+pub mod FormatLaws
 pub mod Kept
 pub mod Languages
 pub mod Limit
