@@ -1,13 +1,12 @@
 -- Statements that are put together one by one have the value that they say.
-use Rattle.std.proofs.Common.{◌≡◌, ℕ, ◌+◌, List, [], ◌∷◌, ◌++◌, map, Bool, IsTrue, refl, sym, ap, ◌∙◌, subst, append_assoc, append-nil, arith}
-use Rattle.pb_text.proofs.Unkept.{unkept_viable, unkept_place}
-use Rattle.pb_text.specs.declared.place.Why.{Why}
+use Rattle.std.proofs.Common.{◌≡◌, ℕ, ◌+◌, List, [], ◌∷◌, ◌++◌, Bool, IsTrue, refl, sym, ap, ◌∙◌, subst, append_assoc, append-nil, arith}
+use Rattle.pb_text.proofs.Unkept as stopped
 use Rattle.pb_text.specs.declared.place.Why.TheVariants.{Memory}
 use Rattle.pb_text.specs.Spelling.{Item}
-use Rattle.pb_text.specs.Whole.{gathered, events_of, IsWhole, StopsAfter, IsAsking, Reading as reading, Keeping as keeping}
+use Rattle.pb_text.specs.Whole.{gathered, events_of, IsWhole, StopsAfter}
 use Rattle.pb_text.specs.declared.Spanned.{Spanned}
 use Rattle.pb_text.specs.declared.Stop.{Stop}
-use Rattle.pb_text.specs.ValueRead.{IsRead, StopsIn, Reading, Keeping, WantsIn, Asking, Ending}
+use Rattle.pb_text.specs.ValueRead.{IsRead, StopsIn, WantsIn}
 use Rattle.pb_opb.specs.Gather.{with, ended_with, asks, counted, MayKeep, nothing}
 use Rattle.pb_opb.specs.Values.{IsValueOf, last_or, variables_in, tails_in, objectives_in, constraints_in, comments_in, comment_at}
 use Rattle.pb_opb.specs.declared.gather.InstanceSoFar.{InstanceSoFar}
@@ -75,17 +74,14 @@ module _ (format : List (Item OpbEvent) → Type 0) (longest : ℕ) (b : Instanc
   keeps c e = asks c.ended e
 
   pub stops_in : (may_ask : List ℕ → ℕ → Type 0) (seen : List ℕ) (s : Stop) → StopsAfter format longest one_more b may_ask keeps used seen s → StopsIn format longest used seen s
-  stops_in may_ask seen s (reading marks r a) = Reading marks r
-  stops_in may_ask seen s (keeping u) =
-      Keeping (unkept_viable format longest one_more b may_ask keeps used s u) (unkept_place format longest one_more b may_ask keeps used s u)
+  stops_in may_ask seen s w = stopped.stops_in format format (λ items h. h) (λ items h. h) longest one_more b may_ask keeps used seen s w
 
   -- a stop for want of memory
   pub wants_in : (may_ask : List ℕ → ℕ → Type 0) (seen : List ℕ) (s : Stop) → StopsAfter format longest one_more b may_ask keeps used seen s → s.why ≡ Memory
       → WantsIn format longest may_ask MayKeep used seen s
-  wants_in may_ask seen s (reading marks r a) e =
-      let k = subst (λ (x : Why). IsAsking format longest one_more b may_ask used seen x) e a in
-      Asking marks r k.0 k.1 k.2 k.3
-  wants_in may_ask seen s (keeping u) e =
-      let events : List OpbEvent = map (λ m. m.event) u.marks in
-      let count : (gathered one_more b events).ended ≡ counted events = let k = ended_after events b in omega (arith, k, n) in
-      Ending u.marks u.last u.done u.reads (subst (λ (k : ℕ). IsTrue (asks k u.last.event)) count u.asking) (ap (λ (t : Stop). t.place) u.stop_is)
+  wants_in may_ask seen s w e = stopped.wants_in format format (λ items h. h) (λ items h. h) longest one_more b may_ask keeps used seen s may_ask (λ c h. h) MayKeep may_keep w e
+    where
+      may_keep : (events : List OpbEvent) (x : OpbEvent) → IsTrue (keeps (gathered one_more b events) x) → MayKeep events x
+      may_keep events x h =
+          let count : (gathered one_more b events).ended ≡ counted events = let k = ended_after events b in omega (arith, k, n) in
+          subst (λ (k : ℕ). IsTrue (asks k x)) count h

@@ -18,7 +18,7 @@ use Rattle.pb_text.proofs.Told.{stands_reads}
 use Rattle.pb_text.proofs.Wholes.{same_front, halted}
 
 -- what was taken before and what was taken now
-took_join : (a b c : Option (List ℕ)) (x y s t : List ℕ) → Took a x s b → Took b y t c → Took a (x ++ y) t c
+pub took_join : (a b c : Option (List ℕ)) (x y s t : List ℕ) → Took a x s b → Took b y t c → Took a (x ++ y) t c
 took_join None b c x y s t h k = tt
 took_join (Some all) b c x y s t h k =
     let now : Took (Some s) y t c = subst (λ (z : Option (List ℕ)). Took z y t c) h.1 k in

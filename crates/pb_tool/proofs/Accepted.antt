@@ -10,6 +10,7 @@ use Rattle.pb_text.specs.Writing.{Wrote, Broke}
 use Rattle.pb_text.specs.declared.Limits.{Limits}
 use Rattle.pb_text.specs.declared.Place.{Place}
 use Rattle.pb_text.specs.declared.Spanned.{Spanned}
+use Rattle.pb_text.proofs.Rows.{took_join}
 use Rattle.pb_proof.specs.declared.Proof.{Proof}
 use Rattle.pb_proof.specs.declared.Statement.{Statement}
 use Rattle.pb_proof.specs.Proofs.{statements_of}
@@ -29,7 +30,6 @@ use Rattle.pb_tool.specs.declared.fault.ToolFault.{ToolFault}
 use Rattle.pb_tool.specs.declared.fault.ToolFault.TheVariants.{Text, Open, Overflow, Memory, Write, Step}
 use Rattle.pb_tool.specs.declared.fault.Input.TheVariants.{File, Instance as of_instance, Proof as of_proof}
 use Rattle.pb_tool.proofs.Checked.{marks_events}
-use Rattle.pb_tool.proofs.Feeds.{took_join}
 use Rattle.pb_tool.proofs.Shown.{after_offset}
 
 -- the name among those from before the statement

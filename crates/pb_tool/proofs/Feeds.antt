@@ -1,6 +1,5 @@
 -- What a canonical spelling ends with.
 use Rattle.std.proofs.Common.{◌≡◌, ℕ, ◌+◌, Bool, true, false, cond, ◌==◌, List, [], ◌∷◌, ◌++◌, length, take, drop, Option, Some, None, refl, sym, ap, ◌∙◌, append_assoc, subst}
-use Rattle.pb_text.specs.Pulling.{Took}
 use Rattle.pb_sums.specs.declared.Term.{Term}
 use Rattle.pb_sums.specs.declared.Linear.{Linear}
 use Rattle.pb_sums.specs.Canonical.{head_bytes}
@@ -92,10 +91,3 @@ tidied_bare v e = ap (λ (b : Bool). cond b (instance_bytes v) (instance_bytes v
 
 pub tidied_more : (v : Instance) → is_bare v.objective v.constraints ≡ false → tidied v ≡ instance_bytes v ++ 10 ∷ []
 tidied_more v e = ap (λ (b : Bool). cond b (instance_bytes v) (instance_bytes v ++ 10 ∷ [])) (ends_bare v ∙ e)
-
--- What was read of a source in two parts.
-pub took_join : (a b c : Option (List ℕ)) (x y s t : List ℕ) → Took a x s b → Took b y t c → Took a (x ++ y) t c
-took_join None b c x y s t h k = tt
-took_join (Some bytes) b c x y s t h k =
-    let now : Took (Some s) y t c = subst (λ (z : Option (List ℕ)). Took z y t c) h.1 k in
-    (h.0 ∙ ap (λ (z : List ℕ). x ++ z) now.0 ∙ sym (append_assoc x y t), now.1)

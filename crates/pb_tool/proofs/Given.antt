@@ -10,6 +10,7 @@ use Rattle.pb_text.specs.declared.Limits.{Limits}
 use Rattle.pb_text.specs.declared.Place.{Place}
 use Rattle.pb_text.specs.declared.Spanned.{Spanned}
 use Rattle.pb_text.specs.declared.Stop.{Stop}
+use Rattle.pb_text.proofs.Rows.{took_join}
 use Rattle.pb_opb.specs.declared.Instance as opb
 use Rattle.pb_tool.specs.Files.{tidied_proof, IsVeri, TidiesProof}
 use Rattle.pb_tool.specs.Given.{OfGiven, ShowsGiven, TidiesGiven}
@@ -23,7 +24,6 @@ use Rattle.pb_tool.specs.declared.fault.ToolFault.{ToolFault}
 use Rattle.pb_tool.specs.declared.fault.ToolFault.TheVariants.{Text, Open, Overflow, Memory, Write, Step}
 use Rattle.pb_tool.specs.declared.fault.Input.TheVariants.{File, Instance, Proof}
 use Rattle.pb_tool.proofs.Chosen.{shows_nothing, tidies_nothing}
-use Rattle.pb_tool.proofs.Feeds.{took_join}
 use Rattle.pb_tool.proofs.Shown.{after_offset}
 
 -- what was given by one call, and then by the next

@@ -12,11 +12,11 @@ use Rattle.pb_text.specs.declared.Stop.{Stop}
 use Rattle.pb_text.specs.declared.Feeder.{Feeder}
 use Rattle.pb_text.specs.declared.Machine.{Ghosts}
 use Rattle.pb_text.specs.Writing.{Wrote}
+use Rattle.pb_text.proofs.Rows.{took_join}
 use Rattle.pb_tool.specs.Show.{shown_line, shown, EndsAt, IsSpelling, IsRefusedAfter, InText, InRest, Shows}
 use Rattle.pb_tool.specs.declared.fault.ToolFault.{ToolFault}
 use Rattle.pb_tool.specs.declared.fault.ToolFault.TheVariants.{Text, Open, Overflow, Memory, Write, Step}
 use Rattle.pb_tool.specs.declared.fault.Input.TheVariants.{File, Instance, Proof}
-use Rattle.pb_tool.proofs.Feeds.{took_join}
 
 pub after_offset : (text : List ℕ) → (place_after text).offset ≡ length text
 unfolding place_after

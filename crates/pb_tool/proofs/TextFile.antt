@@ -1,15 +1,14 @@
 -- A file whose statements are put together as text is one with a value, where the text is what is written for that value.
-use Rattle.std.proofs.Common.{◌≡◌, ◌↔◌, ℕ, List, [], ◌∷◌, ◌++◌, map, Bool, IsTrue, Option, None, Result, Err, refl, sym, ap, ◌∙◌, subst}
+use Rattle.std.proofs.Common.{◌≡◌, ◌↔◌, ℕ, List, Bool, IsTrue, Option, Result, Err, refl, sym, ap, ◌∙◌, subst}
 use Rattle.pb_text.specs.Blank.{IsStray}
 use Rattle.pb_text.specs.Spelling.{Item}
-use Rattle.pb_text.specs.Whole.{gathered, events_of, IsWhole, IsAsking, StopsAfter, ReadsWhole, Reading as reading, Keeping as keeping}
+use Rattle.pb_text.specs.Whole.{gathered, events_of, IsWhole, ReadsWhole}
 use Rattle.pb_text.specs.declared.Spanned.{Spanned}
 use Rattle.pb_text.specs.declared.Stop.{Stop}
 use Rattle.pb_text.specs.declared.Why.{Why}
-use Rattle.pb_text.specs.declared.place.Why.TheVariants.{Memory}
-use Rattle.pb_text.specs.ValueRead.{IsRead, StopsIn, ReadsValue, WantsMemory, WantsIn, Reading, Keeping, Asking, Ending}
+use Rattle.pb_text.specs.ValueRead.{IsRead, ReadsValue, WantsMemory}
 use Rattle.pb_text.proofs.Formats as formats
-use Rattle.pb_text.proofs.Unkept.{unkept_viable, unkept_place}
+use Rattle.pb_text.proofs.Unkept.{stops_in, wants_in}
 use Rattle.pb_tool.specs.Tidy.{IsFile, IsRefused, TidiesAs}
 use Rattle.pb_tool.specs.Tidy.IsRefused.{InText, InRest}
 use Rattle.pb_tool.specs.Wants.{IfStopped}
@@ -39,14 +38,8 @@ module _ {E T V : Type 0} (accepted format : List (Item E) → Type 0) (same : (
       (v, record { used = f.used; rest = f.rest; took = f.took; read = valued v f.read; spelled = is; blank = f.blank; within = f.within; value = refl }, sym (ap text_of f.value) ∙ text)
 
   module _ (may_ask : List ℕ → ℕ → Type 0) (keeps : T → E → Bool) where
-    stops_as : (used seen : List ℕ) (s : Stop) → StopsAfter accepted longest with empty may_ask keeps used seen s → StopsIn format longest used seen s
-    stops_as used seen s (reading marks r a) = Reading marks (formats.reads accepted format only each longest _ used marks s.place _ _ r)
-    stops_as used seen s (keeping u) =
-        Keeping (formats.viable accepted format only each longest used (unkept_viable accepted longest with empty may_ask keeps used s u))
-        (unkept_place accepted longest with empty may_ask keeps used s u)
-
     refused_as : (before after : Option (List ℕ)) (s : Stop) → IsRefused (ReadsWhole accepted longest with empty may_ask keeps) before after s → IsRefused (ReadsValue format longest IsValue) before after s
-    refused_as before after s (InText (used, seen, took, w)) = InText (used, seen, took, stops_as used seen s w)
+    refused_as before after s (InText (used, seen, took, w)) = InText (used, seen, took, stops_in accepted format only each longest with empty may_ask keeps used seen s w)
     refused_as before after s (InRest m mid (used, seen, took, w) blank) =
         let (v, is, text) = read_as used m w in
         InRest (valued v m) mid (used, seen, took, is) blank
@@ -61,16 +54,8 @@ module _ {E T V : Type 0} (accepted format : List (Item E) → Type 0) (same : (
     -- where memory ran out
     module _ (MayAsk : List ℕ → ℕ → Type 0) (to : (used : List ℕ) (b : ℕ) → may_ask used b → MayAsk used b) (MayKeep : List E → E → Type 0)
         (may_keep : (events : List E) (e : E) → IsTrue (keeps (gathered with empty events) e) → MayKeep events e) where
-      wants_as : (used seen : List ℕ) (s : Stop) → StopsAfter accepted longest with empty may_ask keeps used seen s → s.why ≡ Memory → WantsIn format longest MayAsk MayKeep used seen s
-      wants_as used seen s (reading marks r a) e =
-          let k = subst (λ (x : Why). IsAsking accepted longest with empty may_ask used seen x) e a in
-          Asking marks (formats.reads accepted format only each longest _ used marks s.place _ _ r) k.0 k.1 k.2 (to used k.0 k.3)
-      wants_as used seen s (keeping u) e =
-          Ending u.marks u.last u.done (formats.reads accepted format only each longest used used (u.marks ++ u.last ∷ []) u.last.past u.done None u.reads)
-          (may_keep (map (λ m. m.event) u.marks) u.last.event u.asking) (ap (λ (t : Stop). t.place) u.stop_is)
-
       refused_wants : (before after : Option (List ℕ)) (s : Stop) → IsRefused (ReadsWhole accepted longest with empty may_ask keeps) before after s → WantsMemory format longest MayAsk MayKeep {V = V} before (Err s) after
-      refused_wants before after s (InText (used, seen, took, w)) = λ e. (used, seen, took, wants_as used seen s w e)
+      refused_wants before after s (InText (used, seen, took, w)) = λ e. (used, seen, took, wants_in accepted format only each longest with empty may_ask keeps used seen s MayAsk (to used) MayKeep may_keep w e)
       refused_wants before after s (InRest m mid r (rest, more, took, blank, place, stray)) = λ e. absurd (subst (λ (w : Why). IsStray m.past rest more w) e stray)
 
       pub wants_value : {W : Type 0} (contents : W → Option (List ℕ)) (faults : W → ℕ) (before : Option (List ℕ)) (old : W) (result : Result (Unit {0}) ToolFault) (after : Option (List ℕ)) (new : W)

@@ -1,14 +1,13 @@
 -- Statements of a proof that are put together one by one are that proof.
-use Rattle.std.proofs.Common.{◌≡◌, ◌↔◌, ℕ, List, [], ◌∷◌, ◌++◌, Bool, None, refl, sym, ap, ◌∙◌, subst, append_assoc, append-nil, All}
-use Rattle.pb_text.proofs.Unkept.{unkept_viable, unkept_place}
-use Rattle.pb_text.specs.declared.place.Why.{Why}
+use Rattle.std.proofs.Common.{◌≡◌, ◌↔◌, ℕ, List, [], ◌∷◌, ◌++◌, Bool, refl, sym, ap, ◌∙◌, append_assoc, append-nil, All}
+use Rattle.pb_text.proofs.Unkept as stopped
 use Rattle.pb_text.specs.declared.place.Why.TheVariants.{Memory}
 use Rattle.std.proofs.lemmas.List.Elements.{All-head, All-tail}
 use Rattle.pb_text.specs.Spelling.{Item}
-use Rattle.pb_text.specs.Whole.{gathered, events_of, IsWhole, StopsAfter, IsAsking, Reading as reading, Keeping as keeping}
+use Rattle.pb_text.specs.Whole.{gathered, events_of, IsWhole, StopsAfter}
 use Rattle.pb_text.specs.declared.Spanned.{Spanned}
 use Rattle.pb_text.specs.declared.Stop.{Stop}
-use Rattle.pb_text.specs.ValueRead.{IsRead, StopsIn, Reading, Keeping, WantsIn, Asking, Ending}
+use Rattle.pb_text.specs.ValueRead.{IsRead, StopsIn, WantsIn}
 use Rattle.pb_text.proofs.Formats as formats
 use Rattle.pb_proof.specs.Gather.{with, asks, MayKeep, nothing}
 use Rattle.pb_proof.specs.Proofs.{IsStep, statements_of, IsProof, IsProofOf}
@@ -78,17 +77,9 @@ module _ (limit top longest : ℕ) (accepted : List (Item Statement) → Type 0)
   keeps c e = asks e
 
   pub stops_in : (b : ProofSoFar) (may_ask : List ℕ → ℕ → Type 0) (seen : List ℕ) (s : Stop) → StopsAfter accepted longest one_more b may_ask keeps used seen s → StopsIn (IsProof limit top) longest used seen s
-  stops_in b may_ask seen s (reading marks r a) = Reading marks (formats.reads accepted (IsProof limit top) only each longest _ used marks s.place _ _ r)
-  stops_in b may_ask seen s (keeping u) =
-      Keeping (formats.viable accepted (IsProof limit top) only each longest used (unkept_viable accepted longest one_more b may_ask keeps used s u))
-      (unkept_place accepted longest one_more b may_ask keeps used s u)
+  stops_in b may_ask seen s w = stopped.stops_in accepted (IsProof limit top) only each longest one_more b may_ask keeps used seen s w
 
   -- a stop for want of memory
   pub wants_in : (b : ProofSoFar) (may_ask may_ask' : List ℕ → ℕ → Type 0) → ((c : ℕ) → may_ask used c → may_ask' used c) → (seen : List ℕ) (s : Stop)
       → StopsAfter accepted longest one_more b may_ask keeps used seen s → s.why ≡ Memory → WantsIn (IsProof limit top) longest may_ask' MayKeep used seen s
-  wants_in b may_ask may_ask' to seen s (reading marks r a) e =
-      let k = subst (λ (x : Why). IsAsking accepted longest one_more b may_ask used seen x) e a in
-      Asking marks (formats.reads accepted (IsProof limit top) only each longest _ used marks s.place _ _ r) k.0 k.1 k.2 (to k.0 k.3)
-  wants_in b may_ask may_ask' to seen s (keeping u) e =
-      Ending u.marks u.last u.done (formats.reads accepted (IsProof limit top) only each longest used used (u.marks ++ u.last ∷ []) u.last.past u.done None u.reads)
-      u.asking (ap (λ (t : Stop). t.place) u.stop_is)
+  wants_in b may_ask may_ask' to seen s w e = stopped.wants_in accepted (IsProof limit top) only each longest one_more b may_ask keeps used seen s may_ask' to MayKeep (λ events x h. h) w e
