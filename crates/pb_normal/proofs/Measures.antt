@@ -13,10 +13,6 @@ SumMeasures-from f g c k =
     let s = IsSum-from f g k.0 c k.1 k.2 in
     (_, s, omega (arith, size-Adds f.terms g.terms k.0 c k.2), refl)
 
-pub SumPasses-measured : (limit : ℕ) (f g : Form) (s d : ℕ) → SumMeasures f g s d → (limit < s) ⊎ (limit < d) → SumPasses limit f g
-SumPasses-measured limit f g s d m h =
-    (m.0, m.1, elim h [ inl p ↦ inl (omega (arith, m.2)) | inr p ↦ inr (omega (arith, m.3)) ])
-
 pub SumPasses-not : (limit : ℕ) (f g : Form) (s d : ℕ) → SumMeasures f g s d → s ≤ limit → d ≤ limit → SumPasses limit f g → ⊥
 SumPasses-not limit f g s d m p q w =
     let same = IsSum-unique f g _ _ m.1 w.1 in

@@ -39,10 +39,6 @@ pub All-multiplied : (k m : ℕ) (ts : List Entry) → total each ts * k ≤ m �
 All-multiplied k m ts le i d lt =
     omega (arith, mul-le-mul_left k (total-read ts i d (get_or ts i d) lt refl))
 
--- each coefficient is within a limit that the total is within
-pub All-within : (limit : ℕ) (ts : List Entry) → total each ts ≤ limit → All (λ t. t.coefficient ≤ limit) ts
-All-within limit ts le i d lt = omega (arith, total-read ts i d (get_or ts i d) lt refl)
-
 pub Holds-multiplied : (a : ℕ → Bool) (k : ℕ) (f : Form) → Holds a f → Holds a (multiplied k f)
 Holds-multiplied a k f h = omega (arith, total-multiplied (true_at a) k f.terms, mul-le-mul_left k h)
 

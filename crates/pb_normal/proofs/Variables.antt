@@ -57,10 +57,6 @@ share_of_one false false true true c h = omega arith
 share_of_one false false false true c h = omega arith
 share_of_one b0 b1 n false c h = absurd cc
 
-cond_same : (b : Bool) (x y : Bool) → (cond b x x) ≡ x
-cond_same true x y = refl
-cond_same false x y = refl
-
 at_sign : (f : Bool → Bool) (n : Bool) → cond n (f true) (f false) ≡ f n
 at_sign f true = refl
 at_sign f false = refl

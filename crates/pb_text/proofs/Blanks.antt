@@ -10,9 +10,6 @@ use Rattle.pb_text.specs.declared.place.Place.{Place}
 pub in_comment-snoc : (text : List ℕ) (b : ℕ) → in_comment (text ++ b ∷ []) ≡ (not (nat_eq b 10) && (nat_eq b 42 || in_comment text))
 in_comment-snoc text b = ap has_star (reverse-append text (b ∷ []))
 
-IsBlank-nil : IsBlank []
-IsBlank-nil i h = absurd (omega arith)
-
 -- a blank text with a byte more that passes
 pub IsBlank-snoc : (text : List ℕ) (b : ℕ) → IsBlank text → IsTrue (passes text b) → IsBlank (text ++ b ∷ [])
 IsBlank-snoc text b blank h i lt = below_more (λ (k : ℕ). IsTrue (passes (take k (text ++ b ∷ [])) (get_or (text ++ b ∷ []) k 0))) (length text) before last i (omega (arith, length-append text (b ∷ [])))

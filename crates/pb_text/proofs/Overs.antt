@@ -43,9 +43,6 @@ shows_end : (rest now : Option (List ℕ)) (limit limit' shown : Option ℕ) →
     → HaveEnded (told rest limit shown) × Keeps (told rest limit shown) now
 shows_end rest now limit limit' shown h = (told_ended rest limit shown h.0, told_kept rest now limit shown h.1)
 
-shows_failed : (rest now : Option (List ℕ)) (limit shown : Option ℕ) → Keeps rest now → Keeps (told rest limit shown) now
-shows_failed rest now limit shown h = told_kept rest now limit shown h
-
 -- what was shown is a look at a source
 pub peeks : {T : Type 0} (remaining : T → Option (List ℕ)) (limit : T → Option ℕ) (old : Over T) (inner : T) (shown : Option ℕ) → Shows (remaining old.inner) (Ok shown) (remaining inner) (limit inner)
     → Peeks (λ o. told (remaining o.inner) (limit o.inner) o.shown) (λ o. o.shown) (λ o. o.history.bytes) (λ o. o.failures) old (Ok shown) (record { inner = inner; shown = shown; failures = old.failures; history = old.history })

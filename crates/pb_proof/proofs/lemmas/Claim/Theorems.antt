@@ -187,10 +187,5 @@ claim_reads limit top text e after = (
   (λ h. subst (λ x. Reads claim_automaton (claim_first limit top) text e x) (sym h.1) (claim_each limit top e text h.0)),
 )
 
--- Each state in order that has not ended reads some text.
-pub claim_goes_on : (s : ClaimState) → IsClaimInOrder s → claim_automaton.done s ≡ false
-    → (text : List Letter) × (e : Conclusion) × (after : ClaimState) × Reads claim_automaton s text e after
-claim_goes_on s h d = goes_on s h d
-
 pub claim_is_state : (s : ClaimState) → IsClaimInOrder s → IsState claim_automaton s
 claim_is_state s h = is_state claim_automaton IsClaimInOrder last claim_of_one s h (λ i. nothing_spent s s.phase i)

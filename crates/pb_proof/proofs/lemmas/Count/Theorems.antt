@@ -126,9 +126,5 @@ count_reads limit top text e after = (
   (λ h. subst (λ x. Reads count_automaton (counting top) text e x) (sym h.1) (reads_each limit top e text h.0)),
 )
 
--- Each state that has not ended reads some text.
-pub count_goes_on : (s : CountState) → count_automaton.done s ≡ false → (text : List Letter) × (e : Option ℕ) × (after : CountState) × Reads count_automaton s text e after
-count_goes_on s h = some_text s.top s.phase h
-
 pub count_is_state : (s : CountState) → IsCountInOrder s → IsState count_automaton s
 count_is_state s h = is_state count_automaton IsCountInOrder last count_of_one s h (λ i. refl)

@@ -191,10 +191,5 @@ ids_reads limit top text e after = (
   (λ h. subst (λ x. Reads ids_automaton (ids_first top) text e x) (sym h.1) (reads_each limit top e text h.0)),
 )
 
--- Each state in order that has not ended reads some text.
-pub ids_goes_on : (s : IdsState) → IsIdsInOrder s → ids_automaton.done s ≡ false
-    → (text : List Letter) × (e : List ℤ) × (after : IdsState) × Reads ids_automaton s text e after
-ids_goes_on s g h = some_text s.top g.1 s.ids s.phase h
-
 pub ids_is_state : (s : IdsState) → IsIdsInOrder s → IsState ids_automaton s
 ids_is_state s g = is_state ids_automaton IsIdsInOrder last ids_of_one s g (λ i. ap length (g.3 i))

@@ -206,11 +206,6 @@ literals_reads joined text e after = (
   (λ h. subst (λ x. Reads literals_automaton (literals_first joined) text e x) (sym h.1) (reads_each joined e text h.0)),
 )
 
--- Each state that has not ended reads some text.
-pub literals_goes_on : (s : LiteralsState) → literals_automaton.done s ≡ false
-    → (text : List Letter) × (e : List Literal) × (after : LiteralsState) × Reads literals_automaton s text e after
-literals_goes_on s h = some_text s.joined s.phase s.literals s.name h
-
 pub literals_is_state : (s : LiteralsState) → IsLiteralsInOrder s → IsState literals_automaton s
 literals_is_state s h = is_state literals_automaton IsLiteralsInOrder last literals_of_one s h (λ i. empty s.joined s.phase s.literals s.name i h)
   where

@@ -21,15 +21,6 @@ pol_reads limit top text e after = (one, λ h. subst (λ x. Reads pol_automaton 
         let f : after ≡ pol_last limit top = reads_last pol_automaton HasIds last_of of_one text (pol_first limit top) e after r in
         (subst (λ x. SpellsWords x.limit x.top e text) f (reads_only limit top text e after r), f)
 
--- Behind an event a machine has ended, whatever state it was in.
-pub pol_ends : (s after : PolState) (text : List Letter) (e : List PolWord) → Reads pol_automaton s text e after → after ≡ pol_with s finished
-pol_ends s after text e r = reads_last pol_automaton HasIds last_of of_one text s e after r
-
--- Each state that has not ended reads a text.
-pub pol_goes_on : (s : PolState) → IsPolInOrder s → pol_automaton.done s ≡ false
-    → (text : List Letter) × (e : List PolWord) × (after : PolState) × Reads pol_automaton s text e after
-pol_goes_on s h i = of_one.goes_on s h.0 i
-
 -- A state in order is one of a machine.
 pub pol_is_state : (s : PolState) → IsPolInOrder s → IsState pol_automaton s
 pol_is_state s h = is_state pol_automaton HasIds last_of of_one s h.0 (empties s h)
@@ -41,6 +32,3 @@ pol_admits s b n h e f = admits pol_automaton HasIds last_of of_one s b n h.0 e 
 -- The first state is in order, and the one behind a byte.
 pub pol_first_in_order : (limit top : ℕ) → 0 < top → IsPolInOrder (pol_first limit top)
 pol_first_in_order limit top h = (h, λ i. (refl, refl))
-
-pub pol_keeps_order : (s next : PolState) (b : ℕ) → IsPolInOrder s → pol_automaton.step s b ≡ Go next → IsPolInOrder next
-pol_keeps_order s next b h e = keeps_order s next b h e

@@ -285,9 +285,6 @@ give_order s h b inner e g state = record {
 pub tail_order : (s : RupState) (b : ℕ) (e : SumEvent) (inner : SumState) → sums.step s.sums b ≡ End e inner → IsState sums inner → IsRupInOrder (record { phase = Tail; sums = inner; linear = Some (linear_of e) })
 tail_order s b e inner g state = record { holds = ((linear_of e, refl), ended_empty s.sums inner b e g); state = state }
 
-pub done_order : (s : RupState) → IsRupInOrder s → (b : ℕ) → rup_plan s.phase b ≡ Finish → IsRupInOrder (record s { phase = Done; linear = None })
-done_order s h b e = record { holds = (refl, finish_empty s s.phase b h.holds e); state = h.state }
-
 -- where bytes are given the numbers are those of the machine of sums
 given_number : (s : RupState) (p : RupPhase) (b : ℕ) → RupHolds s p → rup_plan p b ≡ Give → rup_in_number s p ≡ sums.in_number s.sums
 given_number s Inside b h e = refl
@@ -319,7 +316,3 @@ module _ (s : RupState) (h : IsRupInOrder s) (b : ℕ) (planned : rup_plan s.pha
 
   pub give_admits : IsTrue (sums.asks s.sums b) → Admits sums s.sums b → IsTrue (rup_automaton.asks s b) × Admits rup_automaton s b
   give_admits asking a = (subst (λ (m : RupMove). IsTrue (rup_asks s b m)) (sym planned) asking, by_step (sums.step s.sums b) refl a)
-
--- Each state in order that has not ended reads some text.
-pub rup_goes_on : (s : RupState) → IsRupInOrder s → rup_automaton.done s ≡ false → ReadsOn rup_automaton s
-rup_goes_on s h d = reads_on rup_automaton rup_begins s (rup_is_state s h) d
