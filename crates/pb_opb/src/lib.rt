@@ -1,15 +1,15 @@
 //! Instances in OPB, read one byte at a time and written.
 #![tactic(auto)]
 
-mod gather;
 mod event;
+mod gather;
 mod instance;
 pub mod laws;
 mod line;
 mod machine;
 mod phase;
-mod transition;
 mod read;
+mod transition;
 mod validity;
 mod write;
 

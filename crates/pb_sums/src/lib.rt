@@ -8,12 +8,12 @@ mod machine;
 mod name;
 mod phase;
 mod piece;
-mod transition;
 mod prefix;
-mod validity;
 mod short;
-mod values;
 mod term_prefix;
+mod transition;
+mod validity;
+mod values;
 mod write;
 
 pub use grammar::{Part, Spaces};

@@ -12,13 +12,13 @@ use crate::classes::kind;
 use crate::grammar::{Part, Spaces};
 use crate::name::Name;
 use crate::phase::{Move, Phase};
+use crate::prefix::{name_prefix, number_prefix, sign_prefix};
+use crate::term_prefix::{begins_term, coefficient_prefix, literal_prefix};
 use crate::transition::{
     begins_number, behind_name, behind_space, in_hand, is_done, is_in_number, is_more, is_numeric,
     plan, role,
 };
-use crate::prefix::{name_prefix, number_prefix, sign_prefix};
 use crate::values::{Linear, Literal, SumEvent, Term};
-use crate::term_prefix::{begins_term, coefficient_prefix, literal_prefix};
 use pb_text::bytes::{is_digit, is_letter, is_name_byte};
 use pb_text::{Limits, Machine, Push, Sequence};
 use std::alloc::{AllocError, Global};
