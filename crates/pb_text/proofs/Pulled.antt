@@ -1,13 +1,8 @@
 -- What a pull leaves of its source.
-use Rattle.std.proofs.Common.{◌≡◌, ◌≢◌, ℕ, List, [], ◌∷◌, ◌++◌, Option, Some, None, refl, sym, ap, ◌∙◌, append_assoc, subst, ◌+◌, length, length-append, arith}
+use Rattle.std.proofs.Common.{◌≡◌, ◌≢◌, ℕ, List, [], ◌∷◌, ◌++◌, Option, Some, None, refl, sym, ap, ◌∙◌, append_assoc, subst}
 use Rattle.std.specs.Io.KnownBytes.{Keeps, Consumes}
 use Rattle.pb_text.specs.Source.{StartWith, HaveEnded, LosesFirst, Lost}
-use Rattle.pb_text.specs.Feeding.{StandsAt, place_of}
-use Rattle.pb_text.specs.Pouring.{Pours}
 use Rattle.pb_text.specs.Pulling.{Took, faults_with}
-use Rattle.pb_text.specs.declared.feeder.Feeder.{Feeder}
-use Rattle.pb_text.specs.declared.machine.Machine.{Ghosts}
-use Rattle.pb_text.specs.declared.place.Spanned.{Spanned}
 use Rattle.pb_text.specs.declared.place.Why.{Why}
 use Rattle.pb_text.specs.declared.place.Why.TheVariants.{Byte, TooLarge, Ended, TooLong, Read, Memory}
 
@@ -94,22 +89,6 @@ faults_with_other Ended n h = refl
 faults_with_other TooLong n h = refl
 faults_with_other Read n h = absurd (h refl)
 faults_with_other Memory n h = refl
-
--- What a feeder was given of a source since a call of pull began.
-abbrev pub Given : {M E : Type 0} {g : Ghosts M E} → ℕ → M → List ℕ → List (Spanned E) → Feeder M E g → Option (List ℕ) → Feeder M E g → Option (List ℕ) → List ℕ → List ℕ → Type 0
-Given longest start input marks first before f now given given' =
-    (taken : List ℕ) × Lost before taken now × ((place_of f).offset ≡ (place_of first).offset + length taken) × StandsAt longest start (input ++ taken) marks f × (given' ≡ given ++ taken)
-
--- and what was poured behind it
-pub given_more : {M E : Type 0} {g : Ghosts M E} (longest : ℕ) (start : M) (input : List ℕ) (marks : List (Spanned E)) (first old new : Feeder M E g) (before now last : Option (List ℕ)) (given mid given' : List ℕ)
-    → Given longest start input marks first before old now given mid → Pours old now mid new last given' → Given longest start input marks first before new last given given'
-given_more longest start input marks first old new before now last given mid given' (taken, lost, offset, stands, are) p = (
-  taken ++ p.taken,
-  lost_both before now last taken p.taken lost p.lost,
-  omega (arith, offset, p.offset_is, length-append taken p.taken),
-  subst (λ (x : List ℕ). StandsAt longest start x marks new) (append_assoc input taken p.taken) (p.stands longest start (input ++ taken) marks stands),
-  p.given_are ∙ (ap (λ (x : List ℕ). x ++ p.taken) are ∙ append_assoc given taken p.taken),
-)
 
 -- what the calls have given, with one byte more
 pub given_byte : (given taken mid shown last : List ℕ) (b : ℕ) → mid ≡ given ++ taken → shown ≡ mid → last ≡ shown ++ b ∷ [] → last ≡ given ++ (taken ++ b ∷ [])

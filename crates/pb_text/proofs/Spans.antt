@@ -1,5 +1,6 @@
 -- Runs, one after another. Offered to other crates.
-use Rattle.std.proofs.Common.{◌≡◌, ℕ, ◌+◌, ◌-◌, List, [], ◌∷◌, ◌++◌, take, drop, length, sym, ap, subst, ◌∙◌, length-drop}
+use Rattle.std.proofs.Common.{◌≡◌, ℕ, ◌+◌, ◌-◌, List, [], ◌∷◌, ◌++◌, take, drop, length, sym, ap, subst, ◌∙◌, ◌<◌, get_or, append_assoc, length-drop}
+use Rattle.std.proofs.lemmas.List.{take_more}
 use Rattle.std.proofs.Math.Seq.{take-add, take-length}
 use Rattle.pb_text.specs.Automaton.{Automaton, Runs}
 
@@ -8,6 +9,10 @@ pub front_parts : (piece : List ℕ) (i j : ℕ) → take (i + j) piece ≡ take
 front_parts piece i j =
     let all : take (length piece - i) (drop i piece) ≡ drop i piece = ap (λ n. take n (drop i piece)) (sym (length-drop i piece)) ∙ take-length (drop i piece) in
     take-add i j piece ∙ ap (λ (xs : List ℕ). take i piece ++ take j xs) (sym all)
+
+-- the bytes of a piece so far, and the next one
+pub one_further : (input piece : List ℕ) (i : ℕ) → i < length piece → (input ++ take i piece) ++ get_or piece i 0 ∷ [] ≡ input ++ take (i + 1) piece
+one_further input piece i h = append_assoc input (take i piece) (get_or piece i 0 ∷ []) ∙ ap (λ (x : List ℕ). input ++ x) (sym (take_more piece i 0 h))
 
 module _ {S E : Type 0} (m : Automaton S E) where
   -- a run and then another

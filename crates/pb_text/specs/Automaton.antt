@@ -83,6 +83,11 @@ module _ {S E : Type 0} (m : Automaton S E) where
   Goes old b true new = m.step old b ≡ Go new
   Goes old b false new = new ≡ old
 
+  -- The machine ended a statement with the byte, or nothing changes.
+  abbrev pub Closes : S → ℕ → Option E → S → Type 0
+  Closes old b (Some e) new = m.step old b ≡ End e new
+  Closes old b None new = new ≡ old
+
   -- Bytes lead from old to new, and the machine goes on after each.
   abbrev pub Runs : S → List ℕ → S → Type 0
   Runs old [] new = new ≡ old

@@ -1,16 +1,23 @@
 -- What is poured from a source into a feeder.
-use Rattle.std.specs.Prelude.{◌≡◌, ◌+◌, ℕ, List, ◌++◌, length, Option}
+use Rattle.std.specs.Prelude.{◌≡◌, ◌+◌, ◌<◌, ℕ, List, ◌++◌, length, Option, Some, None, Result, Ok, Err}
 use Rattle.pb_text.specs.Source.{Lost}
-use Rattle.pb_text.specs.Feeding.{StandsAt, place_of}
+use Rattle.pb_text.specs.Feeding.{StandsAt, marks_in, place_of}
 use Rattle.pb_text.specs.declared.place.Spanned.{Spanned}
 use Rattle.pb_text.specs.declared.feeder.Feeder.{Feeder}
 use Rattle.pb_text.specs.declared.machine.Machine.{Ghosts}
 
--- The feeder was given these bytes, which the source has lost and its calls have given, and none of them ends a
--- statement.
-pub record Pours {M E : Type 0} {g : Ghosts M E} (old : Feeder M E g) (before : Option (List ℕ)) (given : List ℕ) (new : Feeder M E g) (after : Option (List ℕ)) (given' : List ℕ) : Type 0 where
+-- the event that a call brought, if it brought one
+abbrev pub brought : {E F : Type 0} → Result (Option (Spanned E)) F → Option (Spanned E)
+brought (Ok event) = event
+brought (Err e) = None
+
+-- The feeder was given these bytes, which the source has lost and its calls have given. Where an event came it ends with the
+-- last of them, and else none does.
+pub record Pours {M E : Type 0} {g : Ghosts M E} (old : Feeder M E g) (before : Option (List ℕ)) (given : List ℕ) (event : Option (Spanned E)) (new : Feeder M E g) (after : Option (List ℕ)) (given' : List ℕ) : Type 0 where
   pub taken : List ℕ
   pub lost : Lost before taken after
   pub given_are : given' ≡ given ++ taken
   pub offset_is : (place_of new).offset ≡ (place_of old).offset + length taken
-  pub stands : (longest : ℕ) (start : M) (input : List ℕ) (marks : List (Spanned E)) → StandsAt longest start input marks old → StandsAt longest start (input ++ taken) marks new
+  pub stands : (longest : ℕ) (start : M) (input : List ℕ) (marks : List (Spanned E)) → StandsAt longest start input marks old → StandsAt longest start (input ++ taken) (marks ++ marks_in event) new
+  pub some : (e : Spanned E) → event ≡ Some e → 0 < length taken
+  pub past : (e : Spanned E) → event ≡ Some e → e.past ≡ place_of new

@@ -34,6 +34,20 @@ pub record Pulls {M E : Type 0} {g : Ghosts M E} (longest : ℕ) (start : M) (in
   pub offset_is : new.place.offset ≡ old.place.offset + length taken
   pub stands : StandsAt longest start (input ++ input_pulled result taken seen) (marks ++ marks_pulled result) new
 
+-- the input that a part of a pull has dealt with: what it took, and where it stopped also what it saw
+abbrev pub input_drawn : {E : Type 0} → Result (Option (Spanned E)) Stop → List ℕ → List ℕ → List ℕ
+input_drawn (Ok m) taken seen = taken
+input_drawn (Err s) taken seen = taken ++ seen
+
+-- The same of a part of a pull, which has not ended where it answers no event.
+pub record Draws {M E : Type 0} {g : Ghosts M E} (old : Feeder M E g) (before : Option (List ℕ)) (given : List ℕ) (result : Result (Option (Spanned E)) Stop) (new : Feeder M E g) (after : Option (List ℕ)) (given' : List ℕ) : Type 0 where
+  pub taken : List ℕ
+  pub seen : List ℕ
+  pub took : Took before taken seen after
+  pub given_are : given' ≡ given ++ taken
+  pub offset_is : new.place.offset ≡ old.place.offset + length taken
+  pub stands : (longest : ℕ) (start : M) (input : List ℕ) (marks : List (Spanned E)) → StandsAt longest start input marks old → StandsAt longest start (input ++ input_drawn result taken seen) (marks ++ marks_pulled result) new
+
 -- how often a reader has failed after a call that stopped so
 abbrev pub faults_with : Why → ℕ → ℕ
 faults_with Read n = one_more n

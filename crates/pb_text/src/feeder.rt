@@ -1,7 +1,8 @@
 //! Takes a text in pieces.
 
-ghost use Rattle.std.specs.Prelude.{true, false, ◌≡◌, ◌≢◌, ℕ, Some, None, Ok, Err, ◌+◌, ◌-◌, ◌^◌, ◌<◌, ◌≤◌, List, [], ◌∷◌, ◌++◌, take, if◌then◌else◌, OnOk, OnErr, IfOk, IfErr, length, slice_get};
+ghost use Rattle.std.specs.Prelude.{true, false, ◌≡◌, ◌≢◌, ℕ, Some, None, Ok, Err, ◌+◌, ◌-◌, ◌^◌, ◌<◌, ◌≤◌, List, [], ◌∷◌, ◌++◌, take, if◌then◌else◌, OnOk, OnErr, IfOk, IfErr, length, slice_get, is_some};
 ghost use Rattle.pb_text.specs.Limit.{end_of};
+ghost use Rattle.pb_text.specs.Spelling.{place_next, place_or};
 ghost use Rattle.pb_text.specs.Standing.{opened};
 
 use crate::machine::{Machine, Push};
@@ -52,7 +53,7 @@ impl<M: Machine> Feeder<M> {
     ghost use Rattle.pb_text.specs.Automaton.{Accepts, IsState};
     ghost use Rattle.pb_text.specs.Standing.{IsOpen};
     ghost use Rattle.pb_text.specs.Reading.{Reads, EndsAs};
-    ghost use Rattle.pb_text.specs.Feeding.{StandsAt, FeedsOnce, HoldsFew, WantsMemory, stop_of, marks_taken, state_of, place_of, halt_of, is_complete};
+    ghost use Rattle.pb_text.specs.Feeding.{StandsAt, FeedsOnce, HoldsFew, WantsMemory, stop_of, marks_in, marks_taken, state_of, place_of, halt_of, is_complete};
 
     /// A feeder of a machine that has begun no statement.
     pub fn new(machine: M) -> Self
@@ -200,6 +201,57 @@ impl<M: Machine> Feeder<M> {
         stop
     }
 
+    /// Takes bytes at the front of a piece that are soon taken, through the end of a statement at most.
+    #[inline(always)]
+    pub(crate) fn bite(&mut self, piece: &[u8]) -> Fed<M::Event>
+        requires unfinished { is_complete self.old ≡ false }
+        requires running { halt_of self.old ≡ None }
+        requires state { IsState M.automaton (state_of self.old) }
+        ensures bound { result.used ≤ length piece.now }
+        ensures stands { (longest : ℕ) (start : M) (input : List ℕ) (marks : List (Spanned M.Event))
+            → StandsAt longest start input marks self.old
+            → StandsAt longest start (input ++ take result.used piece.now) (marks ++ marks_in result.event) self.new }
+        ensures offset { (place_of self.new).offset ≡ (place_of self.old).offset + result.used }
+        ensures some { (event : Spanned M.Event) → result.event ≡ Some event → 0 < result.used }
+        ensures past { (event : Spanned M.Event) → result.event ≡ Some event → event.past ≡ place_of self.new }
+        ensures running { halt_of self.new ≡ None }
+        ensures unfinished { result.event ≡ None → is_complete self.new ≡ false }
+        ensures state { IsState M.automaton (state_of self.new) }
+    {
+        let used = self.run(piece);
+        if used == piece.len() {
+            return Fed { used, event: None };
+        }
+        match self.closes(piece[used]) {
+            Some(event) => Fed::with_event(used + 1, event),
+            None => Fed { used, event: None },
+        }
+    }
+
+    /// Takes a byte that ends a statement, where that is done soon.
+    #[inline(always)]
+    fn closes(&mut self, byte: u8) -> Option<Spanned<M::Event>>
+        requires unfinished { is_complete self.old ≡ false }
+        requires running { halt_of self.old ≡ None }
+        requires state { IsState M.automaton (state_of self.old) }
+        ensures stands { (longest : ℕ) (start : M) (input : List ℕ) (marks : List (Spanned M.Event))
+            → StandsAt longest start input marks self.old
+            → StandsAt longest start (input ++ (if is_some result then byte ∷ [] else [])) (marks ++ marks_in result) self.new }
+        ensures offset { (place_of self.new).offset ≡ (place_of self.old).offset + (if is_some result then 1 else 0) }
+        ensures past { (event : Spanned M.Event) → result ≡ Some event → event.past ≡ place_of self.new }
+        ensures unfinished { result ≡ None → is_complete self.new ≡ false }
+        ensures running { halt_of self.new ≡ None }
+        ensures state { IsState M.automaton (state_of self.new) }
+    {
+        if self.place.offset == self.end {
+            return None;
+        }
+        match self.machine.closes(byte) {
+            Some(event) => Some(self.mark(event, byte)),
+            None => None,
+        }
+    }
+
     /// Takes bytes at the front of a piece that are soon taken, none of which ends a statement, and answers how many.
     #[inline(always)]
     pub(crate) fn run(&mut self, piece: &[u8]) -> usize
@@ -265,9 +317,7 @@ impl<M: Machine> Feeder<M> {
         if !self.machine.goes(byte) {
             return false;
         }
-        self.first = opened_at(self.first, starts, self.place);
-        self.end = end_at(self.longest, self.first);
-        self.place = self.place.after(byte);
+        self.move_on(starts, byte);
         true
     }
 
@@ -320,23 +370,50 @@ impl<M: Machine> Feeder<M> {
         let starts = self.machine.starts(byte);
         match self.machine.push(byte) {
             Push::Go => {
-                self.first = opened_at(self.first, starts, self.place);
-                self.end = end_at(self.longest, self.first);
-                self.place = self.place.after(byte);
+                self.move_on(starts, byte);
                 Ok(None)
             }
-            Push::Event(event) => {
-                let first = self.first.unwrap_or(self.place);
-                let past = self.place.after(byte);
-                self.first = None;
-                self.end = BYTE_LIMIT;
-                self.place = past;
-                Ok(Some(Spanned { event, first, past }))
-            }
+            Push::Event(event) => Ok(Some(self.mark(event, byte))),
             Push::No => Err(self.halt(Why::Byte(byte))),
             Push::Large => Err(self.halt(Why::TooLarge)),
             Push::Memory => Err(self.halt(Why::Memory)),
         }
+    }
+}
+
+impl<M: Machine> Feeder<M> {
+    /// Moves on behind a byte that ends no statement.
+    #[inline(always)]
+    fn move_on(&mut self, starts: bool, byte: u8)
+        requires room { self.old.place.offset < self.old.end }
+        ensures machine { self.new.machine ≡ self.old.machine }
+        ensures place { self.new.place ≡ place_next self.old.place byte }
+        ensures first { self.new.first ≡ opened self.old.first starts self.old.place }
+        ensures longest { self.new.longest ≡ self.old.longest }
+        ensures stop { self.new.stop ≡ self.old.stop }
+    {
+        self.first = opened_at(self.first, starts, self.place);
+        self.end = end_at(self.longest, self.first);
+        self.place = self.place.after(byte);
+    }
+
+    /// Moves on behind the byte that ends a statement, and answers its event with its places.
+    #[inline(always)]
+    fn mark(&mut self, event: M::Event, byte: u8) -> Spanned<M::Event>
+        requires room { self.old.place.offset < self.old.end }
+        ensures marks { result ≡ record { event = event; first = place_or self.old.first self.old.place; past = self.new.place } }
+        ensures machine { self.new.machine ≡ self.old.machine }
+        ensures place { self.new.place ≡ place_next self.old.place byte }
+        ensures first { self.new.first ≡ None }
+        ensures longest { self.new.longest ≡ self.old.longest }
+        ensures stop { self.new.stop ≡ self.old.stop }
+    {
+        let first = self.first.unwrap_or(self.place);
+        let past = self.place.after(byte);
+        self.first = None;
+        self.end = BYTE_LIMIT;
+        self.place = past;
+        Spanned { event, first, past }
     }
 }
 

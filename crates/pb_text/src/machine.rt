@@ -1,7 +1,7 @@
 //! A machine that takes a text byte by byte.
 
 ghost use Rattle.std.specs.Prelude.{◌≡◌, ◌<◌, ◌≤◌, take, length};
-ghost use Rattle.pb_text.specs.Automaton.{Automaton, IsState, Pushes, Goes, Runs, begins};
+ghost use Rattle.pb_text.specs.Automaton.{Automaton, IsState, Pushes, Goes, Closes, Runs, begins};
 
 /// What a machine answers to a byte.
 #[derive(Drop)]
@@ -41,6 +41,17 @@ pub trait Machine {
         let _ = self.is_done();
         let _ = byte;
         false
+    }
+
+    /// Takes a byte that ends a statement, where that is done soon and no memory is refused, and answers the event. Else
+    /// it leaves the machine as it is, and `push` says why.
+    fn closes(&mut self, byte: u8) -> Option<Self::Event>
+        ensures closes { Closes automaton self.old byte result self.new }
+        ensures state { IsState automaton self.new }
+    {
+        let _ = self.is_done();
+        let _ = byte;
+        None
     }
 
     /// Takes the first byte of a piece as `goes` does, or more bytes at its front that are sooner taken together, as whole

@@ -4,11 +4,12 @@ ghost use Rattle.std.specs.Prelude.{◌≡◌, [], None, false};
 ghost use Rattle.pb_text.specs.Automaton.{IsState};
 ghost use Rattle.pb_text.specs.Feeding.{state_of, halt_of, is_complete};
 ghost use Rattle.pb_text.specs.Over.{Shows, told};
-ghost use Rattle.pb_text.specs.Pouring.{Pours};
+ghost use Rattle.pb_text.specs.Pouring.{Pours, brought};
 
-use crate::feeder::Feeder;
+use crate::feeder::{Fed, Feeder};
 use crate::history::History;
 use crate::machine::Machine;
+use crate::place::Spanned;
 use crate::sink::Sink;
 use crate::source::{Failed, Source};
 use std::io::{BufRead, Write};
@@ -79,10 +80,14 @@ impl<T: BufRead> Source for Over<T> {
         self.inner.consume(1);
     }
 
-    fn pour<M: Machine>(&mut self, feeder: &mut Feeder<M>) -> Result<(), Failed> {
+    #[inline(always)]
+    fn pour<M: Machine>(
+        &mut self,
+        feeder: &mut Feeder<M>,
+    ) -> Result<Option<Spanned<M::Event>>, Failed> {
         self.shown = None;
         match pour_from(&mut self.inner, &mut self.history, feeder) {
-            Ok(()) => Ok(()),
+            Ok(event) => Ok(event),
             Err(Failed) => {
                 self.failures = self.failures.saturating_add(1);
                 Err(Failed)
@@ -125,26 +130,27 @@ fn next_of<T: BufRead>(reader: &mut T) -> Result<Option<u8>, Failed>
     }
 }
 
-/// Feeds what a reader has at hand to a feeder as long as none of it ends a statement, and takes that.
+/// Feeds what a reader has at hand to a feeder, through the end of a statement at most, and takes that.
+#[inline(always)]
 fn pour_from<T: BufRead, M: Machine>(
     reader: &mut T,
     history: &mut History,
     feeder: &mut Feeder<M>,
-) -> Result<(), Failed>
+) -> Result<Option<Spanned<M::Event>>, Failed>
     requires unfinished { is_complete feeder.old ≡ false }
     requires running { halt_of feeder.old ≡ None }
     requires state { IsState M.automaton (state_of feeder.old) }
-    ensures pours { Pours feeder.old (T.remaining reader.old) history.old.bytes feeder.new (T.remaining reader.new) history.new.bytes }
-    ensures unfinished { is_complete feeder.new ≡ false }
+    ensures pours { Pours feeder.old (T.remaining reader.old) history.old.bytes (brought result) feeder.new (T.remaining reader.new) history.new.bytes }
+    ensures unfinished { brought result ≡ None → is_complete feeder.new ≡ false }
     ensures running { halt_of feeder.new ≡ None }
     ensures state { IsState M.automaton (state_of feeder.new) }
 {
     match reader.fill_buf() {
         Ok(bytes) => {
-            let used = feeder.run(bytes);
+            let Fed { used, event } = feeder.bite(bytes);
             history.note(&bytes[..used]);
             reader.consume(used);
-            Ok(())
+            Ok(event)
         }
         Err(_) => Err(Failed),
     }

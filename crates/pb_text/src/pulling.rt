@@ -1,10 +1,10 @@
 //! The next event of a source.
 
-ghost use Rattle.std.specs.Prelude.{true, ◌≡◌, ◌<◌, ℕ, List, [], Option, Some, None, Result, Ok, Err, IfErr};
+ghost use Rattle.std.specs.Prelude.{true, false, ◌≡◌, ◌<◌, ℕ, List, [], Option, Some, None, Result, Ok, Err, OnOk, IfErr};
 ghost use Rattle.pb_text.specs.Automaton.{IsState};
 ghost use Rattle.pb_text.specs.Standing.{IsOpen};
 ghost use Rattle.pb_text.specs.Feeding.{StandsAt, WantsMemory, stop_of, state_of, place_of, halt_of, is_complete};
-ghost use Rattle.pb_text.specs.Pulling.{Pulls, faults_after};
+ghost use Rattle.pb_text.specs.Pulling.{Pulls, Draws, faults_after};
 ghost use Rattle.pb_text.specs.Rows.{HasPulled, PullsOn};
 ghost use Rattle.pb_text.specs.declared.place.Spanned.{Spanned};
 ghost use Rattle.pb_text.specs.declared.place.Stop.{Stop};
@@ -49,21 +49,66 @@ pub fn pull<S: Source, M: Machine>(
         return Ok(None);
     }
     loop {
-        if source.pour(feeder).is_err() {
-            return Err(feeder.halt(Why::Read));
-        }
-        let byte = match source.peek() {
-            Ok(Some(byte)) => byte,
-            Ok(None) => return Err(feeder.halt(Why::Ended)),
-            Err(Failed) => return Err(feeder.halt(Why::Read)),
-        };
-        match feeder.take(byte) {
-            Ok(None) => source.skip(),
-            Ok(Some(event)) => {
-                source.skip();
-                return Ok(Some(event));
-            }
+        match draw(source, feeder) {
+            Ok(None) => {}
+            Ok(Some(event)) => return Ok(Some(event)),
             Err(stop) => return Err(stop),
         }
+    }
+}
+
+/// Takes bytes at hand through the end of a statement at most, and where none ends there the byte behind them too.
+#[inline(always)]
+fn draw<S: Source, M: Machine>(
+    source: &mut S,
+    feeder: &mut Feeder<M>,
+) -> Result<Option<Spanned<M::Event>>, Stop>
+    requires unfinished { is_complete feeder.old ≡ false }
+    requires running { halt_of feeder.old ≡ None }
+    requires state { IsState M.automaton (state_of feeder.old) }
+    ensures draws { Draws feeder.old (S.left source.old) (S.history source.old) result feeder.new (S.left source.new) (S.history source.new) }
+    ensures stop { halt_of feeder.new ≡ stop_of result }
+    ensures unfinished { result ≡ Ok None → is_complete feeder.new ≡ false }
+    ensures onward { OnOk result ((place_of feeder.old).offset < (place_of feeder.new).offset) }
+    ensures past { (event : Spanned M.Event) → result ≡ Ok (Some event) → event.past ≡ place_of feeder.new }
+    ensures faults { S.faults source.new ≡ faults_after None result (S.faults source.old) }
+    ensures memory { IfErr result (λ stop. (b : ℕ) × WantsMemory stop feeder.new b) }
+    ensures state { IsState M.automaton (state_of feeder.new) }
+{
+    match source.pour(feeder) {
+        Ok(Some(event)) => Ok(Some(event)),
+        Ok(None) => take_next(source, feeder),
+        Err(Failed) => Err(feeder.halt(Why::Read)),
+    }
+}
+
+/// Takes the next byte of the source by itself.
+fn take_next<S: Source, M: Machine>(
+    source: &mut S,
+    feeder: &mut Feeder<M>,
+) -> Result<Option<Spanned<M::Event>>, Stop>
+    requires unfinished { is_complete feeder.old ≡ false }
+    requires running { halt_of feeder.old ≡ None }
+    requires state { IsState M.automaton (state_of feeder.old) }
+    ensures draws { Draws feeder.old (S.left source.old) (S.history source.old) result feeder.new (S.left source.new) (S.history source.new) }
+    ensures stop { halt_of feeder.new ≡ stop_of result }
+    ensures unfinished { result ≡ Ok None → is_complete feeder.new ≡ false }
+    ensures onward { OnOk result ((place_of feeder.old).offset < (place_of feeder.new).offset) }
+    ensures past { (event : Spanned M.Event) → result ≡ Ok (Some event) → event.past ≡ place_of feeder.new }
+    ensures faults { S.faults source.new ≡ faults_after None result (S.faults source.old) }
+    ensures memory { IfErr result (λ stop. (b : ℕ) × WantsMemory stop feeder.new b) }
+    ensures state { IsState M.automaton (state_of feeder.new) }
+{
+    let byte = match source.peek() {
+        Ok(Some(byte)) => byte,
+        Ok(None) => return Err(feeder.halt(Why::Ended)),
+        Err(Failed) => return Err(feeder.halt(Why::Read)),
+    };
+    match feeder.take(byte) {
+        Ok(event) => {
+            source.skip();
+            Ok(event)
+        }
+        Err(stop) => Err(stop),
     }
 }

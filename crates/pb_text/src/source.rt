@@ -3,12 +3,13 @@
 ghost use Rattle.std.specs.Prelude.{◌≡◌, ◌∷◌, ℕ, List, Option, Some, None, codes, false, OnOk, OnErr};
 ghost use Rattle.pb_text.specs.Automaton.{IsState};
 ghost use Rattle.pb_text.specs.Feeding.{state_of, halt_of, is_complete};
-ghost use Rattle.pb_text.specs.Pouring.{Pours};
+ghost use Rattle.pb_text.specs.Pouring.{Pours, brought};
 ghost use Rattle.pb_text.specs.Source.{Peeks, Skips};
 ghost use Rattle.pb_text.specs.Writing.{one_more};
 
 use crate::feeder::Feeder;
 use crate::machine::Machine;
+use crate::place::Spanned;
 use std::error::Error;
 use std::fmt;
 
@@ -49,21 +50,24 @@ pub trait Source {
         requires { (b : ℕ) × (shown self.old ≡ Some b) }
         ensures { Skips left shown history faults self.old self.new };
 
-    /// Feeds bytes at hand to a feeder as long as none of them ends a statement, and takes those. It may take
-    /// none, as it does where it is not written otherwise.
-    fn pour<M: Machine>(&mut self, feeder: &mut Feeder<M>) -> Result<(), Failed>
+    /// Feeds bytes at hand to a feeder, through the end of a statement at most, takes those, and answers the event that ends
+    /// there. It may take none, as it does where it is not written otherwise.
+    fn pour<M: Machine>(
+        &mut self,
+        feeder: &mut Feeder<M>,
+    ) -> Result<Option<Spanned<M::Event>>, Failed>
         requires unfinished { is_complete feeder.old ≡ false }
         requires running { halt_of feeder.old ≡ None }
         requires state { IsState M.automaton (state_of feeder.old) }
-        ensures pours { Pours feeder.old (left self.old) (history self.old) feeder.new (left self.new) (history self.new) }
-        ensures unfinished { is_complete feeder.new ≡ false }
+        ensures pours { Pours feeder.old (left self.old) (history self.old) (brought result) feeder.new (left self.new) (history self.new) }
+        ensures unfinished { brought result ≡ None → is_complete feeder.new ≡ false }
         ensures running { halt_of feeder.new ≡ None }
         ensures state { IsState M.automaton (state_of feeder.new) }
         ensures ok { OnOk result (faults self.new ≡ faults self.old) }
         ensures err { OnErr result (faults self.new ≡ one_more (faults self.old)) }
     {
         let _ = feeder.is_done();
-        Ok(())
+        Ok(None)
     }
 
     /// How often it has failed. The count stays at its largest, `2^64 - 1`.

@@ -7,18 +7,20 @@ use Rattle.pb_text.proofs.over.pour_from.Goals as goal
 pub returns-in-Ok-clause-pours : goal.returns-in-Ok-clause-pours
 returns-in-Ok-clause-pours g c =
     let shown = c.in-Ok.bytes.now in
-    let used = c.run-used in
+    let fed = c.bite-used in
     let rested = c.fill_buf.follows.lender-at-none in
     let before = g.T.Read.remaining c.args.reader.now in
     let after = g.T.Read.remaining c.consume.new.self in
     let filled = subst (FillKeeps _ (g.T.Read.remaining rested) (g.T.BufRead.consumable_len rested)) c.in-Ok.is c.fill_buf.follows.holds-at-none in
-    let moved = Consumes_shown _ _ _ _ shown used.result used.ensures.bound c.in-Ok.ensures.front c.in-Ok.ensures.end filled.0 filled.1 c.consume.ensures.bytes in
+    let moved = Consumes_shown _ _ _ _ shown fed.result.used fed.ensures.bound c.in-Ok.ensures.front c.in-Ok.ensures.end filled.0 filled.1 c.consume.ensures.bytes in
     record {
-      taken = take used.result shown;
+      taken = take fed.result.used shown;
       given_are = c.note.ensures;
-      lost = lost_consumed before after (take used.result shown) moved.0;
-      offset_is = omega (arith, used.ensures.offset, length-take-le used.result shown used.ensures.bound);
-      stands = used.ensures.stands;
+      lost = lost_consumed before after (take fed.result.used shown) moved.0;
+      offset_is = omega (arith, fed.ensures.offset, length-take-le fed.result.used shown fed.ensures.bound);
+      stands = fed.ensures.stands;
+      some = λ e h. omega (arith, fed.ensures.some e h, length-take-le fed.result.used shown fed.ensures.bound);
+      past = fed.ensures.past;
     }
 
 pub returns-in-Err-clause-pours : goal.returns-in-Err-clause-pours
@@ -29,5 +31,7 @@ returns-in-Err-clause-pours g c =
       given_are = sym (append-nil c.args.history.now.bytes);
       lost = lost_kept (g.T.Read.remaining c.args.reader.now) (g.T.Read.remaining rested) c.fill_buf.follows.holds-at-none.0;
       offset_is = omega arith;
-      stands = λ longest start input marks s. rw append-nil s;
+      stands = λ longest start input marks s. rw (append-nil, append-nil) s;
+      some = λ e h. cc h;
+      past = λ e h. cc h;
     }

@@ -1,18 +1,16 @@
 use Rattle.std.proofs.Common.{◌≡◌, ◌+◌, ◌-◌, ◌<◌, ◌≤◌, ℕ, List, [], ◌∷◌, ◌++◌, length, subst, sym, ap, ◌∙◌, append-nil, append_assoc, take, drop, get_or, slice_get, Some, take-append-drop, arith}
-use Rattle.std.proofs.lemmas.List.{take_more, take-take, length-take, length-drop}
+use Rattle.std.proofs.lemmas.List.{take-take, length-take, length-drop}
 use Rattle.std.proofs.lemmas.Option.{slice_get-get_or}
 use Rattle.std.proofs.Math.Seq.{take-length, take-add}
 use Rattle.pb_text.specs.Standing.{Stands}
 use Rattle.pb_text.specs.Feeding.{StandsAt}
 use Rattle.pb_text.proofs.Begin.{stands_more}
+use Rattle.pb_text.proofs.Spans.{one_further}
 use Rattle.pb_text.proofs.feeder.Feeder.feed.Goals as goal
-
-one_more : (input piece : List ℕ) (i : ℕ) → i < length piece → (input ++ take i piece) ++ get_or piece i 0 ∷ [] ≡ input ++ take (i + 1) piece
-one_more input piece i h = append_assoc input (take i piece) (get_or piece i 0 ∷ []) ∙ ap (λ (x : List ℕ). input ++ x) (sym (take_more piece i 0 h))
 
 whole : (input piece : List ℕ) (i : ℕ) → i < length piece → ((input ++ take i piece) ++ get_or piece i 0 ∷ []) ++ drop (i + 1) piece ≡ input ++ piece
 whole input piece i h =
-    ap (λ (x : List ℕ). x ++ drop (i + 1) piece) (one_more input piece i h) ∙ (append_assoc input (take (i + 1) piece) (drop (i + 1) piece) ∙ ap (λ (x : List ℕ). input ++ x) (take-append-drop (i + 1) piece))
+    ap (λ (x : List ℕ). x ++ drop (i + 1) piece) (one_further input piece i h) ∙ (append_assoc input (take (i + 1) piece) (drop (i + 1) piece) ∙ ap (λ (x : List ℕ). input ++ x) (take-append-drop (i + 1) piece))
 
 -- the bytes so far, and more of the rest
 further : (input piece : List ℕ) (i n : ℕ) → (input ++ take i piece) ++ take n (drop i piece) ≡ input ++ take (i + n) piece
@@ -64,7 +62,7 @@ returns-in-Ok-Some-clause-feeds g c = rw c.with_event.ensures (
       let n = c.take.new.self in
       let k = t.stands longest start (input ++ take c.loop-used.used c.args.piece.now) marks (c.loop-used.invariant.stands longest start input marks s) in
       subst (λ (x : List ℕ). StandsAt longest start x (marks ++ c.in-Ok-Some.event ∷ []) n)
-      (one_more input c.args.piece.now c.loop-used.used c.loop-used-test.true) k,
+      (one_further input c.args.piece.now c.loop-used.used c.loop-used-test.true) k,
   λ k. c.take.ensures.counted,
   λ k. let t = rw (c.in-Ok-Some.is, c.in-Ok-Some.field-0-is) at c.take.ensures in rw t.stop tt,
 )
@@ -83,7 +81,7 @@ loop-used-preserved g c =
       offset = omega (arith, r.ensures.offset, t.offset, c.loop-used.invariant.offset);
       stands = λ longest start input marks s.
           let k = t.stands longest start (input ++ take i piece) marks (c.loop-used.invariant.stands longest start input marks s) in
-          let m : StandsAt longest start (input ++ take (i + 1) piece) marks c.take.new.self = subst (λ (x : List ℕ). StandsAt longest start x marks c.take.new.self) (one_more input piece i c.loop-used-test.true) (rw append-nil at k) in
+          let m : StandsAt longest start (input ++ take (i + 1) piece) marks c.take.new.self = subst (λ (x : List ℕ). StandsAt longest start x marks c.take.new.self) (one_further input piece i c.loop-used-test.true) (rw append-nil at k) in
           let n = r.ensures.stands longest start (input ++ take (i + 1) piece) marks m in
           let fits : r.result ≤ length piece - (i + 1) = omega (arith, r.ensures.bound, length-take (length piece - (i + 1)) (drop (i + 1) piece)) in
           let all = ap (λ (x : List ℕ). (input ++ take (i + 1) piece) ++ x) (take-take r.result (length piece - (i + 1)) (drop (i + 1) piece) fits) in

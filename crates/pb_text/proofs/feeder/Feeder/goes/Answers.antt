@@ -1,4 +1,4 @@
-use Rattle.std.proofs.Common.{subst, None, Option, append-nil}
+use Rattle.std.proofs.Common.{◌∙◌, subst, None, Option, append-nil}
 use Rattle.pb_text.specs.declared.place.Stop.{Stop}
 use Rattle.pb_text.specs.Standing.{Stands}
 use Rattle.pb_text.proofs.Steps.{before_end, stands_go}
@@ -10,4 +10,4 @@ returns-clause-stands g c longest start input marks s =
     let running : Stands g.M.Machine.automaton longest start input marks f.machine f.place f.first None = subst (λ (o : Option Stop). Stands g.M.Machine.automaton longest start input marks f.machine f.place f.first o) c.requires.running s.1 in
     let k = stands_go g.M.Machine.automaton longest start f.machine c.goes.new.self input marks f.place f.first running c.requires.unfinished c.args.byte
     c.if-not-goes.ensures.goes c.goes.ensures.state (before_end f.longest longest f.end f.place.offset f.first s.0 f.end_is f.offset_in_range c.if-self.false) in
-    (s.0, rw (c.after-self.ensures, c.opened_at-self.ensures, c.starts-starts.ensures, c.requires.running) (rw append-nil at k))
+    (c.move_on.ensures.longest ∙ s.0, rw (c.move_on.ensures.place, c.move_on.ensures.first, c.move_on.ensures.machine, c.move_on.ensures.stop, c.starts-starts.ensures, c.requires.running) (rw append-nil at k))

@@ -49,10 +49,10 @@ returns-in-Go-clause-stands g c longest start input marks s =
     let running : Stands g.M.Machine.automaton longest start input marks f.machine f.place f.first None = subst (λ (o : Option Stop). Stands g.M.Machine.automaton longest start input marks f.machine f.place f.first o) c.requires.running s.1 in
     let k = stands_go g.M.Machine.automaton longest start f.machine c.push.new.self input marks f.place f.first running c.requires.unfinished c.args.byte
     c.in-Go.ensures.pushes c.in-Go.ensures.state (before_end f.longest longest f.end f.place.offset f.first s.0 f.end_is f.offset_in_range c.if-self.false) in
-    (s.0, rw (c.after-self.ensures, c.opened_at-self.ensures, c.starts-starts.ensures, c.requires.running) k)
+    (c.move_on.ensures.longest ∙ s.0, rw (c.move_on.ensures.place, c.move_on.ensures.first, c.move_on.ensures.machine, c.move_on.ensures.stop, c.starts-starts.ensures, c.requires.running) k)
 
 pub returns-in-Go-clause-unfinished : goal.returns-in-Go-clause-unfinished
-returns-in-Go-clause-unfinished g c e = c.requires.state.owes c.args.byte c.push.new.self c.in-Go.ensures.pushes
+returns-in-Go-clause-unfinished g c e = rw c.move_on.ensures.machine (c.requires.state.owes c.args.byte c.push.new.self c.in-Go.ensures.pushes)
 
 pub returns-in-Event-clause-stands : goal.returns-in-Event-clause-stands
 returns-in-Event-clause-stands g c longest start input marks s =
@@ -60,4 +60,4 @@ returns-in-Event-clause-stands g c longest start input marks s =
     let running : Stands g.M.Machine.automaton longest start input marks f.machine f.place f.first None = subst (λ (o : Option Stop). Stands g.M.Machine.automaton longest start input marks f.machine f.place f.first o) c.requires.running s.1 in
     let k = stands_event g.M.Machine.automaton longest start f.machine c.push.new.self input marks f.place f.first running c.requires.unfinished c.args.byte c.in-Event.event
     c.in-Event.ensures.pushes c.in-Event.ensures.state (before_end f.longest longest f.end f.place.offset f.first s.0 f.end_is f.offset_in_range c.if-self.false) in
-    (s.0, rw (c.after-past.ensures, c.unwrap_or-first.ensures, c.requires.running) k)
+    (c.mark.ensures.longest ∙ s.0, rw (c.mark.ensures.marks, c.mark.ensures.place, c.mark.ensures.first, c.mark.ensures.machine, c.mark.ensures.stop, c.requires.running) k)

@@ -1,0 +1,79 @@
+use Rattle.std.proofs.Common.{◌++◌, ◌∷◌, ◌∙◌, List, ℕ, [], ap, sym, append-nil, append_assoc, subst, Option, None, arith}
+use Rattle.pb_text.specs.Standing.{Stands}
+use Rattle.pb_text.specs.declared.place.Place.{Place}
+use Rattle.pb_text.specs.declared.place.Stop.{Stop}
+use Rattle.pb_text.proofs.Begin.{stands_more, stands_ended, stands_failed}
+use Rattle.pb_text.proofs.Pulled.{lost_nothing, lost_byte, seen_byte, seen_end, seen_rest, seen_after}
+use Rattle.pb_text.proofs.pulling.take_next.Goals as goal
+
+pub returns-in-Ok-None-clause-draws : goal.returns-in-Ok-None-clause-draws
+returns-in-Ok-None-clause-draws g c =
+    let f = c.args.feeder.now in
+    let before = g.S.Source.left c.args.source.now in
+    let p = rw (c.in-Ok-None.is, c.in-Ok-None.field-0-is) at c.peek.ensures in
+    record {
+      taken = [];
+      seen = [];
+      took = seen_end before [] before (g.S.Source.left c.peek.new.self) (lost_nothing before) p.0 p.1;
+      given_are = p.3 ∙ sym (append-nil (g.S.Source.history c.args.source.now));
+      offset_is = ap (λ (q : Place). q.offset) c.halt.ensures.place ∙ omega arith;
+      stands = λ longest start input marks s.
+          let k : Stands g.M.Machine.automaton longest start input marks f.machine f.place f.first None = subst (λ (o : Option Stop). Stands g.M.Machine.automaton longest start input marks f.machine f.place f.first o) c.requires.running s.1 in
+          let e = stands_ended g.M.Machine.automaton longest start f.machine input marks f.place f.first c.requires.unfinished k in
+          (c.halt.ensures.longest ∙ s.0, rw (append-nil, append-nil, c.halt.ensures.stop, c.halt.ensures.result, c.halt.ensures.machine, c.halt.ensures.place, c.halt.ensures.first) e);
+    }
+
+pub returns-in-Err-clause-draws : goal.returns-in-Err-clause-draws
+returns-in-Err-clause-draws g c =
+    let f = c.args.feeder.now in
+    let before = g.S.Source.left c.args.source.now in
+    let p = rw c.in-Err.is at c.peek.ensures in
+    let seen = seen_rest before [] before (g.S.Source.left c.peek.new.self) (lost_nothing before) p.0 in
+    record {
+      taken = [];
+      seen = seen.0;
+      took = seen.1;
+      given_are = p.2 ∙ sym (append-nil (g.S.Source.history c.args.source.now));
+      offset_is = ap (λ (q : Place). q.offset) c.halt-in-Err.ensures.place ∙ omega arith;
+      stands = λ longest start input marks s.
+          let k : Stands g.M.Machine.automaton longest start input marks f.machine f.place f.first None = subst (λ (o : Option Stop). Stands g.M.Machine.automaton longest start input marks f.machine f.place f.first o) c.requires.running s.1 in
+          let e = stands_failed g.M.Machine.automaton longest start f.machine input marks f.place f.first seen.0 c.requires.unfinished k in
+          (c.halt-in-Err.ensures.longest ∙ s.0, rw (append-nil, c.halt-in-Err.ensures.stop, c.halt-in-Err.ensures.result, c.halt-in-Err.ensures.machine, c.halt-in-Err.ensures.place, c.halt-in-Err.ensures.first) e);
+    }
+
+pub returns-in-Err-take-clause-draws : goal.returns-in-Err-take-clause-draws
+returns-in-Err-take-clause-draws g c =
+    let t = rw c.in-Err-take.is at c.take.ensures in
+    let p = rw (c.in-Ok-Some.is, c.in-Ok-Some.field-0-is) at c.peek.ensures in
+    let b : ℕ = c.in-Ok-Some.byte in
+    let n = c.take.new.self in
+    let before = g.S.Source.left c.args.source.now in
+    let seen = seen_byte before [] before (g.S.Source.left c.peek.new.self) b (lost_nothing before) p.0 p.1 in
+    record {
+      taken = [];
+      seen = b ∷ seen.0;
+      took = seen.1;
+      given_are = p.4 ∙ sym (append-nil (g.S.Source.history c.args.source.now));
+      offset_is = t.still ∙ omega arith;
+      stands = λ longest start input marks s.
+          let k = t.stands longest start input marks s in
+          let m = stands_more g.M.Machine.automaton longest start n.machine (input ++ b ∷ []) (marks ++ []) n.place n.first seen.0 n.stop t.counted (λ e. cc t.stop) k.1 in
+          (k.0, subst (λ (x : List ℕ). Stands g.M.Machine.automaton longest start x (marks ++ []) n.machine n.place n.first n.stop) (append_assoc input (b ∷ []) seen.0) m);
+    }
+
+pub returns-in-Ok-clause-draws : goal.returns-in-Ok-clause-draws
+returns-in-Ok-clause-draws g c =
+    let t = rw c.in-Ok.is at c.take.ensures in
+    let p = rw (c.in-Ok-Some.is, c.in-Ok-Some.field-0-is) at c.peek.ensures in
+    let b : ℕ = c.in-Ok-Some.byte in
+    let before = g.S.Source.left c.args.source.now in
+    let last = g.S.Source.left c.skip.new.self in
+    let seen = seen_after before (b ∷ []) last (lost_byte before [] before (g.S.Source.left c.peek.new.self) last b (lost_nothing before) p.0 p.1 c.skip.ensures.0) in
+    record {
+      taken = b ∷ [];
+      seen = seen.0;
+      took = seen.1;
+      given_are = c.skip.ensures.2 b p.2 ∙ ap (λ (x : List ℕ). x ++ b ∷ []) p.4;
+      offset_is = t.offset;
+      stands = t.stands;
+    }
