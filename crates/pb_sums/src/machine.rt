@@ -8,6 +8,8 @@ ghost use Rattle.pb_text.specs.Classes.{is_digit};
 ghost use Rattle.pb_sums.specs.Machine.{flushed, is_more, is_in_number};
 ghost use Rattle.pb_sums.specs.State.{units};
 
+mod end;
+
 use crate::classes::kind;
 use crate::grammar::{Part, Spaces};
 use crate::name::Name;
@@ -82,6 +84,7 @@ fn flush(
 }
 
 /// Ends the text: gives its terms, and keeps nothing.
+#[inline(always)]
 fn finish(
     alloc: Global,
     terms: &mut Sequence<Term>,
@@ -346,6 +349,12 @@ impl Machine for SumMachine {
             }
             _ => false,
         }
+    }
+
+    #[inline(always)]
+    fn closes(&mut self, byte: u8) -> Option<SumEvent> {
+        let _ = self.is_done();
+        if byte == b';' { self.end() } else { None }
     }
 
     #[inline(always)]

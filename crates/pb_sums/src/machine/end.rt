@@ -1,0 +1,42 @@
+//! Ends a text in one go.
+
+ghost use Rattle.pb_text.specs.Automaton.{Closes, IsState};
+ghost use Rattle.pb_sums.specs.State.{sums};
+
+use crate::machine::{SumMachine, finish};
+use crate::phase::{Kind, Move};
+use crate::transition::plan;
+use crate::values::{Linear, SumEvent};
+use pb_text::Machine;
+
+impl SumMachine {
+    /// Ends the text with `;`, where it is whole and no memory is refused.
+    #[inline(always)]
+    pub(super) fn end(&mut self) -> Option<SumEvent>
+        ensures closes { Closes sums self.old 59 result self.new }
+        ensures state { IsState sums self.new }
+    {
+        let _ = self.is_done();
+        match plan(self.part, self.limit, self.phase, Kind::Semicolon) {
+            Move::EndSum => {
+                let Ok(terms) = finish(self.alloc, &mut self.terms, &mut self.name, &mut self.phase)
+                else {
+                    return None;
+                };
+                Some(SumEvent::Sum(terms))
+            }
+            Move::EndLinear(relation, degree) => {
+                let Ok(terms) = finish(self.alloc, &mut self.terms, &mut self.name, &mut self.phase)
+                else {
+                    return None;
+                };
+                Some(SumEvent::Linear(Linear {
+                    terms,
+                    relation,
+                    degree,
+                }))
+            }
+            Move::To(_) | Move::Begin(_, _) | Move::Add(_, _) | Move::Stop => None,
+        }
+    }
+}
