@@ -4,6 +4,8 @@ ghost use Rattle.std.specs.Prelude.{◌≡◌, ◌<◌, ◌≤◌, true, false, 
 ghost use Rattle.pb_text.specs.Limits.{largest, top_of};
 ghost use Rattle.pb_opb.specs.State.{phase_owing, owed_after, statement_of};
 
+mod end;
+
 use crate::event::OpbEvent;
 use crate::line::line_prefix;
 use crate::phase::{Field, Move, Phase};
@@ -272,6 +274,13 @@ impl Machine for OpbMachine {
         let went = self.advance(byte);
         let _ = self.is_done();
         went
+    }
+
+    #[inline(always)]
+    fn closes(&mut self, byte: u8) -> Option<OpbEvent> {
+        let event = self.end(byte);
+        let _ = self.is_done();
+        event
     }
 
     fn run(&mut self, piece: &[u8]) -> usize {
