@@ -3,6 +3,7 @@
 ghost use Rattle.std.specs.Prelude.{◌≡◌, false, Option};
 ghost use Rattle.pb_text.specs.Limits.{largest, top_of};
 
+mod end;
 pub(crate) mod phase;
 mod transition;
 
@@ -193,6 +194,13 @@ impl Machine for ProofMachine {
         };
         let _ = self.is_done();
         gone
+    }
+
+    #[inline(always)]
+    fn closes(&mut self, byte: u8) -> Option<Statement> {
+        let statement = self.end(byte);
+        let _ = self.is_done();
+        statement
     }
 
     fn take_front(&mut self, piece: &[u8]) -> usize {

@@ -1,12 +1,12 @@
 -- An automaton within another one.
-use Rattle.std.proofs.Common.{◌≡◌, ℕ, true, List, [], ◌∷◌, refl, sym, ap, subst, ◌∙◌, map, ◌++◌, ◌&&◌}
-use Rattle.pb_text.specs.Automaton.{Automaton, Next, Go, End, Refuse, Skips, Reads, Runs, Accepts, Admits, Pushes, IsState}
+use Rattle.std.proofs.Common.{◌≡◌, ℕ, true, List, [], ◌∷◌, refl, sym, ap, subst, ◌∙◌, map, ◌++◌, ◌&&◌, Option, Some, None}
+use Rattle.pb_text.specs.Automaton.{Automaton, Next, Go, End, Refuse, Skips, Reads, Runs, Accepts, Admits, Pushes, Closes, IsState}
 use Rattle.pb_text.specs.Classes.{is_digit}
 use Rattle.pb_text.specs.declared.machine.Push.{Push}
 use Rattle.pb_text.specs.declared.machine.Push.TheVariants as push
 use Rattle.pb_text.specs.Spelling.{Letter, Item, letters_of, bytes, plain}
 use Rattle.pb_text.proofs.Walking.{Walks}
-use Rattle.pb_proof.specs.Line.Machine.{carried, IsCarried}
+use Rattle.pb_proof.specs.Line.Machine.{carried, IsCarried, IsEnded}
 
 module _ {S E R F : Type 0} (m : Automaton S E) (n : Automaton R F) (into : S → R) (event : E → F) where
   -- What the one does in a state the other does in the state that stands for it.
@@ -99,6 +99,12 @@ module _ {S E R F : Type 0} (m : Automaton S E) (n : Automaton R F) (into : S �
     pushes_in gives is s new b push.No r c (p, l, same) = rw c (stepped s b Refuse p, ap (λ x. x && is_digit b) (h.in_number s) ∙ l, ap into same)
     pushes_in gives is s new b push.Large r c (p, l, same) = rw c (stepped s b Refuse p, ap (λ x. x && is_digit b) (h.in_number s) ∙ l, ap into same)
     pushes_in gives is s new b push.Memory r c (p, a, same) = rw c (h.asks s b ∙ p, admits_in s b a, ap into same)
+
+    -- what the one ends is ended within the other
+    pub closes_in : (gives : E → F → Type 0) → ((e : E) (f : F) → gives e f → f ≡ event e) → (s new : S) (b : ℕ) (answer : Option E) (r : Option F)
+        → IsEnded gives answer r → Closes m s b answer new → Closes n (into s) b r (into new)
+    closes_in gives is s new b (Some e) r (f, g, c) p = rw (c, is e f g) (stepped s b (End e new) p)
+    closes_in gives is s new b None r c same = rw c (ap into same)
 
     -- each byte that is taken begins the text, or is behind its beginning
     pub begins_in : ((s next : S) (b : ℕ) → m.step s b ≡ Go next → m.begun next ≡ true) → (s : S) (r : R) (b : ℕ) → n.step (into s) b ≡ Go r → n.begun r ≡ true

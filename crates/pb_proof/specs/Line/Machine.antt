@@ -1,5 +1,5 @@
 -- The machines of what stands behind the first word of a statement, as one automaton.
-use Rattle.std.specs.Prelude.{◌≡◌, ℕ, false}
+use Rattle.std.specs.Prelude.{◌≡◌, ℕ, false, Option, Some, None}
 use Rattle.pb_text.specs.Automaton.{Automaton, Next, Go, End, Refuse}
 use Rattle.pb_text.specs.Languages.{Language}
 use Rattle.pb_text.specs.declared.machine.Push.{Push}
@@ -31,6 +31,11 @@ IsCarried gives (push.Event e) r = (f : _) × gives e f × (r ≡ push.Event f)
 IsCarried gives push.No r = r ≡ push.No
 IsCarried gives push.Large r = r ≡ push.Large
 IsCarried gives push.Memory r = r ≡ push.Memory
+
+-- the event of the one, as that of the other
+abbrev pub IsEnded : {E F : Type 0} → (E → F → Type 0) → Option E → Option F → Type 0
+IsEnded gives None r = r ≡ None
+IsEnded gives (Some e) r = (f : _) × gives e f × (r ≡ Some f)
 
 abbrev pub line_step : LineMachine → ℕ → Next LineMachine Statement
 line_step (line.TheVariants.Count s) b = carried line.TheVariants.Count statement.TheVariants.F (count_automaton.step s b)

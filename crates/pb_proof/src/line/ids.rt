@@ -5,6 +5,7 @@ ghost use Rattle.pb_text.specs.Limits.{top_of};
 ghost use Rattle.pb_proof.specs.Line.ByteKind.{NumberByteFits};
 ghost use Rattle.pb_proof.specs.Line.Ids.{digits, before, behind, plan, ids_first, is_done, PhaseFits, MoveFits};
 
+mod end;
 mod phase;
 
 use crate::line::byte_kind::NumberByte;
@@ -148,6 +149,10 @@ impl Machine for IdsMachine {
             }
             _ => false,
         }
+    }
+
+    fn closes(&mut self, byte: u8) -> Option<Sequence<i64>> {
+        self.end(byte)
     }
 
     fn push(&mut self, byte: u8) -> Push<Sequence<i64>> {

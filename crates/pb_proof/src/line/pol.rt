@@ -7,6 +7,7 @@ ghost use Rattle.pb_text.specs.Limits.{largest, top_of};
 ghost use Rattle.pb_proof.specs.Line.Pol.{is_in_number};
 
 mod close;
+mod end;
 mod kind;
 mod phase;
 mod transition;
@@ -131,6 +132,10 @@ impl Machine for PolMachine {
             }
             Move::End(_) | Move::Stop => false,
         }
+    }
+
+    fn closes(&mut self, byte: u8) -> Option<Sequence<PolWord>> {
+        self.end(byte)
     }
 
     fn push(&mut self, byte: u8) -> Push<Sequence<PolWord>> {

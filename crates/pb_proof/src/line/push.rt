@@ -2,7 +2,7 @@
 
 ghost use Rattle.std.specs.Prelude.{◌≡◌};
 ghost use Rattle.pb_text.specs.Limits.{largest, top_of};
-ghost use Rattle.pb_proof.specs.Line.Machine.{line_first, IsCarried};
+ghost use Rattle.pb_proof.specs.Line.Machine.{line_first, IsCarried, IsEnded};
 
 use crate::line::LineMachine;
 use crate::line::claim::ClaimMachine;
@@ -45,6 +45,18 @@ fn carried<E, F: FnOnce(E) -> Statement + Drop>(answer: Push<E>, statement: F) -
     }
 }
 
+/// The event of a machine behind a first word, as that of all of them.
+#[inline(always)]
+fn ended<E, F: FnOnce(E) -> Statement + Drop>(event: Option<E>, statement: F) -> Option<Statement>
+    requires { F.IsAlwaysCallable statement }
+    ensures { IsEnded (F.post statement) event result }
+{
+    match event {
+        Some(event) => Some(statement(event)),
+        None => None,
+    }
+}
+
 /// The machine of what stands behind a first word, before its text. It takes no memory.
 pub fn line_first(alloc: Global, limits: Limits, kind: LineKind) -> LineMachine
     ensures { result ≡ line_first (largest limits) (top_of limits) kind }
@@ -69,6 +81,18 @@ impl Machine for LineMachine {
 
     fn run(&mut self, piece: &[u8]) -> usize {
         whichever!(self, machine => machine.run(piece))
+    }
+
+    fn closes(&mut self, byte: u8) -> Option<Statement> {
+        match self {
+            LineMachine::Count(machine) => ended(machine.closes(byte), Statement::F),
+            LineMachine::Pol(machine) => ended(machine.closes(byte), Statement::Pol),
+            LineMachine::Rup(machine) => ended(machine.closes(byte), Statement::Rup),
+            LineMachine::Soli(machine) => ended(machine.closes(byte), Statement::Soli),
+            LineMachine::Solx(machine) => ended(machine.closes(byte), Statement::Solx),
+            LineMachine::Delete(machine) => ended(machine.closes(byte), Statement::Delete),
+            LineMachine::Conclusion(machine) => ended(machine.closes(byte), Statement::Conclude),
+        }
     }
 
     fn push(&mut self, byte: u8) -> Push<Statement> {

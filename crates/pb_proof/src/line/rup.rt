@@ -4,6 +4,7 @@ ghost use Rattle.std.specs.Prelude.{◌≡◌, ◌-◌, ◌^◌, min};
 ghost use Rattle.pb_text.specs.Limits.{largest};
 ghost use Rattle.pb_proof.specs.Line.Rup.{rup_plan, rup_done, linear_of, units_in};
 
+mod end;
 mod phase;
 
 use crate::line::rup::phase::{RupMove, RupPhase};
@@ -192,6 +193,12 @@ impl Machine for RupMachine {
         };
         let _ = self.is_done();
         gone
+    }
+
+    fn closes(&mut self, byte: u8) -> Option<Linear> {
+        let linear = self.end(byte);
+        let _ = self.is_done();
+        linear
     }
 
     fn take_front(&mut self, piece: &[u8]) -> usize {

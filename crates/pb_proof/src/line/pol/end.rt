@@ -1,0 +1,40 @@
+//! Ends the line of a `pol`.
+
+ghost use Rattle.std.specs.Prelude.{◌≡◌};
+ghost use Rattle.pb_text.specs.Automaton.{Closes, IsState};
+ghost use Rattle.pb_proof.specs.Line.PolState.{pol_automaton};
+
+use crate::line::pol::PolMachine;
+use crate::line::pol::kind::kind_of;
+use crate::line::pol::phase::Move;
+use crate::line::pol::transition::plan;
+use crate::line::pol::words::finish;
+use crate::word::PolWord;
+use pb_text::{Machine, Sequence};
+
+impl PolMachine {
+    /// Ends the line with a byte, where it is whole and no memory is refused.
+    #[inline(always)]
+    pub(super) fn end(&mut self, byte: u8) -> Option<Sequence<PolWord>>
+        ensures closes { Closes pol_automaton self.old byte result self.new }
+        ensures state { IsState pol_automaton self.new }
+    {
+        let _ = self.is_done();
+        match plan(self.limit, self.top, self.depth, self.phase, kind_of(byte)) {
+            Move::End(change) => {
+                let Ok(words) = finish(
+                    self.alloc,
+                    &mut self.words,
+                    &mut self.depth,
+                    &mut self.name,
+                    &mut self.phase,
+                    change,
+                ) else {
+                    return None;
+                };
+                Some(words)
+            }
+            Move::To(_) | Move::Begin(_) | Move::Add(_) | Move::Turn(_, _) | Move::Stop => None,
+        }
+    }
+}

@@ -1,0 +1,38 @@
+//! Ends the line of a `rup`.
+
+ghost use Rattle.std.specs.Prelude.{◌≡◌};
+ghost use Rattle.pb_text.specs.Automaton.{Closes};
+ghost use Rattle.pb_proof.specs.Line.Rup.{rup_automaton, rup_plan};
+
+use crate::line::rup::phase::{RupMove, RupPhase};
+use crate::line::rup::{RupMachine, rup_plan};
+use pb_sums::Linear;
+use std::mem;
+
+impl RupMachine {
+    /// Ends the line with a byte, where it is whole.
+    #[inline(always)]
+    pub(super) fn end(&mut self, byte: u8) -> Option<Linear>
+        ensures { Closes rup_automaton self.old byte result self.new }
+    {
+        match rup_plan(self.phase, byte) {
+            RupMove::Finish => self.take_linear(byte),
+            _ => None,
+        }
+    }
+
+    /// Gives the constraint, where there is one.
+    #[inline(always)]
+    fn take_linear(&mut self, byte: u8) -> Option<Linear>
+        requires { rup_plan self.old.phase byte ≡ RupMove.Finish }
+        ensures { Closes rup_automaton self.old byte result self.new }
+    {
+        match mem::replace(&mut self.linear, None) {
+            Some(linear) => {
+                self.phase = RupPhase::Done;
+                Some(linear)
+            }
+            None => None,
+        }
+    }
+}
