@@ -22,6 +22,9 @@ module _ (spaces : Spaces) (part : Part) (limit : ℕ) (xs : List Term) (name : 
   pub space_state : (p q : Phase) → Some q ≡ behind_space p → IsState sums (at q)
   space_state (phase.TheVariants.Digits None negative n) q e = state-of q (phase.TheVariants.Gap (signed negative n)) (cc) tt refl
   space_state (phase.TheVariants.Digits (Some r) negative n) q e = state-of q (phase.TheVariants.Tail r (signed negative n)) (cc) tt refl
+  space_state (phase.TheVariants.Gap z) q e = state-of q (phase.TheVariants.Gap z) (cc) tt refl
+  space_state phase.TheVariants.Between q e = state-of q phase.TheVariants.Between (cc) tt refl
+  space_state (phase.TheVariants.Tail r z) q e = state-of q (phase.TheVariants.Tail r z) (cc) tt refl
   space_state (phase.TheVariants.More z negated) q e = state-of q phase.TheVariants.Between (cc) tt refl
   space_state (phase.TheVariants.Operator r) q e = state-of q (phase.TheVariants.Operator r) (cc) tt refl
   space_state _ q e = cc e

@@ -8,7 +8,7 @@ use Rattle.pb_text.specs.Automaton.{Go, Runs}
 use Rattle.pb_text.specs.Classes.{is_digit}
 use Rattle.pb_text.specs.Languages.{Each}
 use Rattle.pb_sums.specs.Machine.{plan, digits, kind, letter_at, flushed, is_numeric}
-use Rattle.pb_sums.specs.Prefix.{IsSign, value_from, begins_number, role}
+use Rattle.pb_sums.specs.Prefix.{IsSign, HasSign, value_from, begins_number, role, sign_read}
 use Rattle.pb_sums.specs.State.{SumState, sums}
 use Rattle.pb_sums.specs.declared.values.Relation.{Relation}
 use Rattle.pb_sums.specs.declared.values.Term.{Term}
@@ -87,31 +87,38 @@ module _ (spaces : Spaces) (part : Part) (limit : ℕ) (xs : List Term) where
   number-run p r negative [] s h i l = absurd (omega arith)
   number-run p r negative (b ∷ text) s h i l = digits-run p r negative 0 b text s h l
 
-  begins : (p : Phase) → begins_number p ≡ true → Begins p (role p) false 0
+  -- the states in which a sign may stand
+  abbrev begins_unread : Phase → Bool
+  begins_unread phase.TheVariants.Start = true
+  begins_unread phase.TheVariants.Between = true
+  begins_unread (phase.TheVariants.Operator r) = true
+  begins_unread _ = false
+
+  begins : (p : Phase) → begins_unread p ≡ true → Begins p (role p) false 0
   begins phase.TheVariants.Start e = record { numeric = refl; same = refl; on_digit = λ d. refl }
   begins phase.TheVariants.Between e = record { numeric = refl; same = refl; on_digit = λ d. refl }
   begins (phase.TheVariants.Operator r) e = record { numeric = refl; same = refl; on_digit = λ d. refl }
   begins _ e = cc e
 
-  on-plus : (p : Phase) → begins_number p ≡ true → plan part limit p Plus ≡ To (phase.TheVariants.Signed (role p) false)
+  on-plus : (p : Phase) → begins_unread p ≡ true → plan part limit p Plus ≡ To (phase.TheVariants.Signed (role p) false)
   on-plus phase.TheVariants.Start e = refl
   on-plus phase.TheVariants.Between e = refl
   on-plus (phase.TheVariants.Operator r) e = refl
   on-plus _ e = cc e
 
-  on-minus : (p : Phase) → begins_number p ≡ true → plan part limit p Minus ≡ To (phase.TheVariants.Signed (role p) true)
+  on-minus : (p : Phase) → begins_unread p ≡ true → plan part limit p Minus ≡ To (phase.TheVariants.Signed (role p) true)
   on-minus phase.TheVariants.Start e = refl
   on-minus phase.TheVariants.Between e = refl
   on-minus (phase.TheVariants.Operator r) e = refl
   on-minus _ e = cc e
 
-  sign-on : (p : Phase) (negative : Bool) (b : ℕ) (k : Kind) → begins_number p ≡ true → k ≡ kind spaces (letter_at true b) → plan part limit p k ≡ To (phase.TheVariants.Signed (role p) negative)
+  sign-on : (p : Phase) (negative : Bool) (b : ℕ) (k : Kind) → begins_unread p ≡ true → k ≡ kind spaces (letter_at true b) → plan part limit p k ≡ To (phase.TheVariants.Signed (role p) negative)
       → sums.step (at p) b ≡ Go (at (phase.TheVariants.Signed (role p) negative))
   sign-on p negative b k e f g =
       let s : Begins p (role p) false 0 = begins p e in
       goes_to spaces part limit xs xs [] p (phase.TheVariants.Signed (role p) negative) b true k [] refl (sym s.numeric) f (sym g) (sym s.same)
 
-  signed-run : (p : Phase) (negative : Bool) (sign text : List ℕ) → begins_number p ≡ true → IsSign negative sign → AreDigits text → 0 < length text → value_from 0 text ≤ limit
+  signed-run : (p : Phase) (negative : Bool) (sign text : List ℕ) → begins_unread p ≡ true → IsSign negative sign → AreDigits text → 0 < length text → value_from 0 text ≤ limit
       → Runs sums (at p) (sign ++ text) (at (phase.TheVariants.Digits (role p) negative (value_from 0 text)))
   signed-run p negative [] text e s h i l =
       subst (λ (x : Bool). Runs sums (at p) text (at (phase.TheVariants.Digits (role p) x (value_from 0 text)))) (sym s) (number-run p (role p) false text (begins p e) h i l)
@@ -129,13 +136,24 @@ module _ (spaces : Spaces) (part : Part) (limit : ℕ) (xs : List Term) where
   )
   signed-run p negative (b ∷ c ∷ sign) text e s h i l = absurd s
 
--- a number, where one may begin
+  -- the same, or the digits behind a sign that was read
+  digits-behind : (p : Phase) (negative : Bool) (text : List ℕ) (i : ℕ) (digits : List ℕ) → begins_number p ≡ true → HasSign (sign_read p) text i negative → AreDigits digits
+      → 0 < length digits → value_from 0 digits ≤ limit
+      → Runs sums (at p) (take i text ++ digits) (at (phase.TheVariants.Digits (role p) negative (value_from 0 digits)))
+  digits-behind (phase.TheVariants.Signed r read) negative text i digits e s h k l =
+      rw (s.0, s.1) (number-run (phase.TheVariants.Signed r read) r read digits (record { numeric = refl; same = refl; on_digit = λ d. refl }) h k l)
+  digits-behind phase.TheVariants.Start negative text i digits e s h k l = signed-run phase.TheVariants.Start negative (take i text) digits refl s.0 h k l
+  digits-behind phase.TheVariants.Between negative text i digits e s h k l = signed-run phase.TheVariants.Between negative (take i text) digits refl s.0 h k l
+  digits-behind (phase.TheVariants.Operator r) negative text i digits e s h k l = signed-run (phase.TheVariants.Operator r) negative (take i text) digits refl s.0 h k l
+  digits-behind _ negative text i digits e s h k l = cc e
+
+-- a number, where one may begin, or its digits
 pub number_runs : (spaces : Spaces) (part : Part) (limit : ℕ) (xs : List Term) (name : List ℕ) (p : Phase) (r : Option Relation) (negative : Bool) (text : List ℕ) (i j v : ℕ)
-    → begins_number p ≡ true → name ≡ [] → r ≡ role p → IsSign negative (take i text) → AreDigits (take j (take (length text - i) (drop i text)))
+    → begins_number p ≡ true → name ≡ [] → r ≡ role p → HasSign (sign_read p) text i negative → AreDigits (take j (take (length text - i) (drop i text)))
     → v ≡ value_from 0 (take j (take (length text - i) (drop i text))) → j ≤ length (take (length text - i) (drop i text)) → (j ≡ 0 → ⊥) → v ≤ limit
     → Runs sums (record { spaces = spaces; part = part; limit = limit; work = record { terms = xs; name = name; phase = p } }) (take (i + j) text)
     (record { spaces = spaces; part = part; limit = limit; work = record { terms = xs; name = name; phase = phase.TheVariants.Digits r negative v } })
 number_runs spaces part limit xs name p r negative text i j v b e f s h g l n m =
     let some : 0 < length (take j (take (length text - i) (drop i text))) = rw (length-take-le j (take (length text - i) (drop i text)) l) (omega arith) in
     let fits : value_from 0 (take j (take (length text - i) (drop i text))) ≤ limit = subst (λ (x : ℕ). x ≤ limit) g m in
-    rw (e, f, g, front_parts text i j) (signed-run spaces part limit xs p negative (take i text) (take j (take (length text - i) (drop i text))) b s h some fits)
+    rw (e, f, g, front_parts text i j) (digits-behind spaces part limit xs p negative text i (take j (take (length text - i) (drop i text))) b s h some fits)

@@ -1,8 +1,11 @@
 -- Names and numbers at the front of a text.
-use Rattle.std.specs.Prelude.{◌≡◌, ◌≢◌, ◌⊎◌, ◌<◌, ◌≤◌, ◌^◌, ℕ, ◌+◌, ◌-◌, ◌*◌, Bool, IsTrue, true, false, List, [], ◌∷◌, Option, Some, None, length, take, drop, get_or}
+use Rattle.std.specs.Prelude.{◌≡◌, ◌≢◌, ◌⊎◌, ◌<◌, ◌≤◌, ◌^◌, ℕ, ℤ, ◌+◌, ◌-◌, ◌*◌, Bool, IsTrue, true, false, List, [], ◌∷◌, Option, Some, None, length, take, drop, get_or}
 use Rattle.pb_text.specs.Classes.{is_digit, is_letter, is_name_byte}
 use Rattle.pb_text.specs.Languages.{Each}
 use Rattle.pb_text.specs.Numbers.{signed}
+use Rattle.pb_sums.specs.Canonical.{operator_bytes}
+use Rattle.pb_sums.specs.Sums.{allows}
+use Rattle.pb_sums.specs.declared.grammar.Part.{Part}
 use Rattle.pb_sums.specs.declared.values.Relation.{Relation}
 use Rattle.pb_sums.specs.declared.phase.Phase.{Phase}
 use Rattle.pb_sums.specs.declared.phase.Phase as phase
@@ -19,16 +22,36 @@ IsSign false (b ∷ []) = b ≡ 43
 IsSign true (b ∷ []) = b ≡ 45
 IsSign negative (b ∷ c ∷ text) = ⊥
 
--- the states in which a number may begin, and the relation before it
+-- the states in which a number may begin, or its digits, the relation before it, and the sign that was read
 abbrev pub begins_number : Phase → Bool
 begins_number phase.TheVariants.Start = true
+begins_number (phase.TheVariants.Signed r negative) = true
 begins_number phase.TheVariants.Between = true
 begins_number (phase.TheVariants.Operator r) = true
 begins_number _ = false
 
 abbrev pub role : Phase → Option Relation
+role (phase.TheVariants.Signed r negative) = r
 role (phase.TheVariants.Operator r) = Some r
 role _ = None
+
+abbrev pub sign_read : Phase → Option Bool
+sign_read (phase.TheVariants.Signed r negative) = Some negative
+sign_read _ = None
+
+-- the state behind a number and space
+abbrev pub behind_number : Option Relation → ℤ → Phase
+behind_number None z = phase.TheVariants.Gap z
+behind_number (Some r) z = phase.TheVariants.Tail r z
+
+-- a relation may stand behind terms and space
+abbrev pub begins_relation : Phase → Bool
+begins_relation phase.TheVariants.Between = true
+begins_relation _ = false
+
+-- No relation that the part allows stands at the front.
+abbrev pub LacksRelation : Part → List ℕ → Type 0
+LacksRelation part text = (r : Relation) → allows part r ≡ true → take (length (operator_bytes r)) text ≢ operator_bytes r
 
 -- the state behind a name, where one may begin
 abbrev pub behind_name : Phase → Option Phase
@@ -40,8 +63,11 @@ behind_name _ = None
 abbrev pub behind_space : Phase → Option Phase
 behind_space (phase.TheVariants.Digits None negative n) = Some (phase.TheVariants.Gap (signed negative n))
 behind_space (phase.TheVariants.Digits (Some r) negative n) = Some (phase.TheVariants.Tail r (signed negative n))
+behind_space (phase.TheVariants.Gap z) = Some (phase.TheVariants.Gap z)
 behind_space (phase.TheVariants.More z negated) = Some phase.TheVariants.Between
+behind_space phase.TheVariants.Between = Some phase.TheVariants.Between
 behind_space (phase.TheVariants.Operator r) = Some (phase.TheVariants.Operator r)
+behind_space (phase.TheVariants.Tail r z) = Some (phase.TheVariants.Tail r z)
 behind_space _ = None
 
 -- the rest of a text, as a slice of it
@@ -53,11 +79,14 @@ abbrev pub HasDigits : List ℕ → ℕ → ℕ → Type 0
 HasDigits text n value = (n ≤ length text) × Each (λ b. IsTrue (is_digit b)) (take n text) × (value ≡ value_from 0 (take n text))
     × (n < length text → value < 2 ^ 60 → is_digit (get_or text n 0) ≡ false)
 
--- No coefficient with a space behind it stands at the front, or a large one.
-abbrev pub LacksCoefficient : ℕ → List ℕ → Type 0
-LacksCoefficient limit text = (i : ℕ) × (negative : Bool) × IsSign negative (take i text)
-    × (i ≡ 0 → 0 < length text → (get_or text 0 0 ≢ 43) × (get_or text 0 0 ≢ 45))
-    × (n : ℕ) × (value : ℕ) × HasDigits (behind i text) n value
+-- So many bytes of a sign stand at the front, and no more: none where it was read.
+abbrev pub HasSign : Option Bool → List ℕ → ℕ → Bool → Type 0
+HasSign (Some read) text n negative = (n ≡ 0) × (negative ≡ read)
+HasSign None text n negative = IsSign negative (take n text) × (n ≡ 0 → 0 < length text → (get_or text 0 0 ≢ 43) × (get_or text 0 0 ≢ 45))
+
+-- No number with a space behind it stands at the front, or a large one.
+abbrev pub LacksNumber : ℕ → Option Bool → List ℕ → Type 0
+LacksNumber limit read text = (i : ℕ) × (negative : Bool) × HasSign read text i negative × (n : ℕ) × (value : ℕ) × HasDigits (behind i text) n value
     × ((n ≡ 0) ⊎ (limit < value) ⊎ (length text ≤ i + n) ⊎ (get_or text (i + n) 0 ≢ 32))
 
 -- So many bytes of a name stand at the front, and no more.

@@ -1,6 +1,7 @@
 -- Parts of a term at the front of a text, and what a machine does over them, whatever it reads.
-use Rattle.std.specs.Prelude.{◌≡◌, ℕ, ℤ, Bool, true, false, List, [], ◌∷◌}
+use Rattle.std.specs.Prelude.{◌≡◌, ℕ, ℤ, Bool, true, false, List, [], ◌∷◌, None}
 use Rattle.pb_text.specs.Automaton.{Runs}
+use Rattle.pb_sums.specs.Prefix.{role, behind_number}
 use Rattle.pb_sums.specs.State.{SumState, sums}
 use Rattle.pb_sums.specs.declared.values.Literal.{Literal}
 use Rattle.pb_sums.specs.declared.values.Term.{Term}
@@ -9,9 +10,10 @@ use Rattle.pb_sums.specs.declared.grammar.Part.{Part}
 use Rattle.pb_sums.specs.declared.phase.Phase.{Phase}
 use Rattle.pb_sums.specs.declared.phase.Phase as phase
 
--- the states in which a term may begin
+-- the states in which a term may begin, or the digits of its coefficient
 abbrev pub begins_term : Phase → Bool
 begins_term phase.TheVariants.Start = true
+begins_term (phase.TheVariants.Signed None negative) = true
 begins_term phase.TheVariants.Between = true
 begins_term _ = false
 
@@ -23,10 +25,10 @@ IsTilde true text = text ≡ 126 ∷ []
 abbrev pub standing : Spaces → Part → ℕ → List Term → List ℕ → Phase → SumState
 standing spaces part limit xs name p = record { spaces = spaces; part = part; limit = limit; work = record { terms = xs; name = name; phase = p } }
 
--- a coefficient and a space behind it, where a term may begin
-abbrev pub IsCoefficient : ℕ → List ℕ → ℤ → Type 0
-IsCoefficient limit text z = (spaces : Spaces) (part : Part) (xs : List Term) (p : Phase) → begins_term p ≡ true →
-    Runs sums (standing spaces part limit xs [] p) text (standing spaces part limit xs [] (phase.TheVariants.Gap z))
+-- a number and a space behind it, from this state
+abbrev pub IsSpacedNumber : ℕ → Phase → List ℕ → ℤ → Type 0
+IsSpacedNumber limit p text z = (spaces : Spaces) (part : Part) (xs : List Term) →
+    Runs sums (standing spaces part limit xs [] p) text (standing spaces part limit xs [] (behind_number (role p) z))
 
 -- a literal behind a coefficient
 abbrev pub IsLiteral : List ℕ → Literal → Type 0

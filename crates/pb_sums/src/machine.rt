@@ -14,11 +14,11 @@ use crate::classes::kind;
 use crate::grammar::{Part, Spaces};
 use crate::name::Name;
 use crate::phase::{Move, Phase};
-use crate::prefix::{name_prefix, number_prefix, sign_prefix};
-use crate::term_prefix::{begins_term, coefficient_prefix, literal_prefix};
+use crate::prefix::{name_prefix, number_prefix, relation_prefix, sign_prefix};
+use crate::term_prefix::{begins_term, literal_prefix, spaced_number_prefix};
 use crate::transition::{
-    begins_number, behind_name, behind_space, in_hand, is_done, is_in_number, is_more, is_numeric,
-    plan, role,
+    begins_number, begins_relation, behind_name, behind_number, behind_space, in_hand, is_done,
+    is_in_number, is_more, is_numeric, plan, role, sign_read,
 };
 use crate::values::{Linear, Literal, SumEvent, Term};
 use pb_text::bytes::{is_digit, is_letter, is_name_byte};
@@ -159,9 +159,10 @@ impl SumMachine {
 impl SumMachine {
     ghost use Rattle.std.specs.Prelude.{take, length};
     ghost use Rattle.pb_text.specs.Automaton.{Goes, Runs};
+    ghost use Rattle.pb_sums.specs.Prefix.{LacksNumber, LacksRelation, begins_number, begins_relation, sign_read};
     ghost use Rattle.pb_sums.specs.State.{sums};
 
-    /// Takes a whole term and a space behind it, where a term may begin.
+    /// Takes a whole term and a space behind it, where a term may begin, or what is left of one behind its sign.
     #[inline(always)]
     fn take_term(&mut self, text: &[u8]) -> usize
         ensures bound { result ≤ length text.now }
@@ -172,7 +173,7 @@ impl SumMachine {
         if !begins_term(self.phase) || !self.name.as_bytes().is_empty() {
             return 0;
         }
-        let Some((number, coefficient)) = coefficient_prefix(self.limit, text) else {
+        let Some((number, coefficient)) = spaced_number_prefix(self.limit, self.phase, text) else {
             return 0;
         };
         let rest = &text[number..];
@@ -193,7 +194,30 @@ impl SumMachine {
         number + length + 1
     }
 
-    /// Takes a whole term, or else a number, where they may begin.
+    /// Takes a relation, and a space behind it if there is one, where terms and space stand before.
+    #[inline(always)]
+    fn take_relation(&mut self, text: &[u8]) -> usize
+        ensures bound { result ≤ length text.now }
+        ensures runs { Runs sums self.old (take result text.now) self.new }
+        ensures state { IsState sums self.new }
+        // It passes over one only where a name is in hand.
+        ensures none { result ≡ 0 → begins_relation self.old.work.phase ≡ true → self.old.work.name ≡ [] → LacksRelation self.old.part text.now }
+    {
+        let _ = self.is_done();
+        if !begins_relation(self.phase) || !self.name.as_bytes().is_empty() {
+            return 0;
+        }
+        let Some((length, relation)) = relation_prefix(self.part, text) else {
+            return 0;
+        };
+        self.phase = Phase::Operator(relation);
+        if length < text.len() && text[length] == b' ' {
+            return length + 1;
+        }
+        length
+    }
+
+    /// Takes a whole term, a relation or a coefficient, where they may begin.
     #[inline(always)]
     fn take_start(&mut self, text: &[u8]) -> usize
         ensures bound { result ≤ length text.now }
@@ -204,7 +228,45 @@ impl SumMachine {
         if length > 0 {
             return length;
         }
+        let length = self.take_relation(text);
+        if length > 0 {
+            return length;
+        }
+        self.take_numeral(text)
+    }
+
+    /// Takes a number with a space behind it, or else its digits, where they may begin.
+    #[inline(always)]
+    fn take_numeral(&mut self, text: &[u8]) -> usize
+        ensures bound { result ≤ length text.now }
+        ensures runs { Runs sums self.old (take result text.now) self.new }
+        ensures state { IsState sums self.new }
+    {
+        let length = self.take_spaced_number(text);
+        if length > 0 {
+            return length;
+        }
         self.take_number(text)
+    }
+
+    /// Takes a number that is small and a space behind it, where a number may begin.
+    #[inline(always)]
+    fn take_spaced_number(&mut self, text: &[u8]) -> usize
+        ensures bound { result ≤ length text.now }
+        ensures runs { Runs sums self.old (take result text.now) self.new }
+        ensures state { IsState sums self.new }
+        // It passes over one only where a name is in hand.
+        ensures none { result ≡ 0 → begins_number self.old.work.phase ≡ true → self.old.work.name ≡ [] → LacksNumber self.old.limit (sign_read self.old.work.phase) text.now }
+    {
+        let _ = self.is_done();
+        if !begins_number(self.phase) || !self.name.as_bytes().is_empty() {
+            return 0;
+        }
+        let Some((length, value)) = spaced_number_prefix(self.limit, self.phase, text) else {
+            return 0;
+        };
+        self.phase = behind_number(role(self.phase), value);
+        length
     }
 
     /// Takes a number that is small, where one may begin.
@@ -218,7 +280,7 @@ impl SumMachine {
         if !begins_number(self.phase) || !self.name.as_bytes().is_empty() {
             return 0;
         }
-        let (sign, negative) = sign_prefix(text);
+        let (sign, negative) = sign_prefix(sign_read(self.phase), text);
         let (count, value) = number_prefix(&text[sign..]);
         let magnitude = value as u128;
         if count == 0 || magnitude > self.limit {
@@ -299,7 +361,8 @@ impl SumMachine {
     {
         let _ = self.is_done();
         match self.phase {
-            Phase::Start | Phase::Between | Phase::Operator(_) => self.take_start(text),
+            Phase::Start | Phase::Signed(None, _) | Phase::Between => self.take_start(text),
+            Phase::Signed(Some(_), _) | Phase::Operator(_) => self.take_numeral(text),
             Phase::Gap(_) | Phase::Tilde(_) => self.take_name(text),
             Phase::More(_, _) => self.take_more(text),
             _ => 0,
@@ -362,11 +425,7 @@ impl Machine for SumMachine {
         if piece[0] == b' ' {
             return if self.take_space() { 1 } else { 0 };
         }
-        let length = self.take_word(piece);
-        if length > 0 {
-            return length;
-        }
-        if self.goes(piece[0]) { 1 } else { 0 }
+        self.take_word(piece)
     }
 
     fn push(&mut self, byte: u8) -> Push<SumEvent> {

@@ -77,15 +77,24 @@ impl Name {
         ensures name { IfOk result (λ name. name ≡ take len text.now) }
         ensures short { len ≤ 22 → is_ok result ≡ true }
     {
-        if len <= SHORT
-            && let Some(block) = text.first_chunk::<SHORT>()
-        {
-            return Ok(Name {
-                kept: Kept::Short(ShortText::from_block(alloc, block, len)),
-            });
+        if len <= SHORT {
+            return Ok(Name::short_front(alloc, text, len));
         }
         // It is a text, as is required.
         Name::from_text(alloc, unsafe { str::from_utf8_unchecked(&text[..len]) })
+    }
+
+    /// The short name at the front of a text. It takes no memory.
+    #[inline(always)]
+    pub(crate) fn short_front(alloc: Global, text: &[u8], len: usize) -> Name
+        requires short { len ≤ 22 }
+        requires within { len ≤ length text.now }
+        requires text { IsUtf8 (take len text.now) }
+        ensures name { result ≡ take len text.now }
+    {
+        Name {
+            kept: Kept::Short(ShortText::from_front(alloc, text, len)),
+        }
     }
 
     /// The string of the name.

@@ -1,10 +1,15 @@
 //! Names and numbers at the front of a text.
 
-ghost use Rattle.std.specs.Prelude.{◌<◌, ◌≤◌, ◌≡◌, ◌≢◌, ◌^◌, IsTrue, false, take, length, get_or};
+ghost use Rattle.std.specs.Prelude.{◌<◌, ◌≤◌, ◌≡◌, ◌^◌, IsTrue, IfSome, None, true, false, take, length, get_or};
 ghost use Rattle.pb_text.specs.Classes.{is_digit, is_name_byte};
 ghost use Rattle.pb_text.specs.Languages.{Each};
-ghost use Rattle.pb_sums.specs.Prefix.{IsSign, value_from};
+ghost use Rattle.pb_sums.specs.Canonical.{operator_bytes};
+ghost use Rattle.pb_sums.specs.Prefix.{HasSign, LacksRelation, value_from};
+ghost use Rattle.pb_sums.specs.Sums.{allows};
 
+use crate::grammar::Part;
+use crate::transition::allows;
+use crate::values::Relation;
 use pb_text::bytes::{is_digit, is_name_byte};
 
 /// Numbers below it leave room for a digit more.
@@ -26,12 +31,23 @@ pub fn name_prefix(text: &[u8]) -> usize
     text.len()
 }
 
+/// The length of the sign of a number at the front, if it was not read before, and whether it is a minus.
+#[inline(always)]
+pub fn sign_prefix(read: Option<bool>, text: &[u8]) -> (usize, bool)
+    ensures bound { result.0 ≤ length text.now }
+    ensures sign { HasSign read text.now result.0 result.1 }
+{
+    match read {
+        Some(negative) => (0, negative),
+        None => sign_front(text),
+    }
+}
+
 /// The length of the sign at the front, and whether it is a minus.
 #[inline(always)]
-pub fn sign_prefix(text: &[u8]) -> (usize, bool)
+fn sign_front(text: &[u8]) -> (usize, bool)
     ensures bound { result.0 ≤ length text.now }
-    ensures sign { IsSign result.1 (take result.0 text.now) }
-    ensures none { result.0 ≡ 0 → 0 < length text.now → (get_or text.now 0 0 ≢ 43) × (get_or text.now 0 0 ≢ 45) }
+    ensures sign { HasSign None text.now result.0 result.1 }
 {
     if text.is_empty() {
         return (0, false);
@@ -60,4 +76,21 @@ pub fn number_prefix(text: &[u8]) -> (usize, u64)
         value = 10 * value + (*byte - b'0') as u64;
     }
     (text.len(), value)
+}
+
+/// The relation at the front, where the part allows it, and its length.
+#[inline(always)]
+pub fn relation_prefix(part: Part, text: &[u8]) -> Option<(usize, Relation)>
+    ensures bound { IfSome result (λ r. r.0 ≤ length text.now) }
+    ensures allowed { IfSome result (λ r. allows part r.1 ≡ true) }
+    ensures operator { IfSome result (λ r. take r.0 text.now ≡ operator_bytes r.1) }
+    ensures none { result ≡ None → LacksRelation part text.now }
+{
+    if allows(part, Relation::AtLeast) && text.starts_with(b">=") {
+        return Some((2, Relation::AtLeast));
+    }
+    if allows(part, Relation::Equal) && text.starts_with(b"=") {
+        return Some((1, Relation::Equal));
+    }
+    None
 }

@@ -56,6 +56,21 @@ impl ShortText {
         }
     }
 
+    /// The text at the front of another.
+    #[inline(always)]
+    pub fn from_front(alloc: Global, text: &[u8], len: usize) -> ShortText
+        requires short { len ≤ 22 }
+        requires within { len ≤ length text.now }
+        requires text { IsUtf8 (take len text.now) }
+        ensures { result ≡ take len text.now }
+    {
+        if let Some(block) = text.first_chunk::<SHORT>() {
+            return ShortText::from_block(alloc, block, len);
+        }
+        // It is a text, as is required.
+        ShortText::from_text(alloc, unsafe { str::from_utf8_unchecked(&text[..len]) })
+    }
+
     /// The text that a `str` spells, where it has room for it.
     pub fn from_text(alloc: Global, text: &str) -> ShortText
         requires { length text.now ≤ 22 }

@@ -1,24 +1,26 @@
 //! Parts of a term at the front of a text.
 
-ghost use Rattle.std.specs.Prelude.{◌≡◌, ◌≢◌, ◌≤◌, ◌<◌, ◌^◌, IfSome, None, get_or, length, take};
-ghost use Rattle.pb_sums.specs.Prefix.{LacksCoefficient, LacksLiteral};
-ghost use Rattle.pb_sums.specs.TermParts.{begins_term, IsTilde, IsCoefficient, IsLiteral};
+ghost use Rattle.std.specs.Prelude.{◌≡◌, ◌≢◌, ◌≤◌, ◌<◌, ◌^◌, IfSome, None, true, get_or, length, take};
+ghost use Rattle.pb_sums.specs.Prefix.{LacksLiteral, LacksNumber, begins_number, sign_read};
+ghost use Rattle.pb_sums.specs.TermParts.{begins_term, IsTilde, IsSpacedNumber, IsLiteral};
 
 use crate::name::Name;
 use crate::phase::Phase;
 use crate::prefix::{name_prefix, number_prefix, sign_prefix};
+use crate::short::SHORT;
+use crate::transition::sign_read;
 use crate::values::Literal;
 use pb_text::bytes::is_letter;
 use pb_text::decimal::signed;
 use std::alloc::Global;
 
-/// Whether a term may begin.
+/// Whether a term may begin, or the digits of its coefficient.
 #[inline(always)]
 pub fn begins_term(phase: Phase) -> bool
     ensures { result ≡ begins_term phase }
 {
     match phase {
-        Phase::Start | Phase::Between => true,
+        Phase::Start | Phase::Signed(None, _) | Phase::Between => true,
         _ => false,
     }
 }
@@ -41,15 +43,16 @@ pub fn tilde_prefix(text: &[u8]) -> (usize, bool)
     }
 }
 
-/// A coefficient and a space behind it at the front, and their length, where they are soon read.
+/// A number and a space behind it at the front, and their length, where they are soon read.
 #[inline(always)]
-pub fn coefficient_prefix(limit: u128, text: &[u8]) -> Option<(usize, i128)>
-    requires { limit < 2 ^ 127 }
-    ensures bound { IfSome result (λ r. r.0 ≤ length text.now) }
-    ensures runs { IfSome result (λ r. IsCoefficient limit (take r.0 text.now) r.1) }
-    ensures none { result ≡ None → LacksCoefficient limit text.now }
+pub fn spaced_number_prefix(limit: u128, phase: Phase, text: &[u8]) -> Option<(usize, i128)>
+    requires room { limit < 2 ^ 127 }
+    requires begins { begins_number phase ≡ true }
+    ensures bound { IfSome result (λ r. (0 < r.0) × (r.0 ≤ length text.now)) }
+    ensures runs { IfSome result (λ r. IsSpacedNumber limit phase (take r.0 text.now) r.1) }
+    ensures none { result ≡ None → LacksNumber limit (sign_read phase) text.now }
 {
-    let (sign, negative) = sign_prefix(text);
+    let (sign, negative) = sign_prefix(sign_read(phase), text);
     let (count, value) = number_prefix(&text[sign..]);
     let magnitude = value as u128;
     if count == 0 || magnitude > limit {
@@ -62,7 +65,7 @@ pub fn coefficient_prefix(limit: u128, text: &[u8]) -> Option<(usize, i128)>
     Some((end + 1, signed(negative, magnitude)))
 }
 
-/// A literal at the front, and its length, where it is soon read and there is memory for it.
+/// A literal at the front, and its length, where it is soon read and takes no memory.
 #[inline(always)]
 pub fn literal_prefix(alloc: Global, text: &[u8]) -> Option<(usize, Literal)>
     ensures bound { IfSome result (λ r. r.0 ≤ length text.now) }
@@ -72,11 +75,9 @@ pub fn literal_prefix(alloc: Global, text: &[u8]) -> Option<(usize, Literal)>
     let (tilde, negated) = tilde_prefix(text);
     let rest = &text[tilde..];
     let length = name_prefix(rest);
-    if length < 2 || !is_letter(rest[0]) {
+    if length < 2 || length > SHORT || !is_letter(rest[0]) {
         return None;
     }
-    let Ok(name) = Name::from_front(alloc, rest, length) else {
-        return None;
-    };
+    let name = Name::short_front(alloc, rest, length);
     Some((tilde + length, Literal { negated, name }))
 }

@@ -3,7 +3,7 @@
 ghost use Rattle.std.specs.Prelude.{◌≡◌, ℕ, ◌-◌, ◌<◌, ◌≤◌, ◌^◌, Bool, None};
 ghost use Rattle.pb_sums.specs.Sums.{reads_sums, allows};
 ghost use Rattle.pb_sums.specs.Machine.{digits, number, behind, plan, KindFits, PhaseFits, MoveFits, is_numeric, is_in_number, is_more, is_done};
-ghost use Rattle.pb_sums.specs.Prefix.{begins_number, role, behind_name, behind_space};
+ghost use Rattle.pb_sums.specs.Prefix.{begins_number, begins_relation, role, sign_read, behind_name, behind_number, behind_space};
 ghost use Rattle.pb_sums.specs.State.{in_hand};
 
 use crate::grammar::Part;
@@ -55,12 +55,12 @@ pub fn is_more(phase: Phase) -> bool
     }
 }
 
-/// Whether a number may begin.
+/// Whether a number may begin, or its digits.
 pub fn begins_number(phase: Phase) -> bool
     ensures { result ≡ begins_number phase }
 {
     match phase {
-        Phase::Start | Phase::Between | Phase::Operator(_) => true,
+        Phase::Start | Phase::Signed(_, _) | Phase::Between | Phase::Operator(_) => true,
         _ => false,
     }
 }
@@ -70,8 +70,39 @@ pub fn role(phase: Phase) -> Option<Relation>
     ensures { result ≡ role phase }
 {
     match phase {
+        Phase::Signed(role, _) => role,
         Phase::Operator(r) => Some(r),
         _ => None,
+    }
+}
+
+/// Whether the sign that was read last is a minus, if it is a sign.
+pub fn sign_read(phase: Phase) -> Option<bool>
+    ensures { result ≡ sign_read phase }
+{
+    match phase {
+        Phase::Signed(_, negative) => Some(negative),
+        _ => None,
+    }
+}
+
+/// Whether terms and space stand before, behind which a relation may.
+pub fn begins_relation(phase: Phase) -> bool
+    ensures { result ≡ begins_relation phase }
+{
+    match phase {
+        Phase::Between => true,
+        _ => false,
+    }
+}
+
+/// Where the machine is behind a number and space.
+pub fn behind_number(role: Option<Relation>, value: i128) -> Phase
+    ensures { result ≡ behind_number role value }
+{
+    match role {
+        None => Phase::Gap(value),
+        Some(r) => Phase::Tail(r, value),
     }
 }
 
@@ -95,8 +126,10 @@ pub fn behind_space(phase: Phase) -> Option<Phase>
     match phase {
         Phase::Digits(None, negative, n) => Some(Phase::Gap(signed(negative, n))),
         Phase::Digits(Some(r), negative, n) => Some(Phase::Tail(r, signed(negative, n))),
-        Phase::More(_, _) => Some(Phase::Between),
+        Phase::Gap(z) => Some(Phase::Gap(z)),
+        Phase::More(_, _) | Phase::Between => Some(Phase::Between),
         Phase::Operator(r) => Some(Phase::Operator(r)),
+        Phase::Tail(r, z) => Some(Phase::Tail(r, z)),
         _ => None,
     }
 }
@@ -120,7 +153,8 @@ fn reads_sums(part: Part) -> bool
     }
 }
 
-fn allows(part: Part, relation: Relation) -> bool
+/// Whether the part allows the relation.
+pub fn allows(part: Part, relation: Relation) -> bool
     ensures { result ≡ allows part relation }
 {
     match (part, relation) {

@@ -6,8 +6,8 @@ use Rattle.pb_sums.specs.Prefix.{behind}
 use Rattle.pb_sums.proofs.TermParts.{literal_runs}
 use Rattle.pb_sums.proofs.term_prefix.literal_prefix.Goals as goal
 
-pub from_front-requires-clause-text : goal.from_front-requires-clause-text
-from_front-requires-clause-text c = name_utf8 _ c.name_prefix-length.ensures.name
+pub short_front-name-requires-clause-text : goal.short_front-name-requires-clause-text
+short_front-name-requires-clause-text c = name_utf8 _ c.name_prefix-length.ensures.name
 
 pub returns-clause-runs : goal.returns-clause-runs
 returns-clause-runs c =
@@ -16,5 +16,5 @@ returns-clause-runs c =
     let whole : length (take n rest) ≡ n = length-take-le n rest c.name_prefix-length.ensures.bound in
     let long : 2 ≤ length (take n rest) = omega arith in
     let front : get_or (take n rest) 0 0 ≡ get_or rest 0 0 = get_or-take n rest 0 0 (omega arith) in
-    literal_runs c.args.text.now c.tilde_prefix-tilde.result.0 n c.tilde_prefix-tilde.result.1 c.in-Ok.name c.tilde_prefix-tilde.ensures.tilde long
-    (ap is_letter front ∙ (sym c.is_letter.ensures ∙ c.if-not-is_letter.false)) c.name_prefix-length.ensures.name c.in-Ok.ensures.name
+    literal_runs c.args.text.now c.tilde_prefix-tilde.result.0 n c.tilde_prefix-tilde.result.1 c.short_front-name.result c.tilde_prefix-tilde.ensures.tilde long
+    (ap is_letter front ∙ (sym c.is_letter.ensures ∙ c.if-not-is_letter.false)) c.name_prefix-length.ensures.name c.short_front-name.ensures.name

@@ -8,7 +8,7 @@ returns-clause-runs c = rw (← c.self.view_is) (
     number_runs c.self.inside.spaces c.self.inside.part c.self.inside.limit c.self.inside.terms c.self.inside.name c.self.inside.phase c.role.result
     c.sign_prefix-sign.result.1 c.args.text.now c.sign_prefix-sign.result.0 c.number_prefix-count.result.0 c.number_prefix-count.result.1
     (sym c.begins_number.ensures ∙ c.if-not-begins_number.false) (none_there c.self.inside.name (ap (λ x. length x == 0) (sym c.as_bytes.ensures) ∙ (sym c.is_empty.ensures ∙ c.if-not-is_empty.false))) c.role.ensures
-    c.sign_prefix-sign.ensures.sign c.number_prefix-count.ensures.digits c.number_prefix-count.ensures.value c.number_prefix-count.ensures.bound c.if-count-eq0.false c.if-magnitude-self.false
+    (rw (← c.sign_read.ensures) c.sign_prefix-sign.ensures.sign) c.number_prefix-count.ensures.digits c.number_prefix-count.ensures.value c.number_prefix-count.ensures.bound c.if-count-eq0.false c.if-magnitude-self.false
     )
 
 pub returns-clause-state : goal.returns-clause-state

@@ -1,6 +1,6 @@
 use Rattle.std.proofs.Common.{◌≡◌, take, sym, subst, ap, ◌∙◌, arith, take-take}
 use Rattle.std.specs.Str.{IsUtf8}
-use Rattle.pb_sums.proofs.name.Name.from_front.Goals as goal
+use Rattle.pb_sums.proofs.short.ShortText.from_front.Goals as goal
 
 pub from_block-requires-clause-text : goal.from_block-requires-clause-text
 from_block-requires-clause-text c =
@@ -8,6 +8,6 @@ from_block-requires-clause-text c =
     ap (take c.args.len) c.in-Some.ensures.cases.same ∙ take-take c.args.len 22 c.args.text.now (omega arith) in
     subst IsUtf8 (sym front) c.requires.text
 
-pub returns-clause-name : goal.returns-clause-name
-returns-clause-name c =
+pub returns-in-Some : goal.returns-in-Some
+returns-in-Some c =
     c.from_block.ensures ∙ (ap (take c.args.len) c.in-Some.ensures.cases.same ∙ take-take c.args.len 22 c.args.text.now (omega arith))
