@@ -1,5 +1,5 @@
 -- Names that are taken in one go, and the run that they are.
-use Rattle.std.proofs.Common.{◌≡◌, ℕ, ℤ, ◌≤◌, Bool, true, false, List, [], ◌∷◌, ◌++◌, length, get_or, Some, refl, sym, ap, subst, arith, ◌⊎◌, inl, inr, append-nil, append_assoc}
+use Rattle.std.proofs.Common.{◌≡◌, ℕ, ℤ, ◌≤◌, Bool, true, false, List, [], ◌∷◌, ◌++◌, length, get_or, Some, refl, sym, ap, subst, arith, ◌∙◌, ◌⊎◌, inl, inr, append-nil, append_assoc}
 use Rattle.std.specs.Prelude.{IsTrue}
 use Rattle.pb_text.specs.Automaton.{Go, IsState, Runs}
 use Rattle.pb_text.specs.Classes.{is_letter, is_name_byte}
@@ -43,6 +43,12 @@ module _ (spaces : Spaces) (part : Part) (limit : ℕ) (xs : List Term) where
       → Runs sums (at name p) text (at new p)
   more_runs name new (phase.TheVariants.More z negated) text e h f = subst (λ n. Runs sums (at name (phase.TheVariants.More z negated)) text (at n (phase.TheVariants.More z negated))) (sym f) (more-run name z negated text h)
   more_runs name new _ text e h f = cc e
+
+  -- the next of them
+  pub more_goes : (name new : List ℕ) (p : Phase) (b : ℕ) → is_more p ≡ true → IsTrue (is_name_byte b) → new ≡ name ++ b ∷ [] → sums.step (at name p) b ≡ Go (at new p)
+  more_goes name new (phase.TheVariants.More z negated) b e h f =
+      more-on name z negated b (kind spaces (unmarked b)) (kind-name spaces b h) ∙ ap (λ n. Go (at n (phase.TheVariants.More z negated))) (sym f)
+  more_goes name new _ b e h f = cc e
 
   -- the second byte of a name
   first-on : (b c : ℕ) (z : ℤ) (negated : Bool) (k : Kind) → (k ≡ Start c) ⊎ (k ≡ Inner c)

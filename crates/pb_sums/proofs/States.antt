@@ -199,20 +199,24 @@ module _ (spaces : Spaces) (part : Part) (limit : ℕ) where
   pub first_is_state : IsState sums begin
   first_is_state = is_state begin (tt, λ e. (refl, refl))
 
+-- a state on the way through a text is in order
+pub midway_order : (limit : ℕ) (xs : List Term) (name : List ℕ) (q : Phase) → PhaseFits limit q → is_midway q ≡ true → IsInOrder limit (record { terms = xs; name = name; phase = q })
+midway_order limit xs name q h i = (h, λ e. absurd (apart (is_midway q) i e))
+  where
+    apart : (x : Bool) → x ≡ true → x ≡ false → ⊥
+    apart x e f = cc
+
 -- a state on the way through a text
 pub midway_state : (spaces : Spaces) (part : Part) (limit : ℕ) (xs : List Term) (name : List ℕ) (q : Phase) → PhaseFits limit q → is_midway q ≡ true
     → IsState sums (record { spaces = spaces; part = part; limit = limit; work = record { terms = xs; name = name; phase = q } })
 midway_state spaces part limit xs name q h i =
-    is_state (record { spaces = spaces; part = part; limit = limit; work = record { terms = xs; name = name; phase = q } }) (h, λ e. absurd (apart (is_midway q) i e))
-  where
-    apart : (x : Bool) → x ≡ true → x ≡ false → ⊥
-    apart x e f = cc
+    is_state (record { spaces = spaces; part = part; limit = limit; work = record { terms = xs; name = name; phase = q } }) (midway_order limit xs name q h i)
+
+pub more_midway : (p : Phase) → is_more p ≡ true → is_midway p ≡ true
+more_midway (phase.TheVariants.More z negated) e = refl
+more_midway _ e = cc
 
 -- a state within a name
 pub more_state : (spaces : Spaces) (part : Part) (limit : ℕ) (xs : List Term) (name : List ℕ) (q : Phase) → PhaseFits limit q → is_more q ≡ true
     → IsState sums (record { spaces = spaces; part = part; limit = limit; work = record { terms = xs; name = name; phase = q } })
 more_state spaces part limit xs name q h more = midway_state spaces part limit xs name q h (more_midway q more)
-  where
-    more_midway : (p : Phase) → is_more p ≡ true → is_midway p ≡ true
-    more_midway (phase.TheVariants.More z negated) e = refl
-    more_midway _ e = cc e

@@ -32,13 +32,13 @@ pub number_too : (p : Phase) → begins_term p ≡ true → begins_number p ≡ 
 number_too phase.TheVariants.Start e = refl
 number_too (phase.TheVariants.Signed None negative) e = refl
 number_too phase.TheVariants.Between e = refl
-number_too _ e = cc e
+number_too _ e = cc
 
 no-role : (p : Phase) → begins_term p ≡ true → role p ≡ None
 no-role phase.TheVariants.Start e = refl
 no-role (phase.TheVariants.Signed None negative) e = refl
 no-role phase.TheVariants.Between e = refl
-no-role _ e = cc e
+no-role _ e = cc
 
 space-on : (spaces : Spaces) (part : Part) (limit : ℕ) (xs : List Term) (r : Option Relation) (negative : Bool) (v : ℕ)
     → sums.step (standing spaces part limit xs [] (phase.TheVariants.Digits r negative v)) 32 ≡ Go (standing spaces part limit xs [] (behind_number r (signed negative v)))
