@@ -1,14 +1,14 @@
 -- Numbers that are taken in one go, and the run that they are.
-use Rattle.std.proofs.Common.{◌≡◌, ℕ, ◌+◌, ◌-◌, ◌*◌, ◌<◌, ◌≤◌, Bool, true, false, List, [], ◌∷◌, ◌++◌, take, drop, get_or, length, Option, refl, sym, subst, ap, arith, ◌∙◌, ◌==◌}
+use Rattle.std.proofs.Common.{◌≡◌, ℕ, ◌+◌, ◌-◌, ◌*◌, ◌<◌, ◌≤◌, Bool, true, false, List, [], ◌∷◌, ◌++◌, take, drop, length, Option, refl, sym, subst, ap, arith, ◌∙◌, ◌==◌}
 use Rattle.std.proofs.lemmas.Bool.{eqb-true, le-leb}
-use Rattle.std.proofs.lemmas.List.{take_more, length-take-le}
+use Rattle.std.proofs.lemmas.List.{length-take-le}
 use Rattle.std.specs.Prelude.{IsTrue}
-use Rattle.pb_text.proofs.Languages.{each-append}
+use Rattle.pb_text.proofs.DigitValues.{AreDigits, value-grows}
 use Rattle.pb_text.specs.Automaton.{Go, Runs}
 use Rattle.pb_text.specs.Classes.{is_digit}
-use Rattle.pb_text.specs.Languages.{Each}
+use Rattle.pb_text.specs.Digits.{value_from}
 use Rattle.pb_sums.specs.Machine.{plan, digits, kind, letter_at, flushed, is_numeric}
-use Rattle.pb_sums.specs.Prefix.{IsSign, HasSign, value_from, begins_number, role, sign_read}
+use Rattle.pb_sums.specs.Prefix.{IsSign, HasSign, begins_number, role, sign_read}
 use Rattle.pb_sums.specs.State.{SumState, sums}
 use Rattle.pb_sums.specs.declared.values.Relation.{Relation}
 use Rattle.pb_sums.specs.declared.values.Term.{Term}
@@ -22,25 +22,6 @@ use Rattle.pb_sums.specs.declared.phase.Phase as phase
 use Rattle.pb_sums.proofs.Pushes.{goes_to}
 use Rattle.pb_text.proofs.Spans.{front_parts}
 use Rattle.pb_sums.proofs.States.{midway_state}
-
-abbrev AreDigits : List ℕ → Type 0
-AreDigits text = Each (λ d. IsTrue (is_digit d)) text
-
-value-more : (n : ℕ) (text : List ℕ) (b : ℕ) → value_from n (text ++ b ∷ []) ≡ 10 * value_from n text + (b - 48)
-value-more n [] b = refl
-value-more n (c ∷ text) b = value-more (10 * n + (c - 48)) text b
-
-value-grows : (n : ℕ) (text : List ℕ) → n ≤ value_from n text
-value-grows n [] = omega arith
-value-grows n (b ∷ text) = omega (arith, value-grows (10 * n + (b - 48)) text)
-
--- the next of the bytes of a text
-pub value_on : (text : List ℕ) (i : ℕ) (n : ℕ) → i < length text → n ≡ value_from 0 (take i text) → 10 * n + (get_or text i 0 - 48) ≡ value_from 0 (take (i + 1) text)
-value_on text i n h e =
-    ap (λ m. 10 * m + (get_or text i 0 - 48)) e ∙ (sym (value-more 0 (take i text) (get_or text i 0)) ∙ ap (value_from 0) (sym (take_more text i 0 h)))
-
-pub digits_on : (text : List ℕ) (i : ℕ) → i < length text → AreDigits (take i text) → IsTrue (is_digit (get_or text i 0)) → AreDigits (take (i + 1) text)
-digits_on text i h all e = subst AreDigits (sym (take_more text i 0 h)) (each-append (λ d. IsTrue (is_digit d)) (take i text) (get_or text i 0) all e)
 
 pub none_there : (name : List ℕ) → (length name == 0) ≡ true → name ≡ []
 none_there [] e = refl

@@ -3,10 +3,11 @@ use Rattle.std.proofs.Common.{◌≡◌, ℕ, ℤ, ◌+◌, ◌<◌, ◌≤◌, 
 use Rattle.std.specs.Prelude.{IsTrue, Result, Ok, Err, is_ok, is_err, if◌then◌else◌}
 use Rattle.pb_text.specs.Automaton.{Go, IsState, Runs}
 use Rattle.pb_text.specs.Classes.{is_digit, is_letter, is_name_byte}
+use Rattle.pb_text.specs.Digits.{value_from}
 use Rattle.pb_text.specs.Languages.{Each}
 use Rattle.pb_text.specs.Numbers.{signed}
 use Rattle.pb_text.proofs.Running.{runs_on}
-use Rattle.pb_sums.specs.Prefix.{HasSign, value_from, begins_number, begins_relation, role, sign_read, behind_name, behind_number, behind}
+use Rattle.pb_sums.specs.Prefix.{HasSign, begins_number, begins_relation, role, sign_read, behind_name, behind_number, behind}
 use Rattle.pb_sums.specs.State.{SumState, sums}
 use Rattle.pb_sums.specs.TermParts.{begins_term, IsTilde, standing, IsSpacedNumber, IsLiteral}
 use Rattle.pb_sums.specs.Canonical.{operator_bytes}

@@ -1,6 +1,7 @@
 -- Names and numbers at the front of a text.
-use Rattle.std.specs.Prelude.{◌≡◌, ◌≢◌, ◌⊎◌, ◌<◌, ◌≤◌, ◌^◌, ℕ, ℤ, ◌+◌, ◌-◌, ◌*◌, Bool, IsTrue, true, false, List, [], ◌∷◌, Option, Some, None, length, take, drop, get_or}
-use Rattle.pb_text.specs.Classes.{is_digit, is_letter, is_name_byte}
+use Rattle.std.specs.Prelude.{◌≡◌, ◌≢◌, ◌⊎◌, ◌<◌, ◌≤◌, ℕ, ℤ, ◌+◌, ◌-◌, Bool, IsTrue, true, false, List, [], ◌∷◌, Option, Some, None, length, take, drop, get_or}
+use Rattle.pb_text.specs.Classes.{is_letter, is_name_byte}
+use Rattle.pb_text.specs.Digits.{HasDigits}
 use Rattle.pb_text.specs.Languages.{Each}
 use Rattle.pb_text.specs.Numbers.{signed}
 use Rattle.pb_sums.specs.Canonical.{operator_bytes}
@@ -9,11 +10,6 @@ use Rattle.pb_sums.specs.declared.grammar.Part.{Part}
 use Rattle.pb_sums.specs.declared.values.Relation.{Relation}
 use Rattle.pb_sums.specs.declared.phase.Phase.{Phase}
 use Rattle.pb_sums.specs.declared.phase.Phase as phase
-
--- the value of the digits behind a number
-abbrev pub value_from : ℕ → List ℕ → ℕ
-value_from n [] = n
-value_from n (b ∷ text) = value_from (10 * n + (b - 48)) text
 
 -- a sign, or none
 abbrev pub IsSign : Bool → List ℕ → Type 0
@@ -73,11 +69,6 @@ behind_space _ = None
 -- the rest of a text, as a slice of it
 abbrev pub behind : ℕ → List ℕ → List ℕ
 behind i text = take (length text - i) (drop i text)
-
--- So many digits stand at the front, as far as their value is small.
-abbrev pub HasDigits : List ℕ → ℕ → ℕ → Type 0
-HasDigits text n value = (n ≤ length text) × Each (λ b. IsTrue (is_digit b)) (take n text) × (value ≡ value_from 0 (take n text))
-    × (n < length text → value < 2 ^ 60 → is_digit (get_or text n 0) ≡ false)
 
 -- So many bytes of a sign stand at the front, and no more: none where it was read.
 abbrev pub HasSign : Option Bool → List ℕ → ℕ → Bool → Type 0

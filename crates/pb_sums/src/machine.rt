@@ -14,7 +14,7 @@ use crate::classes::kind;
 use crate::grammar::{Part, Spaces};
 use crate::name::Name;
 use crate::phase::{Move, Phase};
-use crate::prefix::{name_prefix, number_prefix, relation_prefix, sign_prefix};
+use crate::prefix::{name_prefix, relation_prefix, sign_prefix};
 use crate::term_prefix::{begins_term, literal_prefix, spaced_number_prefix};
 use crate::transition::{
     begins_number, begins_relation, behind_name, behind_number, behind_space, in_hand, is_done,
@@ -22,6 +22,7 @@ use crate::transition::{
 };
 use crate::values::{Linear, Literal, SumEvent, Term};
 use pb_text::bytes::{is_digit, is_letter, is_name_byte};
+use pb_text::digits::number_prefix;
 use pb_text::{Limits, Machine, Push, Sequence};
 use std::alloc::{AllocError, Global};
 use std::marker::Model;

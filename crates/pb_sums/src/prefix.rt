@@ -1,19 +1,16 @@
-//! Names and numbers at the front of a text.
+//! Names and signs at the front of a text.
 
-ghost use Rattle.std.specs.Prelude.{◌<◌, ◌≤◌, ◌≡◌, ◌^◌, IsTrue, IfSome, None, true, false, take, length, get_or};
-ghost use Rattle.pb_text.specs.Classes.{is_digit, is_name_byte};
+ghost use Rattle.std.specs.Prelude.{◌<◌, ◌≤◌, ◌≡◌, IsTrue, IfSome, None, true, false, take, length, get_or};
+ghost use Rattle.pb_text.specs.Classes.{is_name_byte};
 ghost use Rattle.pb_text.specs.Languages.{Each};
 ghost use Rattle.pb_sums.specs.Canonical.{operator_bytes};
-ghost use Rattle.pb_sums.specs.Prefix.{HasSign, LacksRelation, value_from};
+ghost use Rattle.pb_sums.specs.Prefix.{HasSign, LacksRelation};
 ghost use Rattle.pb_sums.specs.Sums.{allows};
 
 use crate::grammar::Part;
 use crate::transition::allows;
 use crate::values::Relation;
-use pb_text::bytes::{is_digit, is_name_byte};
-
-/// Numbers below it leave room for a digit more.
-const SMALL: u64 = 1 << 60;
+use pb_text::bytes::is_name_byte;
 
 /// How many bytes of a name stand at the front.
 #[inline(always)]
@@ -57,25 +54,6 @@ fn sign_front(text: &[u8]) -> (usize, bool)
         b'-' => (1, true),
         _ => (0, false),
     }
-}
-
-/// How many digits stand at the front, and their value. It stops where the value is no longer small.
-#[inline(always)]
-pub fn number_prefix(text: &[u8]) -> (usize, u64)
-    ensures bound { result.0 ≤ length text.now }
-    ensures digits { Each (λ b. IsTrue (is_digit b)) (take result.0 text.now) }
-    ensures value { result.1 ≡ value_from 0 (take result.0 text.now) }
-    // It stops only where the digits do, or the value is no longer small.
-    ensures stops { result.0 < length text.now → result.1 < 2 ^ 60 → is_digit (get_or text.now result.0 0) ≡ false }
-{
-    let mut value: u64 = 0;
-    for (i, byte) in text.iter().enumerate() {
-        if !is_digit(*byte) || value >= SMALL {
-            return (i, value);
-        }
-        value = 10 * value + (*byte - b'0') as u64;
-    }
-    (text.len(), value)
 }
 
 /// The relation at the front, where the part allows it, and its length.

@@ -6,12 +6,13 @@ ghost use Rattle.pb_sums.specs.TermParts.{begins_term, IsTilde, IsSpacedNumber, 
 
 use crate::name::Name;
 use crate::phase::Phase;
-use crate::prefix::{name_prefix, number_prefix, sign_prefix};
+use crate::prefix::{name_prefix, sign_prefix};
 use crate::short::SHORT;
 use crate::transition::sign_read;
 use crate::values::Literal;
 use pb_text::bytes::is_letter;
 use pb_text::decimal::signed;
+use pb_text::digits::number_prefix;
 use std::alloc::Global;
 
 /// Whether a term may begin, or the digits of its coefficient.

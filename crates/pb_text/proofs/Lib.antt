@@ -6,6 +6,7 @@ pub mod Begin
 pub mod Blanks
 pub mod Cutting
 pub mod Deterministic
+pub mod DigitValues
 mod Drawn
 pub mod FeederParts
 pub mod FixedMarks

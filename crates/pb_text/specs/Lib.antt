@@ -2,6 +2,7 @@ pub mod Asking
 pub mod Automaton
 pub mod Blank
 pub mod Classes
+pub mod Digits
 pub mod Events
 pub mod Feeding
 pub mod FormatLaws

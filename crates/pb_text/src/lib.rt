@@ -4,6 +4,7 @@
 mod blank;
 pub mod bytes;
 pub mod decimal;
+pub mod digits;
 pub mod doubles;
 mod events;
 mod failing;

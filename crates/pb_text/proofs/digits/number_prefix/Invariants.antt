@@ -2,8 +2,8 @@ use Rattle.std.proofs.Common.{◌≡◌, take}
 use Rattle.std.specs.Prelude.{IsTrue}
 use Rattle.pb_text.specs.Classes.{is_digit}
 use Rattle.pb_text.specs.Languages.{Each}
-use Rattle.pb_sums.specs.Prefix.{value_from}
-use Rattle.pb_sums.proofs.prefix.number_prefix.Given as goal
+use Rattle.pb_text.specs.Digits.{value_from}
+use Rattle.pb_text.proofs.digits.number_prefix.Given as goal
 
 abbrev pub invariant-loop-i : goal.invariant-loop-i
 invariant-loop-i l = record {

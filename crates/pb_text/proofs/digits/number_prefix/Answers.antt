@@ -1,6 +1,6 @@
 use Rattle.std.proofs.Common.{sym, ◌∙◌}
-use Rattle.pb_sums.proofs.Digits.{value_on, digits_on}
-use Rattle.pb_sums.proofs.prefix.number_prefix.Goals as goal
+use Rattle.pb_text.proofs.DigitValues.{value_on, digits_on}
+use Rattle.pb_text.proofs.digits.number_prefix.Goals as goal
 
 pub loop-i-preserved : goal.loop-i-preserved
 loop-i-preserved c = record {
