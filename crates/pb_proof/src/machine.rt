@@ -10,7 +10,7 @@ mod transition;
 use crate::line::LineMachine;
 use crate::line::push::line_first;
 use crate::machine::phase::{LineKind, Move, Phase, Stage};
-use crate::machine::transition::{is_done, is_within, plan, stage_behind};
+use crate::machine::transition::{is_done, is_within, plan, stage_behind, words_prefix};
 use crate::statement::Statement;
 use pb_text::{Limits, Machine, Push};
 use std::alloc::Global;
@@ -169,6 +169,46 @@ impl ProofMachine {
         let _ = self.is_done();
         taken
     }
+
+    /// Takes the rest of the words that a statement begins with, where it stands at the front.
+    #[inline(always)]
+    fn take_words(&mut self, text: &[u8]) -> usize
+        ensures bound { result ≤ length text.now }
+        ensures runs { Runs proofs self.old (take result text.now) self.new }
+        ensures state { IsState proofs self.new }
+    {
+        let Some((length, next)) = words_prefix(self.phase, text) else {
+            let _ = self.is_done();
+            return 0;
+        };
+        match next {
+            Move::To(phase) => self.phase = phase,
+            Move::Begin(kind) => {
+                let line = line_first(self.alloc, self.limits, kind);
+                replace(&mut self.line, Some(line));
+                self.phase = Phase::Inside(kind);
+            }
+            _ => {
+                let _ = self.is_done();
+                return 0;
+            }
+        }
+        let _ = self.is_done();
+        length
+    }
+
+    /// Takes bytes at the front of a text that are soon taken together.
+    #[inline(always)]
+    fn take_many(&mut self, text: &[u8]) -> usize
+        ensures bound { result ≤ length text.now }
+        ensures runs { Runs proofs self.old (take result text.now) self.new }
+        ensures state { IsState proofs self.new }
+    {
+        match self.phase {
+            Phase::Spelling(_, _) => self.take_words(text),
+            _ => self.give_front(text),
+        }
+    }
 }
 
 impl Machine for ProofMachine {
@@ -204,7 +244,7 @@ impl Machine for ProofMachine {
     }
 
     fn take_front(&mut self, piece: &[u8]) -> usize {
-        let length = self.give_front(piece);
+        let length = self.take_many(piece);
         if length > 0 {
             return length;
         }

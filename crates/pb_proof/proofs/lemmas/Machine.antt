@@ -8,3 +8,4 @@ pub mod Orders
 pub mod Sound
 pub mod States
 pub mod Taken
+pub mod Words

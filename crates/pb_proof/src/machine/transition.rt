@@ -1,8 +1,9 @@
 //! What a machine of proofs does with a byte, by what it has read last.
 
-ghost use Rattle.std.specs.Prelude.{◌≡◌, ◌<◌, length};
+ghost use Rattle.std.specs.Prelude.{◌≡◌, ◌<◌, ◌≤◌, IfSome, None, length, take};
 ghost use Rattle.pb_proof.specs.Machine.Transition.{words_of, behind, meets, spell, step_keyword, enter, pass, between, plan};
 ghost use Rattle.pb_proof.specs.Machine.State.{is_within, is_complete, is_done, stage_behind, PhaseFits};
+ghost use Rattle.pb_proof.specs.Machine.Words.{IsRest, LacksRest};
 
 use crate::machine::phase::{Keyword, LineKind, Move, Phase, Stage};
 use pb_text::bytes::{is_blank, is_white};
@@ -130,6 +131,25 @@ fn within(keyword: Keyword, read: usize, byte: u8) -> Move
         Move::Stop
     };
     spell(keyword, read, byte, other)
+}
+
+/// The rest of the words that have begun, where it stands at the front with one space for blanks: how many bytes it is, and
+/// what a machine does behind it.
+#[inline(always)]
+pub fn words_prefix(phase: Phase, text: &[u8]) -> Option<(usize, Move)>
+    requires { PhaseFits phase }
+    ensures bound { IfSome result (λ r. r.0 ≤ length text.now) }
+    ensures rest { IfSome result (λ r. IsRest phase (take r.0 text.now) r.1) }
+    ensures none { result ≡ None → LacksRest phase text.now }
+{
+    let Phase::Spelling(keyword, read) = phase else {
+        return None;
+    };
+    let rest = &words_of(keyword)[read..];
+    if !text.starts_with(rest) {
+        return None;
+    }
+    Some((rest.len(), behind(keyword)))
 }
 
 /// What a machine does with a byte.

@@ -46,7 +46,7 @@ OnMove p _ = IsPlain p
 within_on : (p q : Phase) → IsPlain p → is_done q ≡ false → is_within q ≡ true → PhaseFits q → IsPlain q → OnMove p (move.To q)
 within_on p q o d w f n = (o, record { owes = d; stays = λ _. w; fits = f; plain = n })
 
-on_behind : (p : Phase) → IsPlain p → (f : Keyword) → OnMove p (behind f)
+pub on_behind : (p : Phase) → IsPlain p → (f : Keyword) → OnMove p (behind f)
 on_behind p o keyword.Header = within_on p phase.HeaderEnd o refl refl tt tt
 on_behind p o keyword.Formula = o
 on_behind p o keyword.Pol = o

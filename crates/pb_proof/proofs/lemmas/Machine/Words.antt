@@ -1,0 +1,119 @@
+-- The words of a statement, taken at once.
+use Rattle.std.proofs.Common.{◌≡◌, ℕ, suc, ◌+◌, ◌<◌, Bool, true, false, List, [], ◌∷◌, ◌++◌, take, drop, get_or, length, refl, sym, ap, ap₂, subst, arith, ◌∙◌, ◌==◌, ◌-◌, append_assoc, length-append, length-drop, Option, None}
+use Rattle.std.proofs.Math.Seq.{drop-cons, take-length}
+use Rattle.std.proofs.lemmas.Bool.{eqb-true}
+use Rattle.std.proofs.lemmas.List.{take-append-drop, length-take-le}
+use Rattle.std.specs.Cmp.Lexicographic.{pointwise, bytes_decides}
+use Rattle.std.specs.Prelude.{nat_eq}
+use Rattle.pb_text.specs.Automaton.{Go, IsState, Runs}
+use Rattle.pb_proof.specs.Line.Machine.{line_first}
+use Rattle.pb_proof.specs.Machine.Transition.{words_of, behind, meets}
+use Rattle.pb_proof.specs.Machine.State.{ProofState, proofs, at, giving, act, PhaseFits, Holds, IsInOrder}
+use Rattle.pb_proof.specs.Machine.Words.{IsRest, LacksRest}
+use Rattle.pb_proof.specs.declared.machine.phase.Keyword.{Keyword}
+use Rattle.pb_proof.specs.declared.machine.phase.LineKind.{LineKind}
+use Rattle.pb_proof.specs.declared.machine.phase.Phase.{Phase}
+use Rattle.pb_proof.specs.declared.machine.phase.Phase.TheVariants as phase
+use Rattle.pb_proof.specs.declared.machine.phase.Move.TheVariants as move
+use Rattle.pb_proof.specs.declared.line.LineMachine.{LineMachine}
+use Rattle.pb_proof.proofs.lemmas.Choices.{never}
+use Rattle.pb_proof.proofs.lemmas.Machine.Complete.{meets_self, spelt, step_on, step_last}
+use Rattle.pb_proof.proofs.lemmas.Machine.States.{OnMove, on_behind, plain_holds, at_order, begin_order, is_state}
+
+-- a byte of the words meets itself, a space too
+meets_each : (c : ℕ) → meets c c ≡ true
+meets_each c = go (nat_eq c 32) refl
+  where
+    go : (x : Bool) → nat_eq c 32 ≡ x → meets c c ≡ true
+    go true e = let f : c ≡ 32 = eqb-true c 32 e in rw f refl
+    go false e = meets_self c e
+
+-- the rest of a slice
+pub rest_is : (f : Keyword) (k : ℕ) (words : List ℕ) → words ≡ words_of f → take (length words - k) (drop k words) ≡ drop k (words_of f)
+rest_is f k words e = ap (λ n. take n (drop k words)) (sym (length-drop k words)) ∙ (take-length (drop k words) ∙ ap (drop k) e)
+
+-- what a comparison found
+abbrev pub LacksFront : List ℕ → List ℕ → Type 0
+LacksFront text rest = pointwise ◌==◌ rest (take (length rest) text) ≡ false
+
+keyword_same : (f g : Keyword) (k n : ℕ) → ◌≡◌ {A = Phase} (phase.Spelling f k) (phase.Spelling g n) → f ≡ g
+keyword_same f g k n e = cc
+
+read_same : (f g : Keyword) (k n : ℕ) → ◌≡◌ {A = Phase} (phase.Spelling f k) (phase.Spelling g n) → k ≡ n
+read_same f g k n e = cc
+
+pub lacks_rest : (p : Phase) (f : Keyword) (k : ℕ) (text : List ℕ) → p ≡ phase.Spelling f k → LacksFront text (drop k (words_of f)) → LacksRest p text
+lacks_rest p f k text is lacks g n at met =
+    let same : drop n (words_of g) ≡ drop k (words_of f) =
+    rw (keyword_same f g k n (sym is ∙ at), read_same f g k n (sym is ∙ at)) refl in
+    let there : take (length (drop k (words_of f))) text ≡ drop k (words_of f) = subst (λ (r : List ℕ). take (length r) text ≡ r) same met in
+    never (pointwise ◌==◌ (drop k (words_of f)) (take (length (drop k (words_of f))) text)) ((bytes_decides _ _).1 (sym there)) lacks
+
+module _ (s : ProofState) (h : IsInOrder s) where
+  abbrev spelling : Keyword → ℕ → ProofState
+  spelling f k = spelt s.limit s.top f k
+
+  spelling_state : (f : Keyword) (k : ℕ) → 0 < k → k < length (words_of f) → IsState proofs (spelling f k)
+  spelling_state f k i j = is_state (spelling f k) (record { limit = h.limit; top = h.top; some = h.some; fits = (i, j); holds = refl })
+
+  -- the bytes that are left, from the first of them on
+  left_run : (f : Keyword) (next : ProofState) → IsState proofs next → ((k b : ℕ) → act (spelling f k) b (behind f) ≡ Go next)
+      → (left front : List ℕ) (c : ℕ) → words_of f ≡ front ++ c ∷ left → Runs proofs (spelling f (length front)) (c ∷ left) next
+  left_run f next state acts [] front c e = (next, step_last s.limit s.top f front c c e (meets_each c) ∙ acts (length front) c, state, refl)
+  left_run f next state acts (d ∷ left) front c e =
+      let more : length (words_of f) ≡ length front + (2 + length left) = ap length e ∙ (length-append front (c ∷ d ∷ left) ∙ omega arith) in
+      let grown : length (front ++ c ∷ []) ≡ length front + 1 = length-append front (c ∷ []) in
+      let rest = left_run f next state acts left (front ++ c ∷ []) d (e ∙ sym (append_assoc front (c ∷ []) (d ∷ left))) in (
+        spelling f (length front + 1),
+        step_on s.limit s.top f front left c d c e (meets_each c),
+        spelling_state f (length front + 1) (omega arith) (omega arith),
+        subst (λ (k : ℕ). Runs proofs (spelling f k) (d ∷ left) next) grown rest,
+      )
+
+  -- the rest of the words
+  words_run : (f : Keyword) (k : ℕ) (next : ProofState) → k < length (words_of f) → IsState proofs next → ((k b : ℕ) → act (spelling f k) b (behind f) ≡ Go next)
+      → Runs proofs (spelling f k) (drop k (words_of f)) next
+  words_run f k next i state acts =
+      let cut : drop k (words_of f) ≡ get_or (words_of f) k 0 ∷ drop (suc k) (words_of f) = drop-cons (words_of f) k 0 i in
+      let whole : words_of f ≡ take k (words_of f) ++ get_or (words_of f) k 0 ∷ drop (suc k) (words_of f) =
+      sym (take-append-drop k (words_of f)) ∙ ap (λ (x : List ℕ). take k (words_of f) ++ x) cut in
+      let front : length (take k (words_of f)) ≡ k = length-take-le k (words_of f) (omega arith) in
+      let runs = left_run f next state acts (drop (suc k) (words_of f)) (take k (words_of f)) (get_or (words_of f) k 0) whole in
+      subst (λ (x : List ℕ). Runs proofs (spelling f k) x next) (sym cut)
+      (subst (λ (n : ℕ). Runs proofs (spelling f n) (get_or (words_of f) k 0 ∷ drop (suc k) (words_of f)) next) front runs)
+
+  abbrev put : Phase → Option LineMachine → ProofState
+  put p i = record { limit = s.limit; top = s.top; phase = p; line = i }
+
+  module _ (f : Keyword) (k : ℕ) (is : s.phase ≡ phase.Spelling f k) where
+    fits : PhaseFits (phase.Spelling f k)
+    fits = subst PhaseFits is h.fits
+
+    none : s.line ≡ None
+    none = plain_holds s (phase.Spelling f k) tt (subst (λ p. Holds s p) is h.holds)
+
+    same : s ≡ spelling f k
+    same = ap₂ put is none
+
+  -- where a phase comes behind them
+  pub words_to : (text : List ℕ) (q : Phase) → IsRest s.phase text (move.To q) → Runs proofs s text (record s { phase = q }) × IsInOrder (record s { phase = q })
+  words_to text q (f, k, is, e, g) =
+      let on : OnMove (phase.Spelling f k) (move.To q) = subst (OnMove (phase.Spelling f k)) (sym g) (on_behind (phase.Spelling f k) tt f) in
+      let order : IsInOrder (record s { phase = q }) = at_order s h 0 q on.1.plain on.1.fits s.line (none f k is) in
+      let there : (let x : ProofState = record s { phase = q } in x) ≡ at s.limit s.top q = ap (put q) (none f k is) in
+      let state : IsState proofs (at s.limit s.top q) = is_state (at s.limit s.top q) (subst IsInOrder there order) in
+      let runs = words_run f k (at s.limit s.top q) (fits f k is).1 state (λ n b. ap (act (spelling f n) b) (sym g)) in (
+        rw (e, there) (subst (λ x. Runs proofs x (drop k (words_of f)) (at s.limit s.top q)) (sym (same f k is)) runs),
+        order,
+      )
+
+  -- where a machine of its own begins behind them
+  pub words_begin : (text : List ℕ) (r : LineKind) → IsRest s.phase text (move.Begin r)
+      → Runs proofs s text (giving s.limit s.top r (line_first s.limit s.top r)) × IsInOrder (giving s.limit s.top r (line_first s.limit s.top r))
+  words_begin text r (f, k, is, e, g) =
+      let next : ProofState = giving s.limit s.top r (line_first s.limit s.top r) in
+      let order : IsInOrder next = begin_order s h 0 r in
+      let runs = words_run f k next (fits f k is).1 (is_state next order) (λ n b. ap (act (spelling f n) b) (sym g)) in (
+        rw e (subst (λ x. Runs proofs x (drop k (words_of f)) next) (sym (same f k is)) runs),
+        order,
+      )

@@ -1,0 +1,37 @@
+use Rattle.std.proofs.Common.{take, ap, sym, subst, ◌∙◌, Some}
+use Rattle.pb_text.specs.Automaton.{Runs}
+use Rattle.pb_proof.specs.Machine.State.{ProofState, proofs, IsInOrder}
+use Rattle.pb_proof.specs.Machine.Words.{IsRest}
+use Rattle.pb_proof.specs.contracts.machine.ProofMachine.{the_view}
+use Rattle.pb_proof.specs.declared.machine.phase.Phase.TheVariants.{Inside}
+use Rattle.pb_proof.proofs.lemmas.Machine.Words.{words_to, words_begin}
+use Rattle.pb_proof.proofs.machine.ProofMachine.take_words.Goals as goal
+use Rattle.pb_proof.proofs.machine.ProofMachine.take_words.Goals.{in-To, in-Begin}
+
+pub invariant_of-self : goal.invariant_of-self
+invariant_of-self c =
+    let s : ProofState = the_view c.self.inside in
+    let front = take c.in-Some.length c.args.text.now in
+    (words_to s c.self.invariant front c.in-To.phase (subst (IsRest s.phase front) c.in-To.is c.in-Some.ensures.rest)).1
+
+pub invariant_of-self-in-Begin : goal.invariant_of-self-in-Begin
+invariant_of-self-in-Begin c =
+    let s : ProofState = the_view c.self.inside in
+    let front = take c.in-Some.length c.args.text.now in
+    let line = ap Some (sym c.line_first-line.ensures) ∙ sym c.replace.ensures in
+    subst (λ x. IsInOrder (record { limit = s.limit; top = s.top; phase = Inside c.in-Begin.kind; line = x })) line
+    (words_begin s c.self.invariant front c.in-Begin.kind (subst (IsRest s.phase front) c.in-Begin.is c.in-Some.ensures.rest)).1
+
+pub returns-clause-runs : goal.returns-clause-runs
+returns-clause-runs c =
+    let s : ProofState = the_view c.self.inside in
+    let front = take c.in-Some.length c.args.text.now in
+    elim c.match-next.branch [
+      | in-To w ↦ rw (w.self-is, ← c.self.view_is)
+          (words_to s c.self.invariant front w.in-To.phase (subst (IsRest s.phase front) w.in-To.is c.in-Some.ensures.rest)).0
+      | in-Begin w ↦ rw (w.self-is, ← c.self.view_is) (
+          let line = ap Some (sym w.line_first-line.ensures) ∙ sym w.replace.ensures in
+          subst (λ x. Runs proofs s front (record { limit = s.limit; top = s.top; phase = Inside w.in-Begin.kind; line = x })) line
+          (words_begin s c.self.invariant front w.in-Begin.kind (subst (IsRest s.phase front) w.in-Begin.is c.in-Some.ensures.rest)).0
+          )
+    ]
