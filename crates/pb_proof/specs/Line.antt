@@ -5,9 +5,11 @@ pub mod ClaimState
 pub mod Count
 pub mod Ended
 pub mod Finished
+pub mod IdPrefix
 pub mod Ids
 pub mod Literals
 pub mod Machine
 pub mod Pol
+pub mod PolFront
 pub mod PolState
 pub mod Rup

@@ -4,6 +4,7 @@ mod byte_kind;
 mod claim;
 pub(crate) mod classes;
 mod count;
+mod id_prefix;
 mod ids;
 mod literals;
 mod pol;

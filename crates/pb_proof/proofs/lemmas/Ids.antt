@@ -1,4 +1,5 @@
 -- Lemmas on the machine of ids.
+pub mod AtOnce
 pub mod Complete
 pub mod Pushes
 pub mod Sound

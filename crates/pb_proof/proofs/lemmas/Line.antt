@@ -2,6 +2,7 @@
 pub mod Asks
 pub mod ByteKinds
 pub mod Ends
+pub mod IdPrefixes
 pub mod Laws
 pub mod One
 pub mod Spelled

@@ -1,6 +1,7 @@
 -- Lemmas on the machine of postfix words, and on these.
 pub mod Alive
 pub mod Asks
+pub mod AtOnce
 pub mod Complete
 pub mod Covers
 pub mod Finished

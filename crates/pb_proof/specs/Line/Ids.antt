@@ -81,6 +81,12 @@ abbrev pub is_in_number : IdsPhase → Bool
 is_in_number (Digits negative n) = true
 is_in_number _ = false
 
+-- an id may begin
+abbrev pub begins_id : IdsPhase → Bool
+begins_id Gap = true
+begins_id Between = true
+begins_id _ = false
+
 -- whether memory may be asked for: at a byte that ends an id
 abbrev pub keeps : IdsMove → Bool
 keeps (move.Keep p id) = true

@@ -3,7 +3,7 @@
 ghost use Rattle.std.specs.Prelude.{◌≡◌, ◌<◌, ◌≤◌, ◌^◌, ℕ};
 ghost use Rattle.pb_text.specs.Limits.{top_of};
 ghost use Rattle.pb_proof.specs.Line.ByteKind.{NumberByteFits};
-ghost use Rattle.pb_proof.specs.Line.Ids.{digits, before, behind, plan, ids_first, is_done, PhaseFits, MoveFits};
+ghost use Rattle.pb_proof.specs.Line.Ids.{digits, before, behind, plan, ids_first, begins_id, is_done, PhaseFits, MoveFits};
 
 mod end;
 mod phase;
@@ -13,6 +13,7 @@ use crate::line::classes::number_byte;
 use crate::line::ids::phase::{IdsMove, IdsPhase};
 use pb_text::bytes::is_digit;
 use pb_text::decimal::{next_digit_u64, signed_i64};
+use pb_text::digits::number_prefix;
 use pb_text::{Limits, Machine, Push, Sequence};
 use std::alloc::Global;
 use std::marker::Model;
@@ -105,6 +106,13 @@ fn plan(top: u64, phase: IdsPhase, kind: NumberByte) -> IdsMove
     }
 }
 
+/// Whether an id may begin.
+fn begins_id(phase: IdsPhase) -> bool
+    ensures { result ≡ begins_id phase }
+{
+    matches!(phase, IdsPhase::Gap | IdsPhase::Between)
+}
+
 /// Whether the line has ended.
 fn is_done(phase: IdsPhase) -> bool
     ensures { result ≡ is_done phase }
@@ -123,6 +131,31 @@ impl IdsMachine {
             ids: Sequence::new(alloc),
             phase: IdsPhase::Start,
         }
+    }
+}
+
+impl IdsMachine {
+    ghost use Rattle.std.specs.Prelude.{take, length};
+    ghost use Rattle.pb_text.specs.Automaton.{IsState, Runs};
+    ghost use Rattle.pb_proof.specs.Line.Ids.{ids_automaton};
+
+    /// Takes the digits of an id, where one may begin.
+    #[inline(always)]
+    fn take_digits(&mut self, text: &[u8]) -> usize
+        ensures bound { result ≤ length text.now }
+        ensures runs { Runs ids_automaton self.old (take result text.now) self.new }
+        ensures state { IsState ids_automaton self.new }
+    {
+        let _ = self.is_done();
+        if !begins_id(self.phase) {
+            return 0;
+        }
+        let (count, value) = number_prefix(text);
+        if count == 0 || value > self.top {
+            return 0;
+        }
+        self.phase = IdsPhase::Digits(false, value);
+        count
     }
 }
 
@@ -153,6 +186,14 @@ impl Machine for IdsMachine {
 
     fn closes(&mut self, byte: u8) -> Option<Sequence<i64>> {
         self.end(byte)
+    }
+
+    fn take_front(&mut self, piece: &[u8]) -> usize {
+        let length = self.take_digits(piece);
+        if length > 0 {
+            return length;
+        }
+        if self.goes(piece[0]) { 1 } else { 0 }
     }
 
     fn push(&mut self, byte: u8) -> Push<Sequence<i64>> {

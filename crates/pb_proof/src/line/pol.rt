@@ -8,13 +8,17 @@ ghost use Rattle.pb_proof.specs.Line.Pol.{is_in_number};
 
 mod close;
 mod end;
+mod front;
 mod kind;
 mod phase;
 mod transition;
 mod words;
 
+use crate::line::id_prefix::id_prefix;
+use crate::line::pol::close::held_number;
+use crate::line::pol::front::{held_before, operator};
 use crate::line::pol::kind::kind_of;
-use crate::line::pol::phase::{Kind, Move, Phase};
+use crate::line::pol::phase::{Change, Held, Kind, Move, Phase};
 use crate::line::pol::transition::{in_hand, is_done, is_in_number, plan};
 use crate::line::pol::words::{count_units, finish, turn};
 use crate::word::PolWord;
@@ -86,6 +90,83 @@ impl PolMachine {
     }
 }
 
+impl PolMachine {
+    ghost use Rattle.std.specs.Prelude.{◌≤◌, ◌<◌, take, length};
+    ghost use Rattle.pb_text.specs.Automaton.{IsState, Runs};
+    ghost use Rattle.pb_proof.specs.Line.PolState.{pol_automaton};
+
+    /// Takes an id and the space behind it, where a word may begin.
+    #[inline(always)]
+    fn take_id(&mut self, text: &[u8]) -> usize
+        ensures bound { result ≤ length text.now }
+        ensures runs { Runs pol_automaton self.old (take result text.now) self.new }
+        ensures state { IsState pol_automaton self.new }
+    {
+        let _ = self.is_done();
+        if held_before(self.phase).is_none() {
+            return 0;
+        }
+        let Some((length, id)) = id_prefix(self.top, text) else {
+            return 0;
+        };
+        if self.words.reserve(1).is_err() {
+            return 0;
+        }
+        self.words.push_reserved(PolWord::Id(id as i64));
+        self.name = Name::new(self.alloc);
+        self.phase = Phase::Gap(held_number(self.limit, self.depth, id as u128));
+        self.depth += 1;
+        length
+    }
+
+    /// Takes an operator and the space behind it, where one may stand.
+    #[inline(always)]
+    fn take_operator(&mut self, text: &[u8]) -> usize
+        ensures bound { result ≤ length text.now }
+        ensures runs { Runs pol_automaton self.old (take result text.now) self.new }
+        ensures state { IsState pol_automaton self.new }
+    {
+        let _ = self.is_done();
+        if text.len() < 2 || text[1] != b' ' {
+            return 0;
+        }
+        let Some(held) = held_before(self.phase) else {
+            return 0;
+        };
+        let Some(change) = operator(self.depth, held, text[0]) else {
+            return 0;
+        };
+        if turn(
+            self.alloc,
+            &mut self.words,
+            &mut self.depth,
+            &mut self.name,
+            change,
+        )
+        .is_err()
+        {
+            return 0;
+        }
+        self.phase = Phase::Gap(Held::Nothing);
+        2
+    }
+
+    /// Takes a word and the space behind it, where that is soon done.
+    #[inline(always)]
+    fn take_word(&mut self, text: &[u8]) -> usize
+        requires { 0 < length text.now }
+        ensures bound { result ≤ length text.now }
+        ensures runs { Runs pol_automaton self.old (take result text.now) self.new }
+        ensures state { IsState pol_automaton self.new }
+    {
+        if is_digit(text[0]) {
+            self.take_id(text)
+        } else {
+            self.take_operator(text)
+        }
+    }
+}
+
 impl Machine for PolMachine {
     ghost use Rattle.pb_proof.specs.Line.PolState.{pol_automaton};
 
@@ -136,6 +217,14 @@ impl Machine for PolMachine {
 
     fn closes(&mut self, byte: u8) -> Option<Sequence<PolWord>> {
         self.end(byte)
+    }
+
+    fn take_front(&mut self, piece: &[u8]) -> usize {
+        let length = self.take_word(piece);
+        if length > 0 {
+            return length;
+        }
+        if self.goes(piece[0]) { 1 } else { 0 }
     }
 
     fn push(&mut self, byte: u8) -> Push<Sequence<PolWord>> {

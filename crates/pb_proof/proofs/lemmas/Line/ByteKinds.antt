@@ -65,6 +65,11 @@ number_digit d h =
     let g : (48 + d) - 48 ≡ d = omega arith in
     rw (f, e) (ap number.TheVariants.Digit g)
 
+pub number_of_digit : (b : ℕ) → IsTrue (is_digit b) → number_byte b ≡ number.TheVariants.Digit (b - 48)
+number_of_digit b e =
+    let f : is_blank b ≡ false = grind (e, arith, nat_tests) in
+    rw (f, e) refl
+
 pub name_blank : (b : ℕ) → IsTrue (is_blank b) → name_byte b ≡ name.TheVariants.Blank
 name_blank b e = rw e refl
 

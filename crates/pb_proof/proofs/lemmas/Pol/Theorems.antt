@@ -1,15 +1,14 @@
 -- The laws of the machine of postfix words.
-use Rattle.std.proofs.Common.{◌≡◌, ℕ, ◌<◌, false, List, refl, subst, sym, ◌↔◌}
-use Rattle.pb_text.specs.Automaton.{Next, Go, Refuse, Reads, IsState, Admits}
+use Rattle.std.proofs.Common.{◌≡◌, ℕ, ◌<◌, List, refl, subst, sym, ◌↔◌}
+use Rattle.pb_text.specs.Automaton.{Next, Refuse, Reads, IsState, Admits}
 use Rattle.pb_text.specs.Spelling.{Letter}
 use Rattle.pb_proof.specs.Lines.{SpellsWords}
-use Rattle.pb_proof.specs.Line.Pol.{finished}
-use Rattle.pb_proof.specs.Line.PolState.{PolState, pol_first, pol_last, pol_with, pol_automaton, IsPolInOrder}
+use Rattle.pb_proof.specs.Line.PolState.{PolState, pol_first, pol_last, pol_automaton, IsPolInOrder}
 use Rattle.pb_proof.specs.declared.word.PolWord.{PolWord}
 use Rattle.pb_proof.proofs.lemmas.Line.One.{reads_last, is_state, admits}
 use Rattle.pb_proof.proofs.lemmas.Pol.Complete.{reads_each}
 use Rattle.pb_proof.proofs.lemmas.Pol.Sound.{reads_only}
-use Rattle.pb_proof.proofs.lemmas.Pol.States.{HasIds, last_of, of_one, empties, keeps_order}
+use Rattle.pb_proof.proofs.lemmas.Pol.States.{HasIds, last_of, of_one, empties}
 
 -- What a new machine reads is a line of words, and then it has ended.
 pub pol_reads : (limit top : ℕ) (text : List Letter) (e : List PolWord) (after : PolState)

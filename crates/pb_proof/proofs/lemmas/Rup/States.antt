@@ -24,7 +24,7 @@ use Rattle.pb_proof.specs.declared.line.rup.phase.RupPhase.TheVariants.{Start, G
 use Rattle.pb_proof.specs.declared.line.rup.phase.RupMove.{RupMove}
 use Rattle.pb_proof.specs.declared.line.rup.phase.RupMove.TheVariants.{To, Give, Finish, Stop}
 use Rattle.pb_proof.proofs.lemmas.Choices.{never, chosen}
-use Rattle.pb_proof.proofs.lemmas.Living.{IsAlive, ReadsOn, before, final, accepted, reads_on, admits_before}
+use Rattle.pb_proof.proofs.lemmas.Living.{IsAlive, before, final, accepted, admits_before}
 
 -- The constraint that the machine of sums gives has no more units than that machine had.
 acted-terms : (ys xs : List Term) (name : List ℕ) (m : Move) (e : SumEvent) (w : Work) → act ys xs name m ≡ End e w → (linear_of e).terms ≡ ys

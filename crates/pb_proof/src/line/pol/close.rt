@@ -17,7 +17,8 @@ pub fn counted(change: Change, depth: usize) -> usize
     }
 }
 
-fn held_number(limit: u128, depth: usize, number: u128) -> Held
+/// How an id may still change.
+pub fn held_number(limit: u128, depth: usize, number: u128) -> Held
     ensures { result ≡ held_number limit depth number }
 {
     if depth > 0 && number <= limit {
