@@ -21,6 +21,7 @@ pub mod Rows
 pub mod Source
 pub mod Spelling
 pub mod Standing
+pub mod Staying
 pub mod Toy
 pub mod ValueRead
 pub mod NothingRead

@@ -1,6 +1,8 @@
 //! Ends a text in one go.
 
+ghost use Rattle.std.specs.Prelude.{◌≡◌, None};
 ghost use Rattle.pb_text.specs.Automaton.{Closes, IsState};
+ghost use Rattle.pb_text.specs.Staying.{MayStay};
 ghost use Rattle.pb_sums.specs.State.{sums};
 
 use crate::machine::{SumMachine, finish};
@@ -15,6 +17,8 @@ impl SumMachine {
     pub(super) fn end(&mut self) -> Option<SumEvent>
         ensures closes { Closes sums self.old 59 result self.new }
         ensures state { IsState sums self.new }
+        // It leaves the byte only where that may ask for memory or ends nothing.
+        ensures leaves { result ≡ None → MayStay sums self.old 59 }
     {
         let _ = self.is_done();
         match plan(self.part, self.limit, self.phase, Kind::Semicolon) {
