@@ -13,3 +13,7 @@ when_err (Err x) P h e = h
 pub unchanged : {T E A : Type 0} (r : Result T E) (new more old : A) → new ≡ (if is_ok r then more else old) → is_err r ≡ true → new ≡ old
 unchanged (Ok x) new more old h e = cc
 unchanged (Err x) new more old h e = h
+
+pub grown : {T E A : Type 0} (r : Result T E) (new more old : A) → new ≡ (if is_ok r then more else old) → is_err r ≡ false → new ≡ more
+grown (Ok x) new more old h e = h
+grown (Err x) new more old h e = cc

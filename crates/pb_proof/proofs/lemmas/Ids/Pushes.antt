@@ -24,6 +24,9 @@ kept_acts top ids (move.To p) h e = cc
 kept_acts top ids move.End h e = cc
 kept_acts top ids move.Stop h e = cc
 
+pub moved : (top : ℕ) (ids : List ℤ) (p : IdsPhase) (b : ℕ) (k : NumberByte) (m : IdsMove) → k ≡ number_byte b → m ≡ plan top p k → ids_automaton.step (ids_at top ids p) b ≡ act top ids m
+moved top ids p b k m f g = ap (λ x. act top ids x) (ap (λ x. plan top p x) (sym f) ∙ sym g)
+
 -- memory is asked for at a byte that ends an id, and only where the byte is taken
 pub wants : (top : ℕ) (ids : List ℤ) (p : IdsPhase) (b : ℕ) (k : NumberByte) (m : IdsMove) → IsIdsInOrder (ids_at top ids p) → k ≡ number_byte b → m ≡ plan top p k → keeps m ≡ true
     → IsTrue (ids_automaton.asks (ids_at top ids p) b) × Admits ids_automaton (ids_at top ids p) b

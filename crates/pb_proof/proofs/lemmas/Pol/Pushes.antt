@@ -1,6 +1,6 @@
 -- A push does what was planned.
 use Rattle.std.proofs.Common.{◌≡◌, ℕ, ◌<◌, Bool, true, false, ◌&&◌, List, [], refl, sym, ap, subst, ◌∙◌}
-use Rattle.std.specs.Prelude.{IsTrue, Result, OnOk, OnErr, is_ok, is_err, Ok, Err, if◌then◌else◌}
+use Rattle.std.specs.Prelude.{IsTrue, if◌then◌else◌}
 use Rattle.pb_text.specs.Automaton.{Next, Go, End, Refuse, Admits, IsState, Pushes}
 use Rattle.pb_text.specs.Classes.{is_digit}
 use Rattle.pb_text.specs.declared.machine.Push.{Push}
@@ -13,6 +13,7 @@ use Rattle.pb_proof.specs.declared.line.pol.phase.Phase.{Phase}
 use Rattle.pb_proof.specs.declared.line.pol.phase.Phase.TheVariants as phase
 use Rattle.pb_proof.specs.declared.line.pol.phase.Move.{Move}
 use Rattle.pb_proof.specs.declared.line.pol.phase.Move.TheVariants.{To, Begin, Add, Turn, End as EndLine, Stop}
+use Rattle.pb_proof.proofs.lemmas.Choices.{never}
 use Rattle.pb_proof.proofs.lemmas.Pol.Covers.{state}
 use Rattle.pb_proof.proofs.lemmas.Pol.Theorems.{pol_admits, pol_is_state}
 
@@ -75,19 +76,4 @@ refused s b r h e = subst (λ x. Pushes pol_automaton s b x s) (sym e) (go (is_i
 
 -- a state within a line
 pub midway_state : (limit top : ℕ) (ws : List PolWord) (d : ℕ) (name : List ℕ) (q : Phase) → 0 < top → is_midway q ≡ true → IsState pol_automaton (state limit top ws d name q)
-midway_state limit top ws d name q h i = pol_is_state (state limit top ws d name q) (h, λ e. absurd (apart (is_midway q) i e))
-  where
-    apart : (x : Bool) → x ≡ true → x ≡ false → ⊥
-    apart x e f = cc
-
-pub when_ok : {T E : Type 0} (r : Result T E) (P : Type 0) → OnOk r P → is_err r ≡ false → P
-when_ok (Ok x) P h e = h
-when_ok (Err x) P h e = cc
-
-pub when_err : {T E : Type 0} (r : Result T E) (P : Type 0) → OnErr r P → is_err r ≡ true → P
-when_err (Ok x) P h e = cc
-when_err (Err x) P h e = h
-
-pub unchanged : {T E : Type 0} (r : Result T E) (new more old : List ℕ) → new ≡ (if is_ok r then more else old) → is_err r ≡ true → new ≡ old
-unchanged (Ok x) new more old h e = cc
-unchanged (Err x) new more old h e = h
+midway_state limit top ws d name q h i = pol_is_state (state limit top ws d name q) (h, λ e. never (is_midway q) i e)

@@ -1,8 +1,9 @@
 use Rattle.std.proofs.Common.{refl, sym, ap}
 use Rattle.pb_proof.specs.Line.Ids.{ids_at}
 use Rattle.pb_proof.specs.declared.line.ids.phase.IdsMove.TheVariants as move
+use Rattle.pb_proof.proofs.lemmas.Choices.{never}
 use Rattle.pb_proof.proofs.lemmas.Ids.Theorems.{ids_is_state}
-use Rattle.pb_proof.proofs.lemmas.Ids.Pushes.{wants, midway_state}
+use Rattle.pb_proof.proofs.lemmas.Ids.Pushes.{moved, wants, midway_state}
 use Rattle.pb_proof.proofs.lemmas.Results.{unchanged}
 use Rattle.pb_proof.proofs.line.ids.IdsMachineMachine.push.Goals as goal
 
@@ -42,3 +43,30 @@ returns-else-is_err-clause-state c =
 
 pub returns-after-matches-clause-state : goal.returns-after-matches-clause-state
 returns-after-matches-clause-state c = rw (← c.self.view_is) (ids_is_state _ c.self.invariant)
+
+pub invariant_of-self : goal.invariant_of-self
+invariant_of-self c =
+    let i = c.self.invariant in
+    (i.0, i.1, c.in-To.ensures.fits.0, λ e. never _ c.in-To.ensures.fits.1 e)
+
+pub invariant_of-self-then-is_err : goal.invariant_of-self-then-is_err
+invariant_of-self-then-is_err c =
+    let i = c.self.invariant in
+    let k = unchanged c.push.result _ _ _ c.push.ensures.items (sym c.if-is_err.ensures.value) in
+    (i.0, i.1, i.2, rw k i.3)
+
+pub invariant_of-self-in-Keep : goal.invariant_of-self-in-Keep
+invariant_of-self-in-Keep c =
+    let i = c.self.invariant in
+    (i.0, i.1, c.in-Keep.ensures.fits.0, λ e. never _ c.in-Keep.ensures.fits.1 e)
+
+pub invariant_of-self-then-is_err-2 : goal.invariant_of-self-then-is_err-2
+invariant_of-self-then-is_err-2 c =
+    let i = c.self.invariant in
+    let k = unchanged c.push-in-EndWith.result _ _ _ c.push-in-EndWith.ensures.items (sym c.if-is_err-2.ensures.value) in
+    (i.0, i.1, i.2, rw k i.3)
+
+pub returns-in-To-clause-pushes : goal.returns-in-To-clause-pushes
+returns-in-To-clause-pushes c = rw (← c.self.view_is) (
+    moved c.self.inside.top c.self.inside.ids c.self.inside.phase c.args.byte c.number_byte.result (move.To c.in-To.phase) c.number_byte.ensures.kind c.in-To.ensures.plan
+    )

@@ -1,8 +1,10 @@
-use Rattle.std.proofs.Common.{refl, sym, ap, ◌∙◌}
+use Rattle.std.proofs.Common.{List, ℕ, ◌∷◌, [], ◌++◌, refl, sym, ap, ◌∙◌}
 use Rattle.pb_text.specs.Automaton.{Go}
 use Rattle.pb_proof.specs.declared.line.pol.phase.Move.TheVariants.{To, Begin, Add, Turn, End, Stop}
+use Rattle.pb_proof.proofs.lemmas.Choices.{never}
 use Rattle.pb_proof.proofs.lemmas.Pol.Theorems.{pol_is_state}
-use Rattle.pb_proof.proofs.lemmas.Pol.Pushes.{moved, asks_for, refused, ended_to, same_state, midway_state, last_state, when_ok, when_err, unchanged}
+use Rattle.pb_proof.proofs.lemmas.Pol.Pushes.{moved, asks_for, refused, ended_to, same_state, midway_state, last_state}
+use Rattle.pb_proof.proofs.lemmas.Results.{grown, when_ok, when_err, unchanged}
 use Rattle.pb_proof.proofs.line.pol.PolMachineMachine.push.Goals as goal
 
 pub returns-then-is_err-clause-pushes : goal.returns-then-is_err-clause-pushes
@@ -104,3 +106,64 @@ returns-in-Ok-clause-pushes c = rw (← c.self.view_is) (
 
 pub returns-in-Ok-clause-state : goal.returns-in-Ok-clause-state
 returns-in-Ok-clause-state c = last_state c.self.inside.limit c.self.inside.top _ _ _ _ c.self.invariant.4.0 c.in-Ok.ensures.ok
+
+pub invariant_of-self : goal.invariant_of-self
+invariant_of-self c =
+    let i = c.self.invariant in
+    (i.0, i.1, i.2, c.in-To.ensures.fits.0, (i.4.0, λ e. never _ c.in-To.ensures.fits.1 e))
+
+pub invariant_of-self-in-Begin : goal.invariant_of-self-in-Begin
+invariant_of-self-in-Begin c =
+    let i = c.self.invariant in
+    (i.0, i.1, i.2, c.in-Begin.ensures.fits.0, (i.4.0, λ e. never _ c.in-Begin.ensures.fits.1 e))
+
+pub invariant_of-self-then-is_err-2 : goal.invariant_of-self-then-is_err-2
+invariant_of-self-then-is_err-2 c =
+    let i = c.self.invariant in
+    let k = unchanged c.push-in-Add.result _ _ _ c.push-in-Add.ensures (sym c.if-is_err-2.ensures.value) in
+    (i.0, i.1, i.2, i.3, rw k i.4)
+
+pub invariant_of-self-in-Add : goal.invariant_of-self-in-Add
+invariant_of-self-in-Add c =
+    let i = c.self.invariant in
+    (i.0, i.1, i.2, c.in-Add.ensures.fits.0, (i.4.0, λ e. never _ c.in-Add.ensures.fits.1 e))
+
+pub invariant_of-self-then-is_err-3 : goal.invariant_of-self-then-is_err-3
+invariant_of-self-then-is_err-3 c =
+    let i = c.self.invariant in
+    let k = when_err c.turn.result _ c.turn.ensures.err (sym c.if-is_err-3.ensures.value) in
+    (i.0, i.1, c.turn.ensures.trees, rw k.2 i.3, rw (k.1, k.3) i.4)
+
+pub invariant_of-self-in-Turn : goal.invariant_of-self-in-Turn
+invariant_of-self-in-Turn c =
+    let i = c.self.invariant in
+    let k = when_ok c.turn.result _ c.turn.ensures.ok (sym c.if-is_err-3.ensures.value) in
+    (i.0, i.1, c.turn.ensures.trees, rw k.1 c.in-Turn.ensures.fits.0, (i.4.0, λ e. never _ c.in-Turn.ensures.fits.1 e))
+
+pub invariant_of-self-in_default : goal.invariant_of-self-in_default
+invariant_of-self-in_default c =
+    let i = c.self.invariant in
+    let k = c.in_default.ensures.err in
+    (i.0, i.1, c.finish.ensures.trees, rw (k.2, k.4) i.3, rw (k.1, k.3, k.4) i.4)
+
+pub invariant_of-self-in-End : goal.invariant_of-self-in-End
+invariant_of-self-in-End c =
+    let i = c.self.invariant in
+    let k = c.in-Ok.ensures.ok in
+    (i.0, i.1, c.finish.ensures.trees, rw k.3 tt, (i.4.0, λ e. (k.0, k.2)))
+
+pub returns-else-is_err-clause-pushes : goal.returns-else-is_err-clause-pushes
+returns-else-is_err-clause-pushes c = rw (← c.self.view_is) (
+    let k = grown c.push.result _ _ _ c.push.ensures (sym c.if-is_err.ensures.value) ∙ ap (λ (n : List ℕ). n ++ c.args.byte ∷ []) c.new-name.ensures in
+    moved c.self.inside.limit c.self.inside.top c.self.inside.words.items c.self.inside.depth c.self.inside.name c.self.inside.phase c.args.byte
+    c.kind_of.result (Begin c.in-Begin.phase) c.kind_of.ensures.kind c.in-Begin.ensures.plan
+    ∙ ap (λ s. Go s) (same_state c.self.inside.limit c.self.inside.top _ _ _ _ _ _ _ _ refl refl (sym k) refl)
+    )
+
+pub returns-else-is_err-2-clause-pushes : goal.returns-else-is_err-2-clause-pushes
+returns-else-is_err-2-clause-pushes c = rw (← c.self.view_is) (
+    let k = grown c.push-in-Add.result _ _ _ c.push-in-Add.ensures (sym c.if-is_err-2.ensures.value) in
+    moved c.self.inside.limit c.self.inside.top c.self.inside.words.items c.self.inside.depth c.self.inside.name c.self.inside.phase c.args.byte
+    c.kind_of.result (Add c.in-Add.phase) c.kind_of.ensures.kind c.in-Add.ensures.plan
+    ∙ ap (λ s. Go s) (same_state c.self.inside.limit c.self.inside.top _ _ _ _ _ _ _ _ refl refl (sym k) refl)
+    )
