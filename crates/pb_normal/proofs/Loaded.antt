@@ -1,4 +1,4 @@
--- The forms that constraints load as, over the names so far
+-- The forms that constraints load as, over the names so far. Offered to other crates.
 use Rattle.std.proofs.Common.{Result, Ok, Err, OnOk, OnErr, ◌≡◌, ℕ, ◌<◌, List, [], ◌∷◌, ◌++◌, length, zero, suc, arith, refl, sym, ◌∙◌, ap, subst, append_assoc, append-nil, take, get_or, ◌+◌}
 use Rattle.std.specs.List.{AllByRecursion}
 use Rattle.std.proofs.lemmas.Grind.{flat_map-append}
@@ -30,7 +30,7 @@ are_named names (c ∷ cs) h =
     named_sides names c.relation c (sides_in cs) parts.0 (are_named names cs parts.1)
 
 -- over more names
-forms_more : (names more : List (List ℕ)) (sides : List (Side × Linear)) (forms : List Form) → AreDistinct (names ++ more) → AreNamed names sides → AreFormsOf names sides forms → AreFormsOf (names ++ more) sides forms
+pub forms_more : (names more : List (List ℕ)) (sides : List (Side × Linear)) (forms : List Form) → AreDistinct (names ++ more) → AreNamed names sides → AreFormsOf names sides forms → AreFormsOf (names ++ more) sides forms
 forms_more names more [] [] d n f = tt
 forms_more names more [] (r ∷ forms) d n f = absurd f
 forms_more names more (side ∷ sides) [] d n f = absurd f

@@ -1,7 +1,6 @@
 -- What is owed of the bytes that a source's calls have given.
-use Rattle.std.proofs.Common.{◌≡◌, ℕ, ◌≤◌, ◌<◌, ◌++◌, true, false, List, [], Option, Some, Result, Ok, Err, inl, inr, refl, sym, ap, subst, ◌∙◌, append_assoc, append-nil, length, length-append, arith}
+use Rattle.std.proofs.Common.{◌≡◌, ℕ, ◌≤◌, ◌<◌, ◌++◌, false, List, [], Option, Some, Result, Ok, Err, inl, inr, refl, sym, ap, subst, ◌∙◌, append_assoc, append-nil, length, length-append, arith}
 use Rattle.pb_text.specs.Blank.{GivesBlank, ReadsBlank}
-use Rattle.pb_text.specs.Limits.{largest}
 use Rattle.pb_text.specs.NothingRead.{ReadsNothing, first_fault}
 use Rattle.pb_text.specs.Pulling.{Took}
 use Rattle.pb_text.specs.Reading.{byte_limit}
@@ -11,18 +10,17 @@ use Rattle.pb_text.specs.declared.Place.{Place}
 use Rattle.pb_text.specs.declared.Spanned.{Spanned}
 use Rattle.pb_text.specs.declared.Stop.{Stop}
 use Rattle.pb_text.proofs.Rows.{took_join}
-use Rattle.pb_opb.specs.declared.Instance as opb
 use Rattle.pb_tool.specs.Files.{tidied_proof, IsVeri, TidiesProof}
 use Rattle.pb_tool.specs.Given.{OfGiven, ShowsGiven, TidiesGiven}
 use Rattle.pb_opb.specs.Canonical.{event_bytes}
 use Rattle.pb_proof.specs.Canonical.{statement_bytes}
 use Rattle.pb_proof.specs.Proofs.{IsProofOf}
 use Rattle.pb_tool.specs.Show.{Shows}
-use Rattle.pb_tool.specs.Tidy.{IsFile, IsOpb, IsOpbFile, IsDenied, IsRefused, Tidies}
+use Rattle.pb_tool.specs.Tidy.{IsFile, IsOpb, IsRefused, Tidies}
 use Rattle.pb_tool.specs.Tidy.IsRefused.{InRest}
 use Rattle.pb_tool.specs.declared.fault.ToolFault.{ToolFault}
-use Rattle.pb_tool.specs.declared.fault.ToolFault.TheVariants.{Text, Open, Overflow, Memory, Write, Step}
-use Rattle.pb_tool.specs.declared.fault.Input.TheVariants.{File, Instance, Proof}
+use Rattle.pb_tool.specs.declared.fault.ToolFault.TheVariants.{Text}
+use Rattle.pb_tool.specs.declared.fault.Input.TheVariants.{File}
 use Rattle.pb_tool.proofs.Chosen.{shows_nothing, tidies_nothing}
 use Rattle.pb_tool.proofs.Shown.{after_offset}
 
@@ -59,23 +57,6 @@ given_stray Reads read s before mid after used e reads (rest, seen, f, blank, pl
   given_both before mid after used rest e f,
   InRest read (Some (rest ++ seen)) (subst (λ (x : List ℕ). Reads (Some x) (Ok read) (Some (rest ++ seen))) (sym (append_assoc used rest seen)) (reads (rest ++ seen))) (rest, seen, (refl, refl), blank, place, stray),
 )
-
--- an instance that has no normal form, and nothing was written
-module _ (limits : Limits) (longest : ℕ) {W : Type 0} (contents : W → Option (List ℕ)) (faults : W → ℕ) (v : opb.Instance) (old : W) where
-  pub denied : (e : ToolFault) (left rest : Option (List ℕ)) → IsOpbFile limits longest left rest v → IsDenied (largest limits) v e → Tidies limits longest true contents faults left old (Err e) rest old
-  denied (Overflow File) left rest f d = ((v, f, d), refl)
-  denied (Memory File) left rest f d = ((v, f, d), refl)
-  denied (Overflow Instance) left rest f d = absurd d
-  denied (Overflow Proof) left rest f d = absurd d
-  denied (Memory Instance) left rest f d = absurd d
-  denied (Memory Proof) left rest f d = absurd d
-  denied (Text i s) left rest f d = absurd d
-  denied (Open i) left rest f d = absurd d
-  denied Write left rest f d = absurd d
-  denied (Step place fault name) left rest f d = absurd d
-
-  pub given_denied : (e : ToolFault) (before after : List ℕ) → IsDenied (largest limits) v e → OfGiven (λ left rest. IsOpbFile limits longest left rest v) before after → OfGiven (λ left rest. Tidies limits longest true contents faults left old (Err e) rest old) before after
-  given_denied e before after d (given, seen, is, f) = (given, seen, is, denied e (Some (given ++ seen)) (Some seen) f d)
 
 module _ (limits : Limits) (longest n : ℕ) (is : longest ≡ n) {W : Type 0} (contents : W → Option (List ℕ)) (faults : W → ℕ) (before mid : List ℕ) (k : mid ≡ before) (old : W) where
   module _ (result : Result (Unit {0}) ToolFault) (after : List ℕ) (new : W) where

@@ -14,7 +14,9 @@ mod Chosen
 mod Wanted
 mod Given
 mod GivenRow
-mod Loads
+mod NormalForms
+mod Noted
+mod NormalFile
 mod Solutions
 mod Stays
 mod Checked

@@ -16,7 +16,7 @@ use Rattle.pb_tool.specs.Tidy.{is_bare, tidied}
 use Rattle.pb_tool.proofs.Feeds.{tidied_bare, tidied_more}
 
 -- the objectives and the constraints
-abbrev mains_in : List OpbEvent → List OpbEvent
+abbrev pub mains_in : List OpbEvent → List OpbEvent
 mains_in [] = []
 mains_in (Header n m t ∷ events) = mains_in events
 mains_in (Comment t ∷ events) = mains_in events

@@ -1,5 +1,5 @@
--- A file whose statements are put together as text is one with a value, where the text is what is written for that value.
-use Rattle.std.proofs.Common.{◌≡◌, ◌↔◌, ℕ, List, Bool, IsTrue, Option, Result, Err, refl, sym, ap, ◌∙◌, subst}
+-- A file whose statements are put together is one with a value, where what they are put together to has it.
+use Rattle.std.proofs.Common.{◌≡◌, ◌↔◌, ℕ, List, Bool, IsTrue, Option, Result, Err, refl, sym, subst}
 use Rattle.pb_text.specs.Blank.{IsStray}
 use Rattle.pb_text.specs.Spelling.{Item}
 use Rattle.pb_text.specs.Whole.{gathered, events_of, IsWhole, ReadsWhole}
@@ -15,52 +15,62 @@ use Rattle.pb_tool.specs.Wants.{IfStopped}
 use Rattle.pb_tool.specs.declared.fault.ToolFault.{ToolFault}
 use Rattle.pb_tool.proofs.Restated.{written_so, stopped_so}
 
-module _ {E T V : Type 0} (accepted format : List (Item E) → Type 0) (same : (items : List (Item E)) → accepted items ↔ format items) (longest : ℕ) (with : T → E → T) (empty : T) (text_of : T → List ℕ)
-    (IsValue : List E → V → Type 0) (tidied : V → List ℕ) (has_value : (items : List (Item E)) → format items → (v : V) × IsValue (events_of items) v × (text_of (gathered with empty (events_of items)) ≡ tidied v)) where
+module _ {E T V : Type 0} (accepted format : List (Item E) → Type 0) (same : (items : List (Item E)) → accepted items ↔ format items) (longest : ℕ) (with : T → E → T) (empty : T)
+    (IsValue : List E → V → Type 0) (Has : T → V → Type 0) (has_value : (items : List (Item E)) → format items → (v : V) × IsValue (events_of items) v × Has (gathered with empty (events_of items)) v) where
   only : (items : List (Item E)) → accepted items → format items
   only items h = (same items).0 h
 
   each : (items : List (Item E)) → format items → accepted items
   each items h = (same items).1 h
 
-  -- what was read with the text was read with the value
+  -- what was read was read with the value
   abbrev valued : V → Spanned T → Spanned V
   valued v m = record { event = v; first = m.first; past = m.past }
 
-  read_as : (used : List ℕ) (m : Spanned T) → IsWhole accepted longest with empty used m → (v : V) × IsRead format longest IsValue used (valued v m) × (text_of m.event ≡ tidied v)
+  read_as : (used : List ℕ) (m : Spanned T) → IsWhole accepted longest with empty used m → (v : V) × IsRead format longest IsValue used (valued v m) × Has m.event v
   read_as used m w =
-      let (v, is, text) = has_value w.spelled.items (only w.spelled.items w.spelled.spelled) in
-      (v, record { marks = w.marks; spelled = formats.is_spelled accepted format only each longest used w.marks w.spelled; value = is; first = w.first_is; past = w.past_is }, ap text_of w.value_is ∙ text)
+      let (v, is, has) = has_value w.spelled.items (only w.spelled.items w.spelled.spelled) in
+      (v, record { marks = w.marks; spelled = formats.is_spelled accepted format only each longest used w.marks w.spelled; value = is; first = w.first_is; past = w.past_is }, subst (λ (t : T). Has t v) (sym w.value_is) has)
 
-  file_as : (before after : Option (List ℕ)) (t : T) → IsFile (IsWhole accepted longest with empty) before after t → (v : V) × IsFile (IsRead format longest IsValue) before after v × (text_of t ≡ tidied v)
+  pub file_as : (before after : Option (List ℕ)) (t : T) → IsFile (IsWhole accepted longest with empty) before after t → (v : V) × IsFile (IsRead format longest IsValue) before after v × Has t v
   file_as before after t f =
-      let (v, is, text) = read_as f.used f.read f.spelled in
-      (v, record { used = f.used; rest = f.rest; took = f.took; read = valued v f.read; spelled = is; blank = f.blank; within = f.within; value = refl }, sym (ap text_of f.value) ∙ text)
+      let (v, is, has) = read_as f.used f.read f.spelled in
+      (v, record { used = f.used; rest = f.rest; took = f.took; read = valued v f.read; spelled = is; blank = f.blank; within = f.within; value = refl }, subst (λ (x : T). Has x v) f.value has)
 
   module _ (may_ask : List ℕ → ℕ → Type 0) (keeps : T → E → Bool) where
-    refused_as : (before after : Option (List ℕ)) (s : Stop) → IsRefused (ReadsWhole accepted longest with empty may_ask keeps) before after s → IsRefused (ReadsValue format longest IsValue) before after s
+    pub refused_as : (before after : Option (List ℕ)) (s : Stop) → IsRefused (ReadsWhole accepted longest with empty may_ask keeps) before after s → IsRefused (ReadsValue format longest IsValue) before after s
     refused_as before after s (InText (used, seen, took, w)) = InText (used, seen, took, stops_in accepted format only each longest with empty may_ask keeps used seen s w)
     refused_as before after s (InRest m mid (used, seen, took, w) blank) =
-        let (v, is, text) = read_as used m w in
+        let (v, is, has) = read_as used m w in
         InRest (valued v m) mid (used, seen, took, is) blank
-
-    pub tidies_value : {W : Type 0} (contents : W → Option (List ℕ)) (faults : W → ℕ) (before : Option (List ℕ)) (old : W) (result : Result (Unit {0}) ToolFault) (after : Option (List ℕ)) (new : W)
-        → TidiesAs (IsWhole accepted longest with empty) (ReadsWhole accepted longest with empty may_ask keeps) text_of contents faults before old result after new
-        → TidiesAs (IsRead format longest IsValue) (ReadsValue format longest IsValue) tidied contents faults before old result after new
-    tidies_value contents faults before old result after new t =
-        written_so (IsFile (IsWhole accepted longest with empty) before after) text_of (IsRefused (ReadsWhole accepted longest with empty may_ask keeps) before after) contents faults
-        (IsFile (IsRead format longest IsValue) before after) tidied (IsRefused (ReadsValue format longest IsValue) before after) (file_as before after) (refused_as before after) old result new t
 
     -- where memory ran out
     module _ (MayAsk : List ℕ → ℕ → Type 0) (to : (used : List ℕ) (b : ℕ) → may_ask used b → MayAsk used b) (MayKeep : List E → E → Type 0)
         (may_keep : (events : List E) (e : E) → IsTrue (keeps (gathered with empty events) e) → MayKeep events e) where
-      refused_wants : (before after : Option (List ℕ)) (s : Stop) → IsRefused (ReadsWhole accepted longest with empty may_ask keeps) before after s → WantsMemory format longest MayAsk MayKeep {V = V} before (Err s) after
+      pub refused_wants : (before after : Option (List ℕ)) (s : Stop) → IsRefused (ReadsWhole accepted longest with empty may_ask keeps) before after s → WantsMemory format longest MayAsk MayKeep {V = V} before (Err s) after
       refused_wants before after s (InText (used, seen, took, w)) = λ e. (used, seen, took, wants_in accepted format only each longest with empty may_ask keeps used seen s MayAsk (to used) MayKeep may_keep w e)
       refused_wants before after s (InRest m mid r (rest, more, took, blank, place, stray)) = λ e. absurd (subst (λ (w : Why). IsStray m.past rest more w) e stray)
 
-      pub wants_value : {W : Type 0} (contents : W → Option (List ℕ)) (faults : W → ℕ) (before : Option (List ℕ)) (old : W) (result : Result (Unit {0}) ToolFault) (after : Option (List ℕ)) (new : W)
-          → TidiesAs (IsWhole accepted longest with empty) (ReadsWhole accepted longest with empty may_ask keeps) text_of contents faults before old result after new
-          → IfStopped result (λ s. WantsMemory format longest MayAsk MayKeep {V = V} before (Err s) after)
-      wants_value contents faults before old result after new t =
-          stopped_so (IsFile (IsWhole accepted longest with empty) before after) text_of (IsRefused (ReadsWhole accepted longest with empty may_ask keeps) before after) contents faults
-          (λ s. WantsMemory format longest MayAsk MayKeep {V = V} before (Err s) after) (refused_wants before after) old result new t
+-- where they are put together as text, and the text is what is written for the value
+module _ {E T V : Type 0} (accepted format : List (Item E) → Type 0) (same : (items : List (Item E)) → accepted items ↔ format items) (longest : ℕ) (with : T → E → T) (empty : T) (text_of : T → List ℕ)
+    (IsValue : List E → V → Type 0) (tidied : V → List ℕ) (has_value : (items : List (Item E)) → format items → (v : V) × IsValue (events_of items) v × (text_of (gathered with empty (events_of items)) ≡ tidied v)) (may_ask : List ℕ → ℕ → Type 0) (keeps : T → E → Bool) where
+  abbrev Spells : T → V → Type 0
+  Spells t v = text_of t ≡ tidied v
+
+  pub tidies_value : {W : Type 0} (contents : W → Option (List ℕ)) (faults : W → ℕ) (before : Option (List ℕ)) (old : W) (result : Result (Unit {0}) ToolFault) (after : Option (List ℕ)) (new : W)
+      → TidiesAs (IsWhole accepted longest with empty) (ReadsWhole accepted longest with empty may_ask keeps) text_of contents faults before old result after new
+      → TidiesAs (IsRead format longest IsValue) (ReadsValue format longest IsValue) tidied contents faults before old result after new
+  tidies_value contents faults before old result after new t =
+      written_so (IsFile (IsWhole accepted longest with empty) before after) text_of (IsRefused (ReadsWhole accepted longest with empty may_ask keeps) before after) contents faults
+      (IsFile (IsRead format longest IsValue) before after) tidied (IsRefused (ReadsValue format longest IsValue) before after)
+      (file_as accepted format same longest with empty IsValue Spells has_value before after) (refused_as accepted format same longest with empty IsValue Spells has_value may_ask keeps before after) old result new t
+
+  pub wants_value : (MayAsk : List ℕ → ℕ → Type 0) (to : (used : List ℕ) (b : ℕ) → may_ask used b → MayAsk used b) (MayKeep : List E → E → Type 0)
+      (may_keep : (events : List E) (e : E) → IsTrue (keeps (gathered with empty events) e) → MayKeep events e)
+      {W : Type 0} (contents : W → Option (List ℕ)) (faults : W → ℕ) (before : Option (List ℕ)) (old : W) (result : Result (Unit {0}) ToolFault) (after : Option (List ℕ)) (new : W)
+      → TidiesAs (IsWhole accepted longest with empty) (ReadsWhole accepted longest with empty may_ask keeps) text_of contents faults before old result after new
+      → IfStopped result (λ s. WantsMemory format longest MayAsk MayKeep {V = V} before (Err s) after)
+  wants_value MayAsk to MayKeep may_keep contents faults before old result after new t =
+      stopped_so (IsFile (IsWhole accepted longest with empty) before after) text_of (IsRefused (ReadsWhole accepted longest with empty may_ask keeps) before after) contents faults
+      (λ s. WantsMemory format longest MayAsk MayKeep {V = V} before (Err s) after)
+      (refused_wants accepted format same longest with empty IsValue Spells has_value may_ask keeps MayAsk to MayKeep may_keep before after) old result new t

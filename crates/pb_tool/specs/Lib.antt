@@ -6,6 +6,7 @@ pub mod Files
 pub mod Gathered
 pub mod Headline
 pub mod InstanceText
+pub mod NormalText
 pub mod Given
 pub mod Normalised
 mod Opening

@@ -55,7 +55,7 @@ impl InstanceText {
 }
 
 /// Writes the line of a statement that may be there.
-fn write_line_if<W: Sink>(event: &Option<OpbEvent>, out: &mut W) -> Result<(), Failed>
+pub(crate) fn write_line_if<W: Sink>(event: &Option<OpbEvent>, out: &mut W) -> Result<(), Failed>
     ensures { Writes W.contents W.faults out.old (line_if event.now) result out.new }
 {
     match event {

@@ -9,6 +9,8 @@ mod instance_text;
 pub mod laws;
 mod limits;
 mod normal;
+mod normal_text;
+mod notes;
 mod page;
 mod proof_text;
 mod refusal;

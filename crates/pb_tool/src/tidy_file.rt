@@ -1,26 +1,24 @@
 //! `pb tidy`: the canonical spelling of a file.
 
-ghost use Rattle.std.specs.Prelude.{◌≡◌, ◌<◌, ◌^◌, false, true, unwrap_or, IfSome, IfOk, IfErr};
+ghost use Rattle.std.specs.Prelude.{◌≡◌, ◌<◌, ◌^◌, false, true, unwrap_or, IfSome};
 ghost use Rattle.pb_text.specs.Automaton.{Accepts, MayAsk};
-ghost use Rattle.pb_text.specs.Limits.{largest};
-ghost use Rattle.pb_text.specs.Writing.{Writes};
 ghost use Rattle.pb_tool.specs.Faults.{faults_told};
 ghost use Rattle.pb_tool.specs.Files.{TidiesFile, TidiesProof};
 ghost use Rattle.pb_tool.specs.Gathered.{TidiesEach};
 ghost use Rattle.pb_tool.specs.Given.{OfGiven, TidiesGiven};
-ghost use Rattle.pb_tool.specs.Tidy.{is_bare, tidied, IsAsked, IsDenied, Tidies};
+ghost use Rattle.pb_tool.specs.Tidy.{Tidies};
 ghost use Rattle.pb_tool.specs.Wants.{IfStopped, WantsInstance, WantsProof, WantsTidying};
 
 use crate::canonical::Canonical;
 use crate::fault::{Input, ToolFault, refused};
-use crate::file::{Format, format_of, read_file, read_instance_file, unread_file};
+use crate::file::{Format, format_of, read_file, unread_file};
 use crate::instance_text::InstanceText;
-use crate::normal::{normalised, overflows};
+use crate::normal_text::NormalText;
 use crate::proof_text::ProofText;
 use pb_normal::HashKeys;
-use pb_opb::{Instance, OpbMachine, write_instance};
+use pb_opb::OpbMachine;
 use pb_proof::ProofMachine;
-use pb_text::{BYTE_LIMIT, Failed, Gather, Limits, Machine, Sink, Source, write_bytes};
+use pb_text::{BYTE_LIMIT, Failed, Gather, Limits, Machine, Sink, Source};
 use std::alloc::Global;
 
 /// Reads a file, behind whose text only white space and comments may stand, and writes its canonical spelling and a
@@ -170,56 +168,11 @@ fn tidy_normal<S: Source, W: Sink>(
     ensures memory { IfStopped result (WantsInstance limits longest (S.left input.old) (S.left input.new)) }
     ensures faults { S.faults input.new ≡ faults_told result (S.faults input.old) }
 {
-    let instance = match read_instance_file(alloc, input, longest, limits) {
-        Ok(instance) => instance,
+    let machine = OpbMachine::new(alloc, limits);
+    let empty = NormalText::new(alloc, keys, limits);
+    let text = match read_file(input, machine, longest, empty) {
+        Ok(text) => text,
         Err(refusal) => return Err(refused(Input::File, refusal)),
     };
-    let form = match normal_form(alloc, keys, instance, limits) {
-        Ok(form) => form,
-        Err(fault) => return Err(fault),
-    };
-    match write_tidied(&form, out) {
-        Ok(()) => Ok(()),
-        Err(Failed) => Err(ToolFault::Write),
-    }
-}
-
-/// The normal form of an instance.
-fn normal_form(
-    alloc: Global,
-    keys: HashKeys,
-    instance: Instance,
-    limits: Limits,
-) -> Result<Instance, ToolFault>
-    ensures asked { IfOk result (IsAsked (largest limits) instance) }
-    ensures denied { IfErr result (IsDenied (largest limits) instance) }
-{
-    if overflows(instance.constraints.as_slice(), limits) {
-        return Err(ToolFault::Overflow(Input::File));
-    }
-    match normalised(alloc, keys, instance, limits) {
-        Ok(form) => Ok(form),
-        Err(_) => Err(ToolFault::Memory(Input::File)),
-    }
-}
-
-/// Writes what `tidy` writes of an instance.
-fn write_tidied<W: Sink>(instance: &Instance, out: &mut W) -> Result<(), Failed>
-    ensures { Writes W.contents W.faults out.old (tidied instance.now) result out.new }
-{
-    write_instance(instance, out)?;
-    if is_bare(instance) {
-        return Ok(());
-    }
-    write_bytes(b"\n", out)
-}
-
-/// Whether there is nothing but a header, whose spelling ends in a line feed.
-fn is_bare(instance: &Instance) -> bool
-    ensures { result ≡ is_bare instance.now.objective instance.now.constraints }
-{
-    match (&instance.objective, instance.constraints.as_slice()) {
-        (None, []) => true,
-        _ => false,
-    }
+    text.write(alloc, out)
 }

@@ -1,5 +1,5 @@
 use Rattle.std.proofs.Common.{arith}
-use Rattle.pb_tool.proofs.Loads.{named_at}
+use Rattle.pb_tool.proofs.NormalForms.{named_at}
 use Rattle.pb_tool.proofs.normal.number_names.Goals as goal
 
 pub loop-term-preserved : goal.loop-term-preserved

@@ -1,35 +1,46 @@
-use Rattle.std.proofs.Common.{refl}
-use Rattle.pb_tool.proofs.Given.{denied, given_denied}
+use Rattle.std.proofs.Common.{Some, ◌++◌, ◌∙◌, refl}
+use Rattle.pb_text.specs.Automaton.{Accepts, MayAsk}
+use Rattle.pb_opb.specs.State.{opb}
+use Rattle.pb_tool.specs.Wants.{WantsInstance}
+use Rattle.pb_tool.proofs.NormalFile.{told_faults, told_file, told_on, unnoted, unnoted_wants}
 use Rattle.pb_tool.proofs.tidy_file.tidy_normal.Goals as goal
 
 pub returns-in-Err-clause-tidies : goal.returns-in-Err-clause-tidies
-returns-in-Err-clause-tidies g c = rw c.refused.ensures (c.in-Err.ensures.refused, refl)
-
-pub returns-clause-tidies : goal.returns-clause-tidies
-returns-clause-tidies g c = (c.in-Ok-normal_form.form, (c.in-Ok.instance, c.in-Ok.ensures.file, c.in-Ok-normal_form.ensures.asked), c.in-Err-write_tidied.ensures)
-
-pub returns-in-Err-normal_form-clause-tidies : goal.returns-in-Err-normal_form-clause-tidies
-returns-in-Err-normal_form-clause-tidies g c =
-    denied c.args.limits c.args.longest g.W.Sink.contents g.W.Sink.faults c.in-Ok.instance c.args.out.now c.in-Err-normal_form.fault _ _ c.in-Ok.ensures.file c.in-Err-normal_form.ensures.denied
-
-pub returns-in-Ok-write_tidied-clause-tidies : goal.returns-in-Ok-write_tidied-clause-tidies
-returns-in-Ok-write_tidied-clause-tidies g c = (c.in-Ok-normal_form.form, (c.in-Ok.instance, c.in-Ok.ensures.file, c.in-Ok-normal_form.ensures.asked), c.in-Ok-write_tidied.ensures)
+returns-in-Err-clause-tidies g c =
+    let stopped = rw c.new-empty.ensures at c.in-Err.ensures.refused in
+    rw c.refused.ensures (unnoted c.args.limits c.args.longest (Accepts opb c.new-machine.result) c.new-machine.ensures.accepts _ _ (MayAsk opb c.new-machine.result) c.in-Err.refusal stopped, refl)
 
 pub returns-in-Err-clause-given : goal.returns-in-Err-clause-given
 returns-in-Err-clause-given g c =
-    let (given, seen, e, refused) = c.in-Err.ensures.refused_given in
-    rw c.refused.ensures (given, seen, e, (refused, refl))
+    let (given, seen, e, stopped) = rw c.new-empty.ensures at c.in-Err.ensures.refused_given in
+    rw c.refused.ensures (given, seen, e, (unnoted c.args.limits c.args.longest (Accepts opb c.new-machine.result) c.new-machine.ensures.accepts (Some (given ++ seen)) (Some seen) (MayAsk opb c.new-machine.result) c.in-Err.refusal stopped, refl))
+
+pub returns-in-Err-clause-memory : goal.returns-in-Err-clause-memory
+returns-in-Err-clause-memory g c =
+    let stopped = rw c.new-empty.ensures at c.in-Err.ensures.refused in
+    rw c.refused.ensures (unnoted_wants c.args.limits c.args.longest (Accepts opb c.new-machine.result) c.new-machine.ensures.accepts _ _ (MayAsk opb c.new-machine.result) c.new-machine.ensures.asks c.in-Err.refusal stopped)
+
+pub returns-clause-tidies : goal.returns-clause-tidies
+returns-clause-tidies g c =
+    let file = rw c.new-empty.ensures at c.in-Ok.ensures.file in
+    told_file c.args.limits c.args.longest (Accepts opb c.new-machine.result) c.new-machine.ensures.accepts _ _ g.W.Sink.contents g.W.Sink.faults c.in-Ok.text file c.args.out.now c.write.result c.write.new.out c.write.ensures
 
 pub returns-clause-given : goal.returns-clause-given
 returns-clause-given g c =
-    let (given, seen, e, file) = c.in-Ok.ensures.given in
-    (given, seen, e, (c.in-Ok-normal_form.form, (c.in-Ok.instance, file, c.in-Ok-normal_form.ensures.asked), c.in-Err-write_tidied.ensures))
+    let (given, seen, e, file) = rw c.new-empty.ensures at c.in-Ok.ensures.given in (
+      given,
+      seen,
+      e,
+      told_file c.args.limits c.args.longest (Accepts opb c.new-machine.result) c.new-machine.ensures.accepts (Some (given ++ seen)) (Some seen) g.W.Sink.contents g.W.Sink.faults c.in-Ok.text file c.args.out.now c.write.result c.write.new.out c.write.ensures,
+    )
 
-pub returns-in-Err-normal_form-clause-given : goal.returns-in-Err-normal_form-clause-given
-returns-in-Err-normal_form-clause-given g c =
-    given_denied c.args.limits c.args.longest g.W.Sink.contents g.W.Sink.faults c.in-Ok.instance c.args.out.now c.in-Err-normal_form.fault _ _ c.in-Err-normal_form.ensures.denied c.in-Ok.ensures.given
+pub returns-clause-memory : goal.returns-clause-memory
+returns-clause-memory g c =
+    let file = rw c.new-empty.ensures at c.in-Ok.ensures.file in
+    told_on c.args.limits c.args.longest (Accepts opb c.new-machine.result) c.new-machine.ensures.accepts _ _ g.W.Sink.contents g.W.Sink.faults c.in-Ok.text file c.args.out.now c.write.result c.write.new.out
+    (WantsInstance c.args.limits c.args.longest (g.S.Source.left c.args.input.now) (g.S.Source.left c.read_file.new.input)) c.write.ensures
 
-pub returns-in-Ok-write_tidied-clause-given : goal.returns-in-Ok-write_tidied-clause-given
-returns-in-Ok-write_tidied-clause-given g c =
-    let (given, seen, e, file) = c.in-Ok.ensures.given in
-    (given, seen, e, (c.in-Ok-normal_form.form, (c.in-Ok.instance, file, c.in-Ok-normal_form.ensures.asked), c.in-Ok-write_tidied.ensures))
+pub returns-clause-faults : goal.returns-clause-faults
+returns-clause-faults g c =
+    let file = rw c.new-empty.ensures at c.in-Ok.ensures.file in
+    c.in-Ok.ensures.faults ∙ told_faults c.args.limits c.args.longest (Accepts opb c.new-machine.result) c.new-machine.ensures.accepts _ _ g.W.Sink.contents g.W.Sink.faults c.in-Ok.text file c.args.out.now c.write.result c.write.new.out (g.S.Source.faults c.args.input.now) c.write.ensures

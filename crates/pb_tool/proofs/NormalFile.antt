@@ -1,0 +1,257 @@
+-- The normal form of a file whose statements come one by one.
+use Rattle.std.proofs.Common.{◌≡◌, ◌↔◌, ℕ, List, [], ◌∷◌, ◌++◌, map, length, false, true, IsTrue, Option, Some, None, Result, Ok, Err, refl, sym, ap, ap₂, ◌∙◌, subst, append_assoc, append-nil, ◌+◌}
+use Rattle.std.specs.List.{flat_map}
+use Rattle.std.proofs.lemmas.List.{length-map}
+use Rattle.pb_text.specs.Limits.{largest, top_of}
+use Rattle.pb_text.specs.Spelling.{Item}
+use Rattle.pb_text.specs.Whole.{gathered, events_of}
+use Rattle.pb_text.specs.declared.Limits.{Limits}
+use Rattle.pb_text.specs.declared.Stop.{Stop}
+use Rattle.pb_sums.specs.declared.Term.{Term}
+use Rattle.pb_sums.specs.declared.Linear.{Linear}
+use Rattle.pb_opb.specs.Canonical.{header_bytes, event_bytes, lines, objective_events, constraint_events, in_order, body_events, instance_bytes}
+use Rattle.pb_opb.specs.Gather.{MayKeep}
+use Rattle.pb_opb.specs.Instances.{IsBegun}
+use Rattle.pb_opb.specs.Values.{IsValueOf, last_or, objectives_in, constraints_in}
+use Rattle.pb_opb.specs.declared.Instance.{Instance}
+use Rattle.pb_opb.specs.declared.OpbEvent.{OpbEvent}
+use Rattle.pb_opb.specs.declared.OpbEvent.TheVariants.{Header, Comment, Objective, Constraint}
+use Rattle.pb_normal.specs.Constraints.{AreFormsOf, constraint_names, sides_in}
+use Rattle.pb_normal.specs.Form.{Form}
+use Rattle.pb_normal.specs.Names.{with_names}
+use Rattle.pb_normal.specs.Written.{linear_of, names_of}
+use Rattle.pb_replay.specs.Problem.{names_in, objective_of}
+use Rattle.pb_tool.specs.Faults.{faults_told}
+use Rattle.pb_tool.specs.Gathered.{IsGathered, IsNotGathered}
+use Rattle.pb_tool.specs.InstanceText.{line, line_if}
+use Rattle.pb_tool.specs.Normalised.{IsNormalised, SomePasses}
+use Rattle.pb_tool.specs.NormalText.{AreLines, IsInOrder, IsNoted, as_statement, form_lines, names_on, noted}
+use Rattle.pb_tool.specs.Tidy.{IsAsked, IsDenied, IsNoNormalFile, IsNormalFile, IsOpb, IsOpbFile, IsNoOpbFile, WritesText, is_bare, tidied}
+use Rattle.pb_tool.specs.Wants.{AsksOpb, IfStopped, WantsInstance}
+use Rattle.pb_tool.specs.declared.fault.ToolFault.{ToolFault}
+use Rattle.pb_tool.specs.declared.fault.ToolFault.TheVariants.{Text, Open, Overflow, Memory, Write, Step}
+use Rattle.pb_tool.specs.declared.fault.Input.TheVariants.{File, Instance as of_instance, Proof as of_proof}
+use Rattle.pb_tool.specs.declared.normal_text.Forms.{Forms}
+use Rattle.pb_tool.specs.declared.normal_text.Standing.TheVariants.{Kept}
+use Rattle.pb_tool.proofs.Feeds.{tidied_bare, tidied_more}
+use Rattle.pb_tool.proofs.Ordered.{Follows, follows, mains_in, value_of}
+use Rattle.pb_tool.proofs.TextFile.{file_as, refused_as, refused_wants}
+
+-- ---- what is written where there are no comments
+
+plain_order : (n : ℕ) (events : List OpbEvent) → in_order n [] events ≡ events
+plain_order n [] = refl
+plain_order n (e ∷ events) = ap (λ (es : List OpbEvent). e ∷ es) (plain_order (n + 1) events)
+
+-- lines of which each has a line feed
+fed : (e : OpbEvent) (events : List OpbEvent) → flat_map line (e ∷ events) ≡ lines (e ∷ events) ++ 10 ∷ []
+fed e [] = append-nil (line e)
+fed e (f ∷ events) =
+    ap (λ (x : List ℕ). line e ++ x) (fed f events)
+    ∙ (append_assoc (event_bytes e) (10 ∷ []) (lines (f ∷ events) ++ 10 ∷ []) ∙ sym (append_assoc (event_bytes e) (10 ∷ lines (f ∷ events)) (10 ∷ [])))
+
+constraint_lines : (cs : List Linear) → flat_map (λ c. line (Constraint c)) cs ≡ flat_map line (constraint_events cs)
+constraint_lines [] = refl
+constraint_lines (c ∷ cs) = ap (λ (x : List ℕ). line (Constraint c) ++ x) (constraint_lines cs)
+
+statement_lines : (o : Option (List Term)) (cs : List Linear) → line_if (as_statement o) ++ flat_map (λ c. line (Constraint c)) cs ≡ flat_map line (objective_events o ++ constraint_events cs)
+statement_lines None cs = constraint_lines cs
+statement_lines (Some terms) cs = ap (λ (x : List ℕ). line (Objective terms) ++ x) (constraint_lines cs)
+
+abbrev plain : ℕ → Option (List Term) → List Linear → Instance
+plain n o cs = record { variables = n; tail = []; objective = o; comments = []; constraints = cs }
+
+full_text : (n : ℕ) (o : Option (List Term)) (cs : List Linear) (e : OpbEvent) (events : List OpbEvent) → objective_events o ++ constraint_events cs ≡ e ∷ events → is_bare o cs ≡ false
+    → line (Header n (length cs) []) ++ (line_if (as_statement o) ++ flat_map (λ c. line (Constraint c)) cs) ≡ tidied (plain n o cs)
+full_text n o cs e events is full =
+    let head : List ℕ = header_bytes n (length cs) [] in
+    let body : body_events (plain n o cs) ≡ e ∷ events = plain_order 0 (objective_events o ++ constraint_events cs) ∙ is in
+    let bytes : instance_bytes (plain n o cs) ≡ head ++ (10 ∷ lines (e ∷ events)) = ap (λ (es : List OpbEvent). head ++ (10 ∷ lines es)) body in
+    ap (λ (x : List ℕ). line (Header n (length cs) []) ++ x) (statement_lines o cs ∙ (ap (flat_map line) is ∙ fed e events))
+    ∙ (append_assoc head (10 ∷ []) (lines (e ∷ events) ++ 10 ∷ [])
+    ∙ (sym (append_assoc head (10 ∷ lines (e ∷ events)) (10 ∷ []))
+    ∙ (ap (λ (x : List ℕ). x ++ 10 ∷ []) (sym bytes) ∙ sym (tidied_more (plain n o cs) full))))
+
+plain_text : (n : ℕ) (o : Option (List Term)) (cs : List Linear) → line (Header n (length cs) []) ++ (line_if (as_statement o) ++ flat_map (λ c. line (Constraint c)) cs) ≡ tidied (plain n o cs)
+plain_text n None [] = append-nil (line (Header n 0 [])) ∙ sym (tidied_bare (plain n None []) refl)
+plain_text n None (c ∷ cs) = full_text n None (c ∷ cs) (Constraint c) (constraint_events cs) refl refl
+plain_text n (Some terms) cs = full_text n (Some terms) cs (Objective terms) (constraint_events cs) refl refl
+
+forms_as : (names : List (List ℕ)) (forms : List Form) → form_lines names forms ≡ flat_map (λ c. line (Constraint c)) (map (linear_of names) forms)
+forms_as names [] = refl
+forms_as names (f ∷ forms) = ap (λ (x : List ℕ). line (Constraint (linear_of names f)) ++ x) (forms_as names forms)
+
+-- what was kept is the normal form of the instance
+module _ (events : List OpbEvent) (n : ℕ) (o : Option OpbEvent) (t : Forms) (h : IsNoted events n o t) (x : Limits × List OpbEvent) (view : (t.limits, events) ≡ x) (kept : t.standing ≡ Kept) (v : Instance) (told : IsInOrder x.1 v) where
+  order : IsInOrder events v
+  order = subst (λ (y : Limits × List OpbEvent). IsInOrder y.1 v) (sym view) told
+
+  abbrev made : AreLines (names_on events) (constraints_in events) t.lines × ¬ SomePasses (largest t.limits) (constraints_in events)
+  made = rw kept at h.made
+
+  within : ¬ SomePasses (largest x.0) v.constraints
+  within =
+      subst (λ (y : Limits × List OpbEvent). ¬ SomePasses (largest y.0) v.constraints) view
+      (subst (λ (cs : List Linear). ¬ SomePasses (largest t.limits) cs) (sym order.0.constraints) made.1)
+
+  forms_loaded : AreFormsOf t.lines.names (sides_in v.constraints) made.0.forms
+  forms_loaded = subst (λ (ls : List Linear). AreFormsOf t.lines.names (sides_in ls) made.0.forms) (sym order.0.constraints) made.0.loaded
+
+  all_names : t.lines.names ≡ names_in v
+  all_names = made.0.names ∙ ap (with_names []) order.1
+
+  abbrev constraints : List Linear
+  constraints = map (linear_of t.lines.names) made.0.forms
+
+  normalised : IsNormalised v (plain v.variables v.objective constraints)
+  normalised = record {
+    variables = refl;
+    objective = refl;
+    tail = refl;
+    comments = refl;
+    constraints = (
+      made.0.forms,
+      subst (λ (ks : List (List ℕ)). AreFormsOf ks (sides_in v.constraints) made.0.forms) all_names forms_loaded,
+      ap (λ (ks : List (List ℕ)). map (linear_of ks) made.0.forms) all_names,
+    );
+  }
+
+  text_kept : line (Header n t.lines.count []) ++ (line_if o ++ t.lines.page.text) ≡ tidied (plain v.variables v.objective constraints)
+  text_kept =
+      let k = made.0 in
+      let count : t.lines.count ≡ length constraints = k.count ∙ sym (length-map k.forms (linear_of t.lines.names)) in
+      let text : t.lines.page.text ≡ flat_map (λ c. line (Constraint c)) constraints = k.text ∙ forms_as t.lines.names k.forms in
+      let variables : n ≡ v.variables = h.variables_are ∙ sym order.0.variables in
+      let objective : o ≡ as_statement v.objective = h.objective_is ∙ ap as_statement (sym order.0.objective) in
+      ap₂ (λ (m k : ℕ). line (Header m k []) ++ (line_if o ++ t.lines.page.text)) variables count
+      ∙ (ap₂ (λ (p : Option OpbEvent) (y : List ℕ). line (Header v.variables (length constraints) []) ++ (line_if p ++ y)) objective text
+      ∙ plain_text v.variables v.objective constraints)
+
+  pub kept_form : (w : Instance) × IsAsked (largest x.0) v w × (line (Header n t.lines.count []) ++ (line_if o ++ t.lines.page.text) ≡ tidied w)
+  kept_form = (plain v.variables v.objective constraints, (normalised, within), text_kept)
+
+-- ---- the names of an instance's statements
+
+names_of_mains : (events : List OpbEvent) → names_on events ≡ names_on (mains_in events)
+names_of_mains [] = refl
+names_of_mains (Header n m t ∷ events) = names_of_mains events
+names_of_mains (Comment t ∷ events) = names_of_mains events
+names_of_mains (Objective t ∷ events) = ap (λ (ns : List (List ℕ)). names_of t ++ ns) (names_of_mains events)
+names_of_mains (Constraint l ∷ events) = ap (λ (ns : List (List ℕ)). names_of l.terms ++ ns) (names_of_mains events)
+
+names_of_constraints : (cs : List Linear) → names_on (constraint_events cs) ≡ constraint_names cs
+names_of_constraints [] = refl
+names_of_constraints (c ∷ cs) = ap (λ (ns : List (List ℕ)). names_of c.terms ++ ns) (names_of_constraints cs)
+
+names_of_both : (o : Option (List Term)) (cs : List Linear) → names_on (objective_events o ++ constraint_events cs) ≡ names_of (objective_of o) ++ constraint_names cs
+names_of_both None cs = names_of_constraints cs
+names_of_both (Some terms) cs = ap (λ (ns : List (List ℕ)). names_of terms ++ ns) (names_of_constraints cs)
+
+gathered_noted : (limits : Limits) (before events : List OpbEvent) → gathered noted (limits, before) events ≡ (limits, before ++ events)
+gathered_noted limits before [] = ap (λ (es : List OpbEvent). (limits, es)) (sym (append-nil before))
+gathered_noted limits before (e ∷ events) = gathered_noted limits (before ++ e ∷ []) events ∙ ap (λ (es : List OpbEvent). (limits, es)) (append_assoc before (e ∷ []) events)
+
+-- the statements under these limits have this value
+abbrev IsNotedOf : Limits → Limits × List OpbEvent → Instance → Type 0
+IsNotedOf limits t v = (t.0 ≡ limits) × IsInOrder t.1 v
+
+module _ (limits : Limits) where
+  value_begun : (i : Item OpbEvent) (rest : List (Item OpbEvent)) (e : OpbEvent) → IsBegun (largest limits) (top_of limits) i rest e → (v : Instance) × IsInOrder (e ∷ events_of rest) v
+  value_begun i rest (Comment t) h = absurd h
+  value_begun i rest (Objective t) h = absurd h
+  value_begun i rest (Constraint l) h = absurd h
+  value_begun i rest (Header n m tail) h =
+      let r : Follows true m (events_of rest) = follows (largest limits) true m rest h.3 in (
+        value_of n tail (events_of rest),
+        (
+          record { variables = ap (last_or n) (sym r.variables); tail = ap (last_or tail) (sym r.tails); objective = refl; comments = refl; constraints = refl },
+          names_of_mains (events_of rest) ∙ (ap names_on r.mains ∙ names_of_both (last_or None (objectives_in (events_of rest))) (constraints_in (events_of rest))),
+        ),
+      )
+
+  value_there : (items : List (Item OpbEvent)) → IsOpb limits items → (v : Instance) × IsInOrder (events_of items) v
+  value_there [] h = absurd h
+  value_there (i ∷ rest) h = value_begun i rest i.event h
+
+  abbrev empty : Limits × List OpbEvent
+  empty = (limits, [])
+
+  has_value : (items : List (Item OpbEvent)) → IsOpb limits items → (v : Instance) × IsValueOf (events_of items) v × IsNotedOf limits (gathered noted empty (events_of items)) v
+  has_value items h =
+      let (v, order) = value_there items h in
+      (v, order.0, subst (λ (t : Limits × List OpbEvent). IsNotedOf limits t v) (sym (gathered_noted limits [] (events_of items))) (refl, order))
+
+  -- ---- the file
+
+  module _ (longest : ℕ) (accepted : List (Item OpbEvent) → Type 0) (same : (items : List (Item OpbEvent)) → accepted items ↔ IsOpb limits items) (before after : Option (List ℕ)) where
+    noted_file : (t : Limits × List OpbEvent) → IsGathered accepted longest noted empty before after t → (v : Instance) × IsOpbFile limits longest before after v × IsNotedOf limits t v
+    noted_file t f = file_as accepted (IsOpb limits) same longest noted empty IsValueOf (IsNotedOf limits) has_value before after t f
+
+    module _ (may_ask : List ℕ → ℕ → Type 0) where
+      pub unnoted : (s : Stop) → IsNotGathered accepted longest noted empty may_ask (λ t e. false) before after s → IsNoOpbFile limits longest before after s
+      unnoted s r = refused_as accepted (IsOpb limits) same longest noted empty IsValueOf (IsNotedOf limits) has_value may_ask (λ t e. false) before after s r
+
+      never : (events : List OpbEvent) (e : OpbEvent) → IsTrue false → MayKeep events e
+      never events e h = cc
+
+      pub unnoted_wants : ((used : List ℕ) (b : ℕ) → may_ask used b → AsksOpb limits used b) → (s : Stop) → IsNotGathered accepted longest noted empty may_ask (λ t e. false) before after s → WantsInstance limits longest before after s
+      unnoted_wants to s r =
+          refused_wants accepted (IsOpb limits) same longest noted empty IsValueOf (IsNotedOf limits) has_value may_ask (λ t e. false) (AsksOpb limits) to MayKeep never before after s r
+
+    module _ {W : Type 0} (contents : W → Option (List ℕ)) (faults : W → ℕ) (t : Limits × List OpbEvent) (f : IsGathered accepted longest noted empty before after t) (old : W) where
+      abbrev Told : Result (Unit {0}) ToolFault → W → Type 0
+      Told result new = (v : Instance) → IsInOrder t.1 v → WritesText (IsAsked (largest t.0) v) (IsDenied (largest t.0) v) tidied contents faults old result new
+
+      by_fault : (v : Instance) → IsOpbFile limits longest before after v → (e : ToolFault) → IsDenied (largest limits) v e → IsNoNormalFile limits longest before after e
+      by_fault v file (Overflow File) d = (v, file, d)
+      by_fault v file (Memory File) d = (v, file, d)
+      by_fault v file (Overflow of_instance) d = absurd d
+      by_fault v file (Overflow of_proof) d = absurd d
+      by_fault v file (Memory of_instance) d = absurd d
+      by_fault v file (Memory of_proof) d = absurd d
+      by_fault v file (Text i s) d = absurd d
+      by_fault v file (Open i) d = absurd d
+      by_fault v file Write d = absurd d
+      by_fault v file (Step place fault name) d = absurd d
+
+      by_result : (v : Instance) → IsOpbFile limits longest before after v → (result : Result (Unit {0}) ToolFault) (new : W)
+          → WritesText (IsAsked (largest limits) v) (IsDenied (largest limits) v) tidied contents faults old result new
+          → WritesText (IsNormalFile limits longest before after) (IsNoNormalFile limits longest before after) tidied contents faults old result new
+      by_result v file (Ok u) new (w, asked, wrote) = (w, (v, file, asked), wrote)
+      by_result v file (Err Write) new (w, asked, broke) = (w, (v, file, asked), broke)
+      by_result v file (Err (Text i s)) new (d, e) = absurd d
+      by_result v file (Err (Open i)) new (d, e) = absurd d
+      by_result v file (Err (Overflow i)) new (d, e) = (by_fault v file (Overflow i) d, e)
+      by_result v file (Err (Memory i)) new (d, e) = (by_fault v file (Memory i) d, e)
+      by_result v file (Err (Step place fault name)) new (d, e) = absurd d
+
+      -- what was written of it is what is owed of the file
+      pub told_file : (result : Result (Unit {0}) ToolFault) (new : W) → Told result new → WritesText (IsNormalFile limits longest before after) (IsNoNormalFile limits longest before after) tidied contents faults old result new
+      told_file result new told =
+          let (v, file, (under, order)) = noted_file t f in
+          by_result v file result new (subst (λ (l : Limits). WritesText (IsAsked (largest l) v) (IsDenied (largest l) v) tidied contents faults old result new) under (told v order))
+
+      by_stop : (v : Instance) (result : Result (Unit {0}) ToolFault) (new : W) (Holds : Stop → Type 0) → WritesText (IsAsked (largest t.0) v) (IsDenied (largest t.0) v) tidied contents faults old result new → IfStopped result Holds
+      by_stop v (Ok u) new Holds h = tt
+      by_stop v (Err Write) new Holds h = tt
+      by_stop v (Err (Text i s)) new Holds (d, e) = absurd d
+      by_stop v (Err (Open i)) new Holds h = tt
+      by_stop v (Err (Overflow i)) new Holds h = tt
+      by_stop v (Err (Memory i)) new Holds h = tt
+      by_stop v (Err (Step place fault name)) new Holds h = tt
+
+      -- its text did not stop the reader
+      pub told_on : (result : Result (Unit {0}) ToolFault) (new : W) (Holds : Stop → Type 0) → Told result new → IfStopped result Holds
+      told_on result new Holds told = let (v, file, (under, order)) = noted_file t f in by_stop v result new Holds (told v order)
+
+      by_count : (v : Instance) (result : Result (Unit {0}) ToolFault) (new : W) (n : ℕ) → WritesText (IsAsked (largest t.0) v) (IsDenied (largest t.0) v) tidied contents faults old result new → n ≡ faults_told result n
+      by_count v (Ok u) new n h = refl
+      by_count v (Err Write) new n h = refl
+      by_count v (Err (Text i s)) new n (d, e) = absurd d
+      by_count v (Err (Open i)) new n h = refl
+      by_count v (Err (Overflow i)) new n h = refl
+      by_count v (Err (Memory i)) new n h = refl
+      by_count v (Err (Step place fault name)) new n h = refl
+
+      pub told_faults : (result : Result (Unit {0}) ToolFault) (new : W) (n : ℕ) → Told result new → n ≡ faults_told result n
+      told_faults result new n told = let (v, file, (under, order)) = noted_file t f in by_count v result new n (told v order)

@@ -1,0 +1,72 @@
+-- What is kept of statements for their normal form, and a statement more.
+use Rattle.std.proofs.Common.{◌≡◌, ℕ, List, [], ◌∷◌, ◌++◌, Option, Some, None, refl, sym, ◌∙◌, ap, append-nil}
+use Rattle.std.proofs.lemmas.Grind.{flat_map-append}
+use Rattle.pb_sums.specs.declared.Term.{Term}
+use Rattle.pb_sums.specs.declared.Linear.{Linear}
+use Rattle.pb_opb.specs.Values.{last_or, variables_in, objectives_in, constraints_in}
+use Rattle.pb_opb.specs.declared.OpbEvent.{OpbEvent}
+use Rattle.pb_opb.specs.declared.OpbEvent.TheVariants.{Header, Comment, Objective, Constraint}
+use Rattle.pb_normal.specs.Written.{names_of}
+use Rattle.pb_tool.specs.NormalText.{AreMade, IsNoted, as_statement, names_at, names_on}
+use Rattle.pb_tool.specs.declared.normal_text.Forms.{Forms}
+
+last_more : {A : Type 0} (x y : A) (xs : List A) → last_or x (xs ++ y ∷ []) ≡ y
+last_more x y [] = refl
+last_more x y (z ∷ xs) = last_more z y xs
+
+variables_more : (events : List OpbEvent) (e : OpbEvent) → variables_in (events ++ e ∷ []) ≡ variables_in events ++ variables_in (e ∷ [])
+variables_more [] e = refl
+variables_more (Header n m t ∷ events) e = ap (λ (xs : List ℕ). n ∷ xs) (variables_more events e)
+variables_more (Comment t ∷ events) e = variables_more events e
+variables_more (Objective t ∷ events) e = variables_more events e
+variables_more (Constraint l ∷ events) e = variables_more events e
+
+objectives_more : (events : List OpbEvent) (e : OpbEvent) → objectives_in (events ++ e ∷ []) ≡ objectives_in events ++ objectives_in (e ∷ [])
+objectives_more [] e = refl
+objectives_more (Header n m t ∷ events) e = objectives_more events e
+objectives_more (Comment t ∷ events) e = objectives_more events e
+objectives_more (Objective t ∷ events) e = ap (λ (xs : List (Option (List Term))). Some t ∷ xs) (objectives_more events e)
+objectives_more (Constraint l ∷ events) e = objectives_more events e
+
+constraints_more : (events : List OpbEvent) (e : OpbEvent) → constraints_in (events ++ e ∷ []) ≡ constraints_in events ++ constraints_in (e ∷ [])
+constraints_more [] e = refl
+constraints_more (Header n m t ∷ events) e = constraints_more events e
+constraints_more (Comment t ∷ events) e = constraints_more events e
+constraints_more (Objective t ∷ events) e = constraints_more events e
+constraints_more (Constraint l ∷ events) e = ap (λ (xs : List Linear). l ∷ xs) (constraints_more events e)
+
+names_more : (events : List OpbEvent) (e : OpbEvent) → names_on (events ++ e ∷ []) ≡ names_on events ++ names_at e
+names_more events e = flat_map-append names_at events (e ∷ []) ∙ ap (λ (ns : List (List ℕ)). names_on events ++ ns) (append-nil (names_at e))
+
+-- what is owed of the statements with one more
+noted_next : (events : List OpbEvent) (e : OpbEvent) (n : ℕ) (o : Option OpbEvent) (f : Forms) → n ≡ last_or 0 (variables_in events ++ variables_in (e ∷ [])) → o ≡ as_statement (last_or None (objectives_in events ++ objectives_in (e ∷ [])))
+    → AreMade (names_on events ++ names_at e) (constraints_in events ++ constraints_in (e ∷ [])) f → IsNoted (events ++ e ∷ []) n o f
+noted_next events e n o f v w made = record {
+  variables_are = v ∙ ap (last_or 0) (sym (variables_more events e));
+  objective_is = w ∙ ap (λ (xs : List (Option (List Term))). as_statement (last_or None xs)) (sym (objectives_more events e));
+  made = rw (names_more events e, constraints_more events e) made;
+}
+
+module _ (events : List OpbEvent) (n : ℕ) (o : Option OpbEvent) (f : Forms) (h : IsNoted events n o f) where
+  same_count : n ≡ last_or 0 (variables_in events ++ [])
+  same_count = h.variables_are ∙ ap (last_or 0) (sym (append-nil (variables_in events)))
+
+  same_objective : o ≡ as_statement (last_or None (objectives_in events ++ []))
+  same_objective = h.objective_is ∙ ap (λ (xs : List (Option (List Term))). as_statement (last_or None xs)) (sym (append-nil (objectives_in events)))
+
+  same_made : AreMade (names_on events ++ []) (constraints_in events ++ []) f
+  same_made = rw (append-nil (names_on events), append-nil (constraints_in events)) h.made
+
+  pub noted_header : (x m : ℕ) (tail : List ℕ) → IsNoted (events ++ Header x m tail ∷ []) x o f
+  noted_header x m tail = noted_next events (Header x m tail) x o f (sym (last_more 0 x (variables_in events))) same_objective same_made
+
+  pub noted_comment : (text : List ℕ) → IsNoted (events ++ Comment text ∷ []) n o f
+  noted_comment text = noted_next events (Comment text) n o f same_count same_objective same_made
+
+  pub noted_objective : (terms : List Term) (g : Forms) → AreMade (names_on events ++ names_of terms) (constraints_in events) g → IsNoted (events ++ Objective terms ∷ []) n (Some (Objective terms)) g
+  noted_objective terms g made =
+      let last : Some (Objective terms) ≡ as_statement (last_or None (objectives_in events ++ Some terms ∷ [])) = ap as_statement (sym (last_more None (Some terms) (objectives_in events))) in
+      noted_next events (Objective terms) n (Some (Objective terms)) g same_count last (rw (append-nil (constraints_in events)) made)
+
+  pub noted_constraint : (l : Linear) (g : Forms) → AreMade (names_on events ++ names_of l.terms) (constraints_in events ++ l ∷ []) g → IsNoted (events ++ Constraint l ∷ []) n o g
+  noted_constraint l g made = noted_next events (Constraint l) n o g same_count same_objective made

@@ -1,0 +1,73 @@
+-- The normal form of an instance, as its statements come.
+use Rattle.std.specs.Prelude.{◌≡◌, ℕ, List, [], ◌∷◌, ◌++◌, length, Option, Some, None}
+use Rattle.std.specs.List.{flat_map}
+use Rattle.pb_text.specs.Limits.{largest}
+use Rattle.pb_text.specs.declared.Limits.{Limits}
+use Rattle.pb_sums.specs.declared.Term.{Term}
+use Rattle.pb_sums.specs.declared.Linear.{Linear}
+use Rattle.pb_opb.specs.Values.{IsValueOf, last_or, variables_in, objectives_in, constraints_in}
+use Rattle.pb_opb.specs.declared.Instance.{Instance}
+use Rattle.pb_opb.specs.declared.OpbEvent.{OpbEvent}
+use Rattle.pb_opb.specs.declared.OpbEvent.TheVariants.{Header, Comment, Objective, Constraint}
+use Rattle.pb_normal.specs.Constraints.{AreFormsOf, constraint_names, sides_in}
+use Rattle.pb_normal.specs.Form.{Form}
+use Rattle.pb_normal.specs.Names.{HasNames, with_names}
+use Rattle.pb_normal.specs.Written.{linear_of, names_of}
+use Rattle.pb_replay.specs.Problem.{objective_of}
+use Rattle.pb_tool.specs.InstanceText.{line}
+use Rattle.pb_tool.specs.Normalised.{SomePasses}
+use Rattle.pb_tool.specs.declared.normal.FormLines.{FormLines}
+use Rattle.pb_tool.specs.declared.normal_text.Forms.{Forms}
+use Rattle.pb_tool.specs.declared.normal_text.Standing.{Standing}
+use Rattle.pb_tool.specs.declared.normal_text.Standing.TheVariants.{Kept, Lost, Overflows}
+
+-- the lines of forms, written out with the names
+abbrev pub form_lines : List (List ℕ) → List Form → List ℕ
+form_lines names = flat_map (λ f. line (Constraint (linear_of names f)))
+
+-- the names that a statement has, in the order of its terms, and those of statements
+abbrev pub names_at : OpbEvent → List (List ℕ)
+names_at (Header variables constraints tail) = []
+names_at (Comment text) = []
+names_at (Objective terms) = names_of terms
+names_at (Constraint linear) = names_of linear.terms
+
+abbrev pub names_on : List OpbEvent → List (List ℕ)
+names_on = flat_map names_at
+
+-- the forms of constraints as lines, over the names that have appeared
+pub record AreLines (named : List (List ℕ)) (cs : List Linear) (t : FormLines) : Type 0 where
+  pub forms : List Form
+  pub names : t.names ≡ with_names [] named
+  pub has : HasNames t.names (constraint_names cs)
+  pub loaded : AreFormsOf t.names (sides_in cs) forms
+  pub text : t.page.text ≡ form_lines t.names forms
+  pub count : t.count ≡ length forms
+
+-- what was made of constraints: their forms, or else a constraint passes the limit, or none does and memory ran out
+abbrev pub Made : Standing → Limits → List (List ℕ) → List Linear → FormLines → Type 0
+Made Kept limits named cs lines = AreLines named cs lines × ¬ SomePasses (largest limits) cs
+Made Lost limits named cs lines = ¬ SomePasses (largest limits) cs
+Made Overflows limits named cs lines = SomePasses (largest limits) cs
+
+abbrev pub AreMade : List (List ℕ) → List Linear → Forms → Type 0
+AreMade named cs t = Made t.standing t.limits named cs t.lines
+
+-- the objective as a statement
+abbrev pub as_statement : Option (List Term) → Option OpbEvent
+as_statement None = None
+as_statement (Some terms) = Some (Objective terms)
+
+-- what is kept of statements
+pub record IsNoted (events : List OpbEvent) (variables : ℕ) (objective : Option OpbEvent) (forms : Forms) : Type 0 where
+  pub variables_are : variables ≡ last_or 0 (variables_in events)
+  pub objective_is : objective ≡ as_statement (last_or None (objectives_in events))
+  pub made : AreMade (names_on events) (constraints_in events) forms
+
+-- the statements with one more
+abbrev pub noted : Limits × List OpbEvent → OpbEvent → Limits × List OpbEvent
+noted t e = (t.0, t.1 ++ e ∷ [])
+
+-- v is the value of the statements, and they have its names in the order of its objective and its constraints
+abbrev pub IsInOrder : List OpbEvent → Instance → Type 0
+IsInOrder events v = IsValueOf events v × (names_on events ≡ names_of (objective_of v.objective) ++ constraint_names v.constraints)

@@ -1,0 +1,39 @@
+//! A list of statements that only clauses read.
+
+ghost use Rattle.std.specs.Prelude.{◌≡◌, List, [], ◌∷◌, ◌++◌};
+ghost use Rattle.std.specs.Borrow.{ftrue};
+ghost use Rattle.pb_opb.specs.declared.OpbEvent.{OpbEvent as Event};
+
+use pb_opb::OpbEvent;
+use std::marker::{Model, PhantomData};
+
+/// Statements that came. It takes no memory, and its methods do nothing when they run.
+#[derive(Drop)]
+pub(crate) struct Notes {
+    marker: PhantomData<u8>,
+    pub(crate) ghost events: { List Event },
+}
+
+impl Model for Notes {
+    ghost also_owns = { λ _. ftrue };
+}
+
+impl Notes {
+    /// No statements.
+    pub(crate) fn new() -> Notes
+        ensures { result.events ≡ [] }
+    {
+        Notes {
+            marker: PhantomData,
+        }
+    }
+
+    /// These and one more.
+    pub(crate) fn and(&self, _event: &OpbEvent) -> Notes
+        ensures { result.events ≡ self.now.events ++ _event.now ∷ [] }
+    {
+        Notes {
+            marker: PhantomData,
+        }
+    }
+}
