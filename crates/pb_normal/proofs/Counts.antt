@@ -1,6 +1,7 @@
 -- Literals that count once each.
 use Rattle.std.proofs.Common.{◌≡◌, ℕ, ◌+◌, ◌<◌, ◌^◌, Bool, true, false, not, ◌&&◌, ◌||◌, cond, eqb, List, [], ◌∷◌, map, length, refl, sym, ◌∙◌, ap, arith, ◌⊎◌, inl, inr, zero, suc}
-use Rattle.std.proofs.lemmas.Bool.Decides.{nat_tests}
+use Rattle.std.specs.Cmp.{both_ways}
+use Rattle.std.proofs.lemmas.Bool.{and_parts, eqb-true, eq-eqb, false_from_ne_true}
 use Rattle.pb_normal.specs.declared.entry.Entry.{Entry}
 use Rattle.pb_normal.specs.Form.{total, each, IsRising, IsNormal}
 use Rattle.pb_normal.specs.Rules.{IsCountOf, only, among, unit_of, with_coefficient}
@@ -24,12 +25,8 @@ IsRising-ones n [] h = tt
 IsRising-ones n (t ∷ ts) h = (h.0, omega arith, IsRising-ones (t.variable + 1) ts h.2)
 
 only-turned : (a x : ℕ) (b n : Bool) → only x n a b ≡ only a b x n
-only-turned a x b n = both (eqb a x) (eqb x a) b n (same (eqb a x) refl)
+only-turned a x b n = both (eqb a x) (eqb x a) b n (both_ways (eqb a x) (eqb x a) (λ h. eq-eqb x a (sym (eqb-true a x h))) (λ h. eq-eqb a x (sym (eqb-true x a h))))
   where
-    same : (d : Bool) → eqb a x ≡ d → eqb a x ≡ eqb x a
-    same true e = let back : eqb x a ≡ true = grind (arith, nat_tests) in e ∙ sym back
-    same false e = let back : eqb x a ≡ false = grind (arith, nat_tests) in e ∙ sym back
-
     both : (d f b n : Bool) → d ≡ f → (d && cond n b (not b)) ≡ (f && cond b n (not n))
     both d f true true e = ap (λ g. g && true) e
     both d f true false e = ap (λ g. g && false) e
@@ -49,14 +46,9 @@ given_counts (l ∷ ls) x n = step (only x n l.0 l.1) (only l.0 l.1 x n) _ _ (on
 nothing_behind : (x : ℕ) (n : Bool) (t : Entry) (ts : List Entry) → IsRising (t.variable + 1) ts → t.variable ≡ x → total (only x n) ts ≡ 0
 nothing_behind x n t ts h e = none_below (λ m. cond n m (not m)) x (t.variable + 1) ts h (omega (arith, e))
 
-same_variable : (a b : Bool) → (a && b) ≡ true → a ≡ true
-same_variable true b e = refl
-same_variable false b e = absurd cc
-
 at_variable : (x : ℕ) (n : Bool) (t : Entry) → only x n t.variable t.negated ≡ true → t.variable ≡ x
 at_variable x n t e =
-    let test = same_variable (eqb t.variable x) _ e in
-    grind (arith, nat_tests)
+    eqb-true t.variable x (and_parts (eqb t.variable x) _ e).0
 
 -- in a rising list a literal stands once
 once : (k x : ℕ) (n : Bool) (ts : List Entry) → IsRising k ts → (0 < total (only x n) ts → total (only x n) (ones ts) ≡ 1) × (total (only x n) ts ≡ 0 → total (only x n) (ones ts) ≡ 0)
@@ -120,16 +112,8 @@ counts x n false ls rs gone e other h adds =
     cases_zero (suc m) = inr (omega arith)
 
 not_both : (ls : List (ℕ × Bool)) → ((x : ℕ) → among ls x true ≡ true → among ls x false ≡ true → ⊥) → (x : ℕ) (n : Bool) → among ls x n ≡ true → among ls x (not n) ≡ false
-not_both ls h x true e = at (among ls x false) refl
-  where
-    at : (b : Bool) → among ls x false ≡ b → b ≡ false
-    at true f = absurd (h x e f)
-    at false f = refl
-not_both ls h x false e = at (among ls x true) refl
-  where
-    at : (b : Bool) → among ls x true ≡ b → b ≡ false
-    at true f = absurd (h x f e)
-    at false f = refl
+not_both ls h x true e = false_from_ne_true (among ls x false) (λ f. h x e f)
+not_both ls h x false e = false_from_ne_true (among ls x true) (λ f. h x f e)
 
 pub IsCountOf-ones : (ls : List (ℕ × Bool)) (d gone : ℕ) (rs ts : List Entry) → ((x : ℕ) → among ls x true ≡ true → among ls x false ≡ true → ⊥) → IsRising 0 rs → Adds (map unit_of ls) [] rs gone → ts ≡ ones rs →
     IsCountOf ls d record { terms = ts; degree = d }

@@ -2,7 +2,6 @@
 use Rattle.std.proofs.Common.{Result, Ok, Err, OnOk, OnErr, ◌≡◌, ℕ, ◌<◌, List, [], ◌∷◌, ◌++◌, length, zero, suc, arith, refl, sym, ◌∙◌, ap, subst, append_assoc, append-nil, take, get_or, ◌+◌}
 use Rattle.std.specs.List.{AllByRecursion}
 use Rattle.std.proofs.lemmas.Grind.{flat_map-append}
-use Rattle.std.proofs.lemmas.List.{take_more}
 use Rattle.pb_sums.specs.declared.values.Linear.{Linear}
 use Rattle.pb_sums.specs.declared.values.Relation.{Relation}
 use Rattle.pb_sums.specs.declared.values.Relation.TheVariants.{AtLeast, Equal}
@@ -13,6 +12,7 @@ use Rattle.pb_normal.specs.Form.{Form}
 use Rattle.pb_normal.specs.Names.{AfterFront, AreDistinct, HasNames, with_names}
 use Rattle.pb_normal.specs.Written.{names_of}
 use Rattle.pb_normal.proofs.Appearing.{front, named, names_split, distinct, present, in_turn}
+use Rattle.pb_text.proofs.Lists.{take_read}
 use Rattle.pb_normal.proofs.WrittenForms.{IsSideOf-append}
 
 -- the names of each side's constraint have numbers
@@ -95,14 +95,10 @@ loaded_next old names new cs c ls added d before e one =
       loaded = subst (λ (ss : List (Side × Linear)). AreFormsOf new ss (ls ++ added)) (sym all_sides) (forms_then new (sides_in cs) (with_sides c.relation c) ls added kept one);
     }
 
--- a front of a list, one longer
-pub take_one : {A : Type 0} (xs : List A) (i : ℕ) (x : A) → i < length xs → x ≡ get_or xs i x → take (i + 1) xs ≡ take i xs ++ x ∷ []
-take_one {A} xs i x lt e = take_more xs i x lt ∙ ap (λ (y : A). take i xs ++ y ∷ []) (sym e)
-
 pub loaded_at : (old names new : List (List ℕ)) (cs : List Linear) (i : ℕ) (c : Linear) (ls after : List Form) → i < length cs → c ≡ get_or cs i c → AreDistinct old → LoadedFrom old names (take i cs) ls
     → new ≡ with_names names (names_of c.terms) → (added : List Form) × AreFormsOf new (with_sides c.relation c) added × (after ≡ ls ++ added) → LoadedFrom old new (take (i + 1) cs) after
 loaded_at old names new cs i c ls after lt e d before k (added, one, is) =
-    rw (take_one cs i c lt e, is) (loaded_next old names new (take i cs) c ls added d before k one)
+    rw (take_read cs i c c lt e, is) (loaded_next old names new (take i cs) c ls added d before k one)
 
 -- ---- a front of the names
 front_longer : (xs ys : List (List ℕ)) (k : ℕ) → (m : ℕ) × (take m (xs ++ ys) ≡ take k xs)

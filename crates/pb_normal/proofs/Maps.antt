@@ -8,6 +8,7 @@ use Rattle.std.proofs.lemmas.Nat.{div-add-mod', mod_below}
 use Rattle.std.proofs.lemmas.Bool.{cases_lt}
 use Rattle.std.proofs.Math.Nat.{mul-le-mul_left}
 use Rattle.pb_normal.specs.Rules.{with_coefficient, opposite, divided, weakened, of_variable, negation_of}
+use Rattle.pb_normal.proofs.Totals.{IsRising-from}
 
 pub IsRising-map : (g : Entry → Entry) (n : ℕ) (ts : List Entry) → ((t : Entry) → (g t).variable ≡ t.variable) → ((t : Entry) → 0 < t.coefficient → 0 < (g t).coefficient) → IsRising n ts → IsRising n (map g ts)
 IsRising-map g n [] same kept h = tt
@@ -22,17 +23,13 @@ pub total-map-same : (g : Entry → Entry) (p q : ℕ → Bool → Bool) (ts : L
 total-map-same g p q [] h = refl
 total-map-same g p q (t ∷ ts) h = omega (arith, h t, total-map-same g p q ts h)
 
-pub IsRising-less : (m n : ℕ) (xs : List Entry) → m ≤ n → IsRising n xs → IsRising m xs
-IsRising-less m n [] le h = tt
-IsRising-less m n (x ∷ xs) le h = (omega arith, h.1, h.2)
-
 pub IsRising-filter : (p : Entry → Bool) (n : ℕ) (ts : List Entry) → IsRising n ts → IsRising n (filter p ts)
 IsRising-filter p n [] h = tt
 IsRising-filter p n (t ∷ ts) h =
     let rest = IsRising-filter p (t.variable + 1) ts h.2 in
     elim (p t) as (λ b. IsRising n (cond b (t ∷ filter p ts) (filter p ts))) [
       | true ↦ (h.0, h.1, rest)
-      | false ↦ IsRising-less n (t.variable + 1) _ (omega (arith, h.0)) rest
+      | false ↦ IsRising-from n (t.variable + 1) _ (omega (arith, h.0)) rest
     ]
 
 pub total-filter-le : (q : Entry → Bool) (p : ℕ → Bool → Bool) (ts : List Entry) → total p (filter q ts) ≤ total p ts
@@ -80,7 +77,7 @@ pub counted-le : (b : Bool) (m n : ℕ) → m ≤ n → cond b m 0 ≤ cond b n 
 counted-le true m n h = h
 counted-le false m n h = omega arith
 
-counted-le-all : (b : Bool) (n : ℕ) → cond b n 0 ≤ n
+pub counted-le-all : (b : Bool) (n : ℕ) → cond b n 0 ≤ n
 counted-le-all true n = omega arith
 counted-le-all false n = omega arith
 

@@ -1,10 +1,11 @@
 -- What the merge of two lists keeps, and its steps
-use Rattle.std.proofs.Common.{◌≡◌, ℕ, ◌+◌, ◌<◌, ◌≤◌, false, List, [], ◌∷◌, ◌++◌, length, take, drop, get_or, sym, ◌∙◌, ap, arith, append_assoc, add-zero, ◌⊎◌, inl, inr, Option, Some, None, IfSome}
+use Rattle.std.proofs.Common.{◌≡◌, ℕ, ◌+◌, ◌<◌, ◌≤◌, false, List, [], ◌∷◌, ◌++◌, length, take, drop, get_or, arith, append_assoc, add-zero, ◌⊎◌, inl, inr, Option, Some, None, IfSome}
 use Rattle.std.specs.Option.{option_to_list}
-use Rattle.std.proofs.lemmas.List.{drop_more, take_more, append-nil, drop_all, take-append-drop}
+use Rattle.std.proofs.lemmas.List.{append-nil, drop_all, take-append-drop}
 use Rattle.pb_normal.specs.declared.entry.Entry.{Entry}
 use Rattle.pb_normal.specs.Form.{total, each, IsRising}
 use Rattle.pb_normal.specs.Adds.{Adds}
+use Rattle.pb_text.proofs.Lists.{take_read, drop_read}
 use Rattle.pb_normal.proofs.Totals.{Adds-append, Adds-apart, IsRising-between, IsRising-without, IsRising-instead, total-append, size-Adds, IsRising-positive}
 
 pub record Merging (left right : List Entry) (i j : ℕ) (out : List Entry) (c : ℕ) : Type 0 where
@@ -13,13 +14,6 @@ pub record Merging (left right : List Entry) (i j : ℕ) (out : List Entry) (c :
   pub adds : Adds (take i left) (take j right) out c
   pub left_rising : IsRising 0 (out ++ drop i left)
   pub right_rising : IsRising 0 (out ++ drop j right)
-
--- a list as its front, the entry read at i, and its rest
-pub take_read : (xs : List Entry) (i : ℕ) (d x : Entry) → i < length xs → x ≡ get_or xs i d → take (i + 1) xs ≡ take i xs ++ x ∷ []
-take_read xs i d x lt e = take_more xs i d lt ∙ ap (λ (y : Entry). take i xs ++ y ∷ []) (sym e)
-
-pub drop_read : (xs : List Entry) (i : ℕ) (d x : Entry) → i < length xs → x ≡ get_or xs i d → drop i xs ≡ x ∷ drop (i + 1) xs
-drop_read xs i d x lt e = drop_more xs i d lt ∙ ap (λ (y : Entry). y ∷ drop (i + 1) xs) (sym e)
 
 one_more : (out : List Entry) (x : Entry) (xs : List Entry) → out ++ x ∷ xs ≡ (out ++ x ∷ []) ++ xs
 one_more out x xs = simp append_assoc

@@ -1,9 +1,10 @@
 -- A number once given stays, and names appear one by one. Offered to other crates.
-use Rattle.std.proofs.Common.{◌≡◌, ℕ, zero, suc, ◌+◌, ◌<◌, Bool, true, false, not, ◌||◌, cond, List, [], ◌∷◌, ◌++◌, length, take, get_or, map, refl, sym, ◌∙◌, ap, arith, Option, Some, None, slice_get, Result, Ok, Err, OnErr, nat_lt}
+use Rattle.std.proofs.Common.{◌≡◌, ℕ, zero, suc, ◌+◌, ◌<◌, Bool, true, false, not, ◌||◌, cond, List, [], ◌∷◌, ◌++◌, length, take, map, refl, sym, ◌∙◌, ap, arith, Option, Some, None, slice_get, Result, Ok, Err, OnErr, nat_lt}
 use Rattle.std.specs.List.{list_any, position, position_or_len}
 use Rattle.std.specs.Str.{bytes_eq}
-use Rattle.std.proofs.lemmas.List.{map-append, take_more, take-map}
+use Rattle.std.proofs.lemmas.List.{map-append, take-map}
 use Rattle.std.proofs.lemmas.Bool.Decides.{nat_tests}
+use Rattle.std.proofs.lemmas.Bool.{or_left, or_right, or_parts, or_from}
 use Rattle.pb_normal.proofs.Positions.{position_or_len-none}
 use Rattle.std.proofs.lemmas.Slice.Eq.{bytes_eq-Decides}
 use Rattle.std.proofs.lemmas.Option.{slice_get_within}
@@ -37,11 +38,7 @@ list_any-more p (x ∷ xs) ys e = more (p x) (list_any p xs) _ e (list_any-more 
 
 list_any-last : {A : Type 0} (p : A → Bool) (xs : List A) (y : A) → p y ≡ true → list_any p (xs ++ y ∷ []) ≡ true
 list_any-last p [] y e = rw e refl
-list_any-last p (x ∷ xs) y e = or_true (p x) _ (list_any-last p xs y e)
-  where
-    or_true : (a b : Bool) → b ≡ true → (a || b) ≡ true
-    or_true true b h = refl
-    or_true false b h = h
+list_any-last p (x ∷ xs) y e = or_right (p x) _ (list_any-last p xs y e)
 
 -- names and their numbers stay when more names follow
 pub has_name-append : (names more : List (List ℕ)) (q : List ℕ) → has_name names q ≡ true → has_name (names ++ more) q ≡ true
@@ -92,16 +89,8 @@ has_name-get : (names : List (List ℕ)) (x : ℕ) (q : List ℕ) → slice_get 
 has_name-get [] x q e = absurd cc
 has_name-get (n ∷ names) zero q e =
     let same : q ≡ n = cc in
-    first (bytes_eq q n) _ ((bytes_eq-Decides q n).1 same)
-  where
-    first : (a b : Bool) → a ≡ true → (a || b) ≡ true
-    first true b h = refl
-    first false b h = absurd cc
-has_name-get (n ∷ names) (suc x) q e = rest (bytes_eq q n) _ (has_name-get names x q e)
-  where
-    rest : (a b : Bool) → b ≡ true → (a || b) ≡ true
-    rest true b h = refl
-    rest false b h = h
+    or_left (bytes_eq q n) _ ((bytes_eq-Decides q n).1 same)
+has_name-get (n ∷ names) (suc x) q e = or_right (bytes_eq q n) _ (has_name-get names x q e)
 
 place_step : (b : Bool) (q n : List ℕ) (names : List (List ℕ)) (x m : ℕ) → bytes_eq q n ≡ b → has_name names n ≡ false → has_name names q ≡ true → m ≡ x → cond (not b) (1 + m) 0 ≡ suc x
 place_step true q n names x m t d has e =
@@ -121,14 +110,6 @@ number_in-get (n ∷ names) zero q d e = place_here (bytes_eq q n) _ ((bytes_eq-
 number_in-get (n ∷ names) (suc x) q d e =
     place_step (bytes_eq q n) q n names x (number_in names q) refl d.0 (has_name-get names x q e) (number_in-get names x q d.1 e)
 
-neither : (a b : Bool) → (a || b) ≡ false → (a ≡ false) × (b ≡ false)
-neither true b e = absurd cc
-neither false b e = (refl, e)
-
-or_neither : (a b : Bool) → a ≡ false → b ≡ false → (a || b) ≡ false
-or_neither true b e f = absurd cc
-or_neither false b e f = f
-
 other_way : (b : Bool) (k n : List ℕ) → bytes_eq n k ≡ b → bytes_eq k n ≡ false → b ≡ false
 other_way true k n t f =
     let same : n ≡ k = (bytes_eq-Decides n k).0 t in
@@ -137,16 +118,16 @@ other_way true k n t f =
 other_way false k n t f = refl
 
 none_pushed : (names : List (List ℕ)) (k n : List ℕ) → has_name names n ≡ false → bytes_eq n k ≡ false → has_name (names ++ k ∷ []) n ≡ false
-none_pushed [] k n h f = or_neither (bytes_eq n k) false f refl
+none_pushed [] k n h f = or_from (bytes_eq n k) false f refl
 none_pushed (m ∷ names) k n h f =
-    let parts = neither (bytes_eq n m) (has_name names n) h in
-    or_neither (bytes_eq n m) _ parts.0 (none_pushed names k n parts.1 f)
+    let parts = or_parts (bytes_eq n m) (has_name names n) h in
+    or_from (bytes_eq n m) _ parts.0 (none_pushed names k n parts.1 f)
 
 -- a new name is one more that is distinct
 pub AreDistinct-push : (names : List (List ℕ)) (k : List ℕ) → AreDistinct names → has_name names k ≡ false → AreDistinct (names ++ k ∷ [])
 AreDistinct-push [] k d e = (refl, tt)
 AreDistinct-push (n ∷ names) k d e =
-    let parts = neither (bytes_eq k n) (has_name names k) e in
+    let parts = or_parts (bytes_eq k n) (has_name names k) e in
     (none_pushed names k n d.0 (other_way (bytes_eq n k) k n refl parts.0), AreDistinct-push names k d.1 parts.1)
 
 absent_front : (b : Bool) (names more : List (List ℕ)) (n : List ℕ) → has_name names n ≡ b → has_name (names ++ more) n ≡ false → b ≡ false
@@ -208,10 +189,6 @@ Numbering-push side old ks new ts t out n h e p =
 pub OnErr-always : {A E : Type 0} (r : Result A E) (P : Type 0) → P → OnErr r P
 OnErr-always (Ok _) P p = tt
 OnErr-always (Err _) P p = p
-
--- a front of the terms, one term longer
-pub take_term : (ts : List Term) (i : ℕ) (t : Term) → i < length ts → t ≡ get_or ts i t → take (i + 1) ts ≡ take i ts ++ t ∷ []
-take_term ts i t lt e = take_more ts i t lt ∙ ap (λ (u : Term). take i ts ++ u ∷ []) (sym e)
 
 take_names : (ts : List Term) (i : ℕ) → names_of (take i ts) ≡ take i (names_of ts)
 take_names ts i = sym (take-map (λ (t : Term). t.literal.name) i ts)

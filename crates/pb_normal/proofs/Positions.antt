@@ -6,6 +6,7 @@ use Rattle.std.proofs.lemmas.Slice.Eq.{bytes_eq-Decides}
 use Rattle.std.proofs.lemmas.Option.{slice_get-get_or}
 use Rattle.std.proofs.lemmas.List.Quantifiers.{position-Some}
 use Rattle.std.proofs.lemmas.List.{length-map, length_push, map-append}
+use Rattle.std.proofs.lemmas.Bool.{or_parts}
 use Rattle.std.proofs.lemmas.Bool.Decides.{nat_tests}
 
 pub list_any-map : {A B : Type 0} (f : A → B) (p : B → Bool) (xs : List A) → list_any p (map f xs) ≡ list_any (λ x. p (f x)) xs
@@ -19,21 +20,17 @@ position_or_len-map f p (x ∷ xs) = ap (λ n. cond (not (p (f x))) (1 + n) 0) (
 pub position-map : {A B : Type 0} (f : A → B) (p : B → Bool) (xs : List A) → position p (map f xs) ≡ position (λ x. p (f x)) xs
 position-map f p xs = rw (position_or_len-map f p xs, length-map xs f) refl
 
-neither : (a b : Bool) → (a || b) ≡ false → (a ≡ false) × (b ≡ false)
-neither true b e = absurd cc
-neither false b e = (refl, e)
-
 one_more : (b : Bool) (n m : ℕ) → b ≡ false → n ≡ m → cond (not b) (1 + n) 0 ≡ suc m
 one_more true n m e h = absurd cc
 one_more false n m e h = omega arith
 
 pub position_or_len-none : {A : Type 0} (p : A → Bool) (xs : List A) → list_any p xs ≡ false → position_or_len p xs ≡ length xs
 position_or_len-none p [] e = refl
-position_or_len-none p (x ∷ xs) e = let f = neither (p x) (list_any p xs) e in one_more (p x) _ _ f.0 (position_or_len-none p xs f.1)
+position_or_len-none p (x ∷ xs) e = let f = or_parts (p x) (list_any p xs) e in one_more (p x) _ _ f.0 (position_or_len-none p xs f.1)
 
 pub position_or_len-push : {A : Type 0} (p : A → Bool) (xs : List A) (y : A) → list_any p xs ≡ false → p y ≡ true → position_or_len p (xs ++ y ∷ []) ≡ length xs
 position_or_len-push p [] y e h = rw h refl
-position_or_len-push p (x ∷ xs) y e h = let f = neither (p x) (list_any p xs) e in one_more (p x) _ _ f.0 (position_or_len-push p xs y f.1 h)
+position_or_len-push p (x ∷ xs) y e h = let f = or_parts (p x) (list_any p xs) e in one_more (p x) _ _ f.0 (position_or_len-push p xs y f.1 h)
 
 pub position-push : {A : Type 0} (p : A → Bool) (xs : List A) (y : A) → list_any p xs ≡ false → p y ≡ true → position p (xs ++ y ∷ []) ≡ Some (length xs)
 position-push p xs y e h =

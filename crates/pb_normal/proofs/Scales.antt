@@ -8,8 +8,9 @@ use Rattle.std.proofs.Math.Nat.{mul-le-mul_left}
 use Rattle.pb_normal.specs.declared.entry.Entry.{Entry}
 use Rattle.pb_normal.specs.Form.{Form, size, IsNormal, IsWithin, Holds, true_at, counted, total, each, IsRising}
 use Rattle.pb_normal.specs.Rules.{Passes, with_coefficient, multiplied, saturated}
-use Rattle.pb_normal.proofs.Maps.{IsRising-map, IsRising-less, total-filter-le, total-map-le, counted-le}
+use Rattle.pb_normal.proofs.Maps.{IsRising-map, total-filter-le, total-map-le, counted-le}
 use Rattle.pb_normal.proofs.Merging.{total-read}
+use Rattle.pb_normal.proofs.Totals.{IsRising-from}
 
 -- a quotient against a product
 pub past_quotient : (m n k : ℕ) → 0 < k → n / k < m → n < m * k
@@ -45,7 +46,7 @@ Holds-multiplied a k f h = omega (arith, total-multiplied (true_at a) k f.terms,
 -- saturation
 positive_step : (b : Bool) (n : ℕ) (t : Entry) (rest : List Entry) → ltb 0 t.coefficient ≡ b → n ≤ t.variable → IsRising (t.variable + 1) rest → IsRising n (cond b (t ∷ rest) rest)
 positive_step true n t rest e le r = (le, let p : 0 < t.coefficient = grind (arith, nat_tests) in p, r)
-positive_step false n t rest e le r = IsRising-less n (t.variable + 1) rest (omega arith) r
+positive_step false n t rest e le r = IsRising-from n (t.variable + 1) rest (omega arith) r
 
 pub IsRising-saturated : (d n : ℕ) (ts : List Entry) → IsRising n ts → IsRising n (filter (λ t. ltb 0 t.coefficient) (map (λ t. with_coefficient t (min t.coefficient d)) ts))
 IsRising-saturated d n [] r = tt

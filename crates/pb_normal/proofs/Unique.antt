@@ -1,30 +1,22 @@
 -- A form is determined by its coefficients and its degree. Offered to other crates.
 use Rattle.std.proofs.Common.{inl, inr, ◌≡◌, ℕ, ◌+◌, ◌<◌, Bool, true, false, not, ◌&&◌, cond, eqb, List, [], ◌∷◌, refl, sym, ◌∙◌, ap, arith}
-use Rattle.std.proofs.lemmas.Bool.Decides.{nat_tests}
 use Rattle.std.proofs.lemmas.Bool.{cases_order}
 use Rattle.std.proofs.lemmas.Int.{ints}
 use Rattle.pb_normal.specs.declared.entry.Entry.{Entry}
 use Rattle.pb_normal.specs.Rules.{IsSum}
 use Rattle.pb_normal.specs.Form.{Form, counted, total, negative, plain_of, negated_of, IsRising, IsOrdered, coefficient, low}
+use Rattle.pb_normal.proofs.Variables.{counted-here, counted-other}
 
 -- nothing counts on a variable below all others
 pub none_below : (e : Bool → Bool) (x n : ℕ) (ts : List Entry) → IsRising n ts → x < n → total (λ v m. eqb v x && e m) ts ≡ 0
 none_below e x n [] h lt = refl
 none_below e x n (t ∷ ts) h lt =
-    let here : (eqb t.variable x && e t.negated) ≡ false = and_first (eqb t.variable x) (e t.negated) (let le = h.0 in grind (arith, nat_tests)) in
-    omega (arith, none_below e x (t.variable + 1) ts h.2 (omega (arith, h.0)), ap (λ b. cond b t.coefficient 0) here)
-  where
-    and_first : (a b : Bool) → a ≡ false → (a && b) ≡ false
-    and_first true b h = absurd cc
-    and_first false b h = refl
+    omega (arith, none_below e x (t.variable + 1) ts h.2 (omega (arith, h.0)), counted-other t.variable x (e t.negated) t.coefficient (λ same. omega (arith, h.0)))
 
-at_same : (v w : ℕ) (b : Bool) (c : ℕ) → v ≡ w → cond (eqb v w && b) c 0 ≡ cond b c 0
-at_same v w b c h = ap (λ (e : Bool). cond (e && b) c 0) (let e : eqb v w ≡ true = grind (arith, nat_tests) in e)
-
--- a first term on a variable that the other list has not
-lone : (b : Bool) (c r s : ℕ) → 0 < c → (cond (not b) c 0 + 0) + 0 ≡ (cond b c 0 + 0) + 0 → ⊥
-lone true c r s p e = omega arith
-lone false c r s p e = omega arith
+-- a term on a variable that nothing balances
+pub one_sided : (b : Bool) (c : ℕ) → 0 < c → cond (not b) c 0 ≡ cond b c 0 → ⊥
+one_sided true c p e = omega arith
+one_sided false c p e = omega arith
 
 same_head : (b d : Bool) (m n : ℕ) → 0 < m → 0 < n → cond (not b) m 0 + cond d n 0 ≡ cond b m 0 + cond (not d) n 0 → (b ≡ d) × (m ≡ n)
 same_head true true m n p q e = (refl, omega arith)
@@ -42,8 +34,8 @@ Balanced xs ys = (z : ℕ) → total (plain_of z) xs + total (negated_of z) ys �
 no_first : (n : ℕ) (x : Entry) (xs ys : List Entry) → IsRising n (x ∷ xs) → IsRising (x.variable + 1) ys → Balanced (x ∷ xs) ys → ⊥
 no_first n x xs ys h k e =
     let v = x.variable in
-    lone x.negated x.coefficient 0 0 h.1
-    (omega (arith, e v, at_same v v (not x.negated) x.coefficient refl, at_same v v x.negated x.coefficient refl, none_below not v (v + 1) xs h.2 (omega arith), none_below (λ b. b) v (v + 1) xs h.2 (omega arith), none_below not v (v + 1) ys k (omega arith), none_below (λ b. b) v (v + 1) ys k (omega arith)))
+    one_sided x.negated x.coefficient h.1
+    (omega (arith, e v, counted-here v v (not x.negated) x.coefficient refl, counted-here v v x.negated x.coefficient refl, none_below not v (v + 1) xs h.2 (omega arith), none_below (λ b. b) v (v + 1) xs h.2 (omega arith), none_below not v (v + 1) ys k (omega arith), none_below (λ b. b) v (v + 1) ys k (omega arith)))
 
 pub IsRising-same : (n : ℕ) (xs ys : List Entry) → IsRising n xs → IsRising n ys → Balanced xs ys → xs ≡ ys
 IsRising-same n [] [] h k e = refl
@@ -53,7 +45,7 @@ IsRising-same n (x ∷ xs) (y ∷ ys) h k e =
     elim (cases_order x.variable y.variable) [
       | inl same ↦
           let v = x.variable in
-          let heads = same_head x.negated y.negated x.coefficient y.coefficient h.1 k.1 (omega (arith, e v, at_same v v (not x.negated) x.coefficient refl, at_same v v x.negated x.coefficient refl, at_same y.variable v (not y.negated) y.coefficient (sym same), at_same y.variable v y.negated y.coefficient (sym same), none_below not v (v + 1) xs h.2 (omega arith), none_below (λ b. b) v (v + 1) xs h.2 (omega arith), none_below not v (y.variable + 1) ys k.2 (omega arith), none_below (λ b. b) v (y.variable + 1) ys k.2 (omega arith))) in
+          let heads = same_head x.negated y.negated x.coefficient y.coefficient h.1 k.1 (omega (arith, e v, counted-here v v (not x.negated) x.coefficient refl, counted-here v v x.negated x.coefficient refl, counted-here y.variable v (not y.negated) y.coefficient (sym same), counted-here y.variable v y.negated y.coefficient (sym same), none_below not v (v + 1) xs h.2 (omega arith), none_below (λ b. b) v (v + 1) xs h.2 (omega arith), none_below not v (y.variable + 1) ys k.2 (omega arith), none_below (λ b. b) v (y.variable + 1) ys k.2 (omega arith))) in
           let first = same_entry _ _ _ _ _ _ same heads.0 heads.1 in
           let rest = IsRising-same (v + 1) xs ys h.2 (rw same k.2) (λ z. omega (arith, e z, ap (counted (plain_of z)) first, ap (counted (negated_of z)) first)) in
           cc (first, rest)

@@ -1,7 +1,6 @@
 -- A total over a list of terms, as a sum over the variables
 use Rattle.std.proofs.Common.{◌≡◌, ◌≢◌, ℕ, zero, suc, ◌+◌, ◌<◌, ◌≤◌, max, Bool, true, false, not, ◌&&◌, cond, eqb, List, [], ◌∷◌, refl, sym, ◌∙◌, ap, arith, inl, inr}
-use Rattle.std.proofs.lemmas.Bool.Decides.{nat_tests}
-use Rattle.std.proofs.lemmas.Bool.{cases_eq}
+use Rattle.std.proofs.lemmas.Bool.{cases_eq, eq-eqb, ne_eqb}
 use Rattle.pb_normal.specs.declared.entry.Entry.{Entry}
 use Rattle.pb_normal.specs.Form.{counted, total, plain_of, negated_of}
 
@@ -61,11 +60,12 @@ at_sign : (f : Bool → Bool) (n : Bool) → cond n (f true) (f false) ≡ f n
 at_sign f true = refl
 at_sign f false = refl
 
-eqb_other : (v x : ℕ) → x ≢ v → eqb v x ≡ false
-eqb_other v x ne = grind (arith, nat_tests)
+-- what a coefficient counts for on a variable that is another, and on its own
+pub counted-other : (v x : ℕ) (b : Bool) (c : ℕ) → v ≢ x → cond (eqb v x && b) c 0 ≡ 0
+counted-other v x b c ne = ap (λ (e : Bool). cond (e && b) c 0) (ne_eqb v x ne)
 
-eqb_self : (v : ℕ) → eqb v v ≡ true
-eqb_self v = grind (arith, nat_tests)
+pub counted-here : (v x : ℕ) (b : Bool) (c : ℕ) → v ≡ x → cond (eqb v x && b) c 0 ≡ cond b c 0
+counted-here v x b c same = ap (λ (e : Bool). cond (e && b) c 0) (eq-eqb v x same)
 
 cond_zero : (b c : Bool) (n m : ℕ) → n ≡ 0 → m ≡ 0 → cond b n 0 + cond c m 0 ≡ 0
 cond_zero true true n m e f = omega arith
@@ -73,21 +73,18 @@ cond_zero true false n m e f = omega arith
 cond_zero false true n m e f = omega arith
 cond_zero false false n m e f = omega arith
 
-and_false : (e b : Bool) (c : ℕ) → e ≡ false → cond (e && b) c 0 ≡ 0
-and_false true b c h = absurd cc
-and_false false b c h = refl
-
 -- what one term puts on the variable x
 abbrev share_of : (ℕ → Bool → Bool) → Entry → ℕ → ℕ
 share_of p t x = cond (p x false) (counted (plain_of x) t) 0 + cond (p x true) (counted (negated_of x) t) 0
 
 share_of-other : (p : ℕ → Bool → Bool) (t : Entry) (x : ℕ) → x ≢ t.variable → share_of p t x ≡ 0
 share_of-other p t x ne =
-    cond_zero (p x false) (p x true) _ _ (and_false (eqb t.variable x) (not t.negated) t.coefficient (eqb_other t.variable x ne)) (and_false (eqb t.variable x) t.negated t.coefficient (eqb_other t.variable x ne))
+    let here : t.variable ≢ x = λ e. ne (sym e) in
+    cond_zero (p x false) (p x true) _ _ (counted-other t.variable x (not t.negated) t.coefficient here) (counted-other t.variable x t.negated t.coefficient here)
 
 share_of-self : (p : ℕ → Bool → Bool) (t : Entry) → share_of p t t.variable ≡ counted p t
 share_of-self p t =
-    share_of_one (p t.variable false) (p t.variable true) t.negated (eqb t.variable t.variable) t.coefficient (eqb_self t.variable) ∙ ap (λ b. cond b t.coefficient 0) (at_sign (p t.variable) t.negated)
+    share_of_one (p t.variable false) (p t.variable true) t.negated (eqb t.variable t.variable) t.coefficient (eq-eqb t.variable t.variable refl) ∙ ap (λ b. cond b t.coefficient 0) (at_sign (p t.variable) t.negated)
 
 cond_plus : (b c : Bool) (k l m n : ℕ) → cond b (k + l) 0 + cond c (m + n) 0 ≡ (cond b k 0 + cond c m 0) + (cond b l 0 + cond c n 0)
 cond_plus true true k l m n = omega arith

@@ -8,7 +8,7 @@ use Rattle.std.proofs.lemmas.Bool.Decides.{nat_tests}
 use Rattle.std.proofs.lemmas.Bool.{cases_lt}
 use Rattle.std.proofs.lemmas.Slice.Eq.{bytes_eq-Decides}
 use Rattle.std.proofs.lemmas.Option.{get_or_from_slice_get, slice_get-get_or}
-use Rattle.std.proofs.lemmas.List.{length-append, take-append-drop, drop_more}
+use Rattle.std.proofs.lemmas.List.{length-append, take-append-drop}
 use Rattle.std.proofs.lemmas.List.Elements.{All-nil, All-cons}
 use Rattle.pb_sums.specs.declared.values.Term.{Term}
 use Rattle.pb_sums.specs.declared.values.Linear.{Linear}
@@ -19,13 +19,16 @@ use Rattle.pb_normal.specs.declared.entry.Entry.{Entry}
 use Rattle.pb_normal.specs.Form.{Form, total, each, negative, plain_of, negated_of, true_at, at_least_0, low, Holds, IsRising, IsNormal, IsWithin}
 use Rattle.pb_normal.specs.Adds.{flip, Adds}
 use Rattle.pb_normal.specs.Names.{has_name, AreDistinct, number_in, HasNames}
+use Rattle.pb_normal.specs.Constraints.{AreFormsOf}
 use Rattle.pb_normal.specs.Raw.{is_below_0, entry_of, raw_of, shift}
 use Rattle.pb_normal.specs.Written.{names_of, magnitude, written_on, on_negations, true_sum, IsFormOf, side_number, side_terms, IsSideOf, by_number, SameSolutions, SameAsForm, SameAsForms, term_of, linear_of}
+use Rattle.pb_normal.proofs.Maps.{counted-le-all}
 use Rattle.pb_normal.proofs.Totals.{size-Adds}
 use Rattle.pb_normal.proofs.Variables.{total-same}
 use Rattle.pb_normal.proofs.Sums.{at_least_0-is, flip_plain}
 use Rattle.pb_normal.proofs.Unique.{Balanced, IsRising-same, same_form}
 use Rattle.pb_normal.proofs.Balance.{total-balanced, total-past, All-below}
+use Rattle.pb_text.proofs.Lists.{drop_read}
 use Rattle.pb_normal.proofs.Numbering.{slice_get-number, number_in-below, number_in-get, number_in-append, has_name-append, AreDistinct-front}
 
 pub total-raw : (names : List (List ℕ)) (ts : List Term) → total each (map (raw_of names) ts) ≡ magnitude ts
@@ -160,6 +163,19 @@ IsFormOf-unique names ts d r s p q =
     let degrees : r.degree ≡ s.degree = p.degree ∙ rw lows (sym q.degree) in
     same_form r.terms s.terms r.degree s.degree terms degrees
 
+-- forms of the same sides are the same, where each sum has one
+pub same_forms : ((names : List (List ℕ)) (ts : List Term) (d : ℤ) (r s : Form) → IsFormOf names ts d r → IsFormOf names ts d s → r ≡ s)
+    → (names : List (List ℕ)) (sides : List (Side × Linear)) (fs gs : List Form) → AreFormsOf names sides fs → AreFormsOf names sides gs → fs ≡ gs
+same_forms unique names [] [] [] h k = refl
+same_forms unique names [] [] (g ∷ gs) h k = absurd k
+same_forms unique names [] (f ∷ fs) gs h k = absurd h
+same_forms unique names (s ∷ sides) [] gs h k = absurd h
+same_forms unique names (s ∷ sides) (f ∷ fs) [] h k = absurd k
+same_forms unique names (s ∷ sides) (f ∷ fs) (g ∷ gs) h k =
+    let first : f ≡ g = unique names _ _ f g h.0 k.0 in
+    let rest : fs ≡ gs = same_forms unique names sides fs gs h.1 k.1 in
+    cc
+
 -- the two sides
 pub names_of-side : (side : Side) (ts : List Term) → names_of (side_terms side ts) ≡ names_of ts
 names_of-side side [] = refl
@@ -242,17 +258,12 @@ magnitude-append (x ∷ xs) ys = omega (arith, magnitude-append xs ys)
 pub magnitude-read : (ts : List Term) (i : ℕ) (t : Term) → i < length ts → t ≡ get_or ts i t → unsigned_abs t.coefficient ≤ magnitude ts
 magnitude-read ts i t lt e =
     let s = magnitude-append (take i ts) (drop i ts) in
-    let rest : drop i ts ≡ t ∷ drop (i + 1) ts = drop_more ts i t lt ∙ ap (λ (u : Term). u ∷ drop (i + 1) ts) (sym e) in
-    let w = rw (take-append-drop, rest) at s in
+    let w = rw (take-append-drop, drop_read ts i t t lt e) at s in
     omega arith
-
-part_of : (b : Bool) (n : ℕ) → cond b n 0 ≤ n
-part_of true n = omega arith
-part_of false n = omega arith
 
 pub shift-le : (ts : List Term) → shift ts ≤ magnitude ts
 shift-le [] = omega arith
-shift-le (t ∷ ts) = omega (arith, shift-le ts, part_of (is_below_0 t.coefficient) (unsigned_abs t.coefficient))
+shift-le (t ∷ ts) = omega (arith, shift-le ts, counted-le-all (is_below_0 t.coefficient) (unsigned_abs t.coefficient))
 
 pub shift-side-le : (side : Side) (ts : List Term) → shift (side_terms side ts) ≤ magnitude ts
 shift-side-le side ts = omega (arith, shift-le (side_terms side ts), magnitude-side side ts)

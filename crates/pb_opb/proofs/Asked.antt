@@ -1,6 +1,6 @@
 -- Where a machine of instances asks, the next byte stands at a place of its statement that asks.
 use Rattle.std.proofs.Common.{◌≡◌, ℕ, zero, suc, ◌+◌, ◌-◌, ◌*◌, ◌≤◌, Bool, true, false, cond, ◌&&◌, List, [], ◌∷◌, ◌++◌, length, refl, sym, ap, ap₂, subst, ◌∙◌, ◌⊎◌, inl, inr, append-nil}
-use Rattle.std.proofs.lemmas.Bool.{false≢true}
+use Rattle.std.proofs.lemmas.Bool.{false≢true, cond_both}
 use Rattle.std.specs.Prelude.{IsTrue, nat_eq, nat_le, slice_index}
 use Rattle.pb_text.specs.Automaton.{Next, Go, End, Refuse, Reads, MayAsk}
 use Rattle.pb_text.specs.Asking.{AsksOnly}
@@ -9,8 +9,8 @@ use Rattle.pb_text.specs.Languages.{◌⋅◌, Byte, Bytes, Blanks0}
 use Rattle.pb_text.specs.Numbers.{Digits}
 use Rattle.pb_text.specs.Spelling.{Letter, bytes}
 use Rattle.pb_text.proofs.Asked as asked
-use Rattle.pb_text.proofs.Languages.{bytes-plain}
-use Rattle.pb_text.proofs.Lists.{bytes-append}
+use Rattle.pb_text.proofs.Languages.{bytes-plain, bytes-append}
+use Rattle.pb_text.proofs.Booleans.{never}
 use Rattle.pb_text.proofs.Walking.{Walks, reads_behind, fronts}
 use Rattle.pb_sums.specs.State.{SumState, sums}
 use Rattle.pb_sums.specs.Sums.{Spells}
@@ -33,12 +33,11 @@ use Rattle.pb_opb.specs.declared.phase.Phase.{Phase}
 use Rattle.pb_opb.specs.declared.phase.Phase as phase
 use Rattle.pb_opb.specs.declared.phase.Move.{Move}
 use Rattle.pb_opb.specs.declared.phase.Move.TheVariants.{Keep, EndComment}
-use Rattle.pb_opb.proofs.Bodies.{nothing_read, instance_each}
-use Rattle.pb_opb.proofs.ByteCases.{never, chosen}
+use Rattle.pb_opb.proofs.Bodies.{InGap, gap_given, nothing_read, instance_each}
 use Rattle.pb_opb.proofs.EntryFront as entry
 use Rattle.pb_opb.proofs.Fronts.{line_grown, tail_grown}
 use Rattle.pb_opb.proofs.HeaderFront as header
-use Rattle.pb_opb.proofs.Inners.{Gives, gives_objective, gives_constraint}
+use Rattle.pb_opb.proofs.GivenBytes.{Gives, gives_objective, gives_constraint, given_step}
 use Rattle.pb_opb.proofs.Stands.{idle}
 
 -- no byte asks where the moves ask for nothing
@@ -50,35 +49,28 @@ module _ (limit top : ℕ) where
   abbrev Idle : OpbState → Type 0
   Idle s = (s ≡ begin limit top) ⊎ ((v : ℕ) × (may : Bool) × (n : ℕ) × (s ≡ idle limit top v may n))
 
-  abbrev InGap : Next OpbState OpbEvent → Bool → Type 0
-  InGap (Go next) x = opb.begun next ≡ false → Idle next × (x ≡ false)
-  InGap (End e next) x = Unit {0}
-  InGap Refuse x = Unit {0}
+  abbrev Quiet : Next OpbState OpbEvent → Bool → Type 0
+  Quiet n x = InGap (λ next. Idle next × (x ≡ false)) n
 
-  gap_given : (s : OpbState) (x : Next SumState SumEvent) (b : Bool) → InGap (over s phase.TheVariants.Constraint x) b
-  gap_given s (Go inner) b = λ o. never true refl o
-  gap_given s (End e new) b = tt
-  gap_given s Refuse b = tt
+  gap_begin : (b : ℕ) → Quiet (opb.step (begin limit top) b) (opb.asks (begin limit top) b)
+  gap_begin b = cond_both (nat_eq b 42) _ _ (λ m. Quiet (act (begin limit top) b m) (asks (begin limit top) b m)) (λ e o. never true refl o) (λ e. tt)
 
-  gap_begin : (b : ℕ) → InGap (opb.step (begin limit top) b) (opb.asks (begin limit top) b)
-  gap_begin b = chosen (λ m. InGap (act (begin limit top) b m) (asks (begin limit top) b m)) (nat_eq b 42) _ _ (λ e o. never true refl o) (λ e. tt)
-
-  gap_idle : (v : ℕ) (may : Bool) (n b : ℕ) → InGap (opb.step (idle limit top v may n) b) (opb.asks (idle limit top v may n) b)
+  gap_idle : (v : ℕ) (may : Bool) (n b : ℕ) → Quiet (opb.step (idle limit top v may n) b) (opb.asks (idle limit top v may n) b)
   gap_idle v may zero b = tt
   gap_idle v may (suc n) b =
       let s : OpbState = idle limit top v may (suc n) in
-      let P : Move → Type 0 = λ m. InGap (act s b m) (asks s b m) in
-      chosen P (is_white b) _ _ (λ e o. (inr (v, may, suc n, refl), refl))
-      (λ _. chosen P (nat_eq b 42) _ _ (λ _ o. never true refl o)
-      (λ _. chosen P (nat_eq b 109 && may) _ _ (λ _ o. never true refl o)
-      (λ _. gap_given s (sums.step s.inner b) (sums.asks s.inner b))))
+      let P : Move → Type 0 = λ m. Quiet (act s b m) (asks s b m) in
+      cond_both (is_white b) _ _ P (λ e o. (inr (v, may, suc n, refl), refl))
+      (λ _. cond_both (nat_eq b 42) _ _ P (λ _ o. never true refl o)
+      (λ _. cond_both (nat_eq b 109 && may) _ _ P (λ _ o. never true refl o)
+      (λ _. gap_given (λ next. Idle next × (sums.asks s.sums b ≡ false)) s (sums.step s.sums b))))
 
-  gap_of : (s : OpbState) (b : ℕ) → Idle s → InGap (opb.step s b) (opb.asks s b)
-  gap_of s b (inl e) = subst (λ x. InGap (opb.step x b) (opb.asks x b)) (sym e) (gap_begin b)
-  gap_of s b (inr (v, may, n, e)) = subst (λ x. InGap (opb.step x b) (opb.asks x b)) (sym e) (gap_idle v may n b)
+  gap_of : (s : OpbState) (b : ℕ) → Idle s → Quiet (opb.step s b) (opb.asks s b)
+  gap_of s b (inl e) = subst (λ x. Quiet (opb.step x b) (opb.asks x b)) (sym e) (gap_begin b)
+  gap_of s b (inr (v, may, n, e)) = subst (λ x. Quiet (opb.step x b) (opb.asks x b)) (sym e) (gap_idle v may n b)
 
   gaps : (s next : OpbState) (b : ℕ) → Idle s → opb.step s b ≡ Go next → opb.begun next ≡ false → Idle next × (opb.asks s b ≡ false)
-  gaps s next b i g o = (subst (λ x. InGap x (opb.asks s b)) g (gap_of s b i)) o
+  gaps s next b i g o = (subst (λ x. Quiet x (opb.asks s b)) g (gap_of s b i)) o
 
   -- behind a statement
   behind_header : (e : OpbEvent) (next : OpbState) (t : List Letter) → header.IsHeader limit top e next t → Idle next
@@ -119,26 +111,26 @@ module _ (limit top : ℕ) where
     quiet A m e = λ h. silent s b m e h
 
     count_quiet : (A : Type 0) (f : Field) (n : ℕ) → Then A (count s.top f n b)
-    count_quiet A f n = chosen (Then A) (is_digit b && nat_le (10 * n + (b - 48)) s.top) _ _ (λ _ h. absurd (false≢true h)) (λ _ h. absurd (false≢true h))
+    count_quiet A f n = cond_both (is_digit b && nat_le (10 * n + (b - 48)) s.top) _ _ (Then A) (λ _ h. absurd (false≢true h)) (λ _ h. absurd (false≢true h))
 
     header_asks : (q : Phase) → header.front s q p → Then (AsksHeader s.top (bytes p) b) (plan s.top q b)
-    header_asks phase.TheVariants.Start h = chosen (Then (AsksHeader s.top (bytes p) b)) (nat_eq b 42) _ _ (λ _ k. absurd (false≢true k)) (λ _ k. absurd (false≢true k))
+    header_asks phase.TheVariants.Start h = cond_both (nat_eq b 42) _ _ (Then (AsksHeader s.top (bytes p) b)) (λ _ k. absurd (false≢true k)) (λ _ k. absurd (false≢true k))
     header_asks (phase.TheVariants.BeforeWord f) h =
-        chosen (Then (AsksHeader s.top (bytes p) b)) (is_blank b) _ _ (λ _ k. absurd (false≢true k))
-        (λ _. chosen (Then (AsksHeader s.top (bytes p) b)) (nat_eq b 35) _ _ (λ _ k. absurd (false≢true k)) (λ _ k. absurd (false≢true k)))
+        cond_both (is_blank b) _ _ (Then (AsksHeader s.top (bytes p) b)) (λ _ k. absurd (false≢true k))
+        (λ _. cond_both (nat_eq b 35) _ _ (Then (AsksHeader s.top (bytes p) b)) (λ _ k. absurd (false≢true k)) (λ _ k. absurd (false≢true k)))
     header_asks (phase.TheVariants.Word f j) h =
-        chosen (Then (AsksHeader s.top (bytes p) b)) (nat_eq b (slice_index (word_of f) j)) _ _ (λ _ k. absurd (false≢true k)) (λ _ k. absurd (false≢true k))
+        cond_both (nat_eq b (slice_index (word_of f) j)) _ _ (Then (AsksHeader s.top (bytes p) b)) (λ _ k. absurd (false≢true k)) (λ _ k. absurd (false≢true k))
     header_asks (phase.TheVariants.BeforeCount f) h =
-        chosen (Then (AsksHeader s.top (bytes p) b)) (is_blank b) _ _ (λ _ k. absurd (false≢true k)) (λ _. count_quiet (AsksHeader s.top (bytes p) b) f 0)
+        cond_both (is_blank b) _ _ (Then (AsksHeader s.top (bytes p) b)) (λ _ k. absurd (false≢true k)) (λ _. count_quiet (AsksHeader s.top (bytes p) b) f 0)
     header_asks (phase.TheVariants.Count Variables n) h =
-        chosen (Then (AsksHeader s.top (bytes p) b)) (is_digit b) _ _ (λ _. count_quiet (AsksHeader s.top (bytes p) b) Variables n)
-        (λ _. chosen (Then (AsksHeader s.top (bytes p) b)) (is_blank b) _ _ (λ _ k. absurd (false≢true k)) (λ _ k. absurd (false≢true k)))
+        cond_both (is_digit b) _ _ (Then (AsksHeader s.top (bytes p) b)) (λ _. count_quiet (AsksHeader s.top (bytes p) b) Variables n)
+        (λ _. cond_both (is_blank b) _ _ (Then (AsksHeader s.top (bytes p) b)) (λ _ k. absurd (false≢true k)) (λ _ k. absurd (false≢true k)))
     header_asks (phase.TheVariants.Count Constraints n) h =
-        chosen (Then (AsksHeader s.top (bytes p) b)) (is_digit b) _ _ (λ _. count_quiet (AsksHeader s.top (bytes p) b) Constraints n)
-        (λ _. chosen (Then (AsksHeader s.top (bytes p) b)) (nat_eq b 10) _ _ (λ _ k. absurd (false≢true k))
-        (λ _. chosen (Then (AsksHeader s.top (bytes p) b)) (is_blank b) _ _ (λ e k. counted s p n b h.0 h.1 e) (λ _ k. absurd (false≢true k))))
+        cond_both (is_digit b) _ _ (Then (AsksHeader s.top (bytes p) b)) (λ _. count_quiet (AsksHeader s.top (bytes p) b) Constraints n)
+        (λ _. cond_both (nat_eq b 10) _ _ (Then (AsksHeader s.top (bytes p) b)) (λ _ k. absurd (false≢true k))
+        (λ _. cond_both (is_blank b) _ _ (Then (AsksHeader s.top (bytes p) b)) (λ e k. counted s p n b h.0 h.1 e) (λ _ k. absurd (false≢true k))))
     header_asks phase.TheVariants.Tail h =
-        chosen (Then (AsksHeader s.top (bytes p) b)) (nat_eq b 10) _ _ (λ _ k. absurd (false≢true k)) (λ e k. tailed s p b h.0 h.1 e h.2)
+        cond_both (nat_eq b 10) _ _ (Then (AsksHeader s.top (bytes p) b)) (λ _ k. absurd (false≢true k)) (λ e k. tailed s p b h.0 h.1 e h.2)
     header_asks (phase.TheVariants.Between may) h = absurd h
     header_asks (phase.TheVariants.Comment may) h = absurd h
     header_asks (phase.TheVariants.Min k) h = absurd h
@@ -156,9 +148,6 @@ module _ (limit top : ℕ) where
 
   -- Within a sum, what is read is read by the machine of sums.
   module _ (q : Phase) (g : Gives q) where
-    sum_step : (s : OpbState) (b : ℕ) → s.phase ≡ q → opb.step s b ≡ over s q (sums.step s.inner b)
-    sum_step s b e = ap (act s b) (ap (λ x. plan s.top x b) e ∙ g.gives s.top b)
-
     went : (s next : OpbState) (x : Next SumState SumEvent) → ◌≡◌ {A = Next OpbState OpbEvent} (over s q x) (Go next) → (inner : SumState) × (x ≡ Go inner) × (next ≡ giving s q inner)
     went s next (Go inner) e = (inner, refl, (let f : next ≡ giving s q inner = cc in f))
     went s next (End e' new) e = absurd (let f : ⊥ = cc in f)
@@ -170,16 +159,16 @@ module _ (limit top : ℕ) where
     ended s next e Refuse h = absurd (let f : ⊥ = cc in f)
 
     sum_reads : (t : List Letter) (s : OpbState) (e : OpbEvent) (next : OpbState) → s.phase ≡ q → Reads opb s t e next
-        → (f : SumEvent) × (new : SumState) × Reads sums s.inner t f new × (e ≡ statement_of f)
+        → (f : SumEvent) × (new : SumState) × Reads sums s.sums t f new × (e ≡ statement_of f)
     sum_reads [] s e next at r = absurd r
     sum_reads (l ∷ []) s e next at (h, n) =
-        let (f, new, k, same) = ended s next e (sums.step s.inner l.byte) (sym (sum_step s l.byte at) ∙ h) in
+        let (f, new, k, same) = ended s next e (sums.step s.sums l.byte) (sym (given_step s q g l.byte at) ∙ h) in
         (f, new, (k, n), same)
     sum_reads (l ∷ k ∷ t) s e next at (mid, h, o, n, r) =
-        let (inner, i, same) = went s mid (sums.step s.inner l.byte) (sym (sum_step s l.byte at) ∙ h) in
+        let (inner, i, same) = went s mid (sums.step s.sums l.byte) (sym (given_step s q g l.byte at) ∙ h) in
         let (f, new, j, is) = sum_reads (k ∷ t) mid e next (ap (λ x. x.phase) same) r in
         let number : opb.in_number mid ≡ sums.in_number inner = ap opb.in_number same ∙ g.number (giving s q inner) in
-        (f, new, (inner, i, goes-midway s.inner inner l.byte i, n ∙ number, subst (λ (x : SumState). Reads sums x (k ∷ t) f new) (ap (λ x. x.inner) same) j), is)
+        (f, new, (inner, i, goes-midway s.sums inner l.byte i, n ∙ number, subst (λ (x : SumState). Reads sums x (k ∷ t) f new) (ap (λ x. x.sums) same) j), is)
 
   -- Within a comment, what is read is a comment.
   comment_step : (s : OpbState) (b : ℕ) (m : Bool) (x : Bool) → s.phase ≡ phase.TheVariants.Comment m → nat_eq b 10 ≡ x → opb.step s b ≡ act s b (cond x (EndComment m) (Keep b))
@@ -206,42 +195,42 @@ module _ (limit top : ℕ) where
   in_comment s p b h e (a, c, is, star, kept) line =
       (s.text, ap bytes is ∙ (bytes-append a c ∙ ap₂ (λ (x y : List ℕ). x ++ y) (ap bytes star) (ap bytes kept ∙ bytes-plain s.text)), line_grown s.text b e h)
 
-  in_objective : (s new : OpbState) (inner : SumState) (a c rest : List Letter) (l : Letter) (f : SumEvent) → MinLead a → Walks sums (objectives s.limit) c s.inner → Reads sums s.inner (l ∷ rest) f inner
-      → sums.asks s.inner l.byte ≡ true → Asks top (statement_of f) (bytes (a ++ c)) l.byte
+  in_objective : (s new : OpbState) (inner : SumState) (a c rest : List Letter) (l : Letter) (f : SumEvent) → MinLead a → Walks sums (objectives s.limit) c s.sums → Reads sums s.sums (l ∷ rest) f inner
+      → sums.asks s.sums l.byte ≡ true → Asks top (statement_of f) (bytes (a ++ c)) l.byte
   in_objective s new inner a c rest l f lead w r h =
-      by_event f ((reads_grammar White part.TheVariants.Sum s.limit (c ++ l ∷ rest) f inner).0 (reads_behind sums c (l ∷ rest) (objectives s.limit) s.inner inner f w r)).0
+      by_event f ((reads_grammar White part.TheVariants.Sum s.limit (c ++ l ∷ rest) f inner).0 (reads_behind sums c (l ∷ rest) (objectives s.limit) s.sums inner f w r)).0
     where
       by_event : (g : SumEvent) → Spells White s.limit part.TheVariants.Sum g (c ++ l ∷ rest) → Asks top (statement_of g) (bytes (a ++ c)) l.byte
       by_event (sum.TheVariants.Sum xs) k =
-          (a, bytes c, lead, bytes-append a c, sums_asked White part.TheVariants.Sum s.limit c s.inner l.byte w h)
+          (a, bytes c, lead, bytes-append a c, sums_asked White part.TheVariants.Sum s.limit c s.sums l.byte w h)
       by_event (sum.TheVariants.Linear d) k = never false k.0 refl
 
-  in_constraint : (s : OpbState) (inner : SumState) (p rest : List Letter) (l : Letter) (f : SumEvent) → Walks sums (linears s.limit) p s.inner → Reads sums s.inner (l ∷ rest) f inner
-      → sums.asks s.inner l.byte ≡ true → Asks top (statement_of f) (bytes p) l.byte
+  in_constraint : (s : OpbState) (inner : SumState) (p rest : List Letter) (l : Letter) (f : SumEvent) → Walks sums (linears s.limit) p s.sums → Reads sums s.sums (l ∷ rest) f inner
+      → sums.asks s.sums l.byte ≡ true → Asks top (statement_of f) (bytes p) l.byte
   in_constraint s inner p rest l f w r h =
-      by_event f ((reads_grammar White part.TheVariants.Linear s.limit (p ++ l ∷ rest) f inner).0 (reads_behind sums p (l ∷ rest) (linears s.limit) s.inner inner f w r)).0
+      by_event f ((reads_grammar White part.TheVariants.Linear s.limit (p ++ l ∷ rest) f inner).0 (reads_behind sums p (l ∷ rest) (linears s.limit) s.sums inner f w r)).0
     where
       by_event : (g : SumEvent) → Spells White s.limit part.TheVariants.Linear g (p ++ l ∷ rest) → Asks top (statement_of g) (bytes p) l.byte
       by_event (sum.TheVariants.Sum xs) k = never false k.0 refl
-      by_event (sum.TheVariants.Linear d) k = sums_asked White part.TheVariants.Linear s.limit p s.inner l.byte w h
+      by_event (sum.TheVariants.Linear d) k = sums_asked White part.TheVariants.Linear s.limit p s.sums l.byte w h
 
   module _ (v n : ℕ) (may : Bool) (s next : OpbState) (p rest : List Letter) (l : Letter) (e : OpbEvent) where
     entry_asks : (q : Phase) → s.phase ≡ q → entry.front limit top v n may s q p → Reads opb s (l ∷ rest) e next → Then s p l.byte (Asks top e (bytes p) l.byte) (plan s.top q l.byte)
     entry_asks (phase.TheVariants.Between m) at (same, none, kept, inner) r =
         let T : Move → Type 0 = Then s p l.byte (Asks top e (bytes p) l.byte) in
-        chosen T (is_white l.byte) _ _ (λ _ k. absurd (false≢true k))
-        (λ _. chosen T (nat_eq l.byte 42) _ _ (λ _ k. absurd (false≢true k))
-        (λ _. chosen T (nat_eq l.byte 109 && m) _ _ (λ _ k. absurd (false≢true k))
+        cond_both (is_white l.byte) _ _ T (λ _ k. absurd (false≢true k))
+        (λ _. cond_both (nat_eq l.byte 42) _ _ T (λ _ k. absurd (false≢true k))
+        (λ _. cond_both (nat_eq l.byte 109 && m) _ _ T (λ _ k. absurd (false≢true k))
         (λ _ k. absurd (false≢true (sym (ap (λ (x : SumState). sums.asks x l.byte) inner ∙ first_asks_nothing White part.TheVariants.Linear s.limit l.byte) ∙ k)))))
     entry_asks (phase.TheVariants.Comment m) at (same, h, c) r =
-        chosen (Then s p l.byte (Asks top e (bytes p) l.byte)) (nat_eq l.byte 10) _ _ (λ _ k. absurd (false≢true k))
+        cond_both (nat_eq l.byte 10) _ _ (Then s p l.byte (Asks top e (bytes p) l.byte)) (λ _ k. absurd (false≢true k))
         (λ f k. let (line, is) = comment_reads (l ∷ rest) s m e next at r in subst (λ (x : OpbEvent). Asks top x (bytes p) l.byte) (sym is) (in_comment s p l.byte h f c line))
     entry_asks (phase.TheVariants.Min j) at h r =
-        chosen (Then s p l.byte (Asks top e (bytes p) l.byte)) (nat_eq l.byte (slice_index min_word j)) _ _
-        (λ _. chosen (Then s p l.byte (Asks top e (bytes p) l.byte)) (nat_eq (j + 1) (length min_word)) _ _ (λ _ k. absurd (false≢true k)) (λ _ k. absurd (false≢true k)))
+        cond_both (nat_eq l.byte (slice_index min_word j)) _ _ (Then s p l.byte (Asks top e (bytes p) l.byte))
+        (λ _. cond_both (nat_eq (j + 1) (length min_word)) _ _ (Then s p l.byte (Asks top e (bytes p) l.byte)) (λ _ k. absurd (false≢true k)) (λ _ k. absurd (false≢true k)))
         (λ _ k. absurd (false≢true k))
     entry_asks phase.TheVariants.AfterMin at (m, inner, lead) r =
-        chosen (Then s p l.byte (Asks top e (bytes p) l.byte)) (is_white l.byte) _ _ (λ _ k. absurd (false≢true k))
+        cond_both (is_white l.byte) _ _ (Then s p l.byte (Asks top e (bytes p) l.byte)) (λ _ k. absurd (false≢true k))
         (λ _ k. absurd (false≢true (sym (ap (λ (x : SumState). sums.asks x l.byte) inner ∙ first_asks_nothing White part.TheVariants.Sum s.limit l.byte) ∙ k)))
     entry_asks phase.TheVariants.Objective at (m, (a, c, is, lead, w)) r = λ k.
         let (f, inner, x, same) = sum_reads phase.TheVariants.Objective gives_objective (l ∷ rest) s e next at r in

@@ -1,38 +1,40 @@
 -- The machine accepts the statements of an instance, and no others.
 use Rattle.std.proofs.Common.{◌≡◌, ℕ, zero, suc, Bool, true, false, ◌&&◌, List, [], ◌∷◌, refl, sym, ap, subst, ◌∙◌, ◌↔◌}
+use Rattle.std.proofs.lemmas.Bool.{cond_both}
 use Rattle.std.specs.Prelude.{IsTrue, nat_eq}
 use Rattle.pb_text.specs.Automaton.{Next, Go, End, Refuse, Skips, Reads, Accepts}
 use Rattle.pb_text.specs.Classes.{is_white}
 use Rattle.pb_text.specs.Languages.{Each}
 use Rattle.pb_text.specs.Spelling.{Item, Letter}
+use Rattle.pb_text.proofs.Outcomes.{refuse_or_go, refuse_or_end}
+use Rattle.pb_text.proofs.Booleans.{never}
 use Rattle.pb_sums.specs.State.{SumState, sums}
 use Rattle.pb_sums.specs.declared.values.SumEvent.{SumEvent}
 use Rattle.pb_opb.specs.Instances.{IsEntry, IsBody, IsBegun, IsInstance}
-use Rattle.pb_opb.specs.Machine.{plan}
-use Rattle.pb_opb.specs.State.{OpbState, opb, begin, act, over, linears, is_done}
+use Rattle.pb_opb.specs.State.{OpbState, opb, begin, act, over, linears}
 use Rattle.pb_opb.specs.declared.event.OpbEvent.{OpbEvent}
 use Rattle.pb_opb.specs.declared.event.OpbEvent.TheVariants.{Header, Comment, Objective, Constraint}
 use Rattle.pb_opb.specs.declared.phase.Phase.{Phase}
 use Rattle.pb_opb.specs.declared.phase.Phase as phase
 use Rattle.pb_opb.specs.declared.phase.Move.{Move}
-use Rattle.pb_opb.proofs.ByteCases.{never, chosen}
 use Rattle.pb_opb.proofs.EntryFront.{entry_only}
 use Rattle.pb_opb.proofs.EntryWalk.{entry_reads}
 use Rattle.pb_opb.proofs.HeaderFront.{IsHeader, header_only}
 use Rattle.pb_opb.proofs.HeaderWalk.{header_reads}
 use Rattle.pb_opb.proofs.Stands.{idle}
-
-refuse-go : (s : OpbState) → ◌≡◌ {A = Next OpbState OpbEvent} Refuse (Go s) → ⊥
-refuse-go s h = cc
-
-refuse-end : (e : OpbEvent) (s : OpbState) → ◌≡◌ {A = Next OpbState OpbEvent} Refuse (End e s) → ⊥
-refuse-end e s h = cc
+use Rattle.pb_opb.proofs.States.{done_stops}
 
 -- what may come of a byte in a gap
-abbrev InGap : (OpbState → Type 0) → Next OpbState OpbEvent → Type 0
+abbrev pub InGap : (OpbState → Type 0) → Next OpbState OpbEvent → Type 0
 InGap P (Go mid) = opb.begun mid ≡ false → P mid
 InGap P (End e s) = Unit {0}
 InGap P Refuse = Unit {0}
+
+-- a byte that is given to the machine of sums begins a statement
+pub gap_given : (P : OpbState → Type 0) (s : OpbState) (x : Next SumState SumEvent) → InGap P (over s phase.TheVariants.Constraint x)
+gap_given P s (Go inner) = λ o. never true refl o
+gap_given P s (End e new) = tt
+gap_given P s Refuse = tt
 
 module _ (limit top : ℕ) where
   -- before a header there is no gap
@@ -44,26 +46,21 @@ module _ (limit top : ℕ) where
       P m = InGap (λ s. ⊥) (act (begin limit top) b m)
 
       on : opb.begun mid ≡ false → ⊥
-      on = subst (λ x. InGap (λ s. ⊥) x) g (chosen P (nat_eq b 42) _ _ (λ e o. never true refl o) (λ e. tt))
+      on = subst (λ x. InGap (λ s. ⊥) x) g (cond_both (nat_eq b 42) _ _ P (λ e o. never true refl o) (λ e. tt))
 
   module _ (v : ℕ) where
     abbrev at_idle : Bool → ℕ → OpbState
     at_idle may owed = idle limit top v may owed
 
     -- white space between two statements
-    gap_given : (may : Bool) (n : ℕ) (P : OpbState → Type 0) (x : Next SumState SumEvent) → InGap P (over (at_idle may (suc n)) phase.TheVariants.Constraint x)
-    gap_given may n P (Go inner) = λ o. never true refl o
-    gap_given may n P (End e new) = tt
-    gap_given may n P Refuse = tt
-
     gap_byte : (may : Bool) (n b : ℕ) → InGap (λ mid. (is_white b ≡ true) × (mid ≡ at_idle may (suc n))) (opb.step (at_idle may (suc n)) b)
-    gap_byte may n b = chosen Q (is_white b) _ _
+    gap_byte may n b = cond_both (is_white b) _ _ Q
         (λ e o. (e, refl))
-        (λ _. chosen Q (nat_eq b 42) _ _
+        (λ _. cond_both (nat_eq b 42) _ _ Q
         (λ _ o. never true refl o)
-        (λ _. chosen Q (nat_eq b 109 && may) _ _
+        (λ _. cond_both (nat_eq b 109 && may) _ _ Q
         (λ _ o. never true refl o)
-        (λ _. gap_given may n (λ mid. (is_white b ≡ true) × (mid ≡ at_idle may (suc n))) (sums.step (linears limit) b))))
+        (λ _. gap_given (λ mid. (is_white b ≡ true) × (mid ≡ at_idle may (suc n))) (at_idle may (suc n)) (sums.step (linears limit) b))))
       where
         Q : Move → Type 0
         Q m = InGap (λ mid. (is_white b ≡ true) × (mid ≡ at_idle may (suc n))) (act (at_idle may (suc n)) b m)
@@ -103,9 +100,9 @@ module _ (limit top : ℕ) where
     pub nothing_read : (may : Bool) (gap : List ℕ) (text : List Letter) (e : OpbEvent) (at after : OpbState) → Skips opb (at_idle may zero) gap at
         → Reads opb at text e after → ⊥
     nothing_read may [] [] e at after h r = r
-    nothing_read may [] (l ∷ []) e at after h (r, n) = refuse-end e after (sym (ap (λ s. opb.step s l.byte) h) ∙ r)
-    nothing_read may [] (l ∷ k ∷ text) e at after h (mid, g, o, n, r) = refuse-go mid (sym (ap (λ s. opb.step s l.byte) h) ∙ g)
-    nothing_read may (b ∷ gap) text e at after (mid, g, o, h) r = refuse-go mid g
+    nothing_read may [] (l ∷ []) e at after h (r, n) = refuse_or_end e after (sym (ap (λ s. opb.step s l.byte) h) ∙ r)
+    nothing_read may [] (l ∷ k ∷ text) e at after h (mid, g, o, n, r) = refuse_or_go mid (sym (ap (λ s. opb.step s l.byte) h) ∙ g)
+    nothing_read may (b ∷ gap) text e at after (mid, g, o, h) r = refuse_or_go mid g
 
     body_only : (items : List (Item OpbEvent)) (may : Bool) (owed : ℕ) → Accepts opb (at_idle may owed) items → IsBody limit may owed items
     body_only [] may zero h = tt
@@ -159,9 +156,5 @@ module _ (limit top : ℕ) where
   reads_instances items = (instance_only items, instance_each items)
 
 -- Nothing may follow what is complete.
-done_stops : (s : OpbState) (p : Phase) (b : ℕ) → is_done p ≡ true → act s b (plan s.top p b) ≡ Refuse
-done_stops s phase.TheVariants.Done b h = refl
-done_stops s _ b h = never false h refl
-
 pub closes : (s : OpbState) → IsTrue (opb.done s) → (b : ℕ) → opb.step s b ≡ Refuse
-closes s h b = done_stops s s.phase b h
+closes s h b = ap (act s b) (done_stops s.top s.phase b h)

@@ -24,7 +24,7 @@ use Rattle.pb_opb.specs.declared.phase.Phase.{Phase}
 use Rattle.pb_opb.specs.declared.phase.Phase as phase
 use Rattle.pb_opb.specs.declared.phase.Move.TheVariants.{To, Give}
 use Rattle.pb_opb.proofs.FirstLetters.{spaces_white, IsDark, sum-dark, linear_first}
-use Rattle.pb_opb.proofs.Inners.{gives_objective, gives_constraint, given_reads}
+use Rattle.pb_opb.proofs.GivenBytes.{gives_objective, gives_constraint, given_reads}
 use Rattle.pb_opb.proofs.Objectives.{MinFront, objective_parts}
 use Rattle.pb_opb.proofs.Stands.{stands, idle, stays, stays_many, Keeps, line_reads}
 
@@ -38,7 +38,7 @@ given_after_min top b h = rw h refl
 module _ (limit top v n : ℕ) where
   -- within a statement
   abbrev pub midway : Phase → List ℕ → SumState → OpbState
-  midway p text inner = record { limit = limit; top = top; variables = v; owed = suc n; phase = p; text = text; inner = inner }
+  midway p text inner = record { limit = limit; top = top; variables = v; owed = suc n; phase = p; text = text; sums = inner }
 
   abbrev between : Bool → OpbState
   between may = idle limit top v may (suc n)

@@ -1,19 +1,24 @@
 -- The first letters of sums and of linear texts.
-use Rattle.std.proofs.Common.{◌≡◌, ℕ, Bool, true, false, List, [], ◌∷◌, ◌++◌, map, refl, sym, ap, subst, ◌∙◌, inl, inr}
-use Rattle.std.proofs.lemmas.Bool.{eqb-true}
+use Rattle.std.proofs.Common.{◌≡◌, ℕ, true, false, ◌||◌, List, [], ◌∷◌, ◌++◌, map, refl, sym, ap, subst, ◌∙◌, inl, inr}
+use Rattle.std.proofs.Math.Bool.{and-true}
+use Rattle.std.proofs.lemmas.Bool.{eqb-true, false_from_ne_true}
 use Rattle.std.specs.Prelude.{IsTrue, nat_eq, ℤ}
-use Rattle.pb_text.specs.Automaton.{Next, Go, End, Refuse, Reads}
-use Rattle.pb_text.specs.Classes.{is_white}
+use Rattle.pb_text.specs.Automaton.{Refuse, Reads}
+use Rattle.pb_text.specs.Classes.{is_blank, is_white}
 use Rattle.pb_text.specs.Languages.{unmarked, digit, Language, ◌⋅◌, Each}
 use Rattle.pb_text.specs.Numbers.{Number}
 use Rattle.pb_text.specs.Spelling.{Letter}
+use Rattle.pb_text.proofs.ByteTests.{white_each, digit_dark}
+use Rattle.pb_text.proofs.Outcomes.{refuse_or_go, refuse_or_end}
 use Rattle.pb_sums.specs.State.{SumState, sums}
 use Rattle.pb_sums.specs.Sums.{is_space, Spaces1, SpellsLiteral, SpellsTerm, SpellsFurther, SpellsSum}
 use Rattle.pb_sums.specs.declared.grammar.Spaces.TheVariants.{White}
 use Rattle.pb_sums.specs.declared.values.SumEvent.{SumEvent}
 use Rattle.pb_sums.specs.declared.values.Term.{Term}
 use Rattle.pb_opb.specs.State.{linears}
-use Rattle.pb_opb.proofs.ByteCases.{white_each, white-space, digit-dark}
+
+white-space : (b : ℕ) → is_space White b ≡ is_white b
+white-space b = ap (λ x. is_blank b || x) (and-true (nat_eq b 10))
 
 -- white space is the space of the sums
 pub spaces_white : (bs : List ℕ) → Each (λ b. IsTrue (is_space White b)) bs → Each (λ b. IsTrue (is_white b)) bs
@@ -35,7 +40,7 @@ dark_then P Q f t (a, b, e, h, k) =
 number-dark : (limit : ℕ) (z : ℤ) (t : List Letter) → Number limit z t → IsDark t
 number-dark limit z t (true, n, l, e, (a, b, f, s, d)) = (unmarked 45, b, f ∙ ap (λ x. x ++ b) s, refl)
 number-dark limit z t (false, n, l, e, (a, b, f, inl s, (d, ds, h, g, v))) =
-    (digit d, map digit ds, f ∙ (ap (λ x. x ++ b) s ∙ g), digit-dark d h.0)
+    (digit d, map digit ds, f ∙ (ap (λ x. x ++ b) s ∙ g), digit_dark d h.0)
 number-dark limit z t (false, n, l, e, (a, b, f, inr s, d)) = (unmarked 43, b, f ∙ ap (λ x. x ++ b) s, refl)
 
 pub sum-dark : (limit : ℕ) (x : Term) (xs : List Term) (P Q : Language) (t : List Letter) → (SpellsSum White limit (x ∷ xs) ⋅ P ⋅ Q) t → IsDark t
@@ -48,24 +53,14 @@ sum-dark limit x xs P Q =
 
 -- what a machine refuses does not begin what it reads
 taken : (s : SumState) (l : Letter) (t : List Letter) (e : SumEvent) (after : SumState) → Reads sums s (l ∷ t) e after → sums.step s l.byte ≡ Refuse → ⊥
-taken s l [] e after (h, n) k = refused (sym k ∙ h)
-  where
-    refused : ◌≡◌ {A = Next SumState SumEvent} Refuse (End e after) → ⊥
-    refused x = cc
-taken s l (d ∷ t) e after (mid, h, i, n, r) k = refused (sym k ∙ h)
-  where
-    refused : ◌≡◌ {A = Next SumState SumEvent} Refuse (Go mid) → ⊥
-    refused x = cc
-
-passes : (x : Bool) → (x ≡ true → ⊥) → x ≡ false
-passes true h = absurd (h refl)
-passes false h = refl
+taken s l [] e after (h, n) k = refuse_or_end e after (sym k ∙ h)
+taken s l (d ∷ t) e after (mid, h, i, n, r) k = refuse_or_go mid (sym k ∙ h)
 
 -- no white space, no star and no `m` begins a linear text
 pub linear_first : (limit : ℕ) (l : Letter) (t : List Letter) (e : SumEvent) (after : SumState) → Reads sums (linears limit) (l ∷ t) e after
     → (is_white l.byte ≡ false) × (nat_eq l.byte 42 ≡ false) × (nat_eq l.byte 109 ≡ false)
 linear_first limit l t e after r = (
-  passes (is_white l.byte) (λ h. taken (linears limit) l t e after r (white_each (λ b. sums.step (linears limit) b ≡ Refuse) refl refl refl refl l.byte h)),
-  passes (nat_eq l.byte 42) (λ h. taken (linears limit) l t e after r (subst (λ b. sums.step (linears limit) b ≡ Refuse) (sym (eqb-true l.byte 42 h)) refl)),
-  passes (nat_eq l.byte 109) (λ h. taken (linears limit) l t e after r (subst (λ b. sums.step (linears limit) b ≡ Refuse) (sym (eqb-true l.byte 109 h)) refl)),
+  false_from_ne_true (is_white l.byte) (λ h. taken (linears limit) l t e after r (white_each (λ b. sums.step (linears limit) b ≡ Refuse) refl refl refl refl l.byte h)),
+  false_from_ne_true (nat_eq l.byte 42) (λ h. taken (linears limit) l t e after r (subst (λ b. sums.step (linears limit) b ≡ Refuse) (sym (eqb-true l.byte 42 h)) refl)),
+  false_from_ne_true (nat_eq l.byte 109) (λ h. taken (linears limit) l t e after r (subst (λ b. sums.step (linears limit) b ≡ Refuse) (sym (eqb-true l.byte 109 h)) refl)),
 )

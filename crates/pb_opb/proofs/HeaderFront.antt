@@ -1,7 +1,6 @@
 -- What the machine reads as a header is one.
 use Rattle.std.proofs.Common.{◌≡◌, ℕ, ◌+◌, ◌-◌, ◌*◌, ◌<◌, ◌≤◌, true, false, ◌&&◌, List, [], ◌∷◌, ◌++◌, length, take, refl, sym, ap, subst, arith, ◌∙◌}
-use Rattle.std.proofs.lemmas.Bool.{eqb-true, leb-true}
-use Rattle.std.proofs.lemmas.Bool.Decides.{nat_tests}
+use Rattle.std.proofs.lemmas.Bool.{eqb-true, leb-true, and_parts, cond_both}
 use Rattle.std.specs.Prelude.{IsTrue, nat_eq, nat_le, slice_index}
 use Rattle.pb_text.specs.Automaton.{Reads}
 use Rattle.pb_text.specs.Classes.{is_blank, is_digit}
@@ -9,6 +8,7 @@ use Rattle.pb_text.specs.Languages.{unmarked, digit, Language, ◌⋅◌, Byte, 
 use Rattle.pb_text.specs.Numbers.{Digits, Count}
 use Rattle.pb_text.specs.Spelling.{Letter, plain}
 use Rattle.pb_text.proofs.Languages.{grown, next, none_yet, behind_it, many-grown, some-grown, some-one}
+use Rattle.pb_text.proofs.Letters.{as_unmarked, some_digit, bytes_grown, word_grown, word_whole}
 use Rattle.pb_text.proofs.Numbers.{digits-grown, digits-one}
 use Rattle.pb_text.proofs.Walking.{On, Keeps, told}
 use Rattle.pb_opb.specs.Instances.{variable_word, constraint_word, IsTail, SpellsHeader}
@@ -22,8 +22,7 @@ use Rattle.pb_opb.specs.declared.phase.Phase.{Phase}
 use Rattle.pb_opb.specs.declared.phase.Phase as phase
 use Rattle.pb_opb.specs.declared.phase.Move.{Move}
 use Rattle.pb_opb.specs.declared.phase.Move.TheVariants.{To}
-use Rattle.pb_opb.proofs.ByteCases.{chosen, both, as_unmarked, as_digit}
-use Rattle.pb_opb.proofs.Fronts.{bytes_grown, word_grown, word_whole, tail_grown}
+use Rattle.pb_opb.proofs.Fronts.{tail_grown, further}
 use Rattle.pb_opb.proofs.Stands.{idle}
 
 abbrev IsBlank : ℕ → Type 0
@@ -81,14 +80,14 @@ module _ (limit top : ℕ) where
     After m = On opb Front Told (act s l.byte m) l (p ++ l ∷ [])
 
     at_start : p ≡ [] → After (plan s.top phase.TheVariants.Start l.byte)
-    at_start h = chosen After (nat_eq l.byte 42) _ _
+    at_start h = cond_both (nat_eq l.byte 42) _ _ After
         (λ e w n. (k, none_yet (Byte 42) Blanks0 (p ++ l ∷ []) ([], tt, refl) (ap (λ x. x ++ l ∷ []) h ∙ ap (λ x. x ∷ []) (as_unmarked l 42 n (eqb-true l.byte 42 e)))))
         (λ e. tt)
 
     before_word : (f : Field) → Before s.top s.variables f p → After (plan s.top (phase.TheVariants.BeforeWord f) l.byte)
-    before_word f h = chosen After (is_blank l.byte) _ _
+    before_word f h = cond_both (is_blank l.byte) _ _ After
         (λ e w n. (k, before_grown s.top s.variables f l p n e h))
-        (λ _. chosen After (nat_eq l.byte 35) _ _
+        (λ _. cond_both (nat_eq l.byte 35) _ _ After
         (λ e w n. (
           k,
           (long f, next (Before s.top s.variables f) (Bytes (take 1 (word_of f))) p l h (ap (λ x. x ∷ []) (as_unmarked l 35 n (eqb-true l.byte 35 e)) ∙ sym (hash f))),
@@ -97,37 +96,34 @@ module _ (limit top : ℕ) where
 
     in_word : (f : Field) (j : ℕ) → j < length (word_of f) → (Before s.top s.variables f ⋅ Bytes (take j (word_of f))) p
         → After (plan s.top (phase.TheVariants.Word f j) l.byte)
-    in_word f j i h = chosen After (nat_eq l.byte (slice_index (word_of f) j)) _ _
-        (λ e. chosen (λ q. After (To q)) (nat_eq (j + 1) (length (word_of f))) (phase.TheVariants.BeforeCount f) (phase.TheVariants.Word f (j + 1))
+    in_word f j i h = cond_both (nat_eq l.byte (slice_index (word_of f) j)) _ _ After
+        (λ e. cond_both (nat_eq (j + 1) (length (word_of f))) (phase.TheVariants.BeforeCount f) (phase.TheVariants.Word f (j + 1)) (λ q. After (To q))
         (λ g w n. (
           k,
           none_yet (P ⋅ Bytes (word_of f)) Blanks0 (p ++ l ∷ []) ([], tt, refl)
               (behind_it P (Bytes (take (j + 1) (word_of f))) (Bytes (word_of f)) (p ++ l ∷ []) (λ q. word_whole (word_of f) (j + 1) q (eqb-true (j + 1) (length (word_of f)) g)) (longer n e)),
         ))
-        (λ g w n. (k, (further (length (word_of f)) i g, longer n e))))
+        (λ g w n. (k, (further (length (word_of f)) j i g, longer n e))))
         (λ _. tt)
       where
         P : Language
         P = Before s.top s.variables f
 
-        further : (size : ℕ) → j < size → nat_eq (j + 1) size ≡ false → j + 1 < size
-        further size i g = grind (arith, nat_tests)
-
         longer : l.numeral ≡ false → nat_eq l.byte (slice_index (word_of f) j) ≡ true → (P ⋅ Bytes (take (j + 1) (word_of f))) (p ++ l ∷ [])
         longer n e = grown P (Bytes (take j (word_of f))) (Bytes (take (j + 1) (word_of f))) p l (word_grown (word_of f) j l i n (eqb-true l.byte (slice_index (word_of f) j) e)) h
 
     before_count : (f : Field) → (Before s.top s.variables f ⋅ Bytes (word_of f) ⋅ Blanks0) p → After (plan s.top (phase.TheVariants.BeforeCount f) l.byte)
-    before_count f h = chosen After (is_blank l.byte) _ _
+    before_count f h = cond_both (is_blank l.byte) _ _ After
         (λ e w n. (k, grown (Before s.top s.variables f ⋅ Bytes (word_of f)) Blanks0 Blanks0 p l (many-grown IsBlank l.byte l (as_unmarked l l.byte n refl) e) h))
-        (λ _. chosen After (is_digit l.byte && nat_le (10 * 0 + (l.byte - 48)) s.top) _ _
+        (λ _. cond_both (is_digit l.byte && nat_le (10 * 0 + (l.byte - 48)) s.top) _ _ After
         (λ e w n.
-        let g : (is_digit l.byte ≡ true) × (nat_le (10 * 0 + (l.byte - 48)) s.top ≡ true) = both (is_digit l.byte) (nat_le (10 * 0 + (l.byte - 48)) s.top) e in
-        let d : (l ≡ digit (l.byte - 48)) × (l.byte - 48 < 10) = as_digit l n g.0 in
+        let g : (is_digit l.byte ≡ true) × (nat_le (10 * 0 + (l.byte - 48)) s.top ≡ true) = and_parts (is_digit l.byte) (nat_le (10 * 0 + (l.byte - 48)) s.top) e in
+        let d : (l ≡ digit (l.byte - 48)) × (l.byte - 48 < 10) = some_digit l n g.0 in
         (k, (leb-true (10 * 0 + (l.byte - 48)) s.top g.1, next (Before s.top s.variables f ⋅ Bytes (word_of f) ⋅ Blanks0) (Digits (10 * 0 + (l.byte - 48))) p l h (digits-one (l.byte - 48) l d.0 d.1))))
         (λ _. tt))
 
     behind : (f : Field) (n : ℕ) → n ≤ s.top → (Before s.top s.variables f ⋅ Bytes (word_of f) ⋅ Blanks0 ⋅ Digits n) p → After (behind_count f n l.byte)
-    behind Variables n i h = chosen After (is_blank l.byte) _ _
+    behind Variables n i h = cond_both (is_blank l.byte) _ _ After
         (λ e w m. (
           k,
           next (Whole s.top Variables n (Byte 42 ⋅ Blanks0)) Blanks1 p l (counted s.top n (Byte 42 ⋅ Blanks0 ⋅ Bytes variable_word ⋅ Blanks0) p i h)
@@ -137,14 +133,14 @@ module _ (limit top : ℕ) where
     behind Constraints n i h =
         let C : Language = Whole s.top Constraints n (Before s.top s.variables Constraints) in
         let c : C p = counted s.top n (Before s.top s.variables Constraints ⋅ Bytes constraint_word ⋅ Blanks0) p i h in
-        chosen After (nat_eq l.byte 10) _ _
+        cond_both (nat_eq l.byte 10) _ _ After
         (λ e m. (
           k,
           tt,
           next (C ⋅ Bytes []) (Byte 10) p l (none_yet C (Bytes []) p refl c) (ap (λ x. x ∷ []) (as_unmarked l 10 m (eqb-true l.byte 10 e))),
           refl,
         ))
-        (λ _. chosen After (is_blank l.byte) _ _
+        (λ _. cond_both (is_blank l.byte) _ _ After
         (λ e w m. (k, ((e, tt), some_byte, next C (Bytes (l.byte ∷ [])) p l c (ap (λ x. x ∷ []) (as_unmarked l l.byte m refl)))))
         (λ _. tt))
       where
@@ -153,11 +149,11 @@ module _ (limit top : ℕ) where
 
     in_count : (f : Field) (n : ℕ) → n ≤ s.top → (Before s.top s.variables f ⋅ Bytes (word_of f) ⋅ Blanks0 ⋅ Digits n) p
         → After (plan s.top (phase.TheVariants.Count f n) l.byte)
-    in_count f n i h = chosen After (is_digit l.byte) _ _
-        (λ _. chosen After (is_digit l.byte && nat_le (10 * n + (l.byte - 48)) s.top) _ _
+    in_count f n i h = cond_both (is_digit l.byte) _ _ After
+        (λ _. cond_both (is_digit l.byte && nat_le (10 * n + (l.byte - 48)) s.top) _ _ After
         (λ e w m.
-        let g : (is_digit l.byte ≡ true) × (nat_le (10 * n + (l.byte - 48)) s.top ≡ true) = both (is_digit l.byte) (nat_le (10 * n + (l.byte - 48)) s.top) e in
-        let d : (l ≡ digit (l.byte - 48)) × (l.byte - 48 < 10) = as_digit l m g.0 in (
+        let g : (is_digit l.byte ≡ true) × (nat_le (10 * n + (l.byte - 48)) s.top ≡ true) = and_parts (is_digit l.byte) (nat_le (10 * n + (l.byte - 48)) s.top) e in
+        let d : (l ≡ digit (l.byte - 48)) × (l.byte - 48 < 10) = some_digit l m g.0 in (
           k,
           (
             leb-true (10 * n + (l.byte - 48)) s.top g.1,
@@ -170,7 +166,7 @@ module _ (limit top : ℕ) where
     in_tail : s.phase ≡ phase.TheVariants.Tail → IsTail s.text → (s.text ≡ [] → ⊥)
         → (Whole s.top Constraints s.owed (Before s.top s.variables Constraints) ⋅ Bytes s.text) p
         → After (plan s.top phase.TheVariants.Tail l.byte)
-    in_tail at h some c = chosen After (nat_eq l.byte 10) _ _
+    in_tail at h some c = cond_both (nat_eq l.byte 10) _ _ After
         (λ e m. (k, h, next (C ⋅ Bytes s.text) (Byte 10) p l c (ap (λ x. x ∷ []) (as_unmarked l 10 m (eqb-true l.byte 10 e))), refl))
         (λ e w m. (
           k,

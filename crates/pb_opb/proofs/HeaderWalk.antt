@@ -1,15 +1,16 @@
 -- The machine reads each header: one lemma for each word of the grammar.
-use Rattle.std.proofs.Common.{◌≡◌, ℕ, zero, suc, ◌+◌, ◌-◌, ◌*◌, ◌^◌, ◌<◌, ◌≤◌, Bool, true, false, cond, List, [], ◌∷◌, ◌++◌, length, map, refl, sym, ap, subst, arith, ◌∙◌, append_assoc, length-append}
-use Rattle.std.proofs.Math.Nat.{pow-succ', le-mul_of_pos_right}
+use Rattle.std.proofs.Common.{◌≡◌, ℕ, ◌+◌, ◌-◌, ◌*◌, ◌<◌, ◌≤◌, Bool, true, false, cond, List, [], ◌∷◌, ◌++◌, length, refl, sym, ap, subst, arith, ◌∙◌, append_assoc, length-append}
 use Rattle.std.proofs.Math.Seq.{get_or-append_seam}
-use Rattle.std.proofs.lemmas.Bool.{le-leb}
+use Rattle.std.proofs.lemmas.Bool.{le-leb, eq-eqb}
 use Rattle.std.proofs.lemmas.Bool.Decides.{nat_tests}
 use Rattle.std.specs.Prelude.{IsTrue, nat_eq, slice_index}
 use Rattle.pb_text.specs.Automaton.{Go, Reads}
 use Rattle.pb_text.specs.Classes.{is_blank}
-use Rattle.pb_text.specs.Languages.{unmarked, digit, Language, ◌⋅◌, Byte, Bytes, Each, Blanks0, Blanks1}
-use Rattle.pb_text.specs.Numbers.{value, Count}
+use Rattle.pb_text.specs.Languages.{unmarked, Language, ◌⋅◌, Byte, Bytes, Blanks0, Blanks1}
+use Rattle.pb_text.specs.Numbers.{Count}
 use Rattle.pb_text.specs.Spelling.{Letter, plain}
+use Rattle.pb_text.proofs.ByteTests.{blank_each, digit_byte, digit_blank}
+use Rattle.pb_text.proofs.DigitWalks.{TakesDigits, digits_lead}
 use Rattle.pb_text.proofs.Walking.{Walks, Leads, leads_then, longer, reads_behind}
 use Rattle.pb_opb.specs.Instances.{variable_word, constraint_word, IsTail, SpellsHeader}
 use Rattle.pb_opb.specs.Machine.{word_of, spell, count, behind_count, plan}
@@ -20,33 +21,26 @@ use Rattle.pb_opb.specs.declared.phase.Field.TheVariants.{Variables, Constraints
 use Rattle.pb_opb.specs.declared.phase.Phase.{Phase}
 use Rattle.pb_opb.specs.declared.phase.Phase as phase
 use Rattle.pb_opb.specs.declared.phase.Move.TheVariants.{To}
-use Rattle.pb_opb.proofs.ByteCases.{blank_each, digit-byte, digit-blank}
 use Rattle.pb_opb.proofs.Stands.{stands, idle, stays_many, Keeps, line_reads}
-
-nat-same : (b : ℕ) → nat_eq b b ≡ true
-nat-same b = grind (arith, nat_tests)
 
 spell_next : (w front left : List ℕ) (b : ℕ) (more whole : Phase) (x : Bool) → w ≡ front ++ b ∷ left → nat_eq (length front + 1) (length w) ≡ x
     → spell w (length front) b more whole ≡ To (cond x whole more)
 spell_next w front left b more whole x e f =
     let g : slice_index w (length front) ≡ b = ap (λ y. slice_index y (length front)) e ∙ get_or-append_seam front b left 0 in
-    rw (g, nat-same b, f) refl
-
-ten_pos : (k : ℕ) → 0 < 10 ^ k
-ten_pos zero = omega arith
-ten_pos (suc k) = rw (pow-succ' 10 k) (omega (arith, ten_pos k))
+    rw (g, eq-eqb b b refl, f) refl
 
 count_next : (top : ℕ) (f : Field) (m d : ℕ) → d < 10 → 10 * m + d ≤ top → count top f m (48 + d) ≡ To (phase.TheVariants.Count f (10 * m + d))
 count_next top f m d h l =
     let e : (48 + d) - 48 ≡ d = omega arith in
-    rw (digit-byte d h, e, le-leb (10 * m + d) top l) refl
+    rw (digit_byte d h, e, le-leb (10 * m + d) top l) refl
 
-first_digit : (top : ℕ) (f : Field) (d : ℕ) → d < 10 → 10 * 0 + d ≤ top
-    → plan top (phase.TheVariants.BeforeCount f) (48 + d) ≡ To (phase.TheVariants.Count f (10 * 0 + d))
-first_digit top f d h l = rw (digit-blank d h) (count_next top f 0 d h l)
+first_digit : (top : ℕ) (f : Field) (d : ℕ) → d < 10 → d ≤ top → plan top (phase.TheVariants.BeforeCount f) (48 + d) ≡ To (phase.TheVariants.Count f d)
+first_digit top f d h l =
+    let same : 10 * 0 + d ≡ d = omega arith in
+    rw (digit_blank d h) (count_next top f 0 d h (omega arith) ∙ ap (λ n. To (phase.TheVariants.Count f n)) same)
 
 next_digit : (top : ℕ) (f : Field) (m d : ℕ) → d < 10 → 10 * m + d ≤ top → plan top (phase.TheVariants.Count f m) (48 + d) ≡ To (phase.TheVariants.Count f (10 * m + d))
-next_digit top f m d h l = ap (λ x. cond x (count top f m (48 + d)) (behind_count f m (48 + d))) (digit-byte d h) ∙ count_next top f m d h l
+next_digit top f m d h l = ap (λ x. cond x (count top f m (48 + d)) (behind_count f m (48 + d))) (digit_byte d h) ∙ count_next top f m d h l
 
 module _ (limit top : ℕ) where
   -- before the tail of a header
@@ -66,7 +60,7 @@ module _ (limit top : ℕ) where
   spelled : (f : Field) (v : ℕ) (front left : List ℕ) (b : ℕ) → word_of f ≡ front ++ b ∷ left
       → Walks opb (head v (phase.TheVariants.Word f (length front))) (plain (b ∷ left)) (head v (phase.TheVariants.BeforeCount f))
   spelled f v front [] b e =
-      let n : nat_eq (length front + 1) (length (word_of f)) ≡ true = ap (λ x. nat_eq (length front + 1) (length x)) e ∙ ap (λ x. nat_eq (length front + 1) x) (length-append front (b ∷ [])) ∙ nat-same (length front + 1) in (
+      let n : nat_eq (length front + 1) (length (word_of f)) ≡ true = ap (λ x. nat_eq (length front + 1) (length x)) e ∙ ap (λ x. nat_eq (length front + 1) x) (length-append front (b ∷ [])) ∙ eq-eqb (length front + 1) (length front + 1) refl in (
         head v (phase.TheVariants.BeforeCount f),
         ap (λ x. act (head v (phase.TheVariants.Word f (length front))) b x) (spell_next (word_of f) front [] b (phase.TheVariants.Word f (length front + 1)) (phase.TheVariants.BeforeCount f) true e n),
         refl,
@@ -93,35 +87,17 @@ module _ (limit top : ℕ) where
   word_leads Constraints v t e = subst (λ x. Walks opb (head v (phase.TheVariants.BeforeWord Constraints)) x (head v (phase.TheVariants.BeforeCount Constraints))) (sym e) (begins_word Constraints v _ 99 refl)
 
   -- digits of a count
-  digits_walk : (f : Field) (v m n : ℕ) (ds : List ℕ) → Each (λ e. e < 10) ds → n ≡ m * 10 ^ length ds + value ds → n ≤ top
-      → Walks opb (head v (phase.TheVariants.Count f m)) (map digit ds) (head v (phase.TheVariants.Count f n))
-  digits_walk f v m n [] h e l =
-      let g : n ≡ m = omega arith in
-      ap (λ x. head v (phase.TheVariants.Count f x)) g
-  digits_walk f v m n (d ∷ ds) h e l =
-      let p : 10 ^ suc (length ds) ≡ 10 * 10 ^ length ds = pow-succ' 10 (length ds) in
-      let i : 10 * m + d ≤ (10 * m + d) * 10 ^ length ds = le-mul_of_pos_right (10 * m + d) (ten_pos (length ds)) in
-      let w : n ≡ (10 * m + d) * 10 ^ length ds + value ds = e ∙ rw p (omega arith) in
-      let u : 10 * m + d ≤ top = omega arith in (
-        head v (phase.TheVariants.Count f (10 * m + d)),
-        ap (λ x. act (head v (phase.TheVariants.Count f m)) (48 + d) x) (next_digit top f m d h.0 u),
-        refl,
-        refl,
-        digits_walk f v (10 * m + d) n ds h.1 w l,
-      )
+  takes_digits : (f : Field) (v : ℕ) → TakesDigits opb (λ n. head v (phase.TheVariants.Count f n)) top
+  takes_digits f v = record {
+    more = λ n d h l. ap (λ x. act (head v (phase.TheVariants.Count f n)) (48 + d) x) (next_digit top f n d h l);
+    begun = λ n. refl;
+    number = λ n. refl;
+  }
 
   count_leads : (f : Field) (v n : ℕ) → Leads opb (head v (phase.TheVariants.BeforeCount f)) (Count top n) (head v (phase.TheVariants.Count f n))
-  count_leads f v n t (l, (d, ds, h, e, g)) =
-      let i : d ≤ d * 10 ^ length ds = le-mul_of_pos_right d (ten_pos (length ds)) in
-      let u : 10 * 0 + d ≤ top = omega arith in
-      let w : n ≡ (10 * 0 + d) * 10 ^ length ds + value ds = g ∙ omega arith in
-      subst (λ x. Walks opb (head v (phase.TheVariants.BeforeCount f)) x (head v (phase.TheVariants.Count f n))) (sym e) (
-        head v (phase.TheVariants.Count f (10 * 0 + d)),
-        ap (λ x. act (head v (phase.TheVariants.BeforeCount f)) (48 + d) x) (first_digit top f d h.0 u),
-        refl,
-        refl,
-        digits_walk f v (10 * 0 + d) n ds h.1 w l,
-      )
+  count_leads f v n t h =
+      digits_lead opb (λ n. head v (phase.TheVariants.Count f n)) top (takes_digits f v) (head v (phase.TheVariants.BeforeCount f))
+      (λ d i l. ap (λ x. act (head v (phase.TheVariants.BeforeCount f)) (48 + d) x) (first_digit top f d i l)) n h.0 t h.1
 
   declares : (v n b : ℕ) → is_blank b ≡ true → opb.step (head v (phase.TheVariants.Count Variables n)) b ≡ Go (head n (phase.TheVariants.BeforeWord Constraints))
   declares v n = blank_each (λ b. opb.step (head v (phase.TheVariants.Count Variables n)) b ≡ Go (head n (phase.TheVariants.BeforeWord Constraints))) refl refl refl

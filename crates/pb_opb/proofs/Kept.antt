@@ -1,4 +1,4 @@
--- What is read of an instance meets the rules.
+-- What is read of an instance meets the rules, and what the statements behind its header say. Offered to other crates.
 use Rattle.std.proofs.Common.{◌≡◌, ℕ, zero, suc, ◌+◌, ◌<◌, ◌≤◌, List, [], ◌∷◌, length, refl, ap, sym, ◌∙◌, subst, arith, Bool, true, false, Option, Some, None}
 use Rattle.std.specs.Prelude.{IsTrue}
 use Rattle.pb_text.specs.Spelling.{Letter, Item}
@@ -36,10 +36,10 @@ module _ (limit : ℕ) where
   Objectives may n (Some terms ∷ x ∷ rest) = ⊥
 
   -- statements behind a header, of which n are constraints
-  record IsTold (may : Bool) (n : ℕ) (events : List OpbEvent) : Type 0 where
-    variables : variables_in events ≡ []
-    tails : tails_in events ≡ []
-    count : length (constraints_in events) ≡ n
+  pub record IsTold (may : Bool) (n : ℕ) (events : List OpbEvent) : Type 0 where
+    pub variables : variables_in events ≡ []
+    pub tails : tails_in events ≡ []
+    pub count : length (constraints_in events) ≡ n
     constraints : AreLinears limit (constraints_in events)
     objectives : Objectives may n (objectives_in events)
     comments : (k : ℕ) → AreComments k (k + (n + length (objectives_in events))) (comments_in k events)
@@ -95,7 +95,7 @@ module _ (limit : ℕ) where
             (subst (λ (a : ℕ). AreComments (k + 1) a (comments_in (k + 1) (events_of rest))) e (r.comments (k + 1)));
       }
 
-  told : (may : Bool) (n : ℕ) (items : List (Item OpbEvent)) → IsBody limit may n items → IsTold may n (events_of items)
+  pub told : (may : Bool) (n : ℕ) (items : List (Item OpbEvent)) → IsBody limit may n items → IsTold may n (events_of items)
   told may zero [] h = record { variables = refl; tails = refl; count = refl; constraints = tt; objectives = tt; comments = λ k. tt }
   told may zero (i ∷ rest) h = absurd h
   told may (suc n) [] h = absurd h

@@ -1,12 +1,11 @@
 mod Asked
-mod ByteCases
 mod EntryFront
 mod EntryWalk
 mod FirstLetters
 mod Fronts
 mod HeaderFront
 mod HeaderWalk
-mod Inners
+mod GivenBytes
 mod Lines
 mod Objectives
 mod Stands
@@ -19,6 +18,7 @@ pub mod Gathered
 pub mod Kept
 pub mod Larger
 pub mod Meets
+pub mod OneValue
 pub mod Pushed
 pub mod Spelled
 pub mod States

@@ -1,6 +1,7 @@
 -- Bytes of a line that are kept in one go, and the run that they are.
-use Rattle.std.proofs.Common.{◌≡◌, ℕ, zero, suc, ◌<◌, ◌≤◌, Bool, true, false, cond, not, List, [], ◌∷◌, ◌++◌, length, take, get_or, refl, ap, subst, arith, append-nil, append_assoc}
-use Rattle.std.specs.Prelude.{IsTrue, nat_eq, Option, Some, None, IfSome}
+use Rattle.std.proofs.Common.{◌≡◌, ℕ, zero, suc, ◌<◌, ◌≤◌, true, false, List, [], ◌∷◌, ◌++◌, length, take, get_or, refl, ap, subst, arith, append-nil, append_assoc}
+use Rattle.std.proofs.lemmas.Bool.{not-true, not_from_false, false_from_ne_true}
+use Rattle.std.specs.Prelude.{nat_eq, Option, Some, None, IfSome}
 use Rattle.std.specs.Option.{unwrap_or}
 use Rattle.pb_text.specs.Automaton.{Go, Runs}
 use Rattle.pb_opb.specs.Instances.{IsInLine}
@@ -10,7 +11,6 @@ use Rattle.pb_opb.specs.State.{OpbState, opb, act, keeps_line}
 use Rattle.pb_opb.specs.declared.phase.Phase.{Phase}
 use Rattle.pb_opb.specs.declared.phase.Phase as phase
 use Rattle.pb_opb.specs.declared.phase.Move.TheVariants.{Keep}
-use Rattle.pb_opb.proofs.Stands.{is_not}
 use Rattle.pb_opb.proofs.States.{is_state}
 
 -- no byte of the front is a line feed
@@ -18,13 +18,9 @@ pub in_line : (text : List ℕ) (n : ℕ) → n ≤ length text → ((k : ℕ) �
 in_line text zero h f = tt
 in_line [] (suc n) h f = absurd (omega (arith, h))
 in_line (b ∷ text) (suc n) h f = (
-  other (nat_eq b 10) (f 0 (omega arith)),
+  not_from_false (nat_eq b 10) (false_from_ne_true (nat_eq b 10) (f 0 (omega arith))),
   in_line text n (omega (arith, h)) (λ k lt. f (suc k) (omega (arith, lt))),
 )
-  where
-    other : (c : Bool) → (c ≡ true → ⊥) → IsTrue (not c)
-    other true g = absurd (g refl)
-    other false g = refl
 
 abbrev pub keeping : OpbState → List ℕ → OpbState
 keeping s text = record s { text = text }
@@ -62,15 +58,10 @@ line_runs s h at (b ∷ line) is =
     let order : IsInOrder mid = line_order s h at (s.text ++ b ∷ []) in
     let rest = line_runs mid order at line is.1 in (
       mid,
-      step_of s b at (is_not (nat_eq b 10) is.0),
+      step_of s b at (not-true (nat_eq b 10) is.0),
       is_state mid order,
       subst (λ (t : List ℕ). Runs opb mid line (keeping s t)) (append_assoc s.text (b ∷ []) line) rest,
     )
-
--- a text that could grow
-pub grown : (old more new : List ℕ) (ok err : Bool) → ok ≡ not err → err ≡ false → new ≡ cond ok (old ++ more) old → new ≡ old ++ more
-grown old more new true err e f h = h
-grown old more new false err e f h = cc
 
 -- the run that was taken, or none where memory ran out
 pub kept_or_none : (old new : OpbState) (piece : List ℕ) (kept : Option ℕ) → IfSome kept (λ n. Runs opb old (take n piece) new) → (kept ≡ None → new ≡ old)

@@ -1,5 +1,6 @@
 -- The states of a machine of instances, within a header and between two statements.
-use Rattle.std.proofs.Common.{◌≡◌, ℕ, Bool, true, false, List, [], ◌∷◌, ◌++◌, refl, sym, ap, subst, ◌∙◌, append_assoc, not}
+use Rattle.std.proofs.Common.{◌≡◌, ℕ, Bool, true, false, List, [], ◌∷◌, ◌++◌, refl, sym, ap, subst, ◌∙◌, append_assoc}
+use Rattle.std.proofs.lemmas.Bool.{not-true}
 use Rattle.std.proofs.lemmas.List.{append-nil}
 use Rattle.std.specs.Prelude.{nat_eq}
 use Rattle.pb_text.specs.Automaton.{Go, End, Reads}
@@ -20,7 +21,7 @@ stands limit top variables owed p text = record {
   owed = owed;
   phase = p;
   text = text;
-  inner = linears limit;
+  sums = linears limit;
 }
 
 -- between two statements
@@ -43,15 +44,11 @@ pub record Keeps (at : List ℕ → OpbState) (event : List ℕ → OpbEvent) (n
   pub within : (kept : List ℕ) → opb.begun (at kept) ≡ true
   pub number : (kept : List ℕ) → opb.in_number (at kept) ≡ false
 
-pub is_not : (x : Bool) → not x ≡ true → x ≡ false
-is_not true h = sym h
-is_not false h = refl
-
 pub line_reads : (at : List ℕ → OpbState) (event : List ℕ → OpbEvent) (new : OpbState) → Keeps at event new → (bs kept : List ℕ) → IsInLine bs
     → Reads opb (at kept) (plain bs ++ unmarked 10 ∷ []) (event (kept ++ bs)) new
 line_reads at event new k [] kept h = (k.stop kept ∙ ap (λ (x : List ℕ). End (event x) new) (sym (append-nil kept)), refl)
 line_reads at event new k (b ∷ bs) kept h =
     let more : List ℕ = kept ++ b ∷ [] in
     longer opb (unmarked b) (plain bs ++ unmarked 10 ∷ []) (at kept) (at more) new (event (kept ++ b ∷ bs))
-    (k.keep kept b (is_not (nat_eq b 10) h.0)) (k.within more) (sym (k.number more))
+    (k.keep kept b (not-true (nat_eq b 10) h.0)) (k.within more) (sym (k.number more))
     (subst (λ (x : List ℕ). Reads opb (at more) (plain bs ++ unmarked 10 ∷ []) (event x) new) (append_assoc kept (b ∷ []) bs) (line_reads at event new k bs more h.1))

@@ -44,45 +44,42 @@ OnMove p (Give q) = GoesOn p q
 OnMove p (Keep b) = is_done p ≡ false
 OnMove p _ = Unit {0}
 
-on_cond : (p : Phase) (c : Bool) (x y : Move) → OnMove p x → OnMove p y → OnMove p (cond c x y)
-on_cond p true x y h k = h
-on_cond p false x y h k = k
-
-goes_cond : (p : Phase) (c : Bool) (q r : Phase) → GoesOn p q → GoesOn p r → GoesOn p (cond c q r)
-goes_cond p true q r h k = h
-goes_cond p false q r h k = k
+-- what holds either way
+pub either_way : {A : Type 0} (P : A → Type 0) (c : Bool) (x y : A) → P x → P y → P (cond c x y)
+either_way P true x y h k = h
+either_way P false x y h k = k
 
 on_count : (p : Phase) (top : ℕ) (f : Field) (n b : ℕ) → OnMove p (count top f n b)
-on_count p top f n b = on_cond p (is_digit b && nat_le (10 * n + (b - 48)) top) _ Stop (refl, λ h. refl) tt
+on_count p top f n b = either_way (OnMove p) (is_digit b && nat_le (10 * n + (b - 48)) top) _ Stop (refl, λ h. refl) tt
 
 on_behind : (p : Phase) (f : Field) (n b : ℕ) → OnMove p (behind_count f n b)
-on_behind p Variables n b = on_cond p (is_blank b) (Declare n) Stop tt tt
-on_behind p Constraints n b = on_cond p (nat_eq b 10) (EndHeader n) _ tt (on_cond p (is_blank b) (BeginTail n b) Stop tt tt)
+on_behind p Variables n b = either_way (OnMove p) (is_blank b) (Declare n) Stop tt tt
+on_behind p Constraints n b = either_way (OnMove p) (nat_eq b 10) (EndHeader n) _ tt (either_way (OnMove p) (is_blank b) (BeginTail n b) Stop tt tt)
 
 -- the plan of each phase
 on_plan : (top : ℕ) (p : Phase) (b : ℕ) → OnMove p (plan top p b)
-on_plan top phase.TheVariants.Start b = on_cond phase.TheVariants.Start (nat_eq b 42) (To (phase.TheVariants.BeforeWord Variables)) Stop (refl, λ h. refl) tt
+on_plan top phase.TheVariants.Start b = either_way (OnMove phase.TheVariants.Start) (nat_eq b 42) (To (phase.TheVariants.BeforeWord Variables)) Stop (refl, λ h. refl) tt
 on_plan top (phase.TheVariants.BeforeWord f) b =
-    on_cond (phase.TheVariants.BeforeWord f) (is_blank b) (To (phase.TheVariants.BeforeWord f)) _ (refl, λ h. refl)
-    (on_cond (phase.TheVariants.BeforeWord f) (nat_eq b 35) (To (phase.TheVariants.Word f 1)) Stop (refl, λ h. refl) tt)
+    either_way (OnMove (phase.TheVariants.BeforeWord f)) (is_blank b) (To (phase.TheVariants.BeforeWord f)) _ (refl, λ h. refl)
+    (either_way (OnMove (phase.TheVariants.BeforeWord f)) (nat_eq b 35) (To (phase.TheVariants.Word f 1)) Stop (refl, λ h. refl) tt)
 on_plan top (phase.TheVariants.Word f k) b =
-    on_cond (phase.TheVariants.Word f k) (nat_eq b (slice_index (word_of f) k)) _ Stop
-    (goes_cond (phase.TheVariants.Word f k) (nat_eq (k + 1) (length (word_of f))) (phase.TheVariants.BeforeCount f) (phase.TheVariants.Word f (k + 1)) (refl, λ h. refl) (refl, λ h. refl)) tt
+    either_way (OnMove (phase.TheVariants.Word f k)) (nat_eq b (slice_index (word_of f) k)) _ Stop
+    (either_way (GoesOn (phase.TheVariants.Word f k)) (nat_eq (k + 1) (length (word_of f))) (phase.TheVariants.BeforeCount f) (phase.TheVariants.Word f (k + 1)) (refl, λ h. refl) (refl, λ h. refl)) tt
 on_plan top (phase.TheVariants.BeforeCount f) b =
-    on_cond (phase.TheVariants.BeforeCount f) (is_blank b) (To (phase.TheVariants.BeforeCount f)) _ (refl, λ h. refl) (on_count (phase.TheVariants.BeforeCount f) top f 0 b)
+    either_way (OnMove (phase.TheVariants.BeforeCount f)) (is_blank b) (To (phase.TheVariants.BeforeCount f)) _ (refl, λ h. refl) (on_count (phase.TheVariants.BeforeCount f) top f 0 b)
 on_plan top (phase.TheVariants.Count f n) b =
-    on_cond (phase.TheVariants.Count f n) (is_digit b) _ _ (on_count (phase.TheVariants.Count f n) top f n b) (on_behind (phase.TheVariants.Count f n) f n b)
-on_plan top phase.TheVariants.Tail b = on_cond phase.TheVariants.Tail (nat_eq b 10) EndTail (Keep b) tt refl
+    either_way (OnMove (phase.TheVariants.Count f n)) (is_digit b) _ _ (on_count (phase.TheVariants.Count f n) top f n b) (on_behind (phase.TheVariants.Count f n) f n b)
+on_plan top phase.TheVariants.Tail b = either_way (OnMove phase.TheVariants.Tail) (nat_eq b 10) EndTail (Keep b) tt refl
 on_plan top (phase.TheVariants.Between may) b =
-    on_cond (phase.TheVariants.Between may) (is_white b) (To (phase.TheVariants.Between may)) _ (refl, λ h. h)
-    (on_cond (phase.TheVariants.Between may) (nat_eq b 42) (To (phase.TheVariants.Comment may)) _ (refl, λ h. refl)
-    (on_cond (phase.TheVariants.Between may) (nat_eq b 109 && may) (To (phase.TheVariants.Min 1)) (Give phase.TheVariants.Constraint) (refl, λ h. refl) (refl, λ h. refl)))
-on_plan top (phase.TheVariants.Comment may) b = on_cond (phase.TheVariants.Comment may) (nat_eq b 10) (EndComment may) (Keep b) tt refl
+    either_way (OnMove (phase.TheVariants.Between may)) (is_white b) (To (phase.TheVariants.Between may)) _ (refl, λ h. h)
+    (either_way (OnMove (phase.TheVariants.Between may)) (nat_eq b 42) (To (phase.TheVariants.Comment may)) _ (refl, λ h. refl)
+    (either_way (OnMove (phase.TheVariants.Between may)) (nat_eq b 109 && may) (To (phase.TheVariants.Min 1)) (Give phase.TheVariants.Constraint) (refl, λ h. refl) (refl, λ h. refl)))
+on_plan top (phase.TheVariants.Comment may) b = either_way (OnMove (phase.TheVariants.Comment may)) (nat_eq b 10) (EndComment may) (Keep b) tt refl
 on_plan top (phase.TheVariants.Min k) b =
-    on_cond (phase.TheVariants.Min k) (nat_eq b (slice_index min_word k)) _ Stop
-    (on_cond (phase.TheVariants.Min k) (nat_eq (k + 1) (length min_word)) BeginSum (To (phase.TheVariants.Min (k + 1))) tt (refl, λ h. refl)) tt
+    either_way (OnMove (phase.TheVariants.Min k)) (nat_eq b (slice_index min_word k)) _ Stop
+    (either_way (OnMove (phase.TheVariants.Min k)) (nat_eq (k + 1) (length min_word)) BeginSum (To (phase.TheVariants.Min (k + 1))) tt (refl, λ h. refl)) tt
 on_plan top phase.TheVariants.AfterMin b =
-    on_cond phase.TheVariants.AfterMin (is_white b) (To phase.TheVariants.AfterMin) (Give phase.TheVariants.Objective) (refl, λ h. refl) (refl, λ h. refl)
+    either_way (OnMove phase.TheVariants.AfterMin) (is_white b) (To phase.TheVariants.AfterMin) (Give phase.TheVariants.Objective) (refl, λ h. refl) (refl, λ h. refl)
 on_plan top phase.TheVariants.Objective b = (refl, λ h. refl)
 on_plan top phase.TheVariants.Constraint b = (refl, λ h. refl)
 on_plan top phase.TheVariants.Done b = tt
@@ -97,12 +94,12 @@ owing : (may : Bool) (n : ℕ) → is_within (phase_owing may n) ≡ false
 owing may zero = refl
 owing may (suc n) = refl
 
-sum_grows : (s : OpbState) (p : Phase) → IsState sums s.inner → GoesOn s.phase p → (b : ℕ) (n : Next SumState SumEvent) → sums.step s.inner b ≡ n → On (λ next. Goes s next) (λ next. opb.begun next ≡ false) (over s p n)
+sum_grows : (s : OpbState) (p : Phase) → IsState sums s.sums → GoesOn s.phase p → (b : ℕ) (n : Next SumState SumEvent) → sums.step s.sums b ≡ n → On (λ next. Goes s next) (λ next. opb.begun next ≡ false) (over s p n)
 sum_grows s p state g b (Go inner) e = record { owes = g.0; stays = g.1; grows = omega (arith, state.grows b inner e) }
 sum_grows s p state g b (End f inner) e = owing false (owed_after p s.owed)
 sum_grows s p state g b Refuse e = tt
 
-on_act : (s : OpbState) → IsState sums s.inner → (b : ℕ) (m : Move) → OnMove s.phase m → On (λ next. Goes s next) (λ next. opb.begun next ≡ false) (act s b m)
+on_act : (s : OpbState) → IsState sums s.sums → (b : ℕ) (m : Move) → OnMove s.phase m → On (λ next. Goes s next) (λ next. opb.begun next ≡ false) (act s b m)
 on_act s state b (To p) h = record { owes = h.0; stays = h.1; grows = omega arith }
 on_act s state b (Declare n) h = record { owes = refl; stays = λ i. refl; grows = omega arith }
 on_act s state b (BeginTail n c) h = record { owes = refl; stays = λ i. refl; grows = omega arith }
@@ -111,26 +108,16 @@ on_act s state b (EndHeader n) h = owing true n
 on_act s state b EndTail h = owing true s.owed
 on_act s state b (EndComment may) h = owing may s.owed
 on_act s state b BeginSum h = record { owes = refl; stays = λ i. refl; grows = omega arith }
-on_act s state b (Give p) h = sum_grows s p state h b (sums.step s.inner b) refl
+on_act s state b (Give p) h = sum_grows s p state h b (sums.step s.sums b) refl
 on_act s state b Stop h = tt
 
-steps : (s : OpbState) → IsState sums s.inner → (b : ℕ) → On (λ next. Goes s next) (λ next. opb.begun next ≡ false) (opb.step s b)
+steps : (s : OpbState) → IsState sums s.sums → (b : ℕ) → On (λ next. Goes s next) (λ next. opb.begun next ≡ false) (opb.step s b)
 steps s state b = on_act s state b (plan s.top s.phase b) (on_plan s.top s.phase b)
 
-done_stops : (top : ℕ) (p : Phase) (b : ℕ) → is_done p ≡ true → plan top p b ≡ Stop
-done_stops top phase.TheVariants.Start b h = absurd (false≢true h)
-done_stops top (phase.TheVariants.BeforeWord f) b h = absurd (false≢true h)
-done_stops top (phase.TheVariants.Word f k) b h = absurd (false≢true h)
-done_stops top (phase.TheVariants.BeforeCount f) b h = absurd (false≢true h)
-done_stops top (phase.TheVariants.Count f n) b h = absurd (false≢true h)
-done_stops top phase.TheVariants.Tail b h = absurd (false≢true h)
-done_stops top (phase.TheVariants.Between may) b h = absurd (false≢true h)
-done_stops top (phase.TheVariants.Comment may) b h = absurd (false≢true h)
-done_stops top (phase.TheVariants.Min k) b h = absurd (false≢true h)
-done_stops top phase.TheVariants.AfterMin b h = absurd (false≢true h)
-done_stops top phase.TheVariants.Objective b h = absurd (false≢true h)
-done_stops top phase.TheVariants.Constraint b h = absurd (false≢true h)
+-- behind the last constraint
+pub done_stops : (top : ℕ) (p : Phase) (b : ℕ) → is_done p ≡ true → plan top p b ≡ Stop
 done_stops top phase.TheVariants.Done b h = refl
+done_stops top _ b h = absurd (false≢true h)
 
 -- between two statements no number is read, and nothing is in hand
 pub outside : (s : OpbState) (p : Phase) → is_within p ≡ false → Holds s p → (is_in_number s p ≡ false) × IsIdle s

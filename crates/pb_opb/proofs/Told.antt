@@ -1,5 +1,6 @@
 -- What statements in order say.
 use Rattle.std.proofs.Common.{◌≡◌, ℕ, suc, ◌+◌, ◌≤◌, List, [], ◌∷◌, ◌++◌, length, take, drop, refl, ap, sym, ◌∙◌, arith, Bool, true, false, cond, subst, Option, Some, None, nat_le, take-append-drop}
+use Rattle.std.proofs.lemmas.Bool.{leb-true, leb-false}
 use Rattle.pb_text.specs.Whole.{events_of}
 use Rattle.pb_sums.specs.declared.values.Term.{Term}
 use Rattle.pb_sums.specs.declared.values.Linear.{Linear}
@@ -56,29 +57,18 @@ same_constraints (Objective t) xs ys h = h
 same_constraints (Constraint l) xs ys h = ap (λ (x : List Linear). l ∷ x) h
 
 -- of an objective and constraints
-no_variables : (ls : List Linear) → variables_in (constraint_events ls) ≡ []
-no_variables [] = refl
-no_variables (l ∷ ls) = no_variables ls
+module _ {A : Type 0} (F : List OpbEvent → List A) (none : F [] ≡ []) (over : (l : Linear) (events : List OpbEvent) → F (Constraint l ∷ events) ≡ F events) where
+  none_in : (ls : List Linear) → F (constraint_events ls) ≡ []
+  none_in [] = none
+  none_in (l ∷ ls) = over l (constraint_events ls) ∙ none_in ls
 
-main_variables : (o : Option (List Term)) (ls : List Linear) → variables_in (objective_events o ++ constraint_events ls) ≡ []
-main_variables None ls = no_variables ls
-main_variables (Some t) ls = no_variables ls
-
-no_tails : (ls : List Linear) → tails_in (constraint_events ls) ≡ []
-no_tails [] = refl
-no_tails (l ∷ ls) = no_tails ls
-
-main_tails : (o : Option (List Term)) (ls : List Linear) → tails_in (objective_events o ++ constraint_events ls) ≡ []
-main_tails None ls = no_tails ls
-main_tails (Some t) ls = no_tails ls
-
-no_objectives : (ls : List Linear) → objectives_in (constraint_events ls) ≡ []
-no_objectives [] = refl
-no_objectives (l ∷ ls) = no_objectives ls
+  none_in_main : ((t : List Term) (events : List OpbEvent) → F (Objective t ∷ events) ≡ F events) → (o : Option (List Term)) (ls : List Linear) → F (objective_events o ++ constraint_events ls) ≡ []
+  none_in_main past None ls = none_in ls
+  none_in_main past (Some t) ls = past t (constraint_events ls) ∙ none_in ls
 
 main_objective : (o : Option (List Term)) (ls : List Linear) → last_or None (objectives_in (objective_events o ++ constraint_events ls)) ≡ o
-main_objective None ls = ap (last_or None) (no_objectives ls)
-main_objective (Some t) ls = ap (last_or (Some t)) (no_objectives ls)
+main_objective None ls = ap (last_or None) (none_in objectives_in refl (λ l e. refl) ls)
+main_objective (Some t) ls = ap (last_or (Some t)) (none_in objectives_in refl (λ l e. refl) ls)
 
 all_constraints : (ls : List Linear) → constraints_in (constraint_events ls) ≡ ls
 all_constraints [] = refl
@@ -90,10 +80,10 @@ main_constraints (Some t) ls = all_constraints ls
 
 module _ (cs : List comment.Comment) (o : Option (List Term)) (ls : List Linear) where
   pub order_variables : (n : ℕ) → last_or n (variables_in (in_order 0 cs (objective_events o ++ constraint_events ls))) ≡ n
-  order_variables n = ap (last_or n) (past_order variables_in (λ t e. refl) same_variables (objective_events o ++ constraint_events ls) 0 cs ∙ main_variables o ls)
+  order_variables n = ap (last_or n) (past_order variables_in (λ t e. refl) same_variables (objective_events o ++ constraint_events ls) 0 cs ∙ none_in_main variables_in refl (λ l e. refl) (λ t e. refl) o ls)
 
   pub order_tail : (t : List ℕ) → last_or t (tails_in (in_order 0 cs (objective_events o ++ constraint_events ls))) ≡ t
-  order_tail t = ap (last_or t) (past_order tails_in (λ t e. refl) same_tails (objective_events o ++ constraint_events ls) 0 cs ∙ main_tails o ls)
+  order_tail t = ap (last_or t) (past_order tails_in (λ t e. refl) same_tails (objective_events o ++ constraint_events ls) 0 cs ∙ none_in_main tails_in refl (λ l e. refl) (λ t e. refl) o ls)
 
   pub order_objective : last_or None (objectives_in (in_order 0 cs (objective_events o ++ constraint_events ls))) ≡ o
   order_objective = ap (last_or None) (past_order objectives_in (λ t e. refl) same_objectives (objective_events o ++ constraint_events ls) 0 cs) ∙ main_objective o ls
@@ -106,20 +96,13 @@ pub in_lines : (least all : ℕ) (cs : List comment.Comment) → AreComments lea
 in_lines least all [] h = tt
 in_lines least all (c ∷ cs) h = (h.2, in_lines c.before all cs h.3)
 
--- a number that is at most n, and not at most n
-le_true : (m n : ℕ) → nat_le m n ≡ true → m ≤ n
-le_true m n h = grind (arith, h)
-
-le_false : (m n : ℕ) → nat_le m n ≡ false → n + 1 ≤ m
-le_false m n h = grind (arith, h)
-
 numbered : (n : ℕ) (c : comment.Comment) → c.before ≡ n → comment_at n c.text ≡ c
 numbered n c e = ap (λ (m : ℕ). comment_at m c.text) (sym e)
 
 -- The next comment is due, and so its number is n, or it is not, and its number is above n.
 module _ (n all : ℕ) (c : comment.Comment) (cs : List comment.Comment) (h : AreComments n all (c ∷ cs)) where
   is_due : nat_le c.before n ≡ true → c.before ≡ n
-  is_due e = omega (arith, le_true c.before n e)
+  is_due e = omega (arith, leb-true c.before n e)
 
   told_next : (events : List OpbEvent) → (AreComments n all cs → comments_in n (comment_events (take (due n cs) cs) ++ events) ≡ take (due n cs) cs ++ comments_in n events)
       → (b : Bool) → nat_le c.before n ≡ b
@@ -136,7 +119,7 @@ module _ (n all : ℕ) (c : comment.Comment) (cs : List comment.Comment) (h : Ar
   rest_next ih true e =
       let one : 1 + due n cs ≡ suc (due n cs) = omega arith in
       rw one (ih (subst (λ (m : ℕ). AreComments m all cs) (is_due e) h.3))
-  rest_next ih false e = (le_false c.before n e, h.1, h.2, h.3)
+  rest_next ih false e = (omega (arith, leb-false c.before n e), h.1, h.2, h.3)
 
 due_told : (n all : ℕ) (cs : List comment.Comment) → AreComments n all cs → (events : List OpbEvent)
     → comments_in n (comment_events (take (due n cs) cs) ++ events) ≡ take (due n cs) cs ++ comments_in n events

@@ -29,17 +29,17 @@ MoveFits top _ = Unit {0}
 
 -- nothing is in hand
 abbrev pub IsIdle : OpbState → Type 0
-IsIdle s = (s.text ≡ []) × (s.inner ≡ linears s.limit)
+IsIdle s = (s.text ≡ []) × (s.sums ≡ linears s.limit)
 
 -- what stands with what was read last
 abbrev pub Holds : OpbState → Phase → Type 0
-Holds s phase.TheVariants.Tail = s.inner ≡ linears s.limit
+Holds s phase.TheVariants.Tail = s.sums ≡ linears s.limit
 Holds s (phase.TheVariants.Between may) = (0 < s.owed) × IsIdle s
-Holds s (phase.TheVariants.Comment may) = (0 < s.owed) × (s.inner ≡ linears s.limit)
+Holds s (phase.TheVariants.Comment may) = (0 < s.owed) × (s.sums ≡ linears s.limit)
 Holds s (phase.TheVariants.Min k) = (0 < s.owed) × IsIdle s
-Holds s phase.TheVariants.AfterMin = (0 < s.owed) × (s.text ≡ []) × (s.inner ≡ objectives s.limit)
-Holds s phase.TheVariants.Objective = (0 < s.owed) × (s.text ≡ []) × (sums.done s.inner ≡ false)
-Holds s phase.TheVariants.Constraint = (0 < s.owed) × (s.text ≡ []) × (sums.done s.inner ≡ false)
+Holds s phase.TheVariants.AfterMin = (0 < s.owed) × (s.text ≡ []) × (s.sums ≡ objectives s.limit)
+Holds s phase.TheVariants.Objective = (0 < s.owed) × (s.text ≡ []) × (sums.done s.sums ≡ false)
+Holds s phase.TheVariants.Constraint = (0 < s.owed) × (s.text ≡ []) × (sums.done s.sums ≡ false)
 Holds s _ = IsIdle s
 
 pub record IsInOrder (s : OpbState) : Type 0 where
@@ -47,6 +47,6 @@ pub record IsInOrder (s : OpbState) : Type 0 where
   pub top : s.top < 2 ^ 63
   pub fits : PhaseFits s.top s.phase
   pub holds : Holds s s.phase
-  pub spaces : s.inner.spaces ≡ White
-  pub limits : s.inner.limit ≡ s.limit
-  pub state : IsState sums s.inner
+  pub spaces : s.sums.spaces ≡ White
+  pub limits : s.sums.limit ≡ s.limit
+  pub state : IsState sums s.sums

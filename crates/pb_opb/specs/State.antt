@@ -25,7 +25,7 @@ pub record OpbState : Type 0 where
   pub owed : ℕ
   pub phase : Phase
   pub text : List ℕ
-  pub inner : SumState
+  pub sums : SumState
 
 abbrev pub linears : ℕ → SumState
 linears limit = first White part.TheVariants.Linear limit
@@ -42,7 +42,7 @@ begin limit top = record {
   owed = 0;
   phase = phase.TheVariants.Start;
   text = [];
-  inner = linears limit;
+  sums = linears limit;
 }
 
 -- where so many constraints are to come
@@ -59,7 +59,7 @@ between s may owed = record {
   owed = owed;
   phase = phase_owing may owed;
   text = [];
-  inner = linears s.limit;
+  sums = linears s.limit;
 }
 
 abbrev pub at : OpbState → Phase → OpbState
@@ -69,7 +69,7 @@ abbrev pub keeping : OpbState → Phase → List ℕ → OpbState
 keeping s p text = record s { phase = p; text = text }
 
 abbrev pub giving : OpbState → Phase → SumState → OpbState
-giving s p inner = record s { phase = p; inner = inner }
+giving s p inner = record s { phase = p; sums = inner }
 
 -- the statement that a sum or a linear text is
 abbrev pub statement_of : SumEvent → OpbEvent
@@ -99,7 +99,7 @@ act s b (EndHeader n) = End (event.TheVariants.Header s.variables n []) (between
 act s b EndTail = End (event.TheVariants.Header s.variables s.owed s.text) (between s true s.owed)
 act s b (EndComment may) = End (event.TheVariants.Comment s.text) (between s may s.owed)
 act s b BeginSum = Go (giving s phase.TheVariants.AfterMin (objectives s.limit))
-act s b (Give p) = over s p (sums.step s.inner b)
+act s b (Give p) = over s p (sums.step s.sums b)
 act s b Stop = Refuse
 
 abbrev pub step : OpbState → ℕ → Next OpbState OpbEvent
@@ -124,15 +124,15 @@ keeps_line _ = false
 
 abbrev pub is_in_number : OpbState → Phase → Bool
 is_in_number s (phase.TheVariants.Count f n) = true
-is_in_number s phase.TheVariants.Objective = sums.in_number s.inner
-is_in_number s phase.TheVariants.Constraint = sums.in_number s.inner
+is_in_number s phase.TheVariants.Objective = sums.in_number s.sums
+is_in_number s phase.TheVariants.Constraint = sums.in_number s.sums
 is_in_number s _ = false
 
 -- whether a byte is kept, or given to the machine of sums where it may ask for memory
 abbrev pub asks : OpbState → ℕ → Move → Bool
 asks s b (BeginTail n c) = true
 asks s b (Keep c) = true
-asks s b (Give p) = sums.asks s.inner b
+asks s b (Give p) = sums.asks s.sums b
 asks s b _ = false
 
 abbrev pub opb : Automaton OpbState OpbEvent
@@ -142,6 +142,6 @@ opb = record {
   begun = λ s. is_within s.phase;
   in_number = λ s. is_in_number s s.phase;
   asks = λ s b. asks s b (plan s.top s.phase b);
-  kept = λ s. min (length s.text + sums.kept s.inner) (2 ^ 64 - 1);
-  spent = λ s. length s.text + sums.spent s.inner;
+  kept = λ s. min (length s.text + sums.kept s.sums) (2 ^ 64 - 1);
+  spent = λ s. length s.text + sums.spent s.sums;
 }

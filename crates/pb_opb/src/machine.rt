@@ -27,7 +27,7 @@ pub struct OpbMachine {
     owed: u64,
     phase: Phase,
     text: Bytes,
-    inner: SumMachine,
+    sums: SumMachine,
 }
 
 impl Model for OpbMachine {
@@ -45,7 +45,7 @@ impl Model for OpbMachine {
       owed = m.owed;
       phase = m.phase;
       text = m.text;
-      inner = m.inner;
+      sums = m.sums;
     } };
 
     ghost invariant = { λ m. IsInOrder (record {
@@ -55,7 +55,7 @@ impl Model for OpbMachine {
       owed = m.owed;
       phase = m.phase;
       text = m.text;
-      inner = m.inner;
+      sums = m.sums;
     }) };
 }
 
@@ -91,7 +91,7 @@ impl OpbMachine {
             owed: 0,
             phase: Phase::Start,
             text: Bytes::new(alloc),
-            inner: SumMachine::new(alloc, Spaces::White, Part::Linear, limits),
+            sums: SumMachine::new(alloc, Spaces::White, Part::Linear, limits),
         }
     }
 }
@@ -151,7 +151,7 @@ impl OpbMachine {
                 Push::Event(OpbEvent::Comment(mem::replace(&mut self.text, Bytes::new(self.alloc))))
             }
             Move::BeginSum => {
-                self.inner.restart(Part::Sum);
+                self.sums.restart(Part::Sum);
                 self.phase = Phase::AfterMin;
                 Push::Go
             }
@@ -171,7 +171,7 @@ impl OpbMachine {
         requires { plan self.old.top self.old.phase byte ≡ Move.Give phase }
         ensures { Pushes opb self.old byte result self.new }
     {
-        match self.inner.push(byte) {
+        match self.sums.push(byte) {
             Push::Go => {
                 self.phase = phase;
                 Push::Go
@@ -179,7 +179,7 @@ impl OpbMachine {
             Push::Event(event) => {
                 self.owed = owed_after(phase, self.owed);
                 self.phase = phase_owing(false, self.owed);
-                self.inner.restart(Part::Linear);
+                self.sums.restart(Part::Linear);
                 Push::Event(statement_of(event))
             }
             Push::No => Push::No,
@@ -203,7 +203,7 @@ impl OpbMachine {
                 true
             }
             Move::Give(next) => {
-                if !self.inner.goes(byte) {
+                if !self.sums.goes(byte) {
                     return false;
                 }
                 self.phase = next;
@@ -285,7 +285,7 @@ impl Machine for OpbMachine {
 
     fn run(&mut self, piece: &[u8]) -> usize {
         let taken = match self.phase {
-            Phase::Constraint | Phase::Objective => self.inner.run(piece),
+            Phase::Constraint | Phase::Objective => self.sums.run(piece),
             Phase::Tail | Phase::Comment(_) => self.keep_line(piece).unwrap_or(0),
             _ => 0,
         };
@@ -310,12 +310,12 @@ impl Machine for OpbMachine {
         match plan(self.limits.top(), self.phase, byte) {
             Move::Stop | Move::Keep(_) => false,
             Move::To(next) => is_within(next),
-            Move::Give(_) => self.inner.starts(byte),
+            Move::Give(_) => self.sums.starts(byte),
             _ => true,
         }
     }
 
     fn held(&self) -> usize {
-        self.text.len().saturating_add(self.inner.held())
+        self.text.len().saturating_add(self.sums.held())
     }
 }

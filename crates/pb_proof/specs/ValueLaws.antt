@@ -1,8 +1,8 @@
 -- The laws of proofs and their values.
-use Rattle.std.specs.Prelude.{◌≡◌, ℕ, ◌^◌, ◌<◌, List, [], ◌++◌, map, All, Bool, true, Option}
+use Rattle.std.specs.Prelude.{◌≡◌, ℕ, ◌^◌, ◌<◌, List, [], ◌++◌, All, Bool, true, Option}
 use Rattle.pb_text.specs.Reading.{Reads}
 use Rattle.pb_text.specs.Spelling.{Letter, Item, bytes_of}
-use Rattle.pb_text.specs.Whole.{events_of}
+use Rattle.pb_text.specs.Whole.{events_at, events_of}
 use Rattle.pb_text.specs.declared.Place.{Place}
 use Rattle.pb_text.specs.declared.Spanned.{Spanned}
 use Rattle.pb_text.specs.declared.Stop.{Stop}
@@ -39,7 +39,7 @@ pub record BeginProof (limit top : ℕ) (statements : List Statement) (all : Boo
 -- What was read of a proof begins one, and is a whole one where the read is done.
 abbrev pub ReadStatements : Type 0
 ReadStatements = (limit top longest : ℕ) (input used : List ℕ) (marks : List (Spanned Statement)) (place : Place) (done : Bool) (stop : Option Stop) →
-    Reads (IsProof limit top) longest input used marks place done stop → BeginProof limit top (map (λ m. m.event) marks) done
+    Reads (IsProof limit top) longest input used marks place done stop → BeginProof limit top (events_at marks) done
 
 -- Statements are those of one proof at most.
 abbrev pub OneValue : Type 0

@@ -21,8 +21,6 @@ pub mod Weights
 pub mod Places
 pub mod Storages
 pub mod Changes
-pub mod Choices
-pub mod Completions
 pub mod Bridge
 pub mod Rests
 pub mod Wider

@@ -9,14 +9,14 @@ use Rattle.pb_normal.specs.declared.Side.{Side}
 use Rattle.pb_normal.specs.Constraints.{Fits}
 use Rattle.pb_normal.specs.Form.{Form, Holds, IsOrdered, IsWithin, total}
 use Rattle.pb_normal.specs.Names.{number_in}
-use Rattle.pb_normal.specs.Rules.{IsSum, multiplied, divided, saturated, weakened, axiom_on, assignment}
+use Rattle.pb_normal.specs.Rules.{IsSum, multiplied, divided, saturated, weakened, axiom_on, assignment, only}
 use Rattle.pb_normal.specs.Written.{true_sum, IsSideOf}
 use Rattle.pb_replay.specs.declared.fault.Fault.TheVariants.{Overflow, NoSuchId, Conflict, NotTotal, Violates, IdsSpent}
 use Rattle.pb_replay.specs.declared.numbered.NumberedLiteral.{NumberedLiteral}
 use Rattle.pb_replay.specs.declared.verdict.Verdict.{Verdict}
 use Rattle.pb_replay.specs.Answer.{Answer, gives, need, each_below, found, some, after}
 use Rattle.pb_replay.specs.Problem.{Problem, objective_of}
-use Rattle.pb_replay.specs.Propagation.{only, on, MeetsConflict, IsCompletion}
+use Rattle.pb_replay.specs.Propagation.{on, MeetsConflict, IsCompletion}
 
 -- a solution: its values by the numbers of names, and that of the objective
 pub record Logged : Type 0 where

@@ -1,10 +1,11 @@
 -- Where a machine of sums asks, the next byte is one of a name, or ends a literal. Offered to other crates.
-use Rattle.std.proofs.Common.{◌≡◌, ℕ, ◌+◌, ◌*◌, Bool, true, false, cond, ◌||◌, List, [], ◌∷◌, ◌++◌, refl, sym, ap, subst, ◌∙◌, append_assoc, append-nil, inl, inr}
-use Rattle.std.proofs.lemmas.Bool.{false≢true}
+use Rattle.std.proofs.Common.{◌≡◌, ℕ, ◌+◌, ◌*◌, Bool, true, false, ◌||◌, List, [], ◌∷◌, ◌++◌, refl, sym, ap, subst, ◌∙◌, append_assoc, append-nil, inl, inr}
+use Rattle.std.proofs.lemmas.Bool.{false≢true, cond_both}
 use Rattle.std.specs.Prelude.{IsTrue, Option, Some, None, nat_le, nat_eq}
 use Rattle.pb_text.specs.Automaton.{Next, Go, End, Refuse}
 use Rattle.pb_text.specs.Classes.{is_digit, is_letter, is_name_byte}
 use Rattle.pb_text.specs.Spelling.{Letter, bytes}
+use Rattle.pb_text.proofs.ByteTests.{letter_name}
 use Rattle.pb_text.proofs.Walking.{Walks}
 use Rattle.pb_text.proofs.Languages.{each-append}
 use Rattle.pb_sums.specs.Asking.{EndsIn, IsNameFront, InName, AsksLiteral}
@@ -22,14 +23,10 @@ use Rattle.pb_sums.specs.declared.phase.Phase.{Phase}
 use Rattle.pb_sums.specs.declared.phase.Phase as phase
 use Rattle.pb_sums.specs.declared.phase.Move.{Move}
 use Rattle.pb_sums.specs.declared.phase.Move.TheVariants.{To, Begin, Add, EndSum, EndLinear, Stop}
-use Rattle.pb_sums.proofs.Fronts.{IsFirst, name-append, first-append}
+use Rattle.pb_sums.proofs.LiteralFronts.{IsFirst, name-append, first-append}
 
 abbrev IsNameByte : ℕ → Type 0
 IsNameByte e = IsTrue (is_name_byte e)
-
-chosen : {A : Type 0} (P : A → Type 0) (b : Bool) (x y : A) → (b ≡ true → P x) → (b ≡ false → P y) → P (cond b x y)
-chosen P true x y f g = f refl
-chosen P false x y f g = g refl
 
 -- a name in hand, and a byte more
 pub name_further : (name : List ℕ) (b : ℕ) → IsName name → IsTrue (is_name_byte b) → IsNameFront (name ++ b ∷ [])
@@ -76,24 +73,21 @@ Means _ b = Unit {0}
 symbol_means : (b : ℕ) → Means (symbol b) b
 symbol_means b =
     let P : Kind → Type 0 = λ k. Means k b in
-    chosen P (nat_eq b 126) _ _ (λ _. tt) (λ _.
-    chosen P (nat_eq b 43) _ _ (λ _. tt) (λ _.
-    chosen P (nat_eq b 45) _ _ (λ _. tt) (λ _.
-    chosen P (nat_eq b 62) _ _ (λ _. tt) (λ _.
-    chosen P (nat_eq b 61) _ _ (λ _. tt) (λ _.
-    chosen P (nat_eq b 59) _ _ (λ _. tt) (λ _. tt))))))
+    cond_both (nat_eq b 126) _ _ P (λ _. tt) (λ _.
+    cond_both (nat_eq b 43) _ _ P (λ _. tt) (λ _.
+    cond_both (nat_eq b 45) _ _ P (λ _. tt) (λ _.
+    cond_both (nat_eq b 62) _ _ P (λ _. tt) (λ _.
+    cond_both (nat_eq b 61) _ _ P (λ _. tt) (λ _.
+    cond_both (nat_eq b 59) _ _ P (λ _. tt) (λ _. tt))))))
 
 means : (spaces : Spaces) (l : Letter) → Means (kind spaces l) l.byte
 means spaces l =
     let P : Kind → Type 0 = λ k. Means k l.byte in
-    chosen P l.numeral _ _
-    (λ _. chosen P (is_digit l.byte) _ _ (λ _. tt) (λ _. tt))
-    (λ _. chosen P (is_space spaces l.byte) _ _ (λ _. tt) (λ _.
-    chosen P (is_letter l.byte) _ _ (λ e. (refl, e)) (λ _.
-    chosen P (is_name_byte l.byte) _ _ (λ e. (refl, e)) (λ _. symbol_means l.byte))))
-
-letter_name : (b : ℕ) → IsTrue (is_letter b) → IsTrue (is_name_byte b)
-letter_name b e = rw e refl
+    cond_both l.numeral _ _ P
+    (λ _. cond_both (is_digit l.byte) _ _ P (λ _. tt) (λ _. tt))
+    (λ _. cond_both (is_space spaces l.byte) _ _ P (λ _. tt) (λ _.
+    cond_both (is_letter l.byte) _ _ P (λ e. (refl, e)) (λ _.
+    cond_both (is_name_byte l.byte) _ _ P (λ e. (refl, e)) (λ _. symbol_means l.byte))))
 
 -- a name is in hand
 abbrev is_naming : Phase → Bool
@@ -112,7 +106,7 @@ Fits p b _ = Unit {0}
 
 module _ (want : Part) (limit b : ℕ) where
   digits_fit : (p : Phase) (role : Option Relation) (negative : Bool) (n d : ℕ) → Fits p b (digits limit role negative n d)
-  digits_fit p role negative n d = chosen (Fits p b) (nat_le (10 * n + d) limit) _ _ (λ _. refl) (λ _. tt)
+  digits_fit p role negative n d = cond_both (nat_le (10 * n + d) limit) _ _ (Fits p b) (λ _. refl) (λ _. tt)
 
   number_fits : (p : Phase) (role : Option Relation) (k : Kind) → Fits p b (number limit role k)
   number_fits p role Plus = refl
@@ -121,13 +115,13 @@ module _ (want : Part) (limit b : ℕ) where
   number_fits p role _ = tt
 
   behind_fits : (p : Phase) (k : Kind) → Fits p b (behind want k)
-  behind_fits p Greater = chosen (Fits p b) (allows want AtLeast) _ _ (λ _. refl) (λ _. tt)
-  behind_fits p Equals = chosen (Fits p b) (allows want Equal) _ _ (λ _. refl) (λ _. tt)
-  behind_fits p Semicolon = chosen (Fits p b) (reads_sums want) _ _ (λ _. tt) (λ _. tt)
+  behind_fits p Greater = cond_both (allows want AtLeast) _ _ (Fits p b) (λ _. refl) (λ _. tt)
+  behind_fits p Equals = cond_both (allows want Equal) _ _ (Fits p b) (λ _. refl) (λ _. tt)
+  behind_fits p Semicolon = cond_both (reads_sums want) _ _ (Fits p b) (λ _. tt) (λ _. tt)
   behind_fits p _ = tt
 
   plan_fits : (p : Phase) (k : Kind) → Means k b → Fits p b (plan want limit p k)
-  plan_fits phase.TheVariants.Start Space m = chosen (Fits phase.TheVariants.Start b) (reads_sums want) _ _ (λ _. refl) (λ _. tt)
+  plan_fits phase.TheVariants.Start Space m = cond_both (reads_sums want) _ _ (Fits phase.TheVariants.Start b) (λ _. refl) (λ _. tt)
   plan_fits phase.TheVariants.Start Plus m = refl
   plan_fits phase.TheVariants.Start Minus m = refl
   plan_fits phase.TheVariants.Start (Digit d) m = digits_fit phase.TheVariants.Start None false 0 d
@@ -238,13 +232,13 @@ by_either p name text b m f h k = by_adds (adds m) refl h
 
 -- Before a text it asks for nothing.
 begins_plain : (want : Part) (limit : ℕ) (k : Kind) → adds (plan want limit phase.TheVariants.Start k) ≡ false
-begins_plain want limit Space = chosen (λ m. adds m ≡ false) (reads_sums want) _ _ (λ _. refl) (λ _. refl)
+begins_plain want limit Space = cond_both (reads_sums want) _ _ (λ m. adds m ≡ false) (λ _. refl) (λ _. refl)
 begins_plain want limit Plus = refl
 begins_plain want limit Minus = refl
-begins_plain want limit (Digit d) = chosen (λ m. adds m ≡ false) (nat_le (10 * 0 + d) limit) _ _ (λ _. refl) (λ _. refl)
-begins_plain want limit Greater = chosen (λ m. adds m ≡ false) (allows want AtLeast) _ _ (λ _. refl) (λ _. refl)
-begins_plain want limit Equals = chosen (λ m. adds m ≡ false) (allows want Equal) _ _ (λ _. refl) (λ _. refl)
-begins_plain want limit Semicolon = chosen (λ m. adds m ≡ false) (reads_sums want) _ _ (λ _. refl) (λ _. refl)
+begins_plain want limit (Digit d) = cond_both (nat_le (10 * 0 + d) limit) _ _ (λ m. adds m ≡ false) (λ _. refl) (λ _. refl)
+begins_plain want limit Greater = cond_both (allows want AtLeast) _ _ (λ m. adds m ≡ false) (λ _. refl) (λ _. refl)
+begins_plain want limit Equals = cond_both (allows want Equal) _ _ (λ m. adds m ≡ false) (λ _. refl) (λ _. refl)
+begins_plain want limit Semicolon = cond_both (reads_sums want) _ _ (λ m. adds m ≡ false) (λ _. refl) (λ _. refl)
 begins_plain want limit _ = refl
 
 pub first_asks_nothing : (spaces : Spaces) (part : Part) (limit b : ℕ) → asks (first spaces part limit) b ≡ false

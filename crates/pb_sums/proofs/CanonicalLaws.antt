@@ -20,7 +20,7 @@ module _ (limit : ℕ) (small : limit < 10 ^ 64) where
   weight (pos n) h = (false, n, h, refl, (unmarked 43 ∷ [], digits_of (decimal n), refl, inr refl, decimal-digits n (omega arith)))
   weight (negsuc n) h = (true, suc n, h, refl, (unmarked 45 ∷ [], digits_of (decimal (suc n)), refl, refl, decimal-digits (suc n) (omega arith)))
 
-  degree : (z : ℤ) → nat_abs z ≤ limit → Number limit z (degree_text z)
+  pub degree : (z : ℤ) → nat_abs z ≤ limit → Number limit z (degree_text z)
   degree (pos n) h = (false, n, h, refl, ([], digits_of (decimal n), refl, inl refl, decimal-digits n (omega arith)))
   degree (negsuc n) h = (true, suc n, h, refl, (unmarked 45 ∷ [], digits_of (decimal (suc n)), refl, refl, decimal-digits (suc n) (omega arith)))
 
@@ -77,7 +77,7 @@ module _ (limit : ℕ) (small : limit < 10 ^ 64) where
         )
 
 -- The letters of canonical text are its bytes.
-bytes-degree : (z : ℤ) → bytes (degree_text z) ≡ signed_decimal z
+pub bytes-degree : (z : ℤ) → bytes (degree_text z) ≡ signed_decimal z
 bytes-degree (pos n) = bytes-digits (decimal n)
 bytes-degree (negsuc n) = ap (λ x. 45 ∷ x) (bytes-digits (decimal (suc n)))
 

@@ -13,6 +13,7 @@ use Rattle.pb_sums.specs.declared.values.Relation.{Relation}
 use Rattle.pb_sums.specs.declared.values.Relation.TheVariants.{AtLeast, Equal}
 use Rattle.pb_sums.specs.declared.values.SumEvent.{SumEvent}
 use Rattle.pb_sums.specs.declared.values.Term.{Term}
+use Rattle.pb_text.proofs.DigitWalks.{ten_pos}
 use Rattle.pb_text.proofs.Languages.{nil_first}
 use Rattle.pb_text.proofs.Runs.{run, Takes, takes_then, run-refuse}
 use Rattle.pb_text.specs.Automaton.{Next, Go, End, Refuse}
@@ -20,7 +21,7 @@ use Rattle.pb_text.specs.Classes.{is_name_byte}
 use Rattle.pb_text.specs.Languages.{unmarked, digit, Language, ◌⋅◌, Byte, Each}
 use Rattle.pb_text.specs.Numbers.{value, signed, Number}
 use Rattle.pb_text.specs.Spelling.{Letter}
-use Rattle.std.proofs.Common.{◌≡◌, ℕ, zero, suc, ◌+◌, ◌*◌, ◌^◌, ◌<◌, ◌≤◌, Bool, true, false, cond, List, [], ◌∷◌, ◌++◌, length, map, refl, sym, ap, subst, arith, ◌⊎◌, inl, inr, append_assoc, ◌∙◌}
+use Rattle.std.proofs.Common.{◌≡◌, ℕ, suc, ◌+◌, ◌*◌, ◌^◌, ◌<◌, ◌≤◌, Bool, true, false, cond, List, [], ◌∷◌, ◌++◌, length, map, refl, sym, ap, subst, arith, ◌⊎◌, inl, inr, append_assoc, ◌∙◌}
 use Rattle.std.proofs.Math.Nat.{pow-succ', le-mul_of_pos_right}
 use Rattle.std.proofs.lemmas.Bool.{le-leb}
 use Rattle.std.proofs.lemmas.List.{append-nil}
@@ -89,10 +90,6 @@ module _ (spaces : Spaces) (want : Part) (limit : ℕ) where
   reads n c k t e = run-moves n c t ∙ ap (λ x. go (moves n x) t) e
 
   -- digits
-  ten_pos : (k : ℕ) → 0 < 10 ^ k
-  ten_pos zero = omega arith
-  ten_pos (suc k) = rw (pow-succ' 10 k) (omega (arith, ten_pos k))
-
   abbrev at_digits : List Term → Option Relation → Bool → ℕ → N
   at_digits xs role negative m = to xs (phase.TheVariants.Digits role negative m)
 

@@ -15,7 +15,8 @@ use Rattle.pb_sums.specs.declared.values.Relation.{Relation}
 use Rattle.pb_sums.specs.declared.values.Relation.TheVariants.{AtLeast, Equal}
 use Rattle.pb_sums.specs.declared.values.SumEvent.{SumEvent}
 use Rattle.pb_sums.specs.declared.values.Term.{Term}
-use Rattle.pb_text.specs.Automaton.{Next, Go, End, Refuse}
+use Rattle.pb_text.proofs.Outcomes.{one_state, one_end, go_or_end, refuse_or_go, refuse_or_end, end_or_go}
+use Rattle.pb_text.specs.Automaton.{Go, End}
 use Rattle.pb_text.specs.Classes.{is_digit, is_letter, is_name_byte}
 use Rattle.pb_text.specs.Spelling.{Letter}
 use Rattle.std.proofs.Common.{◌≡◌, ℕ, ◌+◌, ◌*◌, ◌-◌, Bool, true, false, cond, ◌&&◌, List, [], ◌∷◌, ◌++◌, refl, sym, ap, subst, arith, ◌⊎◌, inl, inr, ◌∙◌}
@@ -24,15 +25,6 @@ use Rattle.std.proofs.lemmas.Bool.Decides.{nat_tests}
 use Rattle.std.specs.Prelude.{nat_le, Option, Some, None}
 use Rattle.pb_sums.specs.declared.values.SumEvent as event
 use Rattle.pb_sums.specs.declared.phase.Phase as phase
-
-pub same : (v w : Work) → ◌≡◌ {A = Next Work SumEvent} (Go v) (Go w) → v ≡ w
-same v w e = cc
-
-pub ends : (v : SumEvent) (u w : Work) → ◌≡◌ {A = Next Work SumEvent} (End v u) (Go w) → ⊥
-ends v u w e = cc
-
-pub stops : (w : Work) → ◌≡◌ {A = Next Work SumEvent} Refuse (Go w) → ⊥
-stops w e = cc
 
 -- What the plan for a phase and a kind says of the state that it leads to: the byte was a digit of a number exactly
 -- where the state is in a number, the text has begun, and a literal is in hand where a name has; only `;` ends a text.
@@ -54,12 +46,6 @@ IsSane ph k Stop = Unit {0}
 sane_test : (ph : Phase) (k : Kind) (b : Bool) (m : Move) → IsSane ph k m → IsSane ph k (cond b m Stop)
 sane_test ph k true m h = h
 sane_test ph k false m h = tt
-
-last_one : (u v : SumEvent) (w : Work) → ◌≡◌ {A = Next Work SumEvent} (End u finished) (End v w) → w ≡ finished
-last_one u v w e = cc
-
-pub no_end : (v : SumEvent) (w : Work) → ◌≡◌ {A = Next Work SumEvent} Refuse (End v w) → ⊥
-no_end v w e = cc
 
 module _ (want : Part) (limit : ℕ) where
   digits-sane : (ph : Phase) (role : Option Relation) (negative : Bool) (n d : ℕ) → IsSane ph (Digit d) (digits limit role negative n d)
@@ -186,12 +172,12 @@ module _ (want : Part) (limit : ℕ) where
       go b false false e = inl (ap (λ n. record { byte = b; numeral = n }) (sym (ap (λ y. is_numeric ph && y) e ∙ and-false (is_numeric ph))))
 
   go-sane : (ph : Phase) (k : Kind) (ys xs : List Term) (name : List ℕ) (m : Move) (w : Work) → IsSane ph k m → act ys xs name m ≡ Go w → Flags k w.phase
-  go-sane ph k ys xs name (To q) w h e = subst (Flags k) (ap (λ x. x.phase) (same (record { terms = ys; name = []; phase = q }) w e)) h.0
-  go-sane ph k ys xs name (Begin q b) w h e = subst (Flags k) (ap (λ x. x.phase) (same (record { terms = xs; name = b ∷ []; phase = q }) w e)) h.0
-  go-sane ph k ys xs name (Add q b) w h e = subst (Flags k) (ap (λ x. x.phase) (same (record { terms = xs; name = name ++ b ∷ []; phase = q }) w e)) h.0
-  go-sane ph k ys xs name EndSum w h e = absurd (ends (event.TheVariants.Sum ys) finished w e)
-  go-sane ph k ys xs name (EndLinear r z) w h e = absurd (ends (event.TheVariants.Linear (record { terms = ys; relation = r; degree = z })) finished w e)
-  go-sane ph k ys xs name Stop w h e = absurd (stops w e)
+  go-sane ph k ys xs name (To q) w h e = subst (Flags k) (ap (λ x. x.phase) (one_state (record { terms = ys; name = []; phase = q }) w e)) h.0
+  go-sane ph k ys xs name (Begin q b) w h e = subst (Flags k) (ap (λ x. x.phase) (one_state (record { terms = xs; name = b ∷ []; phase = q }) w e)) h.0
+  go-sane ph k ys xs name (Add q b) w h e = subst (Flags k) (ap (λ x. x.phase) (one_state (record { terms = xs; name = name ++ b ∷ []; phase = q }) w e)) h.0
+  go-sane ph k ys xs name EndSum w h e = end_or_go (event.TheVariants.Sum ys) finished w e
+  go-sane ph k ys xs name (EndLinear r z) w h e = end_or_go (event.TheVariants.Linear (record { terms = ys; relation = r; degree = z })) finished w e
+  go-sane ph k ys xs name Stop w h e = refuse_or_go w e
 
   numeral-of : (s : Spaces) (c : Letter) (k : Kind) → Means s k c → (c.numeral ≡ is_digit_kind k) ⊎ (k ≡ Other)
   numeral-of s c Space m = inl (ap (λ x. x.numeral) m.0)
@@ -208,16 +194,16 @@ module _ (want : Part) (limit : ℕ) where
       let f : Flags (kind s c) w'.phase = go-sane w.phase (kind s c) ys w.terms w.name (plan want limit w.phase (kind s c)) w' (plan-sane w.phase (kind s c)) e in
       elim (numeral-of s c (kind s c) (kind-means s c)) [
         | inl g ↦ (f.0 ∙ sym g, f.1)
-        | inr g ↦ absurd (stops w' (sym (ap (λ m. act ys w.terms w.name m) (ap (λ k. plan want limit w.phase k) g ∙ other-stops w.phase)) ∙ e))
+        | inr g ↦ refuse_or_go w' (sym (ap (λ m. act ys w.terms w.name m) (ap (λ k. plan want limit w.phase k) g ∙ other-stops w.phase)) ∙ e)
       ]
 
   end-sane : (ph : Phase) (k : Kind) (ys xs : List Term) (name : List ℕ) (m : Move) (v : SumEvent) (w : Work) → IsSane ph k m → act ys xs name m ≡ End v w → (k ≡ Semicolon) × (w ≡ finished)
-  end-sane ph k ys xs name EndSum v w h e = (h, last_one (event.TheVariants.Sum ys) v w e)
-  end-sane ph k ys xs name (EndLinear r z) v w h e = (h, last_one (event.TheVariants.Linear (record { terms = ys; relation = r; degree = z })) v w e)
-  end-sane ph k ys xs name (To q) v w h e = absurd (ends v w (record { terms = ys; name = []; phase = q }) (sym e))
-  end-sane ph k ys xs name (Begin q b) v w h e = absurd (ends v w (record { terms = xs; name = b ∷ []; phase = q }) (sym e))
-  end-sane ph k ys xs name (Add q b) v w h e = absurd (ends v w (record { terms = xs; name = name ++ b ∷ []; phase = q }) (sym e))
-  end-sane ph k ys xs name Stop v w h e = absurd (no_end v w e)
+  end-sane ph k ys xs name EndSum v w h e = (h, sym (one_end (event.TheVariants.Sum ys) v finished w e).1)
+  end-sane ph k ys xs name (EndLinear r z) v w h e = (h, sym (one_end (event.TheVariants.Linear (record { terms = ys; relation = r; degree = z })) v finished w e).1)
+  end-sane ph k ys xs name (To q) v w h e = go_or_end (record { terms = ys; name = []; phase = q }) v w e
+  end-sane ph k ys xs name (Begin q b) v w h e = go_or_end (record { terms = xs; name = b ∷ []; phase = q }) v w e
+  end-sane ph k ys xs name (Add q b) v w h e = go_or_end (record { terms = xs; name = name ++ b ∷ []; phase = q }) v w e
+  end-sane ph k ys xs name Stop v w h e = refuse_or_end v w e
 
   -- A text ends with a `;`, which is no digit, and then nothing is kept.
   pub ended : (s : Spaces) (w w' : Work) (v : SumEvent) (c : Letter) → on_letter s want limit w c ≡ End v w' → (c.numeral ≡ false) × (w' ≡ finished)

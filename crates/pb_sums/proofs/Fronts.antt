@@ -1,13 +1,11 @@
 -- What stands before a state: the text that the machine has read is a part of the grammar.
-use Rattle.pb_text.proofs.Languages.{each-append, none_yet, regroup, regroup3, behind_it, nil_first}
-use Rattle.pb_sums.specs.Sums.{IsName, literal_bytes, Spaces1, SpellsTerm, SpellsFurther, SpellsSum}
+use Rattle.pb_text.proofs.Languages.{none_yet, regroup, regroup3, behind_it, nil_first}
+use Rattle.pb_sums.specs.Sums.{Spaces1, SpellsTerm, SpellsFurther, SpellsSum}
 use Rattle.pb_sums.specs.declared.grammar.Spaces.{Spaces}
 use Rattle.pb_sums.specs.declared.values.Term.{Term}
-use Rattle.pb_text.specs.Classes.{is_letter, is_name_byte}
 use Rattle.pb_text.specs.Languages.{Language, ◌⋅◌, Empty}
 use Rattle.pb_text.specs.Spelling.{Letter}
-use Rattle.std.proofs.Common.{◌≡◌, ℕ, Bool, true, false, List, [], ◌∷◌, ◌++◌, refl}
-use Rattle.std.specs.Prelude.{IsTrue}
+use Rattle.std.proofs.Common.{ℕ, List, [], ◌∷◌, ◌++◌, refl}
 
 abbrev pub IsCons : List Term → Type 0
 IsCons [] = ⊥
@@ -16,25 +14,6 @@ IsCons (x ∷ xs) = Unit {0}
 pub cons-append : (xs : List Term) (x : Term) → IsCons (xs ++ x ∷ [])
 cons-append [] x = tt
 cons-append (y ∷ xs) x = tt
-
-abbrev pub IsFirst : List ℕ → Type 0
-IsFirst [] = ⊥
-IsFirst (b ∷ []) = IsTrue (is_letter b)
-IsFirst (b ∷ c ∷ bs) = ⊥
-
-pub name-append : (bs : List ℕ) (b : ℕ) → IsName bs → IsTrue (is_name_byte b) → IsName (bs ++ b ∷ [])
-name-append [] b h k = absurd h
-name-append (x ∷ []) b h k = absurd h
-name-append (x ∷ y ∷ bs) b h k = (h.0, each-append (λ e. IsTrue (is_name_byte e)) (y ∷ bs) b h.1 k)
-
-pub first-append : (bs : List ℕ) (b : ℕ) → IsFirst bs → IsTrue (is_name_byte b) → IsName (bs ++ b ∷ [])
-first-append [] b h k = absurd h
-first-append (x ∷ []) b h k = (h, (k, tt))
-first-append (x ∷ y ∷ bs) b h k = absurd h
-
-pub literal-append : (negated : Bool) (name : List ℕ) (b : ℕ) → literal_bytes negated (name ++ b ∷ []) ≡ literal_bytes negated name ++ b ∷ []
-literal-append true name b = refl
-literal-append false name b = refl
 
 module _ (spaces : Spaces) (limit : ℕ) where
   further-append : (ys : List Term) (x : Term) (p : List Letter) → (SpellsFurther spaces limit ys ⋅ Spaces1 spaces limit ⋅ SpellsTerm spaces limit x) p → SpellsFurther spaces limit (ys ++ x ∷ []) p

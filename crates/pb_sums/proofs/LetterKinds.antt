@@ -9,8 +9,9 @@ use Rattle.pb_sums.specs.declared.grammar.Spaces.TheVariants.{White, Blank}
 use Rattle.pb_text.specs.Classes.{is_digit, is_letter, is_name_byte}
 use Rattle.pb_text.specs.Languages.{unmarked, digit}
 use Rattle.pb_text.specs.Spelling.{Letter}
+use Rattle.pb_text.proofs.ByteTests.{digit_of, name_high, letter_name}
 use Rattle.std.proofs.Common.{◌≡◌, ℕ, ◌+◌, ◌-◌, ◌<◌, ◌≤◌, Bool, true, false, cond, refl, ap, arith, ◌⊎◌, inl, inr}
-use Rattle.std.proofs.lemmas.Bool.{eqb-true}
+use Rattle.std.proofs.lemmas.Bool.{eqb-true, cond_both}
 use Rattle.std.proofs.lemmas.Bool.Decides.{nat_tests}
 use Rattle.std.specs.Prelude.{IsTrue, nat_eq}
 
@@ -28,39 +29,29 @@ Means s Equals c = c ≡ unmarked 61
 Means s Semicolon c = c ≡ unmarked 59
 Means s Other c = Unit {0}
 
-chosen : (P : Kind → Type 0) (b : Bool) (x y : Kind) → (b ≡ true → P x) → (b ≡ false → P y) → P (cond b x y)
-chosen P true x y f g = f refl
-chosen P false x y f g = g refl
-
 symbol-means : (s : Spaces) (b : ℕ) → Means s (symbol b) (unmarked b)
 symbol-means s b =
     let P : Kind → Type 0 = λ k. Means s k (unmarked b) in
     let at = λ (n : ℕ) (e : nat_eq b n ≡ true). ap unmarked (eqb-true b n e) in
-    chosen P (nat_eq b 126) _ _ (at 126) (λ _.
-    chosen P (nat_eq b 43) _ _ (at 43) (λ _.
-    chosen P (nat_eq b 45) _ _ (at 45) (λ _.
-    chosen P (nat_eq b 62) _ _ (at 62) (λ _.
-    chosen P (nat_eq b 61) _ _ (at 61) (λ _.
-    chosen P (nat_eq b 59) _ _ (at 59) (λ _. tt))))))
-
-digit-of : (b : ℕ) → is_digit b ≡ true → (b ≡ 48 + (b - 48)) × (b - 48 < 10)
-digit-of b e = grind (arith, nat_tests)
+    cond_both (nat_eq b 126) _ _ P (at 126) (λ _.
+    cond_both (nat_eq b 43) _ _ P (at 43) (λ _.
+    cond_both (nat_eq b 45) _ _ P (at 45) (λ _.
+    cond_both (nat_eq b 62) _ _ P (at 62) (λ _.
+    cond_both (nat_eq b 61) _ _ P (at 61) (λ _.
+    cond_both (nat_eq b 59) _ _ P (at 59) (λ _. tt))))))
 
 pub kind-means : (s : Spaces) (c : Letter) → Means s (kind s c) c
 kind-means s c = go c.byte c.numeral
   where
     go : (b : ℕ) (m : Bool) → Means s (cond m (kind_of_numeral b) (kind_of_plain s b)) (record { byte = b; numeral = m })
-    go b true = chosen (λ k. Means s k (record { byte = b; numeral = true })) (is_digit b) _ _
-        (λ e. let f : (b ≡ 48 + (b - 48)) × (b - 48 < 10) = digit-of b e in
+    go b true = cond_both (is_digit b) _ _ (λ k. Means s k (record { byte = b; numeral = true }))
+        (λ e. let f : (b ≡ 48 + (b - 48)) × (b - 48 < 10) = digit_of b e in
         (ap (λ (x : ℕ). record { byte = x; numeral = true }) f.0, f.1)) (λ _. tt)
     go b false =
         let P : Kind → Type 0 = λ k. Means s k (unmarked b) in
-        chosen P (is_space s b) _ _ (λ e. (refl, e)) (λ _.
-        chosen P (is_letter b) _ _ (λ e. (refl, e)) (λ _.
-        chosen P (is_name_byte b) _ _ (λ e. (refl, e)) (λ _. symbol-means s b)))
-
-pub letter_is_name_byte : (b : ℕ) → IsTrue (is_letter b) → IsTrue (is_name_byte b)
-letter_is_name_byte b e = rw e refl
+        cond_both (is_space s b) _ _ P (λ e. (refl, e)) (λ _.
+        cond_both (is_letter b) _ _ P (λ e. (refl, e)) (λ _.
+        cond_both (is_name_byte b) _ _ P (λ e. (refl, e)) (λ _. symbol-means s b)))
 
 -- The kinds of the letters of the grammar.
 pub kind-digit : (s : Spaces) (d : ℕ) → d < 10 → kind s (digit d) ≡ Digit d
@@ -76,18 +67,15 @@ low : (s : Spaces) (b : ℕ) → 33 ≤ b → is_space s b ≡ false
 low White b h = grind (arith, nat_tests)
 low Blank b h = grind (arith, nat_tests)
 
-high : (b : ℕ) → is_name_byte b ≡ true → 33 ≤ b
-high b h = grind (arith, nat_tests)
-
 pub kind-letter : (s : Spaces) (b : ℕ) → IsTrue (is_letter b) → kind s (unmarked b) ≡ Start b
-kind-letter s b e = rw (low s b (high b (letter_is_name_byte b e)), e) refl
+kind-letter s b e = rw (low s b (name_high b (letter_name b e)), e) refl
 
 pub kind-name : (s : Spaces) (b : ℕ) → IsTrue (is_name_byte b) → (kind s (unmarked b) ≡ Start b) ⊎ (kind s (unmarked b) ≡ Inner b)
 kind-name s b e = go (is_letter b) refl
   where
     go : (x : Bool) → is_letter b ≡ x → (kind s (unmarked b) ≡ Start b) ⊎ (kind s (unmarked b) ≡ Inner b)
     go true f = inl (kind-letter s b f)
-    go false f = inr (rw (low s b (high b e), e, f) refl)
+    go false f = inr (rw (low s b (name_high b e), e, f) refl)
 
 -- what a machine does with a letter
 abbrev pub on_letter : Spaces → Part → ℕ → Work → Letter → Outcome

@@ -19,3 +19,4 @@ mod Behind
 mod Shorts
 mod TermParts
 pub mod Within
+pub mod LiteralFronts

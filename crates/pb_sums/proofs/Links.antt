@@ -1,7 +1,8 @@
 -- What an automaton of sums reads is what its machine over letters ends with. Offered to other crates.
 use Rattle.std.proofs.Common.{◌≡◌, ℕ, Bool, true, false, List, [], ◌∷◌, refl, sym, ap, subst, ◌⊎◌, inl, inr, ◌∙◌, ◌↔◌}
+use Rattle.pb_text.proofs.Outcomes.{one_state, one_end, go_or_end, go_or_refuse, end_or_refuse, refuse_or_go, refuse_or_end, end_or_go}
 use Rattle.pb_text.proofs.Runs.{run, run-refuse}
-use Rattle.pb_text.specs.Automaton.{Next, Go, End, Refuse, Reads}
+use Rattle.pb_text.specs.Automaton.{Go, End, Refuse, Reads}
 use Rattle.pb_text.specs.Spelling.{Letter}
 use Rattle.pb_sums.specs.Sums.{Spells}
 use Rattle.pb_sums.specs.Machine.{Work, Outcome, act, step, letter_at, is_numeric, is_in_number, is_midway, is_done, flushed, fresh, finished}
@@ -12,35 +13,8 @@ use Rattle.pb_sums.specs.declared.phase.Phase as phase
 use Rattle.pb_sums.specs.declared.grammar.Spaces.{Spaces}
 use Rattle.pb_sums.specs.declared.grammar.Part.{Part}
 use Rattle.pb_sums.proofs.LetterKinds.{on_letter}
-use Rattle.pb_sums.proofs.Flags.{flag, gone, ended, ends, stops, no_end}
+use Rattle.pb_sums.proofs.Flags.{flag, gone, ended}
 use Rattle.pb_sums.proofs.Theorems.{exact, alive}
-
-pub gone-same : (s t : SumState) → ◌≡◌ {A = Next SumState SumEvent} (Go s) (Go t) → s ≡ t
-gone-same s t e = cc
-
-end-event : (s t : SumState) (e f : SumEvent) → ◌≡◌ {A = Next SumState SumEvent} (End e s) (End f t) → e ≡ f
-end-event s t e f h = cc
-
-pub end-state : (s t : SumState) (e f : SumEvent) → ◌≡◌ {A = Next SumState SumEvent} (End e s) (End f t) → s ≡ t
-end-state s t e f h = cc
-
-pub go-end : (s t : SumState) (e : SumEvent) → ◌≡◌ {A = Next SumState SumEvent} (Go s) (End e t) → ⊥
-go-end s t e h = cc
-
-pub refuse-end : (t : SumState) (e : SumEvent) → ◌≡◌ {A = Next SumState SumEvent} Refuse (End e t) → ⊥
-refuse-end t e h = cc
-
-pub refuse-go : (t : SumState) → ◌≡◌ {A = Next SumState SumEvent} Refuse (Go t) → ⊥
-refuse-go t h = cc
-
-pub end-go : (s t : SumState) (e : SumEvent) → ◌≡◌ {A = Next SumState SumEvent} (End e s) (Go t) → ⊥
-end-go s t e h = cc
-
-last-event : (v e : SumEvent) (w u : Work) → ◌≡◌ {A = Outcome} (End v w) (End e u) → v ≡ e
-last-event v e w u h = cc
-
-last-work : (v e : SumEvent) (w u : Work) → ◌≡◌ {A = Outcome} (End v w) (End e u) → w ≡ u
-last-work v e w u h = cc
 
 pub midway-not-done : (ph : Phase) → is_midway ph ≡ true → is_done ph ≡ false
 midway-not-done phase.TheVariants.Start h = refl
@@ -79,22 +53,22 @@ module _ (spaces : Spaces) (want : Part) (limit : ℕ) where
 
   first-letter : (w : Work) (c : Letter) (t : List Letter) (e : SumEvent) (u : Work) (n : Outcome) → on w c ≡ n → go n t ≡ End e u
       → ((v : Work) → go (Go v) t ≡ End e u → Reads sums (state v) t e (state u)) → Reads sums (state w) (c ∷ t) e (state u)
-  first-letter w c [] e u (Go v) i h later = absurd (ends e u v (sym h))
+  first-letter w c [] e u (Go v) i h later = go_or_end v e u h
   first-letter w c (d ∷ t) e u (Go v) i h later =
       let g : (is_in_number v.phase ≡ c.numeral) × (is_midway v.phase ≡ true) = gone want limit spaces w v c i in
-      (state v, stepped w c (Go v) i (λ f. stops v (sym f)), g.1, sym g.0, later v h)
+      (state v, stepped w c (Go v) i (λ f. go_or_refuse v f), g.1, sym g.0, later v h)
   first-letter w c [] e u (End f v) i h later =
       let g : (c.numeral ≡ false) × (v ≡ finished) = ended want limit spaces w v f c i in
-      let j : sums.step (state w) c.byte ≡ End f (state v) = stepped w c (End f v) i (λ k. no_end f v (sym k)) in (
-        subst (λ x. sums.step (state w) c.byte ≡ End x (state u)) (last-event f e v u h)
-            (subst (λ x. sums.step (state w) c.byte ≡ End f (state x)) (last-work f e v u h) j),
+      let j : sums.step (state w) c.byte ≡ End f (state v) = stepped w c (End f v) i (λ k. end_or_refuse f v k) in (
+        subst (λ x. sums.step (state w) c.byte ≡ End x (state u)) (one_end f e v u h).0
+            (subst (λ x. sums.step (state w) c.byte ≡ End f (state x)) (one_end f e v u h).1 j),
         g.0,
       )
-  first-letter w c (d ∷ t) e u (End f v) i h later = absurd (no_end e u h)
-  first-letter w c t e u Refuse i h later = absurd (no_end e u (sym (run-refuse on t) ∙ h))
+  first-letter w c (d ∷ t) e u (End f v) i h later = refuse_or_end e u h
+  first-letter w c t e u Refuse i h later = refuse_or_end e u (sym (run-refuse on t) ∙ h)
 
   pub run-reads : (t : List Letter) (w u : Work) (e : SumEvent) → go (Go w) t ≡ End e u → Reads sums (state w) t e (state u)
-  run-reads [] w u e h = absurd (ends e u w (sym h))
+  run-reads [] w u e h = go_or_end w e u h
   run-reads (c ∷ t) w u e h = first-letter w c t e u (on w c) refl h (λ v k. run-reads t v u e k)
 
   -- the letter of a byte, with the flag that it has in the text
@@ -106,24 +80,24 @@ module _ (spaces : Spaces) (want : Part) (limit : ℕ) where
 
   last-letter : (w : Work) (l : Letter) (e : SumEvent) (s : SumState) (n : Outcome) → on w (own w l.byte) ≡ n → over (state w) n ≡ End e s → l.numeral ≡ false
       → (on w l ≡ End e finished) × (s ≡ state finished)
-  last-letter w l e s (Go v) i h m = absurd (go-end (state v) s e h)
+  last-letter w l e s (Go v) i h m = go_or_end (state v) e s h
   last-letter w l e s (End f v) i h m =
       let g : ((own w l.byte).numeral ≡ false) × (v ≡ finished) = ended want limit spaces w v f (own w l.byte) i in
       let j : l ≡ own w l.byte = same-letter w l (m ∙ sym g.0) in (
-        ap (λ x. on w x) j ∙ (i ∙ (ap (λ x. End x v) (end-event (state v) s f e h) ∙ ap (λ x. End e x) g.1)),
-        sym (end-state (state v) s f e h) ∙ ap (λ x. state x) g.1,
+        ap (λ x. on w x) j ∙ (i ∙ (ap (λ x. End x v) ((one_end f e (state v) s h).0) ∙ ap (λ x. End e x) g.1)),
+        sym (one_end f e (state v) s h).1 ∙ ap (λ x. state x) g.1,
       )
-  last-letter w l e s Refuse i h m = absurd (refuse-end s e h)
+  last-letter w l e s Refuse i h m = refuse_or_end e s h
 
   next-letter : (w : Work) (l : Letter) (mid : SumState) (n : Outcome) → on w (own w l.byte) ≡ n → over (state w) n ≡ Go mid → l.numeral ≡ is_in_number mid.work.phase
       → (v : Work) × (mid ≡ state v) × (on w l ≡ Go v)
   next-letter w l mid (Go v) i h m =
       let g : (is_in_number v.phase ≡ (own w l.byte).numeral) × (is_midway v.phase ≡ true) = gone want limit spaces w v (own w l.byte) i in
-      let k : mid ≡ state v = sym (gone-same (state v) mid h) in
+      let k : mid ≡ state v = sym (one_state (state v) mid h) in
       let j : l ≡ own w l.byte = same-letter w l (m ∙ (ap (λ x. is_in_number x.work.phase) k ∙ g.0)) in
       (v, k, ap (λ x. on w x) j ∙ i)
-  next-letter w l mid (End f v) i h m = absurd (end-go (state v) mid f h)
-  next-letter w l mid Refuse i h m = absurd (refuse-go mid h)
+  next-letter w l mid (End f v) i h m = end_or_go f (state v) mid h
+  next-letter w l mid Refuse i h m = refuse_or_go mid h
 
   pub reads-run : (t : List Letter) (w : Work) (e : SumEvent) (s : SumState) → Reads sums (state w) t e s → (go (Go w) t ≡ End e finished) × (s ≡ state finished)
   reads-run [] w e s h = absurd h

@@ -1,7 +1,7 @@
 -- A push does what was planned.
 use Rattle.std.proofs.Common.{◌≡◌, ℕ, ℤ, Bool, true, false, ◌||◌, ◌&&◌, List, [], ◌∷◌, ◌++◌, refl, sym, ap, subst, ◌∙◌}
-use Rattle.std.specs.Prelude.{IsTrue, Result, OnOk, OnErr, is_ok, is_err, Ok, Err, if◌then◌else◌}
-use Rattle.pb_text.specs.Automaton.{Next, Go, End, Refuse, Admits, IsState, Pushes}
+use Rattle.std.specs.Prelude.{IsTrue, if◌then◌else◌}
+use Rattle.pb_text.specs.Automaton.{Go, End, Refuse, Admits, IsState, Pushes}
 use Rattle.pb_text.specs.Classes.{is_digit}
 use Rattle.pb_text.specs.declared.machine.Push.{Push}
 use Rattle.pb_text.specs.declared.machine.Push.TheVariants as push
@@ -18,24 +18,20 @@ use Rattle.pb_sums.specs.declared.phase.Phase as phase
 use Rattle.pb_sums.specs.declared.phase.Kind.{Kind}
 use Rattle.pb_sums.specs.declared.phase.Move.{Move}
 use Rattle.pb_sums.specs.declared.phase.Move.TheVariants.{To, Begin, Add, EndSum, EndLinear, Stop}
+use Rattle.pb_sums.specs.TermParts.{standing}
+use Rattle.pb_text.proofs.Outcomes.{go_or_refuse, end_or_refuse}
 use Rattle.pb_sums.proofs.States.{admits, is_state}
 
 abbrev pub IsTaken : Move → Type 0
 IsTaken Stop = ⊥
 IsTaken _ = Unit {0}
 
-refuse-go : (t : SumState) → ◌≡◌ {A = Next SumState SumEvent} (Go t) Refuse → ⊥
-refuse-go t h = cc
-
-refuse-end : (t : SumState) (e : SumEvent) → ◌≡◌ {A = Next SumState SumEvent} (End e t) Refuse → ⊥
-refuse-end t e h = cc
-
 taken-acts : (s : SumState) (ys xs : List Term) (name : List ℕ) (m : Move) → IsTaken m → over s (act ys xs name m) ≡ Refuse → ⊥
-taken-acts s ys xs name (To q) h e = refuse-go _ e
-taken-acts s ys xs name (Begin q b) h e = refuse-go _ e
-taken-acts s ys xs name (Add q b) h e = refuse-go _ e
-taken-acts s ys xs name EndSum h e = refuse-end _ _ e
-taken-acts s ys xs name (EndLinear r z) h e = refuse-end _ _ e
+taken-acts s ys xs name (To q) h e = go_or_refuse _ e
+taken-acts s ys xs name (Begin q b) h e = go_or_refuse _ e
+taken-acts s ys xs name (Add q b) h e = go_or_refuse _ e
+taken-acts s ys xs name EndSum h e = end_or_refuse _ _ e
+taken-acts s ys xs name (EndLinear r z) h e = end_or_refuse _ _ e
 taken-acts s ys xs name Stop h e = h
 
 module _ (s : Spaces) (w : Part) (limit : ℕ) (xs : List Term) (name : List ℕ) (p : Phase) (b : ℕ) (n : Bool) (k : Kind) (m : Move) where
@@ -87,42 +83,22 @@ pub adds_to : (s : Spaces) (w : Part) (limit : ℕ) (xs : List Term) (name : Lis
 adds_to s w limit xs name p q b n k c new z e f g =
     moved s w limit xs name p b n k (Add q c) e f g ∙ ap (λ x. over (state s w limit xs name p b n k (Add q c)) (at_name xs q x)) (sym z)
 
--- the state behind a text
-abbrev ended : Spaces → Part → ℕ → List Term → List ℕ → Phase → SumState
-ended s w limit xs name p = record { spaces = s; part = w; limit = limit; work = record { terms = xs; name = name; phase = p } }
-
 pub ends_sum : (s : Spaces) (w : Part) (limit : ℕ) (xs ys zs : List Term) (name new : List ℕ) (p q : Phase) (b : ℕ) (n : Bool) (k : Kind) →
     n ≡ is_numeric p → k ≡ kind s (letter_at n b) → EndSum ≡ plan w limit p k → ys ≡ flushed p xs name → zs ≡ [] → new ≡ [] → q ≡ phase.TheVariants.Done →
-    sums.step (state s w limit xs name p b n k EndSum) b ≡ End (event.TheVariants.Sum ys) (ended s w limit zs new q)
+    sums.step (state s w limit xs name p b n k EndSum) b ≡ End (event.TheVariants.Sum ys) (standing s w limit zs new q)
 ends_sum s w limit xs ys zs name new p q b n k e f g i j l m = rw (i, j, l, m) (moved s w limit xs name p b n k EndSum e f g)
 
 pub ends_linear : (s : Spaces) (w : Part) (limit : ℕ) (xs ys zs : List Term) (name new : List ℕ) (p q : Phase) (b : ℕ) (n : Bool) (k : Kind) (r : Relation) (z : ℤ) →
     n ≡ is_numeric p → k ≡ kind s (letter_at n b) → EndLinear r z ≡ plan w limit p k → ys ≡ flushed p xs name → zs ≡ [] → new ≡ [] → q ≡ phase.TheVariants.Done →
-    sums.step (state s w limit xs name p b n k (EndLinear r z)) b ≡ End (event.TheVariants.Linear (record { terms = ys; relation = r; degree = z })) (ended s w limit zs new q)
+    sums.step (state s w limit xs name p b n k (EndLinear r z)) b ≡ End (event.TheVariants.Linear (record { terms = ys; relation = r; degree = z })) (standing s w limit zs new q)
 ends_linear s w limit xs ys zs name new p q b n k r z e f g i j l m = rw (i, j, l, m) (moved s w limit xs name p b n k (EndLinear r z) e f g)
 
 -- it is in order, and a state
 pub ended_order : (limit : ℕ) (xs : List Term) (name : List ℕ) (p : Phase) → xs ≡ [] → name ≡ [] → p ≡ phase.TheVariants.Done → IsInOrder limit (record { terms = xs; name = name; phase = p })
 ended_order limit xs name p e f g = rw g (tt, λ h. (e, f))
 
-pub ended_state : (s : Spaces) (w : Part) (limit : ℕ) (xs : List Term) (name : List ℕ) (p : Phase) → xs ≡ [] → name ≡ [] → p ≡ phase.TheVariants.Done → IsState sums (ended s w limit xs name p)
-ended_state s w limit xs name p e f g = is_state (ended s w limit xs name p) (ended_order limit xs name p e f g)
-
-pub when_ok : {T E : Type 0} (r : Result T E) (P : Type 0) → OnOk r P → is_err r ≡ false → P
-when_ok (Ok x) P h e = h
-when_ok (Err x) P h e = cc
-
-pub when_err : {T E : Type 0} (r : Result T E) (P : Type 0) → OnErr r P → is_err r ≡ true → P
-when_err (Ok x) P h e = cc
-when_err (Err x) P h e = h
-
-pub unchanged : {T E : Type 0} (r : Result T E) (new more old : List ℕ) → new ≡ (if is_ok r then more else old) → is_err r ≡ true → new ≡ old
-unchanged (Ok x) new more old h e = cc
-unchanged (Err x) new more old h e = h
-
-pub changed : {T E : Type 0} (r : Result T E) (new more old : List ℕ) → new ≡ (if is_ok r then more else old) → is_err r ≡ false → new ≡ more
-changed (Ok x) new more old h e = h
-changed (Err x) new more old h e = cc
+pub ended_state : (s : Spaces) (w : Part) (limit : ℕ) (xs : List Term) (name : List ℕ) (p : Phase) → xs ≡ [] → name ≡ [] → p ≡ phase.TheVariants.Done → IsState sums (standing s w limit xs name p)
+ended_state s w limit xs name p e f g = is_state (standing s w limit xs name p) (ended_order limit xs name p e f g)
 
 pub same_state : (s : Spaces) (w : Part) (limit : ℕ) (xs ys : List Term) (m n : List ℕ) (p q : Phase) → xs ≡ ys → m ≡ n → p ≡ q →
     ◌≡◌ {A = SumState} (record { spaces = s; part = w; limit = limit; work = record { terms = xs; name = m; phase = p } })

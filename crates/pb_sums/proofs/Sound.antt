@@ -1,8 +1,9 @@
 -- A machine has read a front of the grammar: one lemma for each step that goes on.
-use Rattle.pb_sums.proofs.Fronts.{IsCons, cons-append, IsFirst, first-append, name-append, literal-append, Before, sum-append}
-use Rattle.pb_sums.proofs.LetterKinds.{on_letter, Means, kind-means, letter_is_name_byte}
+use Rattle.pb_sums.proofs.Fronts.{IsCons, cons-append, Before, sum-append}
+use Rattle.pb_sums.proofs.LiteralFronts.{first-append, name-append, FirstOf, LiteralOf, name-bytes}
+use Rattle.pb_sums.proofs.LetterKinds.{on_letter, Means, kind-means}
 use Rattle.pb_sums.specs.Machine.{Work, move, act, kind, term, digits, number, behind, fresh, finished}
-use Rattle.pb_sums.specs.Sums.{is_space, literal_bytes, SpellsLiteral, Spaces0, Spaces1, SpellsSum, Head, Operator, Spells, reads_sums, allows}
+use Rattle.pb_sums.specs.Sums.{is_space, Spaces0, Spaces1, SpellsSum, Head, Operator, Spells, reads_sums, allows}
 use Rattle.pb_sums.specs.declared.phase.Kind.{Kind}
 use Rattle.pb_sums.specs.declared.phase.Kind.TheVariants.{Space, Digit, Start, Inner, Tilde, Plus, Minus, Greater, Equals, Semicolon}
 use Rattle.pb_sums.specs.declared.phase.Move.{Move}
@@ -14,15 +15,16 @@ use Rattle.pb_sums.specs.declared.values.Relation.{Relation}
 use Rattle.pb_sums.specs.declared.values.Relation.TheVariants.{AtLeast, Equal}
 use Rattle.pb_sums.specs.declared.values.SumEvent.{SumEvent}
 use Rattle.pb_sums.specs.declared.values.Term.{Term}
-use Rattle.pb_text.proofs.Languages.{grown, next, none_yet, regroup, inside, behind_it, many-grown, some-grown, some-one, some-many, map-append}
+use Rattle.pb_text.proofs.ByteTests.{letter_name}
+use Rattle.pb_text.proofs.Languages.{grown, next, none_yet, regroup, inside, behind_it, many-grown, some-grown, some-one, some-many}
 use Rattle.pb_text.proofs.Numbers.{digits-grown, digits-one}
 use Rattle.pb_text.proofs.Runs.{run, OnFront, kept}
 use Rattle.pb_text.specs.Automaton.{Next, Go, End}
 use Rattle.pb_text.specs.Classes.{is_name_byte}
-use Rattle.pb_text.specs.Languages.{unmarked, Language, ◌⋅◌, Empty, Byte, Bytes}
+use Rattle.pb_text.specs.Languages.{unmarked, Language, ◌⋅◌, Empty, Byte}
 use Rattle.pb_text.specs.Numbers.{Digits, Sign, signed, Number}
 use Rattle.pb_text.specs.Spelling.{Letter}
-use Rattle.std.proofs.Common.{◌≡◌, ℕ, ◌+◌, ◌*◌, ◌≤◌, Bool, true, false, cond, List, [], ◌∷◌, ◌++◌, map, refl, sym, ap, subst, inl, inr, ◌∙◌}
+use Rattle.std.proofs.Common.{◌≡◌, ℕ, ◌+◌, ◌*◌, ◌≤◌, Bool, true, false, cond, List, [], ◌∷◌, ◌++◌, refl, sym, ap, subst, inl, inr, ◌∙◌}
 use Rattle.std.proofs.lemmas.Bool.{leb-true}
 use Rattle.std.specs.Prelude.{IsTrue, nat_le, ℤ, Option, Some, None}
 use Rattle.pb_sums.specs.declared.phase.Phase as phase
@@ -45,12 +47,6 @@ module _ (spaces : Spaces) (want : Part) (limit : ℕ) where
 
   abbrev Weighted : ℤ → List Term → Language
   Weighted z xs = Before spaces limit xs ⋅ Number limit z ⋅ S1
-
-  abbrev FirstOf : Bool → List ℕ → Language
-  FirstOf negated name = λ t. IsFirst name × Bytes (literal_bytes negated name) t
-
-  abbrev LiteralOf : Bool → List ℕ → Language
-  LiteralOf negated name = SpellsLiteral (record { negated = negated; name = name })
 
   -- what the machine has read
   abbrev front : Phase → List Term → List ℕ → Language
@@ -128,14 +124,6 @@ module _ (spaces : Spaces) (want : Part) (limit : ℕ) where
   before-of [] p i h = absurd i
   before-of (x ∷ xs) p i h = h
 
-  letter-of : (b : ℕ) (c : Letter) (bs : List ℕ) (q : List Letter) → c ≡ unmarked b → Bytes bs q → Bytes (bs ++ b ∷ []) (q ++ c ∷ [])
-  letter-of b c bs q e f = ap (λ x. x ++ c ∷ []) f ∙ (ap (λ y. map unmarked bs ++ y ∷ []) e ∙ map-append unmarked bs b)
-
-  name-bytes : (negated : Bool) (name : List ℕ) (b : ℕ) (c : Letter) (q : List Letter) → c ≡ unmarked b → Bytes (literal_bytes negated name) q →
-      Bytes (literal_bytes negated (name ++ b ∷ [])) (q ++ c ∷ [])
-  name-bytes negated name b c q e f =
-      subst (λ bs. Bytes bs (q ++ c ∷ [])) (sym (literal-append negated name b)) (letter-of b c (literal_bytes negated name) q e f)
-
   first-grown : (z : ℤ) (negated : Bool) (xs : List Term) (name : List ℕ) (b : ℕ) (c : Letter) (p : List Letter) → c ≡ unmarked b → IsTrue (is_name_byte b) →
       (Weighted z xs ⋅ FirstOf negated name) p → (Weighted z xs ⋅ LiteralOf negated (name ++ b ∷ [])) (p ++ c ∷ [])
   first-grown z negated xs name b c p e i h =
@@ -211,9 +199,9 @@ module _ (spaces : Spaces) (want : Part) (limit : ℕ) where
   sound (phase.TheVariants.Gap z) xs name (Start b) c p m h = next (Weighted z xs) (FirstOf false (b ∷ [])) p c h (m.1, ap (λ x. x ∷ []) m.0)
   sound (phase.TheVariants.Tilde z) xs name (Start b) c p m h =
       grown (Weighted z xs) (Byte 126) (FirstOf true (b ∷ [])) p c (λ q r. (m.1, ap (λ x. x ++ c ∷ []) r ∙ ap (λ y. unmarked 126 ∷ y ∷ []) m.0)) h
-  sound (phase.TheVariants.First z negated) xs name (Start b) c p m h = first-grown z negated xs name b c p m.0 (letter_is_name_byte b m.1) h
+  sound (phase.TheVariants.First z negated) xs name (Start b) c p m h = first-grown z negated xs name b c p m.0 (letter_name b m.1) h
   sound (phase.TheVariants.First z negated) xs name (Inner b) c p m h = first-grown z negated xs name b c p m.0 m.1 h
-  sound (phase.TheVariants.More z negated) xs name (Start b) c p m h = more-grown z negated xs name b c p m.0 (letter_is_name_byte b m.1) h
+  sound (phase.TheVariants.More z negated) xs name (Start b) c p m h = more-grown z negated xs name b c p m.0 (letter_name b m.1) h
   sound (phase.TheVariants.More z negated) xs name (Inner b) c p m h = more-grown z negated xs name b c p m.0 m.1 h
   sound (phase.TheVariants.More z negated) xs name Space c p m h =
       let ys : List Term = xs ++ term z negated name ∷ [] in

@@ -1,8 +1,8 @@
 -- What holds of each state of a machine, and what its first state accepts. Offered to other crates.
-use Rattle.std.proofs.Common.{◌≡◌, ℕ, ◌+◌, ◌≤◌, ◌^◌, ◌-◌, min, Bool, true, false, List, [], ◌∷◌, ◌++◌, length, refl, sym, ap, subst, arith, ◌∙◌, ◌↔◌}
+use Rattle.std.proofs.Common.{◌≡◌, ℕ, ◌+◌, ◌≤◌, ◌^◌, ◌-◌, min, true, false, List, [], ◌∷◌, length, refl, sym, ap, subst, arith, ◌∙◌, ◌↔◌}
 use Rattle.std.proofs.Math.Nat.{min-le_left}
 use Rattle.pb_text.specs.Automaton.{Next, Go, End, Refuse, Reads, Skips, Accepts, Admits, IsState}
-use Rattle.pb_text.specs.Spelling.{Letter, Item, bytes}
+use Rattle.pb_text.specs.Spelling.{Letter, Item}
 use Rattle.pb_sums.specs.declared.values.Term.{Term}
 use Rattle.pb_sums.specs.Machine.{PhaseFits, Work, Outcome, act, step, plan, kind, letter_at, is_numeric, is_in_number, is_midway, is_done, finished, flushed, is_more}
 use Rattle.pb_sums.specs.State.{SumState, sums, over, first, last, with_work, units, in_hand, ready, all_units, IsInOrder, IsOneText}
@@ -13,25 +13,28 @@ use Rattle.pb_sums.specs.declared.phase.Phase as phase
 use Rattle.pb_sums.specs.declared.grammar.Spaces.{Spaces}
 use Rattle.pb_sums.specs.declared.grammar.Part.{Part}
 use Rattle.pb_sums.specs.declared.phase.Move.TheVariants.{Stop}
+use Rattle.pb_text.proofs.Outcomes.{one_state, one_end, go_or_end, refuse_or_go, refuse_or_end, end_or_go}
+use Rattle.pb_text.proofs.OneText.{IsOfOne, is_state as of_one_state, admits as of_one_admits}
+use Rattle.pb_text.proofs.Booleans.{never}
 use Rattle.pb_sums.proofs.Flags.{gone, ended}
-use Rattle.pb_sums.proofs.Links.{gone-same, end-state, go-end, end-go, refuse-go, refuse-end, midway-not-done, reads_grammar, reads_something, reads-run}
+use Rattle.pb_sums.proofs.Links.{midway-not-done, reads_grammar, reads_something}
 use Rattle.pb_sums.proofs.Counts.{potential, letter-grows}
 
 -- Where the automaton goes on, and where it ends.
 gone-from : (s next : SumState) (b : ℕ) (n : Outcome) → step s.spaces s.part s.limit s.work b ≡ n → over s n ≡ Go next
     → (v : Work) × (next ≡ with_work s v) × (step s.spaces s.part s.limit s.work b ≡ Go v)
-gone-from s next b (Go v) e h = (v, sym (gone-same (with_work s v) next h), e)
-gone-from s next b (End f v) e h = absurd (end-go (with_work s v) next f h)
-gone-from s next b Refuse e h = absurd (refuse-go next h)
+gone-from s next b (Go v) e h = (v, sym (one_state (with_work s v) next h), e)
+gone-from s next b (End f v) e h = end_or_go f (with_work s v) next h
+gone-from s next b Refuse e h = refuse_or_go next h
 
 pub goes : (s next : SumState) (b : ℕ) → sums.step s b ≡ Go next → (v : Work) × (next ≡ with_work s v) × (step s.spaces s.part s.limit s.work b ≡ Go v)
 goes s next b h = gone-from s next b (step s.spaces s.part s.limit s.work b) refl h
 
 ended-from : (s next : SumState) (b : ℕ) (f : SumEvent) (n : Outcome) → step s.spaces s.part s.limit s.work b ≡ n → over s n ≡ End f next → next ≡ with_work s finished
-ended-from s next b f (Go v) e h = absurd (go-end (with_work s v) next f h)
+ended-from s next b f (Go v) e h = go_or_end (with_work s v) f next h
 ended-from s next b f (End g v) e h =
-    sym (end-state (with_work s v) next g f h) ∙ ap (λ w. with_work s w) (ended s.part s.limit s.spaces s.work v g (letter_at (is_numeric s.work.phase) b) e).1
-ended-from s next b f Refuse e h = absurd (refuse-end next f h)
+    sym (one_end g f (with_work s v) next h).1 ∙ ap (λ w. with_work s w) (ended s.part s.limit s.spaces s.work v g (letter_at (is_numeric s.work.phase) b) e).1
+ended-from s next b f Refuse e h = refuse_or_end f next h
 
 pub ended-last : (s next : SumState) (b : ℕ) (f : SumEvent) → sums.step s b ≡ End f next → next ≡ with_work s finished
 ended-last s next b f h = ended-from s next b f (step s.spaces s.part s.limit s.work b) refl h
@@ -85,68 +88,41 @@ stopped s h b =
     ap (λ m. over s (act (flushed s.work.phase s.work.terms s.work.name) s.work.terms s.work.name m))
     (done-stops s.part s.limit s.work.phase (kind s.spaces (letter_at (is_numeric s.work.phase) b)) h)
 
-one-item : (s : SumState) (text : List Letter) (e : SumEvent) (after : SumState) → Reads sums s text e after → sums.done after ≡ true → (items : List (Item SumEvent)) × Accepts sums s items
-one-item s text e after h d = (record { gap = []; text = text; event = e } ∷ [], (s, after, refl, h, d))
+-- a machine of sums is one of one text
+abbrev ended_state : SumState → SumState
+ended_state s = with_work s finished
 
-after-done : (s : SumState) (text : List Letter) (e : SumEvent) (after : SumState) → Reads sums s text e after → sums.done after ≡ true
-after-done s text e after h = ap (λ x. is_done x.work.phase) (reads-run s.spaces s.part s.limit text s.work e after h).1
-
-alive-state : (s : SumState) (d : Bool) → sums.done s ≡ d → (items : List (Item SumEvent)) × Accepts sums s items
-alive-state s true h = ([], h)
-alive-state s false h =
-    let f : (text : List Letter) × (event : SumEvent) × (after : SumState) × Reads sums s text event after = reads_something s.spaces s.part s.limit s.work h in
-    one-item s f.0 f.1 f.2 f.3 (after-done s f.0 f.1 f.2 f.3)
-
-pub is_state : (s : SumState) → IsInOrder s.limit s.work → IsState sums s
-is_state s h = record {
-  live = alive-state s (sums.done s) refl;
-  ends = λ d b. stopped s d b;
-  owes = λ b next e. midway-not-done next.work.phase (goes-midway s next b e);
-  stays = λ i b next e. goes-midway s next b e;
-  closes = λ b f next e. ap (λ x. is_midway x.work.phase) (ended-last s next b f e);
-  plain = λ i. numbers-midway s.work.phase i;
-  grows = λ b next e.
+of_one : IsOfOne sums (λ s. Unit {0}) ended_state
+of_one = record {
+  keeps = λ s next b g h. tt;
+  begins = goes-midway;
+  owes = λ s i. midway-not-done s.work.phase i;
+  leads = λ s next b h. ap ended_state (goes s next b h).1;
+  ends = ended-last;
+  done = λ s. refl;
+  stops = stopped;
+  goes_on = λ s g h. reads_something s.spaces s.part s.limit s.work h;
+  plain = λ s i. numbers-midway s.work.phase i;
+  grows = λ s next b e.
       let f : (v : Work) × (next ≡ with_work s v) × (step s.spaces s.part s.limit s.work b ≡ Go v) = goes s next b e in
       subst (λ x. potential x.work ≤ potential s.work + 1) (sym f.1)
       (letter-grows s.spaces s.part s.limit s.work f.0 (kind s.spaces (letter_at (is_numeric s.work.phase) b)) f.2);
-  bounds = kept-within (all_units s.work) (ready s.work.phase);
-  empties = λ i. empty-kept s.work i (h.1 i);
+  bounds = λ s. kept-within (all_units s.work) (ready s.work.phase);
 }
   where
     kept-within : (n r : ℕ) → min n (2 ^ 64 - 1) ≤ n + r
     kept-within n r = omega (arith, min-le_left n (2 ^ 64 - 1))
 
+pub is_state : (s : SumState) → IsInOrder s.limit s.work → IsState sums s
+is_state s h = of_one_state sums (λ s. Unit {0}) ended_state of_one s tt (λ i. empty-kept s.work i (h.1 i))
+  where
     empty-kept : (w : Work) → is_midway w.phase ≡ false → (w.terms ≡ []) × (w.name ≡ []) → potential w ≡ 0
     empty-kept w i e = ap (λ xs. units xs + in_hand w.phase + length w.name + ready w.phase) e.0
         ∙ (ap (λ (n : List ℕ). 0 + in_hand w.phase + length n + ready w.phase) e.1 ∙ nothing-kept w.phase i)
 
 -- A byte that is taken begins something that is accepted.
-admits-go : (s next : SumState) (b : ℕ) (text : List Letter) (e : SumEvent) (after : SumState) → sums.step s b ≡ Go next → Reads sums next text e after → sums.done after ≡ true → Admits sums s b
-admits-go s next b [] e after h r d = absurd r
-admits-go s next b (k ∷ text) e after h r d =
-    let l : Letter = record { byte = b; numeral = sums.in_number next } in (
-      record { gap = []; text = l ∷ k ∷ text; event = e } ∷ [],
-      (s, after, refl, (next, h, goes-midway s next b h, refl, r), d),
-      bytes ((k ∷ text) ++ []),
-      refl,
-    )
-
-admits-end : (s next : SumState) (b : ℕ) (e : SumEvent) → sums.step s b ≡ End e next → Admits sums s b
-admits-end s next b e h =
-    let l : Letter = record { byte = b; numeral = false } in (
-      record { gap = []; text = l ∷ []; event = e } ∷ [],
-      (s, next, refl, (h, refl), ap (λ x. is_done x.work.phase) (ended-last s next b e h)),
-      [],
-      refl,
-    )
-
 pub admits : (s : SumState) (b : ℕ) (n : Next SumState SumEvent) → sums.step s b ≡ n → (n ≡ Refuse → ⊥) → Admits sums s b
-admits s b (Go next) h i =
-    let f : (text : List Letter) × (event : SumEvent) × (after : SumState) × Reads sums next text event after =
-    reads_something next.spaces next.part next.limit next.work (midway-not-done next.work.phase (goes-midway s next b h)) in
-    admits-go s next b f.0 f.1 f.2 h f.3 (after-done next f.0 f.1 f.2 f.3)
-admits s b (End e next) h i = admits-end s next b e h
-admits s b Refuse h i = absurd (i refl)
+admits s b n h i = of_one_admits sums (λ s. Unit {0}) ended_state of_one s b n tt h i
 
 -- The first state accepts one text.
 module _ (spaces : Spaces) (part : Part) (limit : ℕ) where
@@ -158,15 +134,12 @@ module _ (spaces : Spaces) (part : Part) (limit : ℕ) where
 
   no-gap : (s at : SumState) (gap : List ℕ) → Skips sums s gap at → (gap ≡ []) × (at ≡ s)
   no-gap s at [] h = (refl, h)
-  no-gap s at (b ∷ gap) (mid, e, f, h) = absurd (apart (sums.begun mid) (goes-midway s mid b e) f)
-    where
-      apart : (x : Bool) → x ≡ true → x ≡ false → ⊥
-      apart x e f = cc
+  no-gap s at (b ∷ gap) (mid, e, f, h) = never (sums.begun mid) (goes-midway s mid b e) f
 
   nothing-after : (s : SumState) (text : List Letter) (e : SumEvent) (after : SumState) → sums.done s ≡ true → Reads sums s text e after → ⊥
   nothing-after s [] e after d h = h
-  nothing-after s (l ∷ []) e after d h = refuse-end after e (sym (stopped s d l.byte) ∙ h.0)
-  nothing-after s (l ∷ k ∷ text) e after d (mid, h, b, m, r) = refuse-go mid (sym (stopped s d l.byte) ∙ h)
+  nothing-after s (l ∷ []) e after d h = refuse_or_end e after (sym (stopped s d l.byte) ∙ h.0)
+  nothing-after s (l ∷ k ∷ text) e after d (mid, h, b, m, r) = refuse_or_go mid (sym (stopped s d l.byte) ∙ h)
 
   one_only : (items : List (Item SumEvent)) → Accepts sums begin items → IsOneText spaces limit part items
   one_only [] h = absurd (not_yet h)
@@ -201,10 +174,7 @@ module _ (spaces : Spaces) (part : Part) (limit : ℕ) where
 
 -- a state on the way through a text is in order
 pub midway_order : (limit : ℕ) (xs : List Term) (name : List ℕ) (q : Phase) → PhaseFits limit q → is_midway q ≡ true → IsInOrder limit (record { terms = xs; name = name; phase = q })
-midway_order limit xs name q h i = (h, λ e. absurd (apart (is_midway q) i e))
-  where
-    apart : (x : Bool) → x ≡ true → x ≡ false → ⊥
-    apart x e f = cc
+midway_order limit xs name q h i = (h, λ e. never (is_midway q) i e)
 
 -- a state on the way through a text
 pub midway_state : (spaces : Spaces) (part : Part) (limit : ℕ) (xs : List Term) (name : List ℕ) (q : Phase) → PhaseFits limit q → is_midway q ≡ true

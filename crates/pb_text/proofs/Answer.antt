@@ -7,12 +7,13 @@ use Rattle.std.proofs.lemmas.List.Elements.{filter-append}
 use Rattle.pb_text.specs.Spelling.{Letter, Item, bytes, letters_of, bytes_of, place_after, place_or, marks_since}
 use Rattle.pb_text.specs.Reading.{ended_within, IsFront, IsUnderWay, IsShort, IsFull, AreShort, Overruns, HasOpen, open_bytes, Viable, AreSeen, HasNoSpelling, EndsInNumber, last_numeral, byte_limit}
 use Rattle.pb_text.specs.Standing.{EndBy, Follows}
-use Rattle.pb_text.specs.Limit.{end_of}
+use Rattle.pb_text.specs.SpentBytes.{end_of}
 use Rattle.pb_text.proofs.Residual.{IsResidual, Refuses}
 use Rattle.pb_text.proofs.Short.{place_after-offset, AreShort-append, since_short, Overruns-append, Overruns-split, since_fits, begun_bytes, open-ended}
 use Rattle.pb_text.specs.declared.place.Place.{Place}
 use Rattle.pb_text.specs.declared.place.Spanned.{Spanned}
-use Rattle.pb_text.proofs.Lists.{bytes-append, length-bytes}
+use Rattle.pb_text.proofs.Languages.{bytes-append}
+use Rattle.pb_text.proofs.Lists.{length-bytes}
 use Rattle.pb_text.proofs.Follows.{no_letters}
 
 -- marks that have ended stay

@@ -4,14 +4,9 @@ use Rattle.std.proofs.lemmas.Bool.{false≢true}
 use Rattle.pb_text.specs.Automaton.{Automaton, Next, Go, End, Skips, Reads, Accepts, behind, Leads}
 use Rattle.pb_text.specs.Asking.{IsWithin}
 use Rattle.pb_text.specs.Spelling.{Letter, Item, plain, bytes, letters_of, bytes_of}
-use Rattle.pb_text.proofs.Lists.{bytes-append, bytes-plain}
+use Rattle.pb_text.proofs.FirstBytes.{head, tail}
+use Rattle.pb_text.proofs.Languages.{bytes-append, bytes-plain}
 use Rattle.pb_text.proofs.Walking.{Walks, walks_more}
-
-head : (b c : ℕ) (bs cs : List ℕ) → b ∷ bs ≡ c ∷ cs → b ≡ c
-head b c bs cs e = cc
-
-tail : (b c : ℕ) (bs cs : List ℕ) → b ∷ bs ≡ c ∷ cs → bs ≡ cs
-tail b c bs cs e = cc
 
 no_byte : {A : Type 0} (used more : List ℕ) (b : ℕ) → [] ≡ used ++ b ∷ more → A
 no_byte [] more b e = cc

@@ -1,40 +1,16 @@
 -- A text spells one row of statements, and where nothing may follow a complete one, none is a front of another. Offered to other crates.
-use Rattle.std.proofs.Common.{◌≡◌, ℕ, List, [], ◌∷◌, ◌++◌, Bool, true, false, IsTrue, refl, sym, ap, ap₂, ◌∙◌, subst}
+use Rattle.std.proofs.Common.{◌≡◌, ℕ, List, [], ◌∷◌, ◌++◌, true, false, IsTrue, refl, sym, ap, ap₂, ◌∙◌, subst}
 use Rattle.std.proofs.lemmas.List.{append-nil}
 use Rattle.pb_text.specs.Spelling.{Letter, Item, bytes_of}
-use Rattle.pb_text.specs.Automaton.{Automaton, Next, Go, End, Refuse, Accepts}
+use Rattle.pb_text.specs.Automaton.{Automaton, Go, End, Refuse, Accepts}
+use Rattle.pb_text.proofs.FirstBytes.{head, tail}
+use Rattle.pb_text.proofs.Outcomes.{one_state, one_end, go_or_end, go_or_refuse, end_or_refuse}
+use Rattle.pb_text.proofs.Booleans.{never}
 use Rattle.pb_text.proofs.Residual.{First, Nothing, InGap, InText, AtLast, first_of}
 
 module _ {S E : Type 0} (m : Automaton S E) where
-  abbrev N : Type 0
-  N = Next S E
-
-  one_state : (u v : S) → ◌≡◌ {A = N} (Go u) (Go v) → u ≡ v
-  one_state u v e = cc
-
-  one_end : (d e : E) (u v : S) → ◌≡◌ {A = N} (End d u) (End e v) → (d ≡ e) × (u ≡ v)
-  one_end d e u v h = ((let k : d ≡ e = cc in k), (let k : u ≡ v = cc in k))
-
-  go_or_end : {A : Type 0} (u : S) (e : E) (v : S) → ◌≡◌ {A = N} (Go u) (End e v) → A
-  go_or_end u e v h = cc
-
-  go_or_refuse : {A : Type 0} (u : S) → ◌≡◌ {A = N} (Go u) Refuse → A
-  go_or_refuse u h = cc
-
-  end_or_refuse : {A : Type 0} (e : E) (u : S) → ◌≡◌ {A = N} (End e u) Refuse → A
-  end_or_refuse e u h = cc
-
-  one_flag : {A : Type 0} (p : Bool) → p ≡ true → p ≡ false → A
-  one_flag p h k = cc
-
   one_letter : (k l : Letter) → k.byte ≡ l.byte → k.numeral ≡ l.numeral → k ≡ l
   one_letter k l e f = rw (e, f) refl
-
-  head : (b c : ℕ) (bs cs : List ℕ) → b ∷ bs ≡ c ∷ cs → b ≡ c
-  head b c bs cs e = cc
-
-  tail : (b c : ℕ) (bs cs : List ℕ) → b ∷ bs ≡ c ∷ cs → bs ≡ cs
-  tail b c bs cs e = cc
 
   not_empty : {A : Type 0} (b : ℕ) (bs : List ℕ) → b ∷ bs ≡ [] → A
   not_empty b bs e = cc
@@ -84,7 +60,7 @@ module _ {S E : Type 0} (m : Automaton S E) where
       in_gap _ c gap text x rest next h o a e f (InText l k text' x' rest' next' h' o' n' a') g =
           let byte : c ≡ l.byte = e ∙ sym (head l.byte b _ (bs ++ more) g) in
           let same : next' ≡ next = one_state next' next (sym h' ∙ (ap (m.step s) (sym byte) ∙ h)) in
-          one_flag (m.begun next') o' (ap m.begun same ∙ o)
+          never (m.begun next') o' (ap m.begun same ∙ o)
       in_gap _ c gap text x rest next h o a e f (AtLast l x' rest' next' h' n' a') g =
           let byte : c ≡ l.byte = e ∙ sym (head l.byte b _ (bs ++ more) g) in
           go_or_end next x' next' (sym h ∙ (ap (m.step s) byte ∙ h'))
@@ -97,7 +73,7 @@ module _ {S E : Type 0} (m : Automaton S E) where
       in_text _ l k text x rest next h o n a e f (InGap c' gap' text' x' rest' next' h' o' a') g =
           let byte : l.byte ≡ c' = e ∙ sym (head c' b _ (bs ++ more) g) in
           let same : next' ≡ next = one_state next' next (sym h' ∙ (ap (m.step s) (sym byte) ∙ h)) in
-          one_flag (m.begun next) o (ap m.begun (sym same) ∙ o')
+          never (m.begun next) o (ap m.begun (sym same) ∙ o')
       in_text _ l k text x rest next h o n a e f (InText l' k' text' x' rest' next' h' o' n' a') g =
           let byte : l.byte ≡ l'.byte = e ∙ sym (head l'.byte b _ (bs ++ more) g) in
           let same : next' ≡ next = one_state next' next (sym h' ∙ (ap (m.step s) (sym byte) ∙ h)) in

@@ -1,14 +1,14 @@
 -- The parts of a pull, one after another.
 use Rattle.std.proofs.Common.{◌≡◌, ℕ, List, [], ◌++◌, Option, Some, None, Result, Ok, Err, sym, ap, ◌∙◌, subst, length-append, append-nil, append_assoc, arith}
-use Rattle.pb_text.specs.Feeding.{StandsAt}
+use Rattle.pb_text.specs.Feeding.{marks_taken, StandsAt}
 use Rattle.pb_text.specs.Pouring.{Pours}
-use Rattle.pb_text.specs.Pulling.{Pulls, Draws, input_drawn, marks_pulled}
+use Rattle.pb_text.specs.Pulling.{Pulls, Draws, input_drawn}
 use Rattle.pb_text.specs.declared.feeder.Feeder.{Feeder}
 use Rattle.pb_text.specs.declared.machine.Machine.{Ghosts}
 use Rattle.pb_text.specs.declared.place.Spanned.{Spanned}
 use Rattle.pb_text.specs.declared.place.Stop.{Stop}
 use Rattle.pb_text.proofs.Pulled.{lost_nothing, seen_after}
-use Rattle.pb_text.proofs.Rows.{took_join}
+use Rattle.pb_text.proofs.PullsInARow.{took_join}
 
 joined : {E : Type 0} (result : Result (Option (Spanned E)) Stop) (input taken more seen : List ℕ) → (input ++ taken) ++ input_drawn result more seen ≡ input ++ input_drawn result (taken ++ more) seen
 joined (Ok m) input taken more seen = append_assoc input taken more
@@ -45,8 +45,8 @@ module _ {M E : Type 0} {g : Ghosts M E} where
     given_are = e.given_are ∙ (ap (λ (x : List ℕ). x ++ e.taken) d.given_are ∙ append_assoc given d.taken e.taken);
     offset_is = omega (arith, d.offset_is, e.offset_is, length-append d.taken e.taken);
     stands = λ longest start input marks s.
-        let k : StandsAt longest start ((input ++ d.taken) ++ input_drawn result e.taken e.seen) (marks ++ marks_pulled result) new = e.stands longest start (input ++ d.taken) marks (rw append-nil at (d.stands longest start input marks s)) in
-        subst (λ (x : List ℕ). StandsAt longest start x (marks ++ marks_pulled result) new) (joined result input d.taken e.taken e.seen) k;
+        let k : StandsAt longest start ((input ++ d.taken) ++ input_drawn result e.taken e.seen) (marks ++ marks_taken result) new = e.stands longest start (input ++ d.taken) marks (rw append-nil at (d.stands longest start input marks s)) in
+        subst (λ (x : List ℕ). StandsAt longest start x (marks ++ marks_taken result) new) (joined result input d.taken e.taken e.seen) k;
   }
 
   module _ (longest : ℕ) (start : M) (input : List ℕ) (marks : List (Spanned E)) (old new : Feeder M E g) (before after : Option (List ℕ)) (given given' : List ℕ) (s : StandsAt longest start input marks old) where

@@ -1,36 +1,18 @@
 -- In any spelling that begins with a front, the marks that end within it are the same. Offered to other crates.
-use Rattle.std.proofs.Common.{◌≡◌, ℕ, ◌+◌, List, [], ◌∷◌, ◌++◌, length, nat_le, Bool, true, false, cond, Option, Some, None, refl, sym, ap, ◌∙◌, subst, arith, length-append}
+use Rattle.std.proofs.Common.{◌≡◌, ℕ, ◌+◌, List, [], ◌∷◌, ◌++◌, length, nat_le, true, false, cond, Option, Some, None, refl, sym, ap, ◌∙◌, subst, arith, length-append}
 use Rattle.pb_text.specs.Spelling.{Letter, Item, bytes_of, place_after, place_or, marks_since}
 use Rattle.pb_text.specs.Reading.{ended_within, HasFixedMarks}
-use Rattle.pb_text.specs.Automaton.{Automaton, Next, Go, End, Accepts}
+use Rattle.pb_text.specs.Automaton.{Automaton, Go, End, Accepts}
 use Rattle.pb_text.specs.declared.place.Place.{Place}
 use Rattle.pb_text.specs.declared.place.Spanned.{Spanned}
 use Rattle.pb_text.proofs.Answer.{not_ended}
+use Rattle.pb_text.proofs.FirstBytes.{head, tail}
+use Rattle.pb_text.proofs.Outcomes.{one_state, one_end, go_or_end}
+use Rattle.pb_text.proofs.Booleans.{never}
 use Rattle.pb_text.proofs.Lists.{mark, gap_advances, letter_advances, last_advances}
 use Rattle.pb_text.proofs.Residual.{PutGap, PutLetter, PutLast, First, Nothing, InGap, InText, AtLast, first_of, has_text}
 
 module _ {S E : Type 0} (m : Automaton S E) where
-  abbrev N : Type 0
-  N = Next S E
-
-  one_state : (u v : S) → ◌≡◌ {A = N} (Go u) (Go v) → u ≡ v
-  one_state u v e = cc
-
-  one_end : (d e : E) (u v : S) → ◌≡◌ {A = N} (End d u) (End e v) → (d ≡ e) × (u ≡ v)
-  one_end d e u v h = ((let k : d ≡ e = cc in k), (let k : u ≡ v = cc in k))
-
-  go_or_end : {A : Type 0} (u : S) (e : E) (v : S) → ◌≡◌ {A = N} (Go u) (End e v) → A
-  go_or_end u e v h = cc
-
-  one_flag : {A : Type 0} (p : Bool) → p ≡ true → p ≡ false → A
-  one_flag p h k = cc
-
-  head : (b c : ℕ) (bs cs : List ℕ) → b ∷ bs ≡ c ∷ cs → b ≡ c
-  head b c bs cs e = cc
-
-  tail : (b c : ℕ) (bs cs : List ℕ) → b ∷ bs ≡ c ∷ cs → bs ≡ cs
-  tail b c bs cs e = cc
-
   -- what is accepted behind the first byte
   data Moved (s : S) (b : ℕ) (items : List (Item E)) (more : List ℕ) : Type 0 where
     Between : (next : S) (later : List (Item E)) → m.step s b ≡ Go next → m.begun next ≡ false → PutGap b later items → Accepts m next later → bytes_of later ≡ more → Moved s b items more
@@ -80,10 +62,10 @@ module _ {S E : Type 0} (m : Automaton S E) where
         ∙ (known next first (before ++ b ∷ []) later later' rest rest' n a (subst (λ (y : S). Accepts m y later') same a') e e' longer
         ∙ ap (ended_within n) (sym (in_gap later' items' p')))
     both (Between next later h o p a e) (Within next' later' l' byte' h' o' p' a' e') =
-        let same : next' ≡ next = one_state next' next (sym h' ∙ h) in one_flag (m.begun next') o' (ap m.begun same ∙ o)
+        let same : next' ≡ next = one_state next' next (sym h' ∙ h) in never (m.begun next') o' (ap m.begun same ∙ o)
     both (Between next later h o p a e) (Last next' later' l' x' byte' h' p' a' e') = go_or_end next x' next' (sym h ∙ h')
     both (Within next later l byte h o p a e) (Between next' later' h' o' p' a' e') =
-        let same : next' ≡ next = one_state next' next (sym h' ∙ h) in one_flag (m.begun next') (ap m.begun same ∙ o) o'
+        let same : next' ≡ next = one_state next' next (sym h' ∙ h) in never (m.begun next') (ap m.begun same ∙ o) o'
     both (Within next later l byte h o p a e) (Within next' later' l' byte' h' o' p' a' e') =
         let same : next' ≡ next = one_state next' next (sym h' ∙ h) in
         ap (ended_within n) (in_text later items l byte p)

@@ -7,7 +7,8 @@ use Rattle.pb_text.specs.Standing.{EndBy, Follows, IsJoined}
 use Rattle.pb_text.proofs.Residual.{Takes, IsResidual}
 use Rattle.pb_text.specs.declared.place.Place.{Place}
 use Rattle.pb_text.specs.declared.place.Spanned.{Spanned}
-use Rattle.pb_text.proofs.Lists.{bytes-append, length-bytes, Advances}
+use Rattle.pb_text.proofs.Languages.{bytes-append}
+use Rattle.pb_text.proofs.Lists.{length-bytes, Advances}
 
 pub EndBy-append : {E : Type 0} (n m : ℕ) (a b : List (Spanned E)) → EndBy n a → n ≤ m → EndBy m b → EndBy m (a ++ b)
 EndBy-append n m [] b h le k = k

@@ -1,20 +1,21 @@
 -- Lists, letters and marks. Offered to other crates.
-use Rattle.std.proofs.Common.{◌≡◌, ℕ, List, [], ◌∷◌, ◌++◌, length, Bool, true, false, Option, Some, None, refl, sym, ap, ◌∙◌, append_assoc}
-use Rattle.std.proofs.lemmas.List.{map-append, length-map, append-nil}
+use Rattle.std.proofs.Common.{◌≡◌, ℕ, ◌+◌, ◌<◌, List, [], ◌∷◌, ◌++◌, length, take, drop, get_or, Bool, true, false, Option, Some, None, refl, sym, ap, ◌∙◌, append_assoc}
+use Rattle.std.proofs.lemmas.List.{length-map, append-nil, take_more, drop_more}
 use Rattle.pb_text.specs.Spelling.{Letter, Item, plain, bytes, letters_of, place_after, place_or, marks_since}
 use Rattle.pb_text.proofs.Residual.{Put, PutGap, PutLetter, PutLast}
 use Rattle.pb_text.specs.declared.place.Place.{Place}
 use Rattle.pb_text.specs.declared.place.Spanned.{Spanned}
 
-pub bytes-append : (a b : List Letter) → bytes (a ++ b) ≡ bytes a ++ bytes b
-bytes-append a b = map-append (λ (l : Letter). l.byte) a b
-
-pub bytes-plain : (g : List ℕ) → bytes (plain g) ≡ g
-bytes-plain [] = refl
-bytes-plain (b ∷ g) = ap (λ (x : List ℕ). b ∷ x) (bytes-plain g)
-
 pub length-bytes : (ls : List Letter) → length (bytes ls) ≡ length ls
 length-bytes ls = length-map ls (λ (l : Letter). l.byte)
+
+-- a list as its front, the element read at a place, and its rest
+module _ {A : Type 0} (xs : List A) (i : ℕ) (d x : A) (lt : i < length xs) (e : x ≡ get_or xs i d) where
+  pub take_read : take (i + 1) xs ≡ take i xs ++ x ∷ []
+  take_read = take_more xs i d lt ∙ ap (λ (y : A). take i xs ++ y ∷ []) (sym e)
+
+  pub drop_read : drop i xs ≡ x ∷ drop (i + 1) xs
+  drop_read = drop_more xs i d lt ∙ ap (λ (y : A). y ∷ drop (i + 1) xs) (sym e)
 
 -- how a letter moves the marks on
 pub record Advances {E : Type 0} (put : List (Item E) → List (Item E) → Type 0) (l : Letter) (before : List ℕ) (first : Option Place) (new : List (Spanned E)) (first' : Option Place) : Type 0 where

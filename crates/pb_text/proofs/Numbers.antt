@@ -2,9 +2,12 @@
 use Rattle.std.proofs.Common.{◌≡◌, ℕ, suc, ◌+◌, ◌*◌, ◌/◌, ◌%◌, ◌^◌, ◌<◌, ◌≤◌, List, [], ◌∷◌, ◌++◌, length, map, refl, sym, ap, subst, arith, ◌∙◌, length-append, true}
 use Rattle.std.specs.Prelude.{ℤ, decimal}
 use Rattle.std.proofs.Math.Nat.{pow-succ'}
+use Rattle.std.proofs.Math.Pow.{pow_mono}
 use Rattle.std.proofs.lemmas.Fmt.{decimal_by_steps_wide}
 use Rattle.pb_text.specs.Spelling.{Letter, digits_of}
 use Rattle.pb_text.specs.Languages.{digit}
+use Rattle.pb_text.specs.Limits.{largest}
+use Rattle.pb_text.specs.declared.limits.Limits.{Limits}
 use Rattle.pb_text.specs.Numbers.{value, Digits, Number}
 use Rattle.pb_text.proofs.Languages.{map-append, each-append}
 
@@ -50,3 +53,7 @@ decimal-digits n h = decimal_by_steps_wide P one more n h
 -- a number within a limit is within a larger one
 pub number-within : (small large : ℕ) (z : ℤ) → small ≤ large → (t : List Letter) → Number small z t → Number large z t
 number-within small large z h t (negative, n, i, e, k) = (negative, n, omega arith, e, k)
+
+-- the largest number that limits allow fits an i128
+pub largest_small : (l : Limits) → largest l < 2 ^ 127
+largest_small l = let more : 2 ^ l.bits ≤ 2 ^ 127 = pow_mono l.most_bits in omega (arith, more)

@@ -1,8 +1,10 @@
 -- What a state accepts after a byte is what it accepted before with that byte in front. Offered to other crates.
 use Rattle.std.proofs.Common.{◌≡◌, ◌≢◌, ℕ, List, [], ◌∷◌, Bool, true, false, IsTrue, refl, sym, ap, ap₂, ◌∙◌, subst}
-use Rattle.std.proofs.lemmas.Bool.{false≢true}
 use Rattle.pb_text.specs.Spelling.{Letter, Item, bytes_of}
-use Rattle.pb_text.specs.Automaton.{Automaton, Next, Go, End, Refuse, Skips, Reads, Accepts, IsState}
+use Rattle.pb_text.specs.Automaton.{Automaton, Go, End, Refuse, Skips, Reads, Accepts, IsState}
+use Rattle.pb_text.proofs.FirstBytes.{head}
+use Rattle.pb_text.proofs.Outcomes.{one_state, one_end, go_or_end, go_or_refuse, end_or_refuse}
+use Rattle.pb_text.proofs.Booleans.{never}
 
 -- the items are the later ones with a byte in front, in the first gap
 abbrev pub PutGap : {E : Type 0} → ℕ → List (Item E) → List (Item E) → Type 0
@@ -43,24 +45,6 @@ pub record IsResidual {E : Type 0} (accepts : List (Item E) → Type 0) : Type 0
   pub ends : accepts [] → (items : List (Item E)) → accepts items → items ≡ []
 
 module _ {S E : Type 0} (m : Automaton S E) where
-  abbrev N : Type 0
-  N = Next S E
-
-  same_state : (u v : S) → ◌≡◌ {A = N} (Go u) (Go v) → u ≡ v
-  same_state u v e = cc
-
-  same_end : (d e : E) (u v : S) → ◌≡◌ {A = N} (End d u) (End e v) → (d ≡ e) × (u ≡ v)
-  same_end d e u v h = ((let k : d ≡ e = cc in k), (let k : u ≡ v = cc in k))
-
-  goes_not_ends : {A : Type 0} (u : S) (e : E) (v : S) → ◌≡◌ {A = N} (Go u) (End e v) → A
-  goes_not_ends u e v h = cc
-
-  go_not_refused : (u : S) → ◌≡◌ {A = N} (Go u) Refuse → ⊥
-  go_not_refused u h = cc
-
-  end_not_refused : (e : E) (u : S) → ◌≡◌ {A = N} (End e u) Refuse → ⊥
-  end_not_refused e u h = cc
-
   -- what the first byte of accepted items leads to: they are none, or it is one of the first gap, or a letter that
   -- ends its statement or does not
   pub data First (s : S) : List (Item E) → Type 0 where
@@ -84,13 +68,10 @@ module _ {S E : Type 0} (m : Automaton S E) where
   first_of s [] h = Nothing h
   first_of s (i ∷ rest) h = first_gap s h.0 h.1 i.gap i.text i.event rest h.2 h.3 h.4
 
-  never : {A : Type 0} {b : Bool} → b ≡ true → b ≡ false → A
-  never p q = absurd (false≢true (sym q ∙ p))
-
   module _ (old new : S) (b : ℕ) where
     -- with the byte in the gap
     into_gap : m.step old b ≡ Go new → m.begun new ≡ false → m.done new ≡ false → (later : List (Item E)) → Accepts m new later → (items : List (Item E)) × PutGap b later items × Accepts m old items
-    into_gap goes out owed [] h = never h owed
+    into_gap goes out owed [] h = never (m.done new) h owed
     into_gap goes out owed (i ∷ rest) h = (record { gap = b ∷ i.gap; text = i.text; event = i.event } ∷ rest, refl, (h.0, h.1, (new, goes, out, h.2), h.3, h.4))
 
     abbrev letter : Letter
@@ -102,30 +83,27 @@ module _ {S E : Type 0} (m : Automaton S E) where
 
     -- with the letter in the text
     into_text : IsState m new → m.step old b ≡ Go new → m.begun new ≡ true → m.done new ≡ false → (later : List (Item E)) → Accepts m new later → (items : List (Item E)) × PutLetter letter later items × Accepts m old items
-    into_text state goes inside owed [] h = never h owed
+    into_text state goes inside owed [] h = never (m.done new) h owed
     into_text state goes inside owed (i ∷ rest) h = by_gap i.gap refl h.2
       where
         by_gap : (gap : List ℕ) → gap ≡ i.gap → Skips m new gap h.0 → (items : List (Item E)) × PutLetter letter (i ∷ rest) items × Accepts m old items
         by_gap [] same skips = (record { gap = []; text = letter ∷ i.text; event = i.event } ∷ rest, (sym same, refl), (old, h.1, refl, longer goes inside h.0 h.1 i.text i.event skips h.3, h.4))
-        by_gap (c ∷ gap) same skips = never (state.stays inside c skips.0 skips.1) skips.2
-
-    same_byte : (c : ℕ) (cs more : List ℕ) → c ∷ cs ≡ b ∷ more → c ≡ b
-    same_byte c cs more e = cc
+        by_gap (c ∷ gap) same skips = never (m.begun skips.0) (state.stays inside c skips.0 skips.1) skips.2
 
     -- a byte that is taken between two statements
     onto_gap : m.step old b ≡ Go new → m.begun new ≡ false → m.in_number new ≡ false → (items : List (Item E)) → First old items → BeginsWith b items → (later : List (Item E)) × Put false letter later items × Accepts m new later
     onto_gap goes out plain _ (Nothing d) (more, e) = cc
     onto_gap goes out plain _ (InGap c gap text x rest next s g a) (more, e) =
-        let byte : c ≡ b = same_byte c _ more e in
-        let same : next ≡ new = same_state next new (sym s ∙ (ap (m.step old) byte ∙ goes)) in
+        let byte : c ≡ b = head c b _ more e in
+        let same : next ≡ new = one_state next new (sym s ∙ (ap (m.step old) byte ∙ goes)) in
         (record { gap = gap; text = text; event = x } ∷ rest, (plain, ap (λ (y : ℕ). let i : Item E = record { gap = y ∷ gap; text = text; event = x } in i ∷ rest) byte), subst (λ (y : S). Accepts m y (record { gap = gap; text = text; event = x } ∷ rest)) same a)
     onto_gap goes out plain _ (InText l k text x rest next s g n a) (more, e) =
-        let byte : l.byte ≡ b = same_byte l.byte _ more e in
-        let same : next ≡ new = same_state next new (sym s ∙ (ap (m.step old) byte ∙ goes)) in
-        never (ap m.begun (sym same) ∙ g) out
+        let byte : l.byte ≡ b = head l.byte b _ more e in
+        let same : next ≡ new = one_state next new (sym s ∙ (ap (m.step old) byte ∙ goes)) in
+        never (m.begun new) (ap m.begun (sym same) ∙ g) out
     onto_gap goes out plain _ (AtLast l x rest next s n a) (more, e) =
-        let byte : l.byte ≡ b = same_byte l.byte _ more e in
-        goes_not_ends new x next (sym goes ∙ (ap (m.step old) (sym byte) ∙ s))
+        let byte : l.byte ≡ b = head l.byte b _ more e in
+        go_or_end new x next (sym goes ∙ (ap (m.step old) (sym byte) ∙ s))
 
     same_letter : (l : Letter) → l.byte ≡ b → l.numeral ≡ m.in_number new → l ≡ letter
     same_letter l p q = rw (sym p, sym q) refl
@@ -134,39 +112,39 @@ module _ {S E : Type 0} (m : Automaton S E) where
     onto_text : m.step old b ≡ Go new → m.begun new ≡ true → (items : List (Item E)) → First old items → BeginsWith b items → (later : List (Item E)) × PutLetter letter later items × Accepts m new later
     onto_text goes inside _ (Nothing d) (more, e) = cc
     onto_text goes inside _ (InGap c gap text x rest next s g a) (more, e) =
-        let byte : c ≡ b = same_byte c _ more e in
-        let same : next ≡ new = same_state next new (sym s ∙ (ap (m.step old) byte ∙ goes)) in
-        never inside (ap m.begun (sym same) ∙ g)
+        let byte : c ≡ b = head c b _ more e in
+        let same : next ≡ new = one_state next new (sym s ∙ (ap (m.step old) byte ∙ goes)) in
+        never (m.begun new) inside (ap m.begun (sym same) ∙ g)
     onto_text goes inside _ (InText l k text x rest next s g n a) (more, e) =
-        let byte : l.byte ≡ b = same_byte l.byte _ more e in
-        let same : next ≡ new = same_state next new (sym s ∙ (ap (m.step old) byte ∙ goes)) in
+        let byte : l.byte ≡ b = head l.byte b _ more e in
+        let same : next ≡ new = one_state next new (sym s ∙ (ap (m.step old) byte ∙ goes)) in
         (record { gap = []; text = k ∷ text; event = x } ∷ rest, (refl, ap (λ (y : Letter). let i : Item E = record { gap = []; text = y ∷ k ∷ text; event = x } in i ∷ rest) (same_letter l byte (n ∙ ap m.in_number same))), subst (λ (y : S). Accepts m y (record { gap = []; text = k ∷ text; event = x } ∷ rest)) same a)
     onto_text goes inside _ (AtLast l x rest next s n a) (more, e) =
-        let byte : l.byte ≡ b = same_byte l.byte _ more e in
-        goes_not_ends new x next (sym goes ∙ (ap (m.step old) (sym byte) ∙ s))
+        let byte : l.byte ≡ b = head l.byte b _ more e in
+        go_or_end new x next (sym goes ∙ (ap (m.step old) (sym byte) ∙ s))
 
     -- a letter that ends its statement
     onto_last : (d : E) → m.step old b ≡ End d new → m.in_number new ≡ false → (items : List (Item E)) → First old items → BeginsWith b items → (later : List (Item E)) × PutLast letter d later items × Accepts m new later
     onto_last d goes plain _ (Nothing h) (more, e) = cc
     onto_last d goes plain _ (InGap c gap text x rest next s g a) (more, e) =
-        let byte : c ≡ b = same_byte c _ more e in
-        goes_not_ends next d new (sym s ∙ (ap (m.step old) byte ∙ goes))
+        let byte : c ≡ b = head c b _ more e in
+        go_or_end next d new (sym s ∙ (ap (m.step old) byte ∙ goes))
     onto_last d goes plain _ (InText l k text x rest next s g n a) (more, e) =
-        let byte : l.byte ≡ b = same_byte l.byte _ more e in
-        goes_not_ends next d new (sym s ∙ (ap (m.step old) byte ∙ goes))
+        let byte : l.byte ≡ b = head l.byte b _ more e in
+        go_or_end next d new (sym s ∙ (ap (m.step old) byte ∙ goes))
     onto_last d goes plain _ (AtLast l x rest next s n a) (more, e) =
-        let byte : l.byte ≡ b = same_byte l.byte _ more e in
-        let same = same_end x d next new (sym s ∙ (ap (m.step old) byte ∙ goes)) in
+        let byte : l.byte ≡ b = head l.byte b _ more e in
+        let same = one_end x d next new (sym s ∙ (ap (m.step old) byte ∙ goes)) in
         (rest, ap₂ (λ (y : Letter) (z : E). let i : Item E = record { gap = []; text = y ∷ []; event = z } in i ∷ rest) (same_letter l byte (n ∙ sym plain)) same.0, subst (λ (y : S). Accepts m y rest) same.1 a)
 
     refused_first : m.step old b ≡ Refuse → (items : List (Item E)) → First old items → BeginsWith b items → ⊥
     refused_first stops _ (Nothing h) (more, e) = cc
     refused_first stops _ (InGap c gap text x rest next s g a) (more, e) =
-        let byte : c ≡ b = same_byte c _ more e in go_not_refused next (sym s ∙ (ap (m.step old) byte ∙ stops))
+        let byte : c ≡ b = head c b _ more e in go_or_refuse next (sym s ∙ (ap (m.step old) byte ∙ stops))
     refused_first stops _ (InText l k text x rest next s g n a) (more, e) =
-        let byte : l.byte ≡ b = same_byte l.byte _ more e in go_not_refused next (sym s ∙ (ap (m.step old) byte ∙ stops))
+        let byte : l.byte ≡ b = head l.byte b _ more e in go_or_refuse next (sym s ∙ (ap (m.step old) byte ∙ stops))
     refused_first stops _ (AtLast l x rest next s n a) (more, e) =
-        let byte : l.byte ≡ b = same_byte l.byte _ more e in end_not_refused x next (sym s ∙ (ap (m.step old) byte ∙ stops))
+        let byte : l.byte ≡ b = head l.byte b _ more e in end_or_refuse x next (sym s ∙ (ap (m.step old) byte ∙ stops))
 
     pub takes_between : m.step old b ≡ Go new → m.begun new ≡ false → m.done new ≡ false → IsState m new → Takes (Accepts m old) (Put false letter) b (Accepts m new)
     takes_between goes out owed state = record {
@@ -195,9 +173,9 @@ module _ {S E : Type 0} (m : Automaton S E) where
 
   ends_first : (s : S) → IsState m s → IsTrue (m.done s) → (items : List (Item E)) → First s items → items ≡ []
   ends_first s state d _ (Nothing h) = refl
-  ends_first s state d _ (InGap c gap text x rest next g o a) = absurd (go_not_refused next (sym g ∙ state.ends d c))
-  ends_first s state d _ (InText l k text x rest next g o n a) = absurd (go_not_refused next (sym g ∙ state.ends d l.byte))
-  ends_first s state d _ (AtLast l x rest next g n a) = absurd (end_not_refused x next (sym g ∙ state.ends d l.byte))
+  ends_first s state d _ (InGap c gap text x rest next g o a) = go_or_refuse next (sym g ∙ state.ends d c)
+  ends_first s state d _ (InText l k text x rest next g o n a) = go_or_refuse next (sym g ∙ state.ends d l.byte)
+  ends_first s state d _ (AtLast l x rest next g n a) = end_or_refuse x next (sym g ∙ state.ends d l.byte)
 
   pub residual : (s : S) → IsState m s → IsResidual (Accepts m s)
   residual s state = record {

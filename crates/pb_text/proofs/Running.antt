@@ -4,7 +4,7 @@ use Rattle.std.proofs.lemmas.List.{take_more}
 use Rattle.std.specs.Option.{is_some}
 use Rattle.pb_text.specs.Automaton.{Automaton, Go, IsState, Runs, begins}
 use Rattle.pb_text.specs.Languages.{Each}
-use Rattle.pb_text.specs.Limit.{end_of}
+use Rattle.pb_text.specs.SpentBytes.{end_of}
 use Rattle.pb_text.specs.Spelling.{place_next, place_past}
 use Rattle.pb_text.specs.Standing.{Stands, opened}
 use Rattle.pb_text.specs.declared.place.Place.{Place}

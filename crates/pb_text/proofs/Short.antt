@@ -3,7 +3,7 @@ use Rattle.std.proofs.Common.{◌≡◌, ℕ, ◌-◌, ◌<◌, ◌≤◌, List,
 use Rattle.pb_text.specs.Spelling.{Item, bytes, place_after, marks_since}
 use Rattle.pb_text.specs.Reading.{AreShort, Overruns, open_bytes, byte_limit}
 use Rattle.pb_text.specs.Standing.{EndBy}
-use Rattle.pb_text.specs.Limit.{end_of}
+use Rattle.pb_text.specs.SpentBytes.{end_of}
 use Rattle.pb_text.specs.declared.place.Place.{Place}
 use Rattle.pb_text.specs.declared.place.Spanned.{Spanned}
 

@@ -4,11 +4,13 @@ use Rattle.std.proofs.lemmas.List.{take_more}
 use Rattle.std.proofs.Math.Seq.{take-add, take-length}
 use Rattle.pb_text.specs.Automaton.{Automaton, Runs}
 
+-- all that is left behind a place
+pub all_rest : (piece : List ℕ) (i : ℕ) → take (length piece - i) (drop i piece) ≡ drop i piece
+all_rest piece i = ap (λ n. take n (drop i piece)) (sym (length-drop i piece)) ∙ take-length (drop i piece)
+
 -- the front of a piece, and then of the rest
 pub front_parts : (piece : List ℕ) (i j : ℕ) → take (i + j) piece ≡ take i piece ++ take j (take (length piece - i) (drop i piece))
-front_parts piece i j =
-    let all : take (length piece - i) (drop i piece) ≡ drop i piece = ap (λ n. take n (drop i piece)) (sym (length-drop i piece)) ∙ take-length (drop i piece) in
-    take-add i j piece ∙ ap (λ (xs : List ℕ). take i piece ++ take j xs) (sym all)
+front_parts piece i j = take-add i j piece ∙ ap (λ (xs : List ℕ). take i piece ++ take j xs) (sym (all_rest piece i))
 
 -- the bytes of a piece so far, and the next one
 pub one_further : (input piece : List ℕ) (i : ℕ) → i < length piece → (input ++ take i piece) ++ get_or piece i 0 ∷ [] ≡ input ++ take (i + 1) piece

@@ -5,14 +5,15 @@ use Rattle.std.proofs.lemmas.Bool.{false≢true}
 use Rattle.pb_text.specs.Spelling.{Letter, bytes, place_after, place_next, place_or}
 use Rattle.pb_text.specs.Reading.{last_numeral, byte_limit, AreShort}
 use Rattle.pb_text.specs.Automaton.{Automaton, Go, End, Refuse, Accepts, Admits, Leads, behind, IsState, is_large, begins, begins_with}
-use Rattle.pb_text.specs.Limit.{end_of, SpentSince}
+use Rattle.pb_text.specs.SpentBytes.{end_of, SpentSince}
 use Rattle.pb_text.specs.Standing.{EndBy, Follows, Stands, Waits, Halts, opened}
 use Rattle.pb_text.specs.declared.place.Place.{Place}
 use Rattle.pb_text.specs.declared.place.Spanned.{Spanned}
 use Rattle.pb_text.specs.declared.place.Stop.{Stop}
 use Rattle.pb_text.specs.declared.place.Why.TheVariants.{Byte, TooLarge, TooLong, Memory}
 use Rattle.pb_text.proofs.Residual.{Put, PutLast, residual, takes_between, takes_within, takes_last}
-use Rattle.pb_text.proofs.Lists.{bytes-append, length-bytes, gap_advances, letter_advances, last_advances}
+use Rattle.pb_text.proofs.Languages.{bytes-append}
+use Rattle.pb_text.proofs.Lists.{length-bytes, gap_advances, letter_advances, last_advances}
 use Rattle.pb_text.proofs.Follows.{step}
 use Rattle.pb_text.proofs.Places.{place_after-snoc}
 use Rattle.pb_text.proofs.Short.{end_limit, place_after-offset, AreShort-append, AreShort-grown}

@@ -6,7 +6,7 @@ use Rattle.pb_text.specs.Classes.{is_digit}
 use Rattle.pb_text.specs.Spelling.{bytes}
 use Rattle.pb_text.specs.Reading.{Reads, Answers, Explains, IsUnderWay, Viable, HasOpen, AreShort, byte_limit}
 use Rattle.pb_text.specs.Automaton.{Automaton, Accepts, Admits}
-use Rattle.pb_text.specs.Limit.{end_of, SpentSince}
+use Rattle.pb_text.specs.SpentBytes.{end_of, SpentSince}
 use Rattle.pb_text.specs.Standing.{Stands, Waits, Halts}
 use Rattle.pb_text.specs.declared.place.Place.{Place}
 use Rattle.pb_text.specs.declared.place.Spanned.{Spanned}

@@ -5,11 +5,11 @@ use Rattle.std.proofs.lemmas.List.{append_cancel_left}
 use Rattle.pb_text.specs.Automaton.{Automaton, Accepts, Leads, MayAsk}
 use Rattle.pb_text.specs.Spelling.{Letter, Item, bytes, marks_since, place_after}
 use Rattle.pb_text.specs.Reading.{Reads, IsSpelled}
-use Rattle.pb_text.specs.Limit.{end_of}
+use Rattle.pb_text.specs.SpentBytes.{end_of}
 use Rattle.pb_text.specs.Standing.{Stands, Waits, Halts}
 use Rattle.pb_text.specs.Feeding.{StandsAt, is_complete}
 use Rattle.pb_text.specs.Pulling.{Pulls, Took}
-use Rattle.pb_text.specs.Whole.{gathered, events_of, IsAsking, IsWhole, StopsAfter, Reading, Keeping}
+use Rattle.pb_text.specs.Whole.{events_at, gathered, events_of, IsAsking, IsWhole, StopsAfter, Reading, Keeping}
 use Rattle.pb_text.specs.declared.place.Place.{Place}
 use Rattle.pb_text.specs.declared.place.Spanned.{Spanned}
 use Rattle.pb_text.specs.declared.place.Stop.{Stop}
@@ -45,12 +45,12 @@ halted m state end letters left place (Some s) halt e w =
     (w.0, ap (λ (x : Stop). x.place) (sym same) ∙ w.1, subst (λ (x : Stop). Halts m state end letters left x.why) same w.2)
 
 -- the events of marks
-marks_events : {E : Type 0} (first : Option Place) (before : List ℕ) (items : List (Item E)) → map (λ m. m.event) (marks_since first before items) ≡ events_of items
+pub marks_events : {E : Type 0} (first : Option Place) (before : List ℕ) (items : List (Item E)) → events_at (marks_since first before items) ≡ events_of items
 marks_events first before [] = refl
 marks_events first before (i ∷ items) = ap (λ (x : List _). i.event ∷ x) (marks_events None (before ++ (i.gap ++ bytes i.text)) items)
 
 -- the value with one event more
-pub gathered_more : {V E : Type 0} (with : V → E → V) (empty value next : V) (marks : List (Spanned E)) (m : Spanned E) → value ≡ gathered with empty (map (λ n. n.event) marks) → next ≡ with value m.event → next ≡ gathered with empty (map (λ n. n.event) (marks ++ m ∷ []))
+pub gathered_more : {V E : Type 0} (with : V → E → V) (empty value next : V) (marks : List (Spanned E)) (m : Spanned E) → value ≡ gathered with empty (events_at marks) → next ≡ with value m.event → next ≡ gathered with empty (map (λ n. n.event) (marks ++ m ∷ []))
 gathered_more with empty value next [] m e h = h ∙ ap (λ (v : _). with v m.event) e
 gathered_more with empty value next (n ∷ marks) m e h = gathered_more with (with empty n.event) value next marks m e h
 
@@ -58,7 +58,8 @@ gathered_more with empty value next (n ∷ marks) m e h = gathered_more with (wi
 abbrev pub Used : Option (List ℕ) → Option (List ℕ) → List ℕ → List ℕ → (List ℕ → List ℕ → Type 0) → Type 0
 Used before after given given' Rest = (used : List ℕ) × (seen : List ℕ) × Took before used seen after × (given' ≡ given ++ used) × Rest used seen
 
-given_both : (first given last taken more : List ℕ) → given ≡ first ++ taken → last ≡ given ++ more → last ≡ first ++ (taken ++ more)
+-- what was given by one call, and then by the next
+pub given_both : (first given last taken more : List ℕ) → given ≡ first ++ taken → last ≡ given ++ more → last ≡ first ++ (taken ++ more)
 given_both first given last taken more h k = k ∙ (ap (λ (x : List ℕ). x ++ more) h ∙ append_assoc first taken more)
 
 module _ {M E : Type 0} {g : Ghosts M E} (longest : ℕ) (start : M) (marks : List (Spanned E)) (old new : Feeder M E g) (before now after : Option (List ℕ)) (taken : List ℕ) (lost : Lost before taken now) (offset_is : old.place.offset ≡ length taken) where
@@ -85,7 +86,7 @@ module _ {M E : Type 0} {g : Ghosts M E} (longest : ℕ) (start : M) (marks : Li
           record {
             marks = marks;
             spelled = spelled';
-            value_is = value_is ∙ ap (gathered with empty) (ap (map (λ m. m.event)) spelled'.marks_are ∙ marks_events None [] spelled'.items);
+            value_is = value_is ∙ ap (gathered with empty) (ap events_at spelled'.marks_are ∙ marks_events None [] spelled'.items);
             first_is = refl;
             past_is = s.place_is ∙ ap place_after used;
           },
@@ -124,7 +125,7 @@ module _ {M E : Type 0} {g : Ghosts M E} (longest : ℕ) (start : M) (marks : Li
 
   -- where an event could not be kept
   pub whole_unkept : {V : Type 0} (with : V → E → V) (empty : V) (asks : V → E → Bool) (m : Spanned E) (first given given' : List ℕ) → given ≡ first ++ taken → (p : Pulls longest start taken marks old now (Ok (Some m)) new after given given') → new.stop ≡ None → m.past ≡ new.place
-      → IsTrue (asks (gathered with empty (map (λ n. n.event) marks)) m.event)
+      → IsTrue (asks (gathered with empty (events_at marks)) m.event)
       → Used before after first given' (λ used seen. StopsAfter (Accepts g.automaton start) longest with empty (MayAsk g.automaton start) asks used seen (record { place = new.place; why = Memory }))
   whole_unkept with empty asks m first given given' are p running past h =
       let s = p.stands.1 in

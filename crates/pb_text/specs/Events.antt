@@ -5,7 +5,7 @@ use Rattle.std.specs.Iterator.{Count, at_most}
 use Rattle.pb_text.specs.Reading.{byte_limit}
 use Rattle.pb_text.specs.Feeding.{StandsAt, WantsMemory, stop_of, place_of, halt_of, is_complete}
 use Rattle.pb_text.specs.Pulling.{Pulls, faults_after}
-use Rattle.pb_text.specs.Rows.{HasPulled, PullsOn}
+use Rattle.pb_text.specs.PullsInARow.{HasPulled, PullsOn}
 use Rattle.pb_text.specs.declared.place.Spanned.{Spanned}
 use Rattle.pb_text.specs.declared.place.Stop.{Stop}
 use Rattle.pb_text.specs.declared.events.Events.{Events}

@@ -42,7 +42,7 @@ abbrev pub stop_of : {A : Type 0} → Result A Stop → Option Stop
 stop_of (Ok x) = None
 stop_of (Err s) = Some s
 
--- the marks that a byte brought
+-- the marks that a byte or a pull brought
 abbrev pub marks_taken : {E : Type 0} → Result (Option (Spanned E)) Stop → List (Spanned E)
 marks_taken (Ok m) = marks_in m
 marks_taken (Err s) = []

@@ -8,7 +8,7 @@ pub mod Feeding
 pub mod FormatLaws
 pub mod Kept
 pub mod Languages
-pub mod Limit
+pub mod SpentBytes
 pub mod Limits
 pub mod Numbers
 pub mod Over
@@ -17,7 +17,7 @@ pub mod Pouring
 pub mod Pulling
 pub mod Reading
 pub mod Reasons
-pub mod Rows
+pub mod PullsInARow
 pub mod Source
 pub mod Spelling
 pub mod Standing

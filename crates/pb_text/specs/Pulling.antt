@@ -1,18 +1,13 @@
 -- What a pull takes of a source.
-use Rattle.std.specs.Prelude.{◌≡◌, ◌+◌, ℕ, List, [], ◌++◌, length, Option, Some, None, Result, Ok, Err}
+use Rattle.std.specs.Prelude.{◌≡◌, ◌+◌, ℕ, List, ◌++◌, length, Option, Some, None, Result, Ok, Err}
 use Rattle.pb_text.specs.Writing.{one_more}
-use Rattle.pb_text.specs.Feeding.{StandsAt, marks_in}
+use Rattle.pb_text.specs.Feeding.{StandsAt, marks_taken}
 use Rattle.pb_text.specs.declared.place.Spanned.{Spanned}
 use Rattle.pb_text.specs.declared.place.Stop.{Stop}
 use Rattle.pb_text.specs.declared.place.Why.{Why}
 use Rattle.pb_text.specs.declared.place.Why.TheVariants.{Read}
 use Rattle.pb_text.specs.declared.feeder.Feeder.{Feeder}
 use Rattle.pb_text.specs.declared.machine.Machine.{Ghosts}
-
--- the marks that a pull brought
-abbrev pub marks_pulled : {E : Type 0} → Result (Option (Spanned E)) Stop → List (Spanned E)
-marks_pulled (Ok m) = marks_in m
-marks_pulled (Err s) = []
 
 -- the input that a pull has dealt with: after an event what it took, and else also what it saw
 abbrev pub input_pulled : {E : Type 0} → Result (Option (Spanned E)) Stop → List ℕ → List ℕ → List ℕ
@@ -32,7 +27,7 @@ pub record Pulls {M E : Type 0} {g : Ghosts M E} (longest : ℕ) (start : M) (in
   pub took : Took before taken seen after
   pub given_are : given' ≡ given ++ taken
   pub offset_is : new.place.offset ≡ old.place.offset + length taken
-  pub stands : StandsAt longest start (input ++ input_pulled result taken seen) (marks ++ marks_pulled result) new
+  pub stands : StandsAt longest start (input ++ input_pulled result taken seen) (marks ++ marks_taken result) new
 
 -- the input that a part of a pull has dealt with: what it took, and where it stopped also what it saw
 abbrev pub input_drawn : {E : Type 0} → Result (Option (Spanned E)) Stop → List ℕ → List ℕ → List ℕ
@@ -46,7 +41,7 @@ pub record Draws {M E : Type 0} {g : Ghosts M E} (old : Feeder M E g) (before : 
   pub took : Took before taken seen after
   pub given_are : given' ≡ given ++ taken
   pub offset_is : new.place.offset ≡ old.place.offset + length taken
-  pub stands : (longest : ℕ) (start : M) (input : List ℕ) (marks : List (Spanned E)) → StandsAt longest start input marks old → StandsAt longest start (input ++ input_drawn result taken seen) (marks ++ marks_pulled result) new
+  pub stands : (longest : ℕ) (start : M) (input : List ℕ) (marks : List (Spanned E)) → StandsAt longest start input marks old → StandsAt longest start (input ++ input_drawn result taken seen) (marks ++ marks_taken result) new
 
 -- how often a reader has failed after a call that stopped so
 abbrev pub faults_with : Why → ℕ → ℕ

@@ -3,7 +3,7 @@ use Rattle.std.specs.Prelude.{◌≡◌, ◌≢◌, ◌⊎◌, ℕ, ◌≤◌, �
 use Rattle.pb_text.specs.Spelling.{Letter, Item, bytes, letters_of, bytes_of, marks_since, marks_of, place_after}
 use Rattle.pb_text.specs.Reading.{IsFront, last_numeral, AreShort}
 use Rattle.pb_text.specs.Automaton.{Automaton, Refuse, Accepts, Admits, Leads, IsState, is_large}
-use Rattle.pb_text.specs.Limit.{end_of, SpentSince}
+use Rattle.pb_text.specs.SpentBytes.{end_of, SpentSince}
 use Rattle.pb_text.specs.declared.place.Place.{Place}
 use Rattle.pb_text.specs.declared.place.Spanned.{Spanned}
 use Rattle.pb_text.specs.declared.place.Stop.{Stop}

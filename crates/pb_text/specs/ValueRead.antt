@@ -1,9 +1,9 @@
 -- A whole read, where a relation says which value events have.
-use Rattle.std.specs.Prelude.{◌≡◌, ℕ, List, [], ◌∷◌, ◌++◌, map, Bool, false, Option, Some, None, Result, Ok, Err}
+use Rattle.std.specs.Prelude.{◌≡◌, ℕ, List, [], ◌∷◌, ◌++◌, Bool, false, Option, Some, None, Result, Ok, Err}
 use Rattle.pb_text.specs.Spelling.{Item, place_after}
 use Rattle.pb_text.specs.Reading.{Reads, IsSpelled, Viable}
 use Rattle.pb_text.specs.Pulling.{Took}
-use Rattle.pb_text.specs.Whole.{events_of}
+use Rattle.pb_text.specs.Whole.{events_at, events_of}
 use Rattle.pb_text.specs.declared.place.Spanned.{Spanned}
 use Rattle.pb_text.specs.declared.place.Stop.{Stop}
 use Rattle.pb_text.specs.declared.place.Why.TheVariants.{Memory}
@@ -22,7 +22,7 @@ module _ {E : Type 0} (format : List (Item E) → Type 0) (longest : ℕ) where
       Asking : (marks : List (Spanned E)) → Reads format longest (used ++ seen) used marks s.place false (Some s) → (b : ℕ) (more : List ℕ) → seen ≡ b ∷ more
           → MayAsk used b → WantsIn used seen s
       Ending : (marks : List (Spanned E)) (last : Spanned E) (done : Bool) → Reads format longest used used (marks ++ last ∷ []) last.past done None
-          → MayKeep (map (λ m. m.event) marks) last.event → s.place ≡ last.past → WantsIn used seen s
+          → MayKeep (events_at marks) last.event → s.place ≡ last.past → WantsIn used seen s
 
     -- what a stop for want of memory says of a source that had these bytes before and has those after
     abbrev pub WantsMemory : {V : Type 0} → Option (List ℕ) → Result (Spanned V) Stop → Option (List ℕ) → Type 0

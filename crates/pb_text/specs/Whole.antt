@@ -17,6 +17,10 @@ gathered with value (e ∷ events) = gathered with (with value e) events
 abbrev pub events_of : {E : Type 0} → List (Item E) → List E
 events_of items = map (λ i. i.event) items
 
+-- the events of marks, without their places
+abbrev pub events_at : {E : Type 0} → List (Spanned E) → List E
+events_at marks = map (λ m. m.event) marks
+
 module _ {V E : Type 0} (format : List (Item E) → Type 0) (longest : ℕ) (with : V → E → V) (empty : V) where
   -- The used bytes are a spelling, and the value is that of its events.
   pub record IsWhole (used : List ℕ) (m : Spanned V) : Type 0 where
@@ -43,7 +47,7 @@ module _ {V E : Type 0} (format : List (Item E) → Type 0) (longest : ℕ) (wit
         pub last : Spanned E
         pub done : Bool
         pub reads : Reads format longest used used (marks ++ last ∷ []) last.past done None
-        pub asking : IsTrue (asks (gathered with empty (map (λ m. m.event) marks)) last.event)
+        pub asking : IsTrue (asks (gathered with empty (events_at marks)) last.event)
         pub stop_is : s ≡ record { place = last.past; why = Memory }
 
       -- The used bytes are a front of a spelling, and the stop says why no more were taken.

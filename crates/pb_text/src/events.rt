@@ -6,8 +6,8 @@ ghost use Rattle.pb_text.specs.Events.{Gives, feeder_of, most_left, source_of};
 
 use crate::feeder::Feeder;
 use crate::machine::Machine;
+use crate::next_event::pull;
 use crate::place::{Place, Spanned, Stop};
-use crate::pulling::pull;
 use crate::source::Source;
 use std::iter::FusedIterator;
 

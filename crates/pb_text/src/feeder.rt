@@ -1,7 +1,7 @@
 //! Takes a text in pieces.
 
 ghost use Rattle.std.specs.Prelude.{true, false, ◌≡◌, ◌≢◌, ℕ, Some, None, Ok, Err, ◌+◌, ◌-◌, ◌^◌, ◌<◌, ◌≤◌, List, [], ◌∷◌, ◌++◌, take, if◌then◌else◌, OnOk, OnErr, IfOk, IfErr, length, slice_get, is_some};
-ghost use Rattle.pb_text.specs.Limit.{end_of};
+ghost use Rattle.pb_text.specs.SpentBytes.{end_of};
 ghost use Rattle.pb_text.specs.Spelling.{place_next, place_or};
 ghost use Rattle.pb_text.specs.Standing.{opened};
 

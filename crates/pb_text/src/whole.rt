@@ -8,8 +8,8 @@ ghost use Rattle.pb_text.specs.Whole.{ReadsWhole, ReadsGiven};
 
 use crate::feeder::Feeder;
 use crate::machine::Machine;
+use crate::next_event::pull;
 use crate::place::{Place, Spanned, Stop, Why};
-use crate::pulling::pull;
 use crate::source::Source;
 use std::alloc::AllocError;
 

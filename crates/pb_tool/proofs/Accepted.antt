@@ -1,19 +1,18 @@
 -- What a check owes of two sources, from what its parts owe.
-use Rattle.std.proofs.Common.{◌≡◌, ◌⊎◌, ℕ, ◌≤◌, ◌<◌, List, [], ◌++◌, length, get_or, true, Option, Some, None, Result, Ok, Err, refl, sym, ap, ◌∙◌, subst, inl, inr, arith, length-append}
+use Rattle.std.proofs.Common.{◌≡◌, ◌⊎◌, ℕ, ◌<◌, List, [], ◌++◌, length, get_or, true, Option, Some, None, Result, Ok, Err, refl, sym, ap, ◌∙◌, subst, inl, inr}
 use Rattle.std.specs.Prelude.{string_bytes}
 use Rattle.std.proofs.lemmas.List.{get_or_append_left}
 use Rattle.pb_text.specs.Blank.{ReadsBlank}
 use Rattle.pb_text.specs.Limits.{largest, top_of}
-use Rattle.pb_text.specs.Reading.{byte_limit}
 use Rattle.pb_text.specs.Spelling.{place_after}
 use Rattle.pb_text.specs.Writing.{Wrote, Broke}
 use Rattle.pb_text.specs.declared.Limits.{Limits}
 use Rattle.pb_text.specs.declared.Place.{Place}
 use Rattle.pb_text.specs.declared.Spanned.{Spanned}
-use Rattle.pb_text.proofs.Rows.{took_join}
+use Rattle.pb_text.specs.ValueRead.{IsRead}
 use Rattle.pb_proof.specs.declared.Proof.{Proof}
 use Rattle.pb_proof.specs.declared.Statement.{Statement}
-use Rattle.pb_proof.specs.Proofs.{statements_of}
+use Rattle.pb_proof.specs.Proofs.{IsProofOf, statements_of}
 use Rattle.pb_replay.specs.Problem.{Problem}
 use Rattle.pb_replay.specs.Replay.{State, first_state}
 use Rattle.pb_replay.specs.Kept.{Replaying}
@@ -22,15 +21,15 @@ use Rattle.pb_replay.specs.declared.fault.Fault.{Fault}
 use Rattle.pb_replay.specs.declared.fault.Fault.TheVariants.{Memory as no_memory}
 use Rattle.pb_replay.specs.declared.fault.Fault.TheVariants as why
 use Rattle.pb_replay.specs.declared.verdict.Verdict.{Verdict}
-use Rattle.pb_tool.specs.Checks.{statements_at}
+use Rattle.pb_tool.specs.Files.{IsVeri}
 use Rattle.pb_tool.specs.Runs.{IsNoReplay, IsReplayOf, IsToldAs, KeepsNames, Replays, Runs, faults_of_instance}
 use Rattle.pb_tool.specs.Verified.{ChecksFiles, IsAccepted, IsTold, IsVerified, verdict_line}
 use Rattle.pb_tool.specs.declared.checker.CheckFault.TheVariants as check
 use Rattle.pb_tool.specs.declared.fault.ToolFault.{ToolFault}
 use Rattle.pb_tool.specs.declared.fault.ToolFault.TheVariants.{Text, Open, Overflow, Memory, Write, Step}
 use Rattle.pb_tool.specs.declared.fault.Input.TheVariants.{File, Instance as of_instance, Proof as of_proof}
-use Rattle.pb_tool.proofs.Checked.{marks_events}
-use Rattle.pb_tool.proofs.Shown.{after_offset}
+use Rattle.pb_tool.proofs.Checked.{spelled_events}
+use Rattle.pb_tool.proofs.Given.{file_behind}
 
 -- the name among those from before the statement
 names_front : (names all more : List (List ℕ)) (n : ℕ) → all ≡ names ++ more → n < length names → get_or all n [] ≡ get_or names n []
@@ -56,25 +55,15 @@ told_before names all why.Order name kept h = h
 module _ (limits : Limits) (longest : ℕ) (v : Problem) (first : State) (before : Option (List ℕ)) where
   -- a whole proof, and a blank rest
   pub whole_file : (mid after : Option (List ℕ)) (place : Place) (t : State) (w : Verdict) → IsAccepted limits longest v first before mid place true None t → t.concluded ≡ Some w → ReadsBlank place mid (Ok tt) after → Replays limits longest v first before (Ok w) after
-  whole_file mid after place t w a claimed (rest, more, blank, bound) =
+  whole_file mid after place t w a claimed blank =
       let s = a.took.reads.answer.0 in
       let (q, spells) = s.spelled in
       let used = a.took.used in
-      let at = ap (λ (x : Place). x.offset) a.took.reads.place_is ∙ after_offset used in
-      let within : length (used ++ rest) ≤ byte_limit = omega (arith, bound, at, length-append used rest) in
-      let same = ap (λ (x : List (Spanned Statement)). statements_at x) s.marks_are ∙ (marks_events None [] s.items ∙ spells.1) in
+      let same = spelled_events (IsVeri limits) longest used a.marks s ∙ spells.1 in
       let read : Spanned Proof = record { event = q; first = place_after []; past = place_after used } in (
         q,
-        record {
-          used = used;
-          rest = rest;
-          took = took_join before mid after used rest a.took.seen [] a.took.took more;
-          read = read;
-          spelled = record { marks = a.marks; spelled = s; value = spells.1; first = refl; past = refl };
-          blank = blank;
-          within = within;
-          value = refl;
-        },
+        file_behind (IsRead (IsVeri limits) longest IsProofOf) read before mid after used a.took.seen a.took.took (record { marks = a.marks; spelled = s; value = spells.1; first = refl; past = refl }) refl
+            (subst (λ (p : Place). ReadsBlank p mid (Ok tt) after) a.took.reads.place_is blank),
         t,
         subst (λ (x : List Statement). Accepts (largest limits) (top_of limits) v first x t) same a.accepted,
         claimed,

@@ -5,6 +5,7 @@ use Rattle.pb_text.specs.Reading.{HasFixedMarks, Reads}
 use Rattle.pb_text.specs.declared.Limits.{Limits}
 use Rattle.pb_text.specs.declared.Place.{Place}
 use Rattle.pb_text.specs.declared.Spanned.{Spanned}
+use Rattle.pb_text.proofs.Results.{ok_or_err, same_err, same_ok}
 use Rattle.pb_proof.specs.declared.Statement.{Statement}
 use Rattle.pb_replay.specs.Laws.{OutcomesAreSingle}
 use Rattle.pb_replay.specs.Problem.{Problem}
@@ -12,20 +13,11 @@ use Rattle.pb_replay.specs.Replay.{State}
 use Rattle.pb_replay.specs.Statements.{Outcome, Accepts}
 use Rattle.pb_replay.specs.declared.fault.Fault.{Fault}
 use Rattle.pb_replay.specs.declared.fault.Fault.TheVariants.{Memory, Overflow, FormulaCount, NoSuchId, NotImplied, Conflict, NotTotal, Violates, NoObjective, NotContradiction, SolutionLogged, NoSolution, NotBound, IdsSpent, Order}
-use Rattle.pb_tool.specs.Checks.{statements_at}
+use Rattle.pb_text.specs.Whole.{events_at}
 use Rattle.pb_tool.specs.Files.{IsVeri}
 use Rattle.pb_tool.specs.Verified.{ComesTo, IsRefusedStep, IsTold}
 use Rattle.pb_tool.proofs.Fronts.{Compared, two_fronts}
 use Rattle.pb_tool.proofs.OneRead.{Begins, marks_begin, so_far_reached}
-
-pub same_ok : {A E : Type 0} (a b : A) → ◌≡◌ {A = Result A E} (Ok a) (Ok b) → a ≡ b
-same_ok a b h = cc
-
-same_err : {A E : Type 0} (a b : E) → ◌≡◌ {A = Result A E} (Err a) (Err b) → a ≡ b
-same_err a b h = cc
-
-pub ok_err : {A E : Type 0} (a : A) (b : E) → ◌≡◌ {A = Result A E} (Ok a) (Err b) → ⊥
-ok_err a b h = absurd cc
 
 -- ---- lists that go on
 
@@ -74,24 +66,24 @@ module _ (single : OutcomesAreSingle) (limits : Limits) (v : Problem) where
   Leads s sts t = Accepts (largest limits) (top_of limits) v s sts t
 
   one_next : (s : State) (st : Statement) (a b : State) → Does s st (Ok a) → Does s st (Ok b) → a ≡ b
-  one_next s st a b h k = same_ok a b (single (largest limits) (top_of limits) v s st (Ok a) (Ok b) h k)
+  one_next s st a b h k = same_ok (single (largest limits) (top_of limits) v s st (Ok a) (Ok b) h k)
 
   pub one_state : (sts : List Statement) (s t u : State) → Leads s sts t → Leads s sts u → t ≡ u
   one_state [] s t u h k = sym h ∙ k
   one_state (st ∷ sts) s t u (a, o, h) (b, o', k) = one_state sts b t u (subst (λ (x : State). Leads x sts t) (one_next s st a b o o') h) k
 
   -- what is accepted further on is not refused
-  clash : (marks : List (Spanned Statement)) (m : Spanned Statement) (more : List (Spanned Statement)) (s t u : State) (e : Fault) → Leads s (statements_at ((marks ++ m ∷ []) ++ more)) t → Leads s (statements_at marks) u → Does u m.event (Err e) → ⊥
-  clash [] m more s t u e (a, o, h) k x = ok_err a e (single (largest limits) (top_of limits) v s m.event (Ok a) (Err e) o (subst (λ (y : State). Does y m.event (Err e)) (sym k) x))
+  clash : (marks : List (Spanned Statement)) (m : Spanned Statement) (more : List (Spanned Statement)) (s t u : State) (e : Fault) → Leads s (events_at ((marks ++ m ∷ []) ++ more)) t → Leads s (events_at marks) u → Does u m.event (Err e) → ⊥
+  clash [] m more s t u e (a, o, h) k x = ok_or_err (single (largest limits) (top_of limits) v s m.event (Ok a) (Err e) o (subst (λ (y : State). Does y m.event (Err e)) (sym k) x))
   clash (n ∷ marks) m more s t u e (a, o, h) (b, o', k) x =
-      clash marks m more b t u e (subst (λ (y : State). Leads y (statements_at ((marks ++ m ∷ []) ++ more)) t) (one_next s n.event a b o o') h) k x
+      clash marks m more b t u e (subst (λ (y : State). Leads y (events_at ((marks ++ m ∷ []) ++ more)) t) (one_next s n.event a b o o') h) k x
 
   module _ (fixed : HasFixedMarks (IsVeri limits)) (longest : ℕ) (first : State) (input : List ℕ) where
     -- Accepted statements of the text, with which each list of statements begins that is read so far.
     pub record Passed : Type 0 where
       pub marks : List (Spanned Statement)
       pub last : State
-      pub accepted : Leads first (statements_at marks) last
+      pub accepted : Leads first (events_at marks) last
       pub begins : (used left : List ℕ) (others : List (Spanned Statement)) (place : Place) (done : Bool) → input ≡ used ++ left → Reads (IsVeri limits) longest used used others place done None → Begins others marks
 
     pub no_step : (after : Option (List ℕ)) (begins : Place) (e : Fault) (name : List ℕ) → Passed → IsRefusedStep limits longest v first (Some input) after begins e name → e ≢ Memory → ⊥
@@ -99,7 +91,7 @@ module _ (single : OutcomesAreSingle) (limits : Limits) (v : Problem) where
     no_step after begins e name p (st, state, comes, inr (out, named)) d =
         let t = comes.took in
         let (more, is) = p.begins t.used t.seen (comes.marks ++ comes.last ∷ []) comes.last.past t.done t.took.0 t.reads in
-        clash comes.marks comes.last more first p.last state e (subst (λ (x : List (Spanned Statement)). Leads first (statements_at x) p.last) is p.accepted) comes.accepted
+        clash comes.marks comes.last more first p.last state e (subst (λ (x : List (Spanned Statement)). Leads first (events_at x) p.last) is p.accepted) comes.accepted
         (subst (λ (x : Statement). Does state x (Err e)) (sym comes.statement) out)
 
     -- ---- two refused statements
@@ -131,13 +123,13 @@ module _ (single : OutcomesAreSingle) (limits : Limits) (v : Problem) where
               → (r'.comes.marks ≡ r.comes.marks) × (r'.comes.last ≡ r.comes.last)
           by (inl h) = h
           by (inr (others, h)) =
-              absurd (clash r.comes.marks r.comes.last others first r'.state r.state e (subst (λ (x : List (Spanned Statement)). Leads first (statements_at x) r'.state) h r'.comes.accepted) r.comes.accepted r.out)
+              absurd (clash r.comes.marks r.comes.last others first r'.state r.state e (subst (λ (x : List (Spanned Statement)). Leads first (events_at x) r'.state) h r'.comes.accepted) r.comes.accepted r.out)
 
       alike : r'.comes.marks ≡ r.comes.marks → r'.comes.last ≡ r.comes.last → (begins' ≡ begins) × (e' ≡ e) × (name ≡ name')
       alike marks last =
-          let state : r'.state ≡ r.state = one_state (statements_at r.comes.marks) first r'.state r.state (subst (λ (x : List (Spanned Statement)). Leads first (statements_at x) r'.state) marks r'.comes.accepted) r.comes.accepted in
+          let state : r'.state ≡ r.state = one_state (events_at r.comes.marks) first r'.state r.state (subst (λ (x : List (Spanned Statement)). Leads first (events_at x) r'.state) marks r'.comes.accepted) r.comes.accepted in
           let out : Does r.state r.comes.last.event (Err e') = subst (λ (x : Spanned Statement). Does r.state x.event (Err e')) last (subst (λ (x : State). Does x r'.comes.last.event (Err e')) state r'.out) in
-          let fault : e' ≡ e = same_err e' e (single (largest limits) (top_of limits) v r.state r.comes.last.event (Err e') (Err e) out r.out) in (
+          let fault : e' ≡ e = same_err (single (largest limits) (top_of limits) v r.state r.comes.last.event (Err e') (Err e) out r.out) in (
             r'.comes.begins_is ∙ (ap (λ (x : Spanned Statement). x.first) last ∙ sym r.comes.begins_is),
             fault,
             one_name r.state.names e name name' r.named (subst (λ (x : Fault). IsTold r.state.names x name') fault (subst (λ (x : State). IsTold x.names e' name') state r'.named)),

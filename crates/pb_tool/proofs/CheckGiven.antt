@@ -1,16 +1,13 @@
 -- What a check owes of the bytes that a source's calls have given.
 use Rattle.std.proofs.Common.{◌≡◌, ℕ, List, [], ◌∷◌, ◌++◌, true, false, Option, Some, None, Result, Ok, Err, refl, sym, subst, append_assoc}
-use Rattle.pb_text.specs.Automaton.{Accepts as AcceptsBytes}
 use Rattle.pb_text.specs.Blank.{GivesBlank}
 use Rattle.pb_text.specs.Limits.{largest, top_of}
-use Rattle.pb_text.specs.Rows.{TookAll, TookSoFar}
-use Rattle.pb_text.specs.Spelling.{Item}
+use Rattle.pb_text.specs.PullsInARow.{TookAll, TookSoFar}
 use Rattle.pb_text.specs.declared.Limits.{Limits}
 use Rattle.pb_text.specs.declared.Place.{Place}
 use Rattle.pb_text.specs.declared.Spanned.{Spanned}
 use Rattle.pb_text.specs.declared.Stop.{Stop}
 use Rattle.pb_proof.specs.Formats.{ReadsProofs}
-use Rattle.pb_proof.specs.Machine.State.{begin, proofs}
 use Rattle.pb_proof.specs.declared.Statement.{Statement}
 use Rattle.pb_replay.specs.Problem.{Problem}
 use Rattle.pb_replay.specs.Meaning.{IsFront}
@@ -20,7 +17,7 @@ use Rattle.pb_replay.specs.Statements.{Accepts}
 use Rattle.pb_replay.specs.declared.fault.Fault.{Fault}
 use Rattle.pb_replay.specs.declared.verdict.Verdict.{Verdict}
 use Rattle.pb_tool.specs.Checker.{IsAt, StepsFrom}
-use Rattle.pb_tool.specs.Checks.{statements_at}
+use Rattle.pb_text.specs.Whole.{events_at}
 use Rattle.pb_tool.specs.Files.{IsVeri}
 use Rattle.pb_tool.specs.Given.{OfGiven}
 use Rattle.pb_tool.specs.Runs.{IsToldAs, Replays, Runs}
@@ -31,7 +28,7 @@ use Rattle.pb_tool.specs.declared.fault.ToolFault.{ToolFault}
 use Rattle.pb_tool.specs.declared.fault.ToolFault.TheVariants.{Text}
 use Rattle.pb_tool.specs.declared.fault.Input.TheVariants.{Proof as of_proof}
 use Rattle.pb_tool.proofs.Accepted.{step_told, whole_file}
-use Rattle.pb_tool.proofs.Given.{given_both}
+use Rattle.pb_text.proofs.Wholes.{given_both}
 use Rattle.pb_tool.proofs.GivenRow.{all_of}
 use Rattle.pb_tool.proofs.Replayed as replayed
 
@@ -39,6 +36,10 @@ module _ (limits : Limits) (longest : ℕ) (v : Problem) (first : State) where
   -- the accepted statements of a proof, where the rest is another
   accepted_of : (used seen other : List ℕ) (place : Place) (last : State) → IsAccepted limits longest v first (Some (used ++ seen)) (Some seen) place true None last → IsAccepted limits longest v first (Some (used ++ other)) (Some other) place true None last
   accepted_of used seen other place last a = record { marks = a.marks; took = all_of (IsVeri limits) longest used seen other a.marks place a.took; accepted = a.accepted }
+
+  -- all that was accepted, where its last place is told otherwise
+  pub moved : (left rest : Option (List ℕ)) (place at : Place) (w : Verdict) → place ≡ at → (t : State) × IsAccepted limits longest v first left rest place true None t × (t.concluded ≡ Some w) → (t : State) × IsAccepted limits longest v first left rest at true None t × (t.concluded ≡ Some w)
+  moved left rest place at w same (last, accepted, claimed) = (last, subst (λ (p : Place). IsAccepted limits longest v first left rest p true None last) same accepted, claimed)
 
   module _ (before mid after : List ℕ) (new : Replaying) (ended : Verdict × Place) where
     -- a whole proof, and a blank rest
@@ -77,20 +78,14 @@ module _ (limits : Limits) (longest : ℕ) (v : Problem) (first : State) where
 -- ---- a run through the statements
 
 module _ (exact : ReadsProofs) (limits : Limits) (longest : ℕ) (before after : List ℕ) (v : Problem) (first : State) (r : Replaying) (marks : List (Spanned Statement))
-    (led : (t : State) × StandsFor r t × Accepts (largest limits) (top_of limits) v first (statements_at marks) t) (new : Replaying) where
-  abbrev Read : List (Item Statement) → Type 0
-  Read = AcceptsBytes proofs (begin (largest limits) (top_of limits))
-
-  pub given_stopped : (s : Stop) → OfGiven (λ left rest. TookAll Read longest left rest marks s.place false (Some s)) before after → OfGiven (λ left rest. Runs limits longest v first left (Err (check.Text s)) rest new) before after
+    (led : (t : State) × StandsFor r t × Accepts (largest limits) (top_of limits) v first (events_at marks) t) (new : Replaying) where
+  pub given_stopped : (s : Stop) → OfGiven (λ left rest. TookAll (replayed.Taken limits) longest left rest marks s.place false (Some s)) before after → OfGiven (λ left rest. Runs limits longest v first left (Err (check.Text s)) rest new) before after
   given_stopped s (given, seen, e, all) = (given, seen, e, (led.0, replayed.accepted exact limits longest (Some (given ++ seen)) (Some seen) v first r marks led s.place false (Some s) all))
 
   module _ (none : r.fault ≡ None) where
-    moved : (left rest : Option (List ℕ)) (place at : Place) (w : Verdict) → place ≡ at → (t : State) × IsAccepted limits longest v first left rest place true None t × (t.concluded ≡ Some w) → (t : State) × IsAccepted limits longest v first left rest at true None t × (t.concluded ≡ Some w)
-    moved left rest place at w same (last, accepted, claimed) = (last, subst (λ (p : Place). IsAccepted limits longest v first left rest p true None last) same accepted, claimed)
-
-    pub given_ended : (place at : Place) (w : Verdict) → place ≡ at → Some w ≡ verdict_in r → OfGiven (λ left rest. TookAll Read longest left rest marks place true None) before after → OfGiven (λ left rest. Runs limits longest v first left (Ok (w, at)) rest new) before after
-    given_ended place at w same is (given, seen, e, all) = (given, seen, e, moved (Some (given ++ seen)) (Some seen) place at w same (replayed.ended exact limits longest (Some (given ++ seen)) (Some seen) v first r marks led none place w all is))
+    pub given_ended : (place at : Place) (w : Verdict) → place ≡ at → Some w ≡ verdict_in r → OfGiven (λ left rest. TookAll (replayed.Taken limits) longest left rest marks place true None) before after → OfGiven (λ left rest. Runs limits longest v first left (Ok (w, at)) rest new) before after
+    given_ended place at w same is (given, seen, e, all) = (given, seen, e, moved limits longest v first (Some (given ++ seen)) (Some seen) place at w same (replayed.ended exact limits longest (Some (given ++ seen)) (Some seen) v first r marks led none place w all is))
 
     pub given_step : (m : Spanned Statement) → r.limits ≡ limits → r.problem ≡ v → (x : CheckFault) → ((now : Result State Fault) → IsAt r now → StepsFrom r.limits r.problem now m (Err x) new) → IsFront r.names new.names → replayed.TellsOld r x
-        → OfGiven (λ left rest. TookSoFar Read longest left rest (marks ++ m ∷ []) m.past) before after → OfGiven (λ left rest. Runs limits longest v first left (Err x) rest new) before after
+        → OfGiven (λ left rest. TookSoFar (replayed.Taken limits) longest left rest (marks ++ m ∷ []) m.past) before after → OfGiven (λ left rest. Runs limits longest v first left (Err x) rest new) before after
     given_step m limited problem x steps names old (given, seen, e, sofar) = (given, seen, e, replayed.refused_run exact limits longest (Some (given ++ seen)) (Some seen) v first r marks led none new m limited problem x steps names old sofar)

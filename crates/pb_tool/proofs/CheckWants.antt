@@ -1,11 +1,10 @@
 -- Where a check ran out of memory for a text.
 use Rattle.std.proofs.Common.{◌≡◌, ℕ, List, Option, None, Result, Ok, Err, sym, subst}
-use Rattle.pb_text.specs.Blank.{IsStray, ReadsBlank}
+use Rattle.pb_text.specs.Blank.{ReadsBlank}
 use Rattle.pb_text.specs.declared.Limits.{Limits}
 use Rattle.pb_text.specs.declared.Place.{Place}
 use Rattle.pb_text.specs.declared.Spanned.{Spanned}
 use Rattle.pb_text.specs.declared.Stop.{Stop}
-use Rattle.pb_text.specs.declared.Why.{Why}
 use Rattle.pb_proof.specs.declared.Statement.{Statement}
 use Rattle.pb_replay.specs.Laws.{ReplaysHaveStates}
 use Rattle.pb_replay.specs.Problem.{Problem}
@@ -19,6 +18,7 @@ use Rattle.pb_tool.specs.declared.checker.CheckFault.{CheckFault}
 use Rattle.pb_tool.specs.declared.fault.ToolFault.{ToolFault}
 use Rattle.pb_tool.specs.declared.fault.ToolFault.TheVariants.{Text, Open, Overflow, Memory, Write, Step}
 use Rattle.pb_tool.specs.declared.fault.Input.TheVariants.{File, Instance as of_instance, Proof as of_proof}
+use Rattle.pb_tool.proofs.Wanted.{not_stray}
 
 module _ (limits : Limits) (longest : ℕ) (before after : Option (List ℕ)) (Holds : Stop → Type 0) where
   -- where there is no replay, it is not for the text of the proof
@@ -60,4 +60,4 @@ step_no_text states old new m x Holds none steps =
 
 -- the rest behind a proof wants no memory
 pub rest_wants : (limits : Limits) (longest : ℕ) (place : Place) (before mid after : Option (List ℕ)) (s : Stop) → ReadsBlank place mid (Err s) after → WantsSteps limits longest before after s
-rest_wants limits longest place before mid after s (used, seen, took, blank, at, stray) e = absurd (subst (λ (w : Why). IsStray place used seen w) e stray)
+rest_wants limits longest place before mid after s h e = absurd (not_stray place mid after s h e)

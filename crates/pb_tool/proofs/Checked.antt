@@ -4,11 +4,11 @@ use Rattle.std.proofs.lemmas.List.Elements.{All-head, All-tail}
 use Rattle.pb_text.specs.Limits.{largest, top_of}
 use Rattle.pb_text.specs.Automaton.{Accepts as AcceptsBytes}
 use Rattle.pb_text.specs.Feeding.{StandsAt, FeedsOnce, place_of, halt_of, is_complete}
-use Rattle.pb_text.specs.Limit.{end_of}
-use Rattle.pb_text.specs.Reading.{Reads, Explains}
+use Rattle.pb_text.specs.SpentBytes.{end_of}
+use Rattle.pb_text.specs.Reading.{Reads, Explains, IsSpelled}
 use Rattle.pb_text.specs.Spelling.{Item, bytes, marks_since}
 use Rattle.pb_text.specs.Standing.{Counts, Halts, Waits, IsOpen as IsOpenText}
-use Rattle.pb_text.specs.Whole.{events_of}
+use Rattle.pb_text.specs.Whole.{events_at, events_of}
 use Rattle.pb_text.specs.declared.Fed.{Fed}
 use Rattle.pb_text.specs.declared.Limits.{Limits}
 use Rattle.pb_text.specs.declared.Place.{Place}
@@ -17,6 +17,7 @@ use Rattle.pb_text.specs.declared.Stop.{Stop}
 use Rattle.pb_text.specs.declared.place.Why.{Why}
 use Rattle.pb_text.specs.declared.place.Why.TheVariants.{Byte, TooLarge, Ended, TooLong, Read, Memory}
 use Rattle.pb_text.proofs.Formats as formats
+use Rattle.pb_text.proofs.Spans.{all_rest, front_parts}
 use Rattle.pb_proof.specs.Formats.{ReadsProofs}
 use Rattle.pb_proof.specs.Proofs.{IsProof}
 use Rattle.pb_proof.specs.Machine.State.{ProofState, begin, proofs}
@@ -33,23 +34,25 @@ use Rattle.pb_replay.specs.Kept.{Replaying, StandsFor, StepsAs, verdict_at, verd
 use Rattle.pb_replay.specs.Statements.{Outcome, Accepts}
 use Rattle.pb_replay.specs.declared.fault.Fault.{Fault}
 use Rattle.pb_replay.specs.declared.verdict.Verdict.{Verdict}
-use Rattle.std.proofs.Math.Seq.{take-add, take-length}
+use Rattle.std.proofs.Math.Seq.{take-length}
 use Rattle.std.proofs.lemmas.List.{length-drop}
 use Rattle.std.specs.Prelude.{IsSome, not, is_some}
+use Rattle.pb_text.proofs.Wholes.{marks_events}
 use Rattle.pb_tool.specs.Checker.{Checking, ProofFeeder, IsAt, IsRunning, Stands, StepsFrom, TextsAreRead}
-use Rattle.pb_tool.specs.Checks.{statements_at, Checks, IsReplayed, Leads, Takes, Refuses}
+use Rattle.pb_tool.specs.Checks.{Checks, IsReplayed, Leads, Takes, Refuses}
 use Rattle.pb_tool.specs.Pieces.{AnyCutting, bytes_to, ChecksAt, ChecksOnce, IsOpen, IsUnread, Feeds, WantsMemory, joined, fault_of, is_whole, place_in}
 use Rattle.pb_tool.specs.declared.checker.CheckFault.{CheckFault}
 use Rattle.pb_tool.specs.declared.checker.CheckFault.TheVariants.{Text, Step}
+use Rattle.pb_tool.proofs.Fronts.{no_front}
 
 -- ---- one statement more
 module _ (limit top : ℕ) (v : Problem) where
-  pub accepts_more : (marks : List (Spanned Statement)) (m : Spanned Statement) (s u t : State) → Accepts limit top v s (statements_at marks) u → Outcome limit top v u m.event (Ok t) → Accepts limit top v s (statements_at (marks ++ m ∷ [])) t
+  pub accepts_more : (marks : List (Spanned Statement)) (m : Spanned Statement) (s u t : State) → Accepts limit top v s (events_at marks) u → Outcome limit top v u m.event (Ok t) → Accepts limit top v s (events_at (marks ++ m ∷ [])) t
   accepts_more [] m s u t h k = (t, subst (λ (x : State). Outcome limit top v x m.event (Ok t)) (sym h) k, refl)
   accepts_more (n ∷ marks) m s u t h k = (h.0, h.1, accepts_more marks m h.0 u t h.2 k)
 
 module _ (limits : Limits) (v : Problem) where
-  leads_more : (first : Result State Fault) (marks : List (Spanned Statement)) (m : Spanned Statement) (now : Result State Fault) (t : State) → Leads limits v first (statements_at marks) now → Takes limits v now m.event t → Leads limits v first (statements_at (marks ++ m ∷ [])) (Ok t)
+  leads_more : (first : Result State Fault) (marks : List (Spanned Statement)) (m : Spanned Statement) (now : Result State Fault) (t : State) → Leads limits v first (events_at marks) now → Takes limits v now m.event t → Leads limits v first (events_at (marks ++ m ∷ [])) (Ok t)
   leads_more (Ok s) marks m now t (u, is, h) k =
       (t, refl, accepts_more (largest limits) (top_of limits) v marks m s u t h (subst (λ (x : Result State Fault). Takes limits v x m.event t) is k))
   leads_more (Err e) marks m now t (none, is) k = absurd (subst (λ (x : Result State Fault). Takes limits v x m.event t) is k)
@@ -66,9 +69,9 @@ stepped_ok old new m steps again (Ok s) at = took old.limits old.problem old new
 stepped_ok old new m steps again (Err e) at = absurd (let bad = again e at in cc bad)
 
 -- ---- a statement that was read meets the rules
-last_of : (P : Statement → Type 0) (marks : List (Spanned Statement)) (m : Spanned Statement) → All P (statements_at (marks ++ m ∷ [])) → P m.event
+last_of : (P : Statement → Type 0) (marks : List (Spanned Statement)) (m : Spanned Statement) → All P (events_at (marks ++ m ∷ [])) → P m.event
 last_of P [] m h = All-head P m.event [] h
-last_of P (n ∷ marks) m h = last_of P marks m (All-tail P n.event (statements_at (marks ++ m ∷ [])) h)
+last_of P (n ∷ marks) m h = last_of P marks m (All-tail P n.event (events_at (marks ++ m ∷ [])) h)
 
 pub last_is_value : ReadStatements → (limit top longest : ℕ) (input used : List ℕ) (marks : List (Spanned Statement)) (m : Spanned Statement) (place : Place) (done : Bool) → Reads (IsProof limit top) longest input used (marks ++ m ∷ []) place done None → IsStatementValue limit top m.event
 last_is_value values limit top longest input used marks m place done r =
@@ -88,103 +91,52 @@ module _ (limit top longest : ℕ) where
 abbrev StandingIsReading : Type 0
 StandingIsReading = (longest : ℕ) (start : ProofState) (input : List ℕ) (marks : List (Spanned Statement)) (f : ProofFeeder) → StandsAt longest start input marks f → (used : List ℕ) × Reads (AcceptsBytes proofs start) longest input used marks (place_of f) (is_complete f) (halt_of f)
 
+-- what the machine of proofs reads is read of a proof
+pub proofs_read : ReadsProofs → (limit top longest : ℕ) (input used : List ℕ) (marks : List (Spanned Statement)) (place : Place) (done : Bool) (stop : Option Stop) → Reads (AcceptsBytes proofs (begin limit top)) longest input used marks place done stop
+    → Reads (IsProof limit top) longest input used marks place done stop
+proofs_read exact limit top = formats.reads (AcceptsBytes proofs (begin limit top)) (IsProof limit top) (λ items h. (exact limit top items).0 h) (λ items h. (exact limit top items).1 h)
+
 pub texts_read : ReadsProofs → StandingIsReading → TextsAreRead
 texts_read exact reads limit top longest input marks f stands =
     let (used, r) = reads longest (begin limit top) input marks f stands in
-    (used, formats.reads (AcceptsBytes proofs (begin limit top)) (IsProof limit top) (λ items h. (exact limit top items).0 h) (λ items h. (exact limit top items).1 h) longest input used marks (place_of f) (is_complete f) (halt_of f) r)
+    (used, proofs_read exact limit top longest input used marks (place_of f) (is_complete f) (halt_of f) r)
 
--- ---- a feed and a step
-module _ (read : TextsAreRead) (limits : Limits) (longest : ℕ) (v : Problem) (first : Result State Fault) where
-  abbrev Says : List ℕ → List ℕ → List (Spanned Statement) → Place → Bool → Option Stop → Type 0
-  Says = Reads (IsProof (largest limits) (top_of limits)) longest
+-- ---- what a feeder stands to was read
+module _ (read : TextsAreRead) (limits : Limits) (longest : ℕ) where
+  text_read : (input : List ℕ) (marks : List (Spanned Statement)) (f : ProofFeeder) (stop : Option Stop) → StandsAt longest (begin (largest limits) (top_of limits)) input marks f → halt_of f ≡ stop
+      → (used : List ℕ) × Reads (IsProof (largest limits) (top_of limits)) longest input used marks (place_of f) (is_complete f) stop
+  text_read input marks f stop stands halts =
+      let (used, reads) = read (largest limits) (top_of limits) longest input marks f stands in
+      (used, subst (λ (x : Option Stop). Reads (IsProof (largest limits) (top_of limits)) longest input used marks (place_of f) (is_complete f) x) halts reads)
 
-  pub text : (input : List ℕ) (marks : List (Spanned Statement)) (f : ProofFeeder) → StandsAt longest (begin (largest limits) (top_of limits)) input marks f → (used : List ℕ) × Says input used marks (place_of f) (is_complete f) (halt_of f)
-  text = read (largest limits) (top_of limits) longest
+-- the statements of a spelling are those of its marks
+pub spelled_events : (format : List (Item Statement) → Type 0) (longest : ℕ) (used : List ℕ) (marks : List (Spanned Statement)) (s : IsSpelled format longest used marks) → events_at marks ≡ events_of s.items
+spelled_events format longest used marks s = ap (λ (x : List (Spanned Statement)). events_at x) s.marks_are ∙ marks_events None [] s.items
 
-  module _ (input piece : List ℕ) (f n : ProofFeeder) (r : Replaying) (h : IsRunning limits longest v first input f r) where
-    owed : IsOpenText f.stop
-    owed = subst IsOpenText (sym h.running) tt
+-- ---- where the text has ended
+given : (o : Option Verdict) → IsSome o → o ≡ None → ⊥
+given None i e = absurd (cc i)
+given (Some x) i e = absurd (cc e)
 
-    quiet : (used : ℕ) → FeedsOnce f piece (Ok (record { used = used; event = None })) n → halt_of n ≡ None → IsRunning limits longest v first (input ++ piece) n r
-    quiet used feeds running = record {
-      marks = h.marks;
-      stands = rw append-nil at (feeds.0 longest (begin (largest limits) (top_of limits)) input h.marks owed h.stands);
-      running = running;
-      limits_are = h.limits_are;
-      problem = h.problem;
-      now = h.now;
-      at = h.at;
-      accepted = h.accepted;
-    }
+module _ (whole : WholeProofsConclude) (limits : Limits) (longest : ℕ) (v : Problem) (first : Result State Fault) where
+  -- the replay was in a state, and is in one
+  pub there : (input used : List ℕ) (marks : List (Spanned Statement)) (place : Place) (now : Result State Fault) → Reads (IsProof (largest limits) (top_of limits)) longest input used marks place true None → Leads limits v first (events_at marks) now → (t : State) × (now ≡ Ok t) × (verdict_at t.next t.concluded ≡ None → ⊥)
+  there input used marks place now r leads =
+      let s = r.answer.0 in
+      let (pf, spells) = s.spelled in
+      let same = spelled_events (IsProof (largest limits) (top_of limits)) longest used marks s ∙ spells.1 in
+      by first pf (subst (λ (x : List Statement). Leads limits v first x now) same leads)
+    where
+      by : (first : Result State Fault) (pf : Proof) → Leads limits v first (Header ∷ F pf.count ∷ (pf.steps ++ Output ∷ Conclude pf.conclusion ∷ End ∷ [])) now → (t : State) × (now ≡ Ok t) × (verdict_at t.next t.concluded ≡ None → ⊥)
+      by (Ok s) pf (t, is, accepted) = (t, is, given (verdict_at t.next t.concluded) (whole (largest limits) (top_of limits) v pf s t accepted))
+      by (Err e) pf (none, is) = absurd (cc none)
 
-    halted : (s : Stop) → FeedsOnce f piece (Err s) n → halt_of n ≡ Some s → Checks limits longest v first (input ++ piece) (place_of n) false (Some (Text s))
-    halted s feeds halts =
-        let stands : StandsAt longest (begin (largest limits) (top_of limits)) (input ++ piece) h.marks n = rw append-nil at (feeds.0 longest (begin (largest limits) (top_of limits)) input h.marks owed h.stands) in
-        let (used, reads) = text (input ++ piece) h.marks n stands in (
-          h.now,
-          record {
-            used = used;
-            marks = h.marks;
-            reads = stopped (largest limits) (top_of limits) longest (input ++ piece) used h.marks (place_of n) (is_complete n) s (subst (λ (x : Option Stop). Says (input ++ piece) used h.marks (place_of n) (is_complete n) x) halts reads);
-            accepted = h.accepted;
-          },
-        )
+pub shown_at : (r : Replaying) (t : State) → IsAt r (Ok t) → verdict_in r ≡ verdict_at t.next t.concluded
+shown_at r t (unspent, at) =
+    ap (λ (x : Option Fault). if is_some x then None else verdict_at r.next r.concluded) unspent
+    ∙ sym (ap (λ (x : Stage). verdict_at x t.concluded) at.next ∙ ap (λ (x : Option Verdict). verdict_at r.next x) at.concluded)
 
-    -- the byte at which memory ran out is one that may ask for it
-    wanted : (s : Stop) → FeedsOnce f piece (Err s) n → halt_of n ≡ Some s → WantsMemory limits (input ++ piece) (Text s)
-    wanted s feeds halts e =
-        let stands : StandsAt longest (begin (largest limits) (top_of limits)) (input ++ piece) h.marks n = rw append-nil at (feeds.0 longest (begin (largest limits) (top_of limits)) input h.marks owed h.stands) in
-        let k = stands.1 in
-        let waits : Waits proofs n.machine (end_of longest n.first) k.letters k.left n.place (Some s) = subst (λ (x : Option Stop). Waits proofs n.machine (end_of longest n.first) k.letters k.left n.place x) halts k.waits in
-        let stops : Halts proofs n.machine (end_of longest n.first) k.letters k.left Memory = subst (λ (x : Why). Halts proofs n.machine (end_of longest n.first) k.letters k.left x) e waits.2 in
-        let (b, more, left, admits, asks, room) = stops in
-        (bytes k.letters, b, more, k.input_is ∙ ap (λ (x : List ℕ). bytes k.letters ++ x) left, waits.1 ∙ k.place_is, (n.machine, k.leads, asks))
-
-    module _ (used : ℕ) (m : Spanned Statement) (feeds : FeedsOnce f piece (Ok (record { used = used; event = Some m })) n) (running : halt_of n ≡ None) where
-      stands : StandsAt longest (begin (largest limits) (top_of limits)) (input ++ take used piece) (h.marks ++ m ∷ []) n
-      stands = feeds.0 longest (begin (largest limits) (top_of limits)) input h.marks owed h.stands
-
-      said : (u : List ℕ) × Says (input ++ take used piece) u (h.marks ++ m ∷ []) (place_of n) (is_complete n) None
-      said =
-          let (u, reads) = text (input ++ take used piece) (h.marks ++ m ∷ []) n stands in
-          (u, subst (λ (x : Option Stop). Says (input ++ take used piece) u (h.marks ++ m ∷ []) (place_of n) (is_complete n) x) running reads)
-
-      is_value : ReadStatements → IsStatementValue (largest r.limits) (top_of r.limits) m.event
-      is_value values = subst (λ (x : Limits). IsStatementValue (largest x) (top_of x) m.event) (sym h.limits_are) (last_is_value values (largest limits) (top_of limits) longest (input ++ take used piece) said.0 h.marks m (place_of n) (is_complete n) said.1)
-
-      stepped : (t : Replaying) → StepsFrom r.limits r.problem h.now m (Ok tt) t → t.limits ≡ r.limits → t.problem ≡ r.problem → IsRunning limits longest v first (input ++ take used piece) n t
-      stepped t (s, at, takes) limited problem = record {
-        marks = h.marks ++ m ∷ [];
-        stands = stands;
-        running = running;
-        limits_are = limited ∙ h.limits_are;
-        problem = problem ∙ h.problem;
-        now = Ok s;
-        at = at;
-        accepted = leads_more limits v first h.marks m h.now s h.accepted (subst (λ (x : Problem). Takes limits x h.now m.event s) h.problem (subst (λ (x : Limits). Takes x r.problem h.now m.event s) h.limits_are takes));
-      }
-
-      refused : (t : Replaying) (e : Fault) → Refuses r.limits r.problem h.now m.event e → Checks limits longest v first (input ++ piece) (place_of n) false (Some (Step m.first e))
-      refused t e refuses = record {
-        used = said.0;
-        left = said.1.left ++ drop used piece;
-        marks = h.marks;
-        last = m;
-        before = h.now;
-        done = is_complete n;
-        input_is = ap (λ (x : List ℕ). input ++ x) (sym (take-append-drop used piece)) ∙ (sym (append_assoc input (take used piece) (drop used piece)) ∙ (ap (λ (x : List ℕ). x ++ drop used piece) said.1.input_is ∙ append_assoc said.0 said.1.left (drop used piece)));
-        reads = used_alone (largest limits) (top_of limits) longest (input ++ take used piece) said.0 (h.marks ++ m ∷ []) (place_of n) (is_complete n) said.1;
-        begins_is = refl;
-        accepted = h.accepted;
-        refused = subst (λ (x : Problem). Refuses limits x h.now m.event e) h.problem (subst (λ (x : Limits). Refuses x r.problem h.now m.event e) h.limits_are refuses);
-      }
-
--- ---- the statements of a spelling
-pub marks_events : (first : Option Place) (before : List ℕ) (items : List (Item Statement)) → statements_at (marks_since first before items) ≡ events_of items
-marks_events first before [] = refl
-marks_events first before (i ∷ items) = ap (λ (x : List Statement). i.event ∷ x) (marks_events None (before ++ (i.gap ++ bytes i.text)) items)
-
--- ---- the same, of whatever stands beside them
+-- ---- a checker without a fault
 fed_with : (fed : Fed Statement) (event : Option (Spanned Statement)) → fed.event ≡ event → fed ≡ record { used = fed.used; event = event }
 fed_with fed event e = ap (λ (x : Option (Spanned Statement)). let y : Fed Statement = record { used = fed.used; event = x } in y) e
 
@@ -196,72 +148,156 @@ stands_at : (limits : Limits) (longest : ℕ) (v : Problem) (first : Result Stat
 stands_at limits longest v first input f r None e h = h
 stands_at limits longest v first input f r (Some x) e h = absurd (cc e)
 
-module _ (read : TextsAreRead) (limits : Limits) (longest : ℕ) (v : Problem) (first : Result State Fault) (input piece : List ℕ) (f n : ProofFeeder) (r : Replaying) (old : Option CheckFault) (none : old ≡ None) (h : Stands limits longest v first input f r old) where
-  go : IsRunning limits longest v first input f r
-  go = running_at limits longest v first input f r old none h
-
-  pub quiet_at : (fed : Fed Statement) → fed.event ≡ None → FeedsOnce f piece (Ok fed) n → halt_of n ≡ None → Stands limits longest v first (input ++ piece) n r old
-  quiet_at fed e feeds running =
-      stands_at limits longest v first (input ++ piece) n r old none (quiet read limits longest v first input piece f n r go fed.used (subst (λ (x : Fed Statement). FeedsOnce f piece (Ok x) n) (fed_with fed None e) feeds) running)
-
-  pub halted_at : (s : Stop) → FeedsOnce f piece (Err s) n → halt_of n ≡ Some s → Checks limits longest v first (input ++ piece) (place_of n) false (Some (Text s))
-  halted_at s feeds halts = halted read limits longest v first input piece f n r go s feeds halts
-
-  pub wanted_at : (s : Stop) → FeedsOnce f piece (Err s) n → halt_of n ≡ Some s → WantsMemory limits (input ++ piece) (Text s)
-  wanted_at s feeds halts = wanted read limits longest v first input piece f n r go s feeds halts
+module _ (read : TextsAreRead) (limits : Limits) (longest : ℕ) (v : Problem) (first : Result State Fault) (input : List ℕ) (f : ProofFeeder) (r : Replaying) (e : Option CheckFault) (none : e ≡ None) (h : Stands limits longest v first input f r e) where
+  abbrev pub now : IsRunning limits longest v first input f r
+  now = running_at limits longest v first input f r e none h
 
   pub running_text : halt_of f ≡ None
-  running_text = go.running
+  running_text = now.running
 
-  module _ (fed : Fed Statement) (m : Spanned Statement) (e : fed.event ≡ Some m) (fs : FeedsOnce f piece (Ok fed) n) (running : halt_of n ≡ None) where
-    feeds : FeedsOnce f piece (Ok (record { used = fed.used; event = Some m })) n
-    feeds = subst (λ (x : Fed Statement). FeedsOnce f piece (Ok x) n) (fed_with fed (Some m) e) fs
+  -- ---- where the text has ended
+  abbrev IsTold : (used : List ℕ) → Bool → Type 0
+  IsTold used done = Reads (IsProof (largest limits) (top_of limits)) longest input used now.marks (place_of f) done None
 
-    pub value_at : ReadStatements → IsStatementValue (largest r.limits) (top_of r.limits) m.event
-    value_at = is_value read limits longest v first input piece f n r go fed.used m feeds running
+  pub told : (used : List ℕ) × IsTold used (is_complete f)
+  told = text_read read limits longest input now.marks f None now.stands now.running
 
-    pub stepped_at : (t : Replaying) → ((now : Result State Fault) → IsAt r now → StepsFrom r.limits r.problem now m (Ok tt) t) → t.limits ≡ r.limits → t.problem ≡ r.problem → Stands limits longest v first (input ++ take fed.used piece) n t old
-    stepped_at t steps limited problem = stands_at limits longest v first (input ++ take fed.used piece) n t old none (stepped read limits longest v first input piece f n r go fed.used m feeds running t (steps go.now go.at) limited problem)
+  pub replayed : IsReplayed limits longest v first input (place_of f) (is_complete f) None now.now
+  replayed = record { used = told.0; marks = now.marks; reads = told.1; accepted = now.accepted }
 
-    pub refused_at : (t : Replaying) (x : CheckFault) → ((now : Result State Fault) → IsAt r now → StepsFrom r.limits r.problem now m (Err x) t) → Stands limits longest v first (input ++ piece) n t (Some x)
-    refused_at t x steps =
-        let (why, is, refuses) = steps go.now go.at in
-        subst (λ (y : CheckFault). Stands limits longest v first (input ++ piece) n t (Some y)) (sym is) (refused read limits longest v first input piece f n r go fed.used m feeds running t why refuses)
+  whole_text : is_complete f ≡ true → IsReplayed limits longest v first input (place_of f) true None now.now
+  whole_text done = subst (λ (b : Bool). IsReplayed limits longest v first input (place_of f) b None now.now) done replayed
 
-    pub unread_step : (t : Replaying) (x : CheckFault) → ((now : Result State Fault) → IsAt r now → StepsFrom r.limits r.problem now m (Err x) t) → IsUnread x
-    unread_step t x steps = let (why, is, refuses) = steps go.now go.at in subst IsUnread (sym is) tt
+  pub cut_text : is_complete f ≡ false → Checks limits longest v first input (place_of f) false (Some (Text (record { place = place_of f; why = Ended })))
+  cut_text done =
+      let reads = subst (λ (b : Bool). IsTold told.0 b) done told.1 in (
+        now.now,
+        record {
+          used = told.0;
+          marks = now.marks;
+          reads = record { left = reads.left; input_is = reads.input_is; place_is = reads.place_is; answer = (reads.answer.0, refl, reads.answer.1) };
+          accepted = now.accepted;
+        },
+      )
 
-    pub wanted_step : (t : Replaying) (x : CheckFault) → ((now : Result State Fault) → IsAt r now → StepsFrom r.limits r.problem now m (Err x) t) → WantsMemory limits (input ++ piece) x
-    wanted_step t x steps = let (why, is, refuses) = steps go.now go.at in subst (WantsMemory limits (input ++ piece)) (sym is) tt
+  pub verdict_here : WholeProofsConclude → is_complete f ≡ true → (w : Verdict) → Some w ≡ verdict_in r → (t : State) × IsReplayed limits longest v first input (place_of f) true None (Ok t) × (verdict_at t.next t.concluded ≡ Some w)
+  verdict_here whole done w is =
+      let text = whole_text done in
+      let (t, same, some) = there whole limits longest v first input text.used text.marks (place_of f) now.now text.reads text.accepted in
+      (t, subst (λ (x : Result State Fault). IsReplayed limits longest v first input (place_of f) true None x) same text, sym (shown_at r t (subst (λ (x : Result State Fault). IsAt r x) same now.at)) ∙ sym is)
 
--- ---- where the text has ended
-given : (o : Option Verdict) → IsSome o → o ≡ None → ⊥
-given None i e = absurd (cc i)
-given (Some x) i e = absurd (cc e)
+  pub no_verdict : WholeProofsConclude → is_complete f ≡ true → None ≡ verdict_in r → ⊥
+  no_verdict whole done is =
+      let text = whole_text done in
+      let (t, same, some) = there whole limits longest v first input text.used text.marks (place_of f) now.now text.reads text.accepted in
+      some (sym (shown_at r t (subst (λ (x : Result State Fault). IsAt r x) same now.at)) ∙ sym is)
 
-module _ (whole : WholeProofsConclude) (limits : Limits) (longest : ℕ) (v : Problem) (first : Result State Fault) where
-  -- the replay was in a state, and is in one
-  pub there : (input used : List ℕ) (marks : List (Spanned Statement)) (place : Place) (now : Result State Fault) → Reads (IsProof (largest limits) (top_of limits)) longest input used marks place true None → Leads limits v first (statements_at marks) now → (t : State) × (now ≡ Ok t) × (verdict_at t.next t.concluded ≡ None → ⊥)
-  there input used marks place now r leads =
-      let s = r.answer.0 in
-      let (pf, spells) = s.spelled in
-      let same = ap (λ (x : List (Spanned Statement)). statements_at x) s.marks_are ∙ (marks_events None [] s.items ∙ spells.1) in
-      by first pf (subst (λ (x : List Statement). Leads limits v first x now) same leads)
-    where
-      by : (first : Result State Fault) (pf : Proof) → Leads limits v first (Header ∷ F pf.count ∷ (pf.steps ++ Output ∷ Conclude pf.conclusion ∷ End ∷ [])) now → (t : State) × (now ≡ Ok t) × (verdict_at t.next t.concluded ≡ None → ⊥)
-      by (Ok s) pf (t, is, accepted) = (t, is, given (verdict_at t.next t.concluded) (whole (largest limits) (top_of limits) v pf s t accepted))
-      by (Err e) pf (none, is) = absurd (cc none)
+  -- ---- a feed and a step
+  module _ (piece : List ℕ) (n : ProofFeeder) where
+    owed : IsOpenText f.stop
+    owed = subst IsOpenText (sym now.running) tt
+
+    pub quiet : (fed : Fed Statement) → fed.event ≡ None → FeedsOnce f piece (Ok fed) n → halt_of n ≡ None → Stands limits longest v first (input ++ piece) n r e
+    quiet fed event feeds running =
+        let feeds : FeedsOnce f piece (Ok (record { used = fed.used; event = None })) n = subst (λ (x : Fed Statement). FeedsOnce f piece (Ok x) n) (fed_with fed None event) feeds in
+        stands_at limits longest v first (input ++ piece) n r e none (record {
+          marks = now.marks;
+          stands = rw append-nil at (feeds.0 longest (begin (largest limits) (top_of limits)) input now.marks owed now.stands);
+          running = running;
+          limits_are = now.limits_are;
+          problem = now.problem;
+          now = now.now;
+          at = now.at;
+          accepted = now.accepted;
+        })
+
+    stands_stopped : (s : Stop) → FeedsOnce f piece (Err s) n → StandsAt longest (begin (largest limits) (top_of limits)) (input ++ piece) now.marks n
+    stands_stopped s feeds = rw append-nil at (feeds.0 longest (begin (largest limits) (top_of limits)) input now.marks owed now.stands)
+
+    pub halted : (s : Stop) → FeedsOnce f piece (Err s) n → halt_of n ≡ Some s → Checks limits longest v first (input ++ piece) (place_of n) false (Some (Text s))
+    halted s feeds halts =
+        let (used, reads) = text_read read limits longest (input ++ piece) now.marks n (Some s) (stands_stopped s feeds) halts in (
+          now.now,
+          record {
+            used = used;
+            marks = now.marks;
+            reads = stopped (largest limits) (top_of limits) longest (input ++ piece) used now.marks (place_of n) (is_complete n) s reads;
+            accepted = now.accepted;
+          },
+        )
+
+    -- the byte at which memory ran out is one that may ask for it
+    pub wanted : (s : Stop) → FeedsOnce f piece (Err s) n → halt_of n ≡ Some s → WantsMemory limits (input ++ piece) (Text s)
+    wanted s feeds halts memory =
+        let k = (stands_stopped s feeds).1 in
+        let waits : Waits proofs n.machine (end_of longest n.first) k.letters k.left n.place (Some s) = subst (λ (x : Option Stop). Waits proofs n.machine (end_of longest n.first) k.letters k.left n.place x) halts k.waits in
+        let stops : Halts proofs n.machine (end_of longest n.first) k.letters k.left Memory = subst (λ (x : Why). Halts proofs n.machine (end_of longest n.first) k.letters k.left x) memory waits.2 in
+        let (b, more, left, admits, asks, room) = stops in
+        (bytes k.letters, b, more, k.input_is ∙ ap (λ (x : List ℕ). bytes k.letters ++ x) left, waits.1 ∙ k.place_is, (n.machine, k.leads, asks))
+
+    module _ (fed : Fed Statement) (m : Spanned Statement) (event : fed.event ≡ Some m) (fs : FeedsOnce f piece (Ok fed) n) (running : halt_of n ≡ None) where
+      feeds : FeedsOnce f piece (Ok (record { used = fed.used; event = Some m })) n
+      feeds = subst (λ (x : Fed Statement). FeedsOnce f piece (Ok x) n) (fed_with fed (Some m) event) fs
+
+      stands : StandsAt longest (begin (largest limits) (top_of limits)) (input ++ take fed.used piece) (now.marks ++ m ∷ []) n
+      stands = feeds.0 longest (begin (largest limits) (top_of limits)) input now.marks owed now.stands
+
+      said : (u : List ℕ) × Reads (IsProof (largest limits) (top_of limits)) longest (input ++ take fed.used piece) u (now.marks ++ m ∷ []) (place_of n) (is_complete n) None
+      said = text_read read limits longest (input ++ take fed.used piece) (now.marks ++ m ∷ []) n None stands running
+
+      pub is_value : ReadStatements → IsStatementValue (largest r.limits) (top_of r.limits) m.event
+      is_value values = subst (λ (x : Limits). IsStatementValue (largest x) (top_of x) m.event) (sym now.limits_are) (last_is_value values (largest limits) (top_of limits) longest (input ++ take fed.used piece) said.0 now.marks m (place_of n) (is_complete n) said.1)
+
+      running_on : (t : Replaying) → StepsFrom r.limits r.problem now.now m (Ok tt) t → t.limits ≡ r.limits → t.problem ≡ r.problem → IsRunning limits longest v first (input ++ take fed.used piece) n t
+      running_on t (s, at, takes) limited problem = record {
+        marks = now.marks ++ m ∷ [];
+        stands = stands;
+        running = running;
+        limits_are = limited ∙ now.limits_are;
+        problem = problem ∙ now.problem;
+        now = Ok s;
+        at = at;
+        accepted = leads_more limits v first now.marks m now.now s now.accepted (subst (λ (x : Problem). Takes limits x now.now m.event s) now.problem (subst (λ (x : Limits). Takes x r.problem now.now m.event s) now.limits_are takes));
+      }
+
+      pub stepped : (t : Replaying) → ((before : Result State Fault) → IsAt r before → StepsFrom r.limits r.problem before m (Ok tt) t) → t.limits ≡ r.limits → t.problem ≡ r.problem → Stands limits longest v first (input ++ take fed.used piece) n t e
+      stepped t steps limited problem = stands_at limits longest v first (input ++ take fed.used piece) n t e none (running_on t (steps now.now now.at) limited problem)
+
+      refused_by : (why : Fault) → Refuses r.limits r.problem now.now m.event why → Checks limits longest v first (input ++ piece) (place_of n) false (Some (Step m.first why))
+      refused_by why refuses = record {
+        used = said.0;
+        left = said.1.left ++ drop fed.used piece;
+        marks = now.marks;
+        last = m;
+        before = now.now;
+        done = is_complete n;
+        input_is = ap (λ (x : List ℕ). input ++ x) (sym (take-append-drop fed.used piece)) ∙ (sym (append_assoc input (take fed.used piece) (drop fed.used piece)) ∙ (ap (λ (x : List ℕ). x ++ drop fed.used piece) said.1.input_is ∙ append_assoc said.0 said.1.left (drop fed.used piece)));
+        reads = used_alone (largest limits) (top_of limits) longest (input ++ take fed.used piece) said.0 (now.marks ++ m ∷ []) (place_of n) (is_complete n) said.1;
+        begins_is = refl;
+        accepted = now.accepted;
+        refused = subst (λ (x : Problem). Refuses limits x now.now m.event why) now.problem (subst (λ (x : Limits). Refuses x r.problem now.now m.event why) now.limits_are refuses);
+      }
+
+      abbrev Refusing : Replaying → CheckFault → Type 0
+      Refusing t x = (before : Result State Fault) → IsAt r before → StepsFrom r.limits r.problem before m (Err x) t
+
+      pub refused : (t : Replaying) (x : CheckFault) → Refusing t x → Stands limits longest v first (input ++ piece) n t (Some x)
+      refused t x steps =
+          let (why, is, refuses) = steps now.now now.at in
+          subst (λ (y : CheckFault). Stands limits longest v first (input ++ piece) n t (Some y)) (sym is) (refused_by why refuses)
+
+      pub unread_step : (t : Replaying) (x : CheckFault) → Refusing t x → IsUnread x
+      unread_step t x steps = let (why, is, refuses) = steps now.now now.at in subst IsUnread (sym is) tt
+
+      pub wanted_step : (t : Replaying) (x : CheckFault) → Refusing t x → WantsMemory limits (input ++ piece) x
+      wanted_step t x steps = let (why, is, refuses) = steps now.now now.at in subst (WantsMemory limits (input ++ piece)) (sym is) tt
 
 -- ---- input behind a fault
 module _ (limit top longest : ℕ) (used left piece : List ℕ) where
-  beyond : (l : List ℕ) → l ++ piece ≡ [] → l ≡ []
-  beyond [] e = refl
-  beyond (x ∷ l) e = absurd (cc e)
-
   explained : (why : Why) → Counts why → Explains (IsProof limit top) longest used left why → Explains (IsProof limit top) longest used (left ++ piece) why
   explained (Byte b) c (more, e, bad, digit) = (more ++ piece, ap (λ (x : List ℕ). x ++ piece) e, bad, digit)
   explained TooLarge c (b, more, e, bad, digit, ends) = (b, more ++ piece, ap (λ (x : List ℕ). x ++ piece) e, bad, digit, ends)
-  explained TooLong c (some, full) = (λ e. some (beyond left e), full)
+  explained TooLong c (some, full) = (λ e. some (no_front left piece e), full)
   explained Ended c h = absurd c
   explained Read c h = h
   explained Memory c (b, more, e, viable, room) = (b, more ++ piece, ap (λ (x : List ℕ). x ++ piece) e, viable, room)
@@ -304,11 +340,12 @@ stays c piece e is = (λ limits longest v first input owed h. by limits longest 
     by limits longest v first input (Some x) is owed h = later limits longest v first input piece (place_of c.feeder) x owed h
 
 -- one piece of a piece after another
-pub onward_by : (input piece : List ℕ) (i n : ℕ) → (input ++ take i piece) ++ take n (drop i piece) ≡ input ++ take (i + n) piece
-onward_by input piece i n = append_assoc input (take i piece) (take n (drop i piece)) ∙ ap (λ (x : List ℕ). input ++ x) (sym (take-add i n piece))
+pub onward_by : (input piece : List ℕ) (i n : ℕ) → (input ++ take i piece) ++ take n (take (length piece - i) (drop i piece)) ≡ input ++ take (i + n) piece
+onward_by input piece i n = append_assoc input (take i piece) (take n (take (length piece - i) (drop i piece))) ∙ ap (λ (x : List ℕ). input ++ x) (sym (front_parts piece i n))
 
-pub to_end : (input piece : List ℕ) (i : ℕ) → (input ++ take i piece) ++ drop i piece ≡ input ++ piece
-to_end input piece i = append_assoc input (take i piece) (drop i piece) ∙ ap (λ (x : List ℕ). input ++ x) (take-append-drop i piece)
+pub to_end : (input piece : List ℕ) (i : ℕ) → (input ++ take i piece) ++ take (length piece - i) (drop i piece) ≡ input ++ piece
+to_end input piece i =
+    append_assoc input (take i piece) (take (length piece - i) (drop i piece)) ∙ ap (λ (x : List ℕ). input ++ x) (ap (λ (x : List ℕ). take i piece ++ x) (all_rest piece i) ∙ take-append-drop i piece)
 
 pub to_more : (b : Bool) (used : ℕ) (piece : List ℕ) → not b ≡ false → bytes_to b used piece ≡ take used piece
 to_more true used piece h = refl
@@ -317,10 +354,6 @@ to_more false used piece h = absurd (cc h)
 pub to_all : (b : Bool) (used : ℕ) (piece : List ℕ) → not b ≡ true → bytes_to b used piece ≡ piece
 to_all true used piece h = absurd (cc h)
 to_all false used piece h = refl
-
--- all that is left of a piece
-pub all_rest : (piece : List ℕ) (i : ℕ) → take (length piece - i) (drop i piece) ≡ drop i piece
-all_rest piece i = ap (λ (k : ℕ). take k (drop i piece)) (sym (length-drop i piece)) ∙ take-length (drop i piece)
 
 -- ---- feeds in a row
 module _ (read : TextsAreRead) (limits : Limits) (longest : ℕ) (v : Problem) (first : Result State Fault) where
@@ -331,67 +364,13 @@ module _ (read : TextsAreRead) (limits : Limits) (longest : ℕ) (v : Problem) (
       (row (input ++ piece) mid after pieces (once.0 limits longest v first input owed h) (once.1 owed) rest)
 
   seen : (input : List ℕ) (c : Checking) (x : Option CheckFault) → Stands limits longest v first input c.feeder c.replay x → Checks limits longest v first input (place_in c) (is_whole c) x
-  seen input c None h =
-      let (used, reads) = text read limits longest v first input h.marks c.feeder h.stands in (
-        h.now,
-        record {
-          used = used;
-          marks = h.marks;
-          reads = subst (λ (y : Option Stop). Reads (IsProof (largest limits) (top_of limits)) longest input used h.marks (place_of c.feeder) (is_complete c.feeder) y) h.running reads;
-          accepted = h.accepted;
-        },
-      )
+  seen input c None h = ((now read limits longest v first input c.feeder c.replay None refl h).now, replayed read limits longest v first input c.feeder c.replay None refl h)
   seen input c (Some (Text s)) h = h
   seen input c (Some (Step begins e)) h = h
 
 pub any_cutting : TextsAreRead → AnyCutting
 any_cutting read limits longest v first before after pieces h owed feeds =
     seen read limits longest v first (joined pieces) after after.fault (row read limits longest v first [] before after pieces h owed feeds)
-
-pub shown_at : (r : Replaying) (t : State) → IsAt r (Ok t) → verdict_in r ≡ verdict_at t.next t.concluded
-shown_at r t (unspent, at) =
-    ap (λ (x : Option Fault). if is_some x then None else verdict_at r.next r.concluded) unspent
-    ∙ sym (ap (λ (x : Stage). verdict_at x t.concluded) at.next ∙ ap (λ (x : Option Verdict). verdict_at r.next x) at.concluded)
-
--- ---- where the text has ended, of a checker
-module _ (read : TextsAreRead) (limits : Limits) (longest : ℕ) (v : Problem) (first : Result State Fault) (input : List ℕ) (f : ProofFeeder) (r : Replaying) (e : Option CheckFault) (none : e ≡ None) (h : Stands limits longest v first input f r e) where
-  now : IsRunning limits longest v first input f r
-  now = running_at limits longest v first input f r e none h
-
-  abbrev IsTold : (used : List ℕ) → Bool → Option Stop → Type 0
-  IsTold used done stop = Reads (IsProof (largest limits) (top_of limits)) longest input used now.marks (place_of f) done stop
-
-  told : (used : List ℕ) × IsTold used (is_complete f) None
-  told =
-      let (used, reads) = text read limits longest v first input now.marks f now.stands in
-      (used, subst (λ (x : Option Stop). IsTold used (is_complete f) x) now.running reads)
-
-  whole_text : is_complete f ≡ true → IsReplayed limits longest v first input (place_of f) true None now.now
-  whole_text done = record { used = told.0; marks = now.marks; reads = subst (λ (b : Bool). IsTold told.0 b None) done told.1; accepted = now.accepted }
-
-  pub cut_text : is_complete f ≡ false → Checks limits longest v first input (place_of f) false (Some (Text (record { place = place_of f; why = Ended })))
-  cut_text done =
-      let reads = subst (λ (b : Bool). IsTold told.0 b None) done told.1 in (
-        now.now,
-        record {
-          used = told.0;
-          marks = now.marks;
-          reads = record { left = reads.left; input_is = reads.input_is; place_is = reads.place_is; answer = (reads.answer.0, refl, reads.answer.1) };
-          accepted = now.accepted;
-        },
-      )
-
-  pub verdict_here : WholeProofsConclude → is_complete f ≡ true → (w : Verdict) → Some w ≡ verdict_in r → (t : State) × IsReplayed limits longest v first input (place_of f) true None (Ok t) × (verdict_at t.next t.concluded ≡ Some w)
-  verdict_here whole done w is =
-      let text = whole_text done in
-      let (t, same, some) = there whole limits longest v first input text.used text.marks (place_of f) now.now text.reads text.accepted in
-      (t, subst (λ (x : Result State Fault). IsReplayed limits longest v first input (place_of f) true None x) same text, sym (shown_at r t (subst (λ (x : Result State Fault). IsAt r x) same now.at)) ∙ sym is)
-
-  pub no_verdict : WholeProofsConclude → is_complete f ≡ true → None ≡ verdict_in r → ⊥
-  no_verdict whole done is =
-      let text = whole_text done in
-      let (t, same, some) = there whole limits longest v first input text.used text.marks (place_of f) now.now text.reads text.accepted in
-      some (sym (shown_at r t (subst (λ (x : Result State Fault). IsAt r x) same now.at)) ∙ sym is)
 
 -- ---- a replay stands somewhere
 pub somewhere : ReplaysHaveStates → (r : Replaying) → (first : Result State Fault) × IsAt r first

@@ -1,12 +1,12 @@
 -- What is owed of a file, from what is owed of a proof or of an instance behind a look at its first byte.
-use Rattle.std.proofs.Common.{◌≡◌, ◌⊎◌, ℕ, ◌<◌, List, [], ◌∷◌, ◌++◌, Bool, true, false, Option, Some, None, Result, Ok, Err, refl, sym, ap, ◌∙◌, inl, inr, subst, IsTrue, ◌≢◌, arith}
+use Rattle.std.proofs.Common.{◌≡◌, ◌⊎◌, ℕ, ◌<◌, List, [], ◌∷◌, ◌++◌, Bool, true, false, Option, Some, None, Result, Ok, Err, refl, sym, ap, ◌∙◌, inl, inr, subst, ◌≢◌, arith}
 use Rattle.std.specs.Prelude.{IfSome, unwrap_or, ◌^◌}
 use Rattle.std.proofs.Math.Dec.{eqb}
 use Rattle.std.proofs.lemmas.Bool.Decides.{eqb_tells}
 use Rattle.std.specs.Io.KnownBytes.{Keeps}
 use Rattle.pb_text.specs.NothingRead.{ReadsNothing, first_fault}
 use Rattle.pb_text.specs.Pulling.{Took}
-use Rattle.pb_text.specs.Rows.{TookAll, TookSoFar}
+use Rattle.pb_text.specs.PullsInARow.{TookAll, TookSoFar}
 use Rattle.pb_text.specs.Spelling.{Item}
 use Rattle.pb_text.specs.declared.Limits.{Limits}
 use Rattle.pb_text.specs.declared.Place.{Place}
@@ -27,15 +27,12 @@ use Rattle.pb_tool.specs.declared.fault.ToolFault.TheVariants.{Text, Open, Overf
 use Rattle.pb_tool.specs.declared.fault.Input.TheVariants.{File}
 use Rattle.pb_tool.specs.declared.fault.Input.TheVariants as input
 use Rattle.pb_tool.proofs.Restated.{written_so}
+use Rattle.pb_tool.proofs.Shown.{took_none}
 
 -- the limit on a statement, given or not, is no 0
 pub some_of : (longest : Option ℕ) (n : ℕ) → n ≡ unwrap_or longest (2 ^ 40) → IfSome longest (λ m. 0 < m) → 0 < n
 some_of None n e h = omega (arith, e)
 some_of (Some m) n e h = omega (arith, e, h)
-
-pub not_done : (b : Bool) → (IsTrue b → ⊥) → b ≡ false
-not_done true h = absurd (h refl)
-not_done false h = refl
 
 -- no proof has no statement
 pub no_proof : (limit top : ℕ) → IsProof limit top [] → ⊥
@@ -49,9 +46,7 @@ took_before (Some bytes) None after used seen k t = absurd k
 took_before (Some bytes) (Some more) after used seen k t = (sym k ∙ t.0, t.1)
 
 took_nothing : (before after : Option (List ℕ)) → Keeps before after → (seen : List ℕ) × Took before [] seen after
-took_nothing None after k = ([], tt)
-took_nothing (Some bytes) None k = absurd k
-took_nothing (Some bytes) (Some more) k = (bytes, (refl, ap (λ (x : List ℕ). Some x) k))
+took_nothing before after k = let (seen, took) = took_none after in (seen, took_before before after after [] seen k took)
 
 -- ---- what is shown
 

@@ -1,5 +1,7 @@
 -- What a canonical spelling ends with.
-use Rattle.std.proofs.Common.{◌≡◌, ℕ, ◌+◌, Bool, true, false, cond, ◌==◌, List, [], ◌∷◌, ◌++◌, length, take, drop, Option, Some, None, refl, sym, ap, ◌∙◌, append_assoc, subst}
+use Rattle.std.proofs.Common.{◌≡◌, ℕ, ◌+◌, true, false, ◌==◌, List, [], ◌∷◌, ◌++◌, length, take, drop, Option, Some, None, refl, sym, ap, ◌∙◌, append_assoc, subst}
+use Rattle.std.specs.List.{AllByRecursion}
+use Rattle.std.proofs.lemmas.Bool.{cond-false, cond-true}
 use Rattle.pb_sums.specs.declared.Term.{Term}
 use Rattle.pb_sums.specs.declared.Linear.{Linear}
 use Rattle.pb_sums.specs.Canonical.{head_bytes}
@@ -32,21 +34,19 @@ linear_ends linear = ends_longer 59 _ _ (ends_longer 59 _ _ (ends_more 59 32 _ (
 objective_ends : (terms : List Term) → EndsWith 59 (event_bytes (Objective terms))
 objective_ends terms = ends_longer 59 (109 ∷ 105 ∷ 110 ∷ 58 ∷ []) (32 ∷ (head_bytes terms ++ 59 ∷ [])) (ends_more 59 32 (head_bytes terms ++ 59 ∷ []) (ends_longer 59 (head_bytes terms) (59 ∷ []) ([], refl)))
 
--- lines end as the last of them
-lines_end : (first : List OpbEvent) (e : OpbEvent) (rest : List OpbEvent) → EndsWith 59 (lines (e ∷ rest)) → EndsWith 59 (lines (first ++ e ∷ rest))
-lines_end [] e rest h = h
-lines_end (f ∷ []) e rest h = ends_longer 59 (event_bytes f) (10 ∷ lines (e ∷ rest)) (ends_more 59 10 (lines (e ∷ rest)) h)
-lines_end (f ∷ g ∷ first) e rest h = ends_longer 59 (event_bytes f) (10 ∷ lines ((g ∷ first) ++ e ∷ rest)) (ends_more 59 10 (lines ((g ∷ first) ++ e ∷ rest)) (lines_end (g ∷ first) e rest h))
-
 -- statements of which each ends with `;`
 abbrev AllEnd : List OpbEvent → Type 0
-AllEnd [] = Unit {0}
-AllEnd (e ∷ events) = EndsWith 59 (event_bytes e) × AllEnd events
+AllEnd = AllByRecursion (λ e. EndsWith 59 (event_bytes e))
 
 -- one statement in front
 one_front : (e : OpbEvent) (front : List OpbEvent) (f : OpbEvent) (rest : List OpbEvent) → EndsWith 59 (lines (front ++ f ∷ rest)) → EndsWith 59 (lines (e ∷ (front ++ f ∷ rest)))
 one_front e [] f rest k = ends_longer 59 (event_bytes e) (10 ∷ lines (f ∷ rest)) (ends_more 59 10 (lines (f ∷ rest)) k)
 one_front e (g ∷ front) f rest k = ends_longer 59 (event_bytes e) (10 ∷ lines ((g ∷ front) ++ f ∷ rest)) (ends_more 59 10 (lines ((g ∷ front) ++ f ∷ rest)) k)
+
+-- lines end as the last of them
+lines_end : (first : List OpbEvent) (e : OpbEvent) (rest : List OpbEvent) → EndsWith 59 (lines (e ∷ rest)) → EndsWith 59 (lines (first ++ e ∷ rest))
+lines_end [] e rest h = h
+lines_end (f ∷ first) e rest h = one_front f first e rest (lines_end first e rest h)
 
 -- a statement and those behind it
 after_ends : (n : ℕ) (comments : List comment.Comment) (e : OpbEvent) (events : List OpbEvent) → EndsWith 59 (event_bytes e) → AllEnd events → EndsWith 59 (lines (e ∷ in_order n comments events))
@@ -87,7 +87,7 @@ ends_bare v = behind v v.objective v.constraints refl refl
 
 -- what is written where there is nothing but a header, and where there is more
 pub tidied_bare : (v : Instance) → is_bare v.objective v.constraints ≡ true → tidied v ≡ instance_bytes v
-tidied_bare v e = ap (λ (b : Bool). cond b (instance_bytes v) (instance_bytes v ++ 10 ∷ [])) (ends_bare v ∙ e)
+tidied_bare v e = cond-true (ends_in_feed (instance_bytes v)) (instance_bytes v) (instance_bytes v ++ 10 ∷ []) (ends_bare v ∙ e)
 
 pub tidied_more : (v : Instance) → is_bare v.objective v.constraints ≡ false → tidied v ≡ instance_bytes v ++ 10 ∷ []
-tidied_more v e = ap (λ (b : Bool). cond b (instance_bytes v) (instance_bytes v ++ 10 ∷ [])) (ends_bare v ∙ e)
+tidied_more v e = cond-false (ends_in_feed (instance_bytes v)) (instance_bytes v) (instance_bytes v ++ 10 ∷ []) (ends_bare v ∙ e)

@@ -1,15 +1,14 @@
 -- What is owed of the bytes that a source's calls have given.
-use Rattle.std.proofs.Common.{◌≡◌, ℕ, ◌≤◌, ◌<◌, ◌++◌, false, List, [], Option, Some, Result, Ok, Err, inl, inr, refl, sym, ap, subst, ◌∙◌, append_assoc, append-nil, length, length-append, arith}
+use Rattle.std.proofs.Common.{◌≡◌, ℕ, ◌<◌, ◌++◌, false, List, [], Option, Some, Result, Ok, Err, inl, inr, refl, sym, ap, subst, ◌∙◌, append_assoc, append-nil}
 use Rattle.pb_text.specs.Blank.{GivesBlank, ReadsBlank}
 use Rattle.pb_text.specs.NothingRead.{ReadsNothing, first_fault}
 use Rattle.pb_text.specs.Pulling.{Took}
-use Rattle.pb_text.specs.Reading.{byte_limit}
 use Rattle.pb_text.specs.Spelling.{place_after}
 use Rattle.pb_text.specs.declared.Limits.{Limits}
-use Rattle.pb_text.specs.declared.Place.{Place}
 use Rattle.pb_text.specs.declared.Spanned.{Spanned}
 use Rattle.pb_text.specs.declared.Stop.{Stop}
-use Rattle.pb_text.proofs.Rows.{took_join}
+use Rattle.pb_text.proofs.PullsInARow.{took_join}
+use Rattle.pb_text.proofs.Wholes.{given_both}
 use Rattle.pb_tool.specs.Files.{tidied_proof, IsVeri, TidiesProof}
 use Rattle.pb_tool.specs.Given.{OfGiven, ShowsGiven, TidiesGiven}
 use Rattle.pb_opb.specs.Canonical.{event_bytes}
@@ -22,31 +21,31 @@ use Rattle.pb_tool.specs.declared.fault.ToolFault.{ToolFault}
 use Rattle.pb_tool.specs.declared.fault.ToolFault.TheVariants.{Text}
 use Rattle.pb_tool.specs.declared.fault.Input.TheVariants.{File}
 use Rattle.pb_tool.proofs.Chosen.{shows_nothing, tidies_nothing}
-use Rattle.pb_tool.proofs.Shown.{after_offset}
-
--- what was given by one call, and then by the next
-pub given_both : (before mid after used rest : List ℕ) → mid ≡ before ++ used → after ≡ mid ++ rest → after ≡ before ++ (used ++ rest)
-given_both before mid after used rest e f = f ∙ (ap (λ (x : List ℕ). x ++ rest) e ∙ append_assoc before used rest)
+use Rattle.pb_tool.proofs.Shown.{rest_within}
 
 -- a spelling and then a blank rest
 pub file_behind : {V : Type 0} (IsReadOf : List ℕ → Spanned V → Type 0) (read : Spanned V) (before mid after : Option (List ℕ)) (used seen : List ℕ) → Took before used seen mid → IsReadOf used read → read.past ≡ place_after used
     → ReadsBlank read.past mid (Ok tt) after → IsFile IsReadOf before after read.event
-file_behind IsReadOf read before mid after used seen took is past (rest, more, blank, bound) =
-    let at = ap (λ (q : Place). q.offset) past ∙ after_offset used in
-    let within : length (used ++ rest) ≤ byte_limit = omega (arith, bound, at, length-append used rest) in
-    record { used = used; rest = rest; took = took_join before mid after used rest seen [] took more; read = read; spelled = is; blank = blank; within = within; value = refl }
+file_behind IsReadOf read before mid after used seen took is past (rest, more, blank, bound) = record {
+  used = used;
+  rest = rest;
+  took = took_join before mid after used rest seen [] took more;
+  read = read;
+  spelled = is;
+  blank = blank;
+  within = rest_within used rest read.past past bound;
+  value = refl;
+}
 
 -- the same of what the calls have given
 pub given_file : {V : Type 0} (IsReadOf : List ℕ → Spanned V → Type 0) (read : Spanned V) (before mid after used : List ℕ) → mid ≡ before ++ used → IsReadOf used read → read.past ≡ place_after used
     → GivesBlank read.past mid (Ok tt) after → OfGiven (λ left end. IsFile IsReadOf left end read.event) before after
-given_file IsReadOf read before mid after used e is past (rest, f, blank, bound) =
-    let at = ap (λ (q : Place). q.offset) past ∙ after_offset used in
-    let within : length (used ++ rest) ≤ byte_limit = omega (arith, bound, at, length-append used rest) in (
-      used ++ rest,
-      [],
-      given_both before mid after used rest e f,
-      record { used = used; rest = rest; took = (refl, refl); read = read; spelled = is; blank = blank; within = within; value = refl },
-    )
+given_file IsReadOf read before mid after used e is past (rest, f, blank, bound) = (
+  used ++ rest,
+  [],
+  given_both before mid after used rest e f,
+  record { used = used; rest = rest; took = (refl, refl); read = read; spelled = is; blank = blank; within = rest_within used rest read.past past bound; value = refl },
+)
 
 -- a spelling and then a rest that is not blank
 pub given_stray : {V : Type 0} (Reads : Option (List ℕ) → Result (Spanned V) Stop → Option (List ℕ) → Type 0) (read : Spanned V) (s : Stop) (before mid after used : List ℕ) → mid ≡ before ++ used

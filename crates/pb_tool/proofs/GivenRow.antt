@@ -5,7 +5,7 @@ use Rattle.pb_text.specs.Automaton.{Accepts}
 use Rattle.pb_text.specs.Blank.{GivesBlank, ReadsBlank}
 use Rattle.pb_text.specs.Feeding.{StandsAt, place_of, halt_of, stop_of, is_complete}
 use Rattle.pb_text.specs.Pulling.{Pulls}
-use Rattle.pb_text.specs.Rows.{PullsOn, TookAll, TookSoFar}
+use Rattle.pb_text.specs.PullsInARow.{PullsOn, TookAll, TookSoFar}
 use Rattle.pb_text.specs.Spelling.{Item}
 use Rattle.pb_text.specs.Writing.{Wrote, Broke}
 use Rattle.pb_text.specs.declared.Feeder.{Feeder}
@@ -13,13 +13,13 @@ use Rattle.pb_text.specs.declared.Machine.{Ghosts}
 use Rattle.pb_text.specs.declared.Place.{Place}
 use Rattle.pb_text.specs.declared.Spanned.{Spanned}
 use Rattle.pb_text.specs.declared.Stop.{Stop}
-use Rattle.pb_text.proofs.Rows.{row}
+use Rattle.pb_text.proofs.PullsInARow.{row}
 use Rattle.pb_tool.specs.Given.{OfGiven}
 use Rattle.pb_tool.specs.Show.{shown, shown_line, EndsAt, InText, Shows}
 use Rattle.pb_tool.specs.declared.fault.ToolFault.{ToolFault}
 use Rattle.pb_tool.specs.declared.fault.ToolFault.TheVariants.{Text, Write}
 use Rattle.pb_tool.specs.declared.fault.Input.TheVariants.{File}
-use Rattle.pb_tool.proofs.Given.{given_both}
+use Rattle.pb_text.proofs.Wholes.{given_both}
 use Rattle.pb_tool.proofs.Shown.{shows_end}
 
 -- The feeder, which began with this machine, runs. It stands to what the calls have given since a history.

@@ -1,7 +1,7 @@
 -- What a checker holds of the open statement.
-use Rattle.std.proofs.Common.{◌≡◌, ℕ, ◌+◌, ◌-◌, ◌≤◌, List, [], ◌∷◌, ◌++◌, length, nat_le, Bool, true, false, cond, Option, None, Result, refl, sym, ap, ◌∙◌, subst, append_assoc, append-nil, length-append, arith}
-use Rattle.std.proofs.lemmas.Bool.{le-leb}
-use Rattle.std.proofs.lemmas.List.{length-map, map-append}
+use Rattle.std.proofs.Common.{◌≡◌, ℕ, ◌+◌, ◌-◌, ◌≤◌, List, [], ◌∷◌, ◌++◌, length, nat_le, Bool, true, false, Option, None, Result, refl, sym, ap, ◌∙◌, append_assoc, append-nil, length-append, arith}
+use Rattle.std.proofs.lemmas.Bool.{cond-true, cond_both, le-leb}
+use Rattle.std.proofs.lemmas.List.{length-map}
 use Rattle.pb_text.specs.Limits.{largest, top_of}
 use Rattle.pb_text.specs.Feeding.{StandsAt, HoldsFew, place_of, is_complete}
 use Rattle.pb_text.specs.Reading.{Answers, open_bytes}
@@ -9,7 +9,10 @@ use Rattle.pb_text.specs.Spelling.{Letter, Item, bytes, bytes_of, letters_of, ma
 use Rattle.pb_text.specs.declared.Limits.{Limits}
 use Rattle.pb_text.specs.declared.Place.{Place}
 use Rattle.pb_text.specs.declared.Spanned.{Spanned}
-use Rattle.pb_text.specs.declared.Stop.{Stop}
+use Rattle.pb_text.proofs.Languages.{bytes-append}
+use Rattle.pb_text.proofs.Lists.{length-bytes}
+use Rattle.pb_text.proofs.Short.{place_after-offset}
+use Rattle.pb_text.proofs.Wholes.{same_front}
 use Rattle.pb_proof.specs.Formats.{NoFront, ReadsProofs}
 use Rattle.pb_proof.specs.Proofs.{IsProof}
 use Rattle.pb_proof.specs.Machine.State.{ProofState, begin}
@@ -21,21 +24,10 @@ use Rattle.pb_replay.specs.declared.fault.Fault.{Fault}
 use Rattle.pb_tool.specs.Checker.{ProofFeeder, Stands, TextsAreRead}
 use Rattle.pb_tool.specs.Pieces.{EndsStatement, HoldsOpen}
 use Rattle.pb_tool.specs.declared.checker.CheckFault.{CheckFault}
-use Rattle.pb_tool.proofs.Checked.{running_at}
-use Rattle.pb_tool.proofs.Shown.{after_offset}
+use Rattle.pb_tool.proofs.Checked.{running_at, told as so_far}
+use Rattle.pb_tool.proofs.Fronts.{no_front}
 
 -- ---- behind whole statements none is open
-cond_none : (b : Bool) (x y : ℕ) → x ≡ 0 → y ≡ 0 → cond b x y ≡ 0
-cond_none true x y h k = h
-cond_none false x y h k = k
-
-cond_yes : (b : Bool) (x y : ℕ) → b ≡ true → x ≡ 0 → cond b x y ≡ 0
-cond_yes true x y e h = h
-cond_yes false x y e h = absurd (cc e)
-
-length_bytes : (text : List Letter) → length (bytes text) ≡ length text
-length_bytes text = length-map text (λ (l : Letter). l.byte)
-
 length_plain : (gap : List ℕ) → length (plain gap) ≡ length gap
 length_plain gap = length-map gap (λ (b : ℕ). let l : Letter = record { byte = b; numeral = false } in l)
 
@@ -48,47 +40,40 @@ module _ {E : Type 0} where
       ∙ sym (append_assoc (plain i.gap) (i.text ++ letters_of a) (letters_of b)))
 
   bytes_joined : (a b : List (Item E)) → bytes_of (a ++ b) ≡ bytes_of a ++ bytes_of b
-  bytes_joined a b = ap bytes (letters_joined a b) ∙ map-append (λ (l : Letter). l.byte) (letters_of a) (letters_of b)
+  bytes_joined a b = ap bytes (letters_joined a b) ∙ bytes-append (letters_of a) (letters_of b)
 
   -- how long a text is with one statement more
   length_item : (before : List ℕ) (i : Item E) → length (before ++ (i.gap ++ bytes i.text)) ≡ length before + (length i.gap + length i.text)
-  length_item before i = omega (arith, length-append before (i.gap ++ bytes i.text), length-append i.gap (bytes i.text), length_bytes i.text)
+  length_item before i = omega (arith, length-append before (i.gap ++ bytes i.text), length-append i.gap (bytes i.text), length-bytes i.text)
 
   -- of statements that begin behind the first bytes none has one of them
   behind : (n : ℕ) (before : List ℕ) (items : List (Item E)) → n ≤ length before → open_bytes n (marks_since None before items) ≡ 0
   behind n before [] h = refl
   behind n before (i ∷ items) h =
-      cond_none (nat_le (place_after (before ++ (i.gap ++ bytes i.text))).offset n)
+      cond_both (nat_le (place_after (before ++ (i.gap ++ bytes i.text))).offset n)
       (open_bytes n (marks_since None (before ++ (i.gap ++ bytes i.text)) items))
       (n - (place_after (before ++ i.gap)).offset)
-      (behind n (before ++ (i.gap ++ bytes i.text)) items (omega (arith, h, length_item before i)))
-      (omega (arith, h, after_offset (before ++ i.gap), length-append before i.gap))
+      (λ (k : ℕ). k ≡ 0)
+      (λ _. behind n (before ++ (i.gap ++ bytes i.text)) items (omega (arith, h, length_item before i)))
+      (λ _. omega (arith, h, place_after-offset (before ++ i.gap), length-append before i.gap))
 
   none_open : (n : ℕ) (before : List ℕ) (begun rest : List (Item E)) → n ≡ length before + length (letters_of begun) → open_bytes n (marks_since None before (begun ++ rest)) ≡ 0
   none_open n before [] rest h = let all : n ≡ length before + 0 = h in behind n before rest (omega (arith, all))
   none_open n before (i ∷ begun) rest h =
       let joined : length (letters_of (i ∷ begun)) ≡ length (plain i.gap) + length (i.text ++ letters_of begun) = length-append (plain i.gap) (i.text ++ letters_of begun) in
       let all : length (letters_of (i ∷ begun)) ≡ length i.gap + (length i.text + length (letters_of begun)) = omega (arith, joined, length-append i.text (letters_of begun), length_plain i.gap) in
-      cond_yes (nat_le (place_after (before ++ (i.gap ++ bytes i.text))).offset n)
+      cond-true (nat_le (place_after (before ++ (i.gap ++ bytes i.text))).offset n)
       (open_bytes n (marks_since None (before ++ (i.gap ++ bytes i.text)) (begun ++ rest)))
       (n - (place_after (before ++ i.gap)).offset)
-      (le-leb (place_after (before ++ (i.gap ++ bytes i.text))).offset n (omega (arith, h, all, after_offset (before ++ (i.gap ++ bytes i.text)), length_item before i)))
-      (none_open n (before ++ (i.gap ++ bytes i.text)) begun rest (omega (arith, h, all, length_item before i)))
+      (le-leb (place_after (before ++ (i.gap ++ bytes i.text))).offset n (omega (arith, h, all, place_after-offset (before ++ (i.gap ++ bytes i.text)), length_item before i)))
+      ∙ none_open n (before ++ (i.gap ++ bytes i.text)) begun rest (omega (arith, h, all, length_item before i))
 
 -- ---- all of the input was read
-no_more : (a b : List ℕ) → a ++ b ≡ [] → a ≡ []
-no_more [] b e = refl
-no_more (x ∷ a) b e = absurd (cc e)
-
-whole_front : (used input rest : List ℕ) → input ≡ used ++ rest → length used ≡ length input → used ≡ input
-whole_front used input [] e h = sym (e ∙ append-nil used)
-whole_front used input (x ∷ rest) e h = absurd (omega (arith, h, ap length e, length-append used (x ∷ rest)))
-
-module _ (no_front : NoFront) (limit top longest : ℕ) (used left : List ℕ) (marks : List (Spanned Statement)) (place : Place) (begun rest : List (Item Statement)) (whole : IsProof limit top (begun ++ rest)) (is : used ++ left ≡ bytes_of begun) where
+module _ (apart : NoFront) (limit top longest : ℕ) (used left : List ℕ) (marks : List (Spanned Statement)) (place : Place) (begun rest : List (Item Statement)) (whole : IsProof limit top (begun ++ rest)) (is : used ++ left ≡ bytes_of begun) where
   nothing_left : (done : Bool) → Answers (IsProof limit top) longest used left marks place done None → left ≡ []
   nothing_left false (under, none) = none
   nothing_left true (s, none) =
-      no_more left (bytes_of rest) (no_front limit top s.items (begun ++ rest) (left ++ bytes_of rest) s.spelled whole
+      no_front left (bytes_of rest) (apart limit top s.items (begun ++ rest) (left ++ bytes_of rest) s.spelled whole
       (bytes_joined begun rest ∙ (ap (λ (x : List ℕ). x ++ bytes_of rest) (sym is) ∙ (append_assoc used left (bytes_of rest) ∙ ap (λ (x : List ℕ). x ++ (left ++ bytes_of rest)) (sym s.used_are)))))
 
 module _ (exact : ReadsProofs) (limits : Limits) (longest : ℕ) (v : Problem) (first : Result State Fault) (input : List ℕ) (f : ProofFeeder) (r : Replaying) (e : Option CheckFault) (none : e ≡ None) (h : Stands limits longest v first input f r e) (held : ℕ)
@@ -100,17 +85,16 @@ module _ (exact : ReadsProofs) (limits : Limits) (longest : ℕ) (v : Problem) (
       (used, n, front, place, λ items k at. opens items ((exact (largest limits) (top_of limits) items).1 k) at, bound)
 
   pub none_at : NoFront → TextsAreRead → EndsStatement limits input → held ≡ 0
-  none_at no_front read (begun, rest, whole, is) =
+  none_at apart read (begun, rest, whole, is) =
       let now = running_at limits longest v first input f r e none h in
-      let (taken, told) = read (largest limits) (top_of limits) longest input now.marks f now.stands in
-      let answer : Answers (IsProof (largest limits) (top_of limits)) longest taken told.left now.marks (place_of f) (is_complete f) None = subst (λ (x : Option Stop). Answers (IsProof (largest limits) (top_of limits)) longest taken told.left now.marks (place_of f) (is_complete f) x) now.running told.answer in
-      let left = nothing_left no_front (largest limits) (top_of limits) longest taken told.left now.marks (place_of f) begun rest whole (sym told.input_is ∙ is) (is_complete f) answer in
+      let (taken, told) = so_far read limits longest v first input f r e none h in
+      let left = nothing_left apart (largest limits) (top_of limits) longest taken told.left now.marks (place_of f) begun rest whole (sym told.input_is ∙ is) (is_complete f) told.answer in
       let (used, n, front, place, opens, bound) = open_at in
-      let as_long : length used ≡ length taken = sym (after_offset used) ∙ (ap (λ (x : Place). x.offset) (sym place ∙ told.place_is) ∙ after_offset taken) in
+      let as_long : length used ≡ length taken = sym (place_after-offset used) ∙ (ap (λ (x : Place). x.offset) (sym place ∙ told.place_is) ∙ place_after-offset taken) in
       let nothing : length told.left ≡ 0 = ap length left in
       let all_taken : length input ≡ length taken = omega (arith, ap length told.input_is, length-append taken told.left, nothing) in
-      let same : used ≡ input = whole_front used input front.0 front.1 (as_long ∙ sym all_taken) in
-      let long : length used ≡ length (letters_of begun) = ap length (same ∙ is) ∙ length_bytes (letters_of begun) in
+      let same : used ≡ input = same_front used input front.0 [] (sym front.1 ∙ sym (append-nil input)) (as_long ∙ sym all_taken) in
+      let long : length used ≡ length (letters_of begun) = ap length (same ∙ is) ∙ length-bytes (letters_of begun) in
       let long_behind : length used ≡ length {A = ℕ} [] + length (letters_of begun) = omega (arith, long) in
       let text : bytes_of (begun ++ rest) ≡ used ++ bytes_of rest = bytes_joined begun rest ∙ ap (λ (x : List ℕ). x ++ bytes_of rest) (sym (same ∙ is)) in
       let closed : n ≡ 0 = sym (opens (begun ++ rest) whole (bytes_of rest, text)) ∙ none_open (length used) [] begun rest long_behind in

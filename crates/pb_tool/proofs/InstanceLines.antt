@@ -6,7 +6,7 @@ use Rattle.pb_text.specs.Whole.{gathered, events_of}
 use Rattle.pb_text.specs.declared.Limits.{Limits}
 use Rattle.pb_opb.specs.Gather.{MayKeep}
 use Rattle.pb_opb.specs.Instances.{IsEntry, IsBody, IsBegun, IsInstance}
-use Rattle.pb_opb.specs.Values.{IsValueOf, last_or}
+use Rattle.pb_opb.specs.Values.{IsValueOf}
 use Rattle.pb_opb.specs.declared.OpbEvent.{OpbEvent}
 use Rattle.pb_opb.specs.declared.OpbEvent.TheVariants.{Header, Comment, Objective, Constraint}
 use Rattle.pb_tool.specs.Gathered.{TidiesEach}
@@ -15,7 +15,7 @@ use Rattle.pb_tool.specs.Tidy.{tidied, IsOpb, Tidies}
 use Rattle.pb_tool.specs.Wants.{AsksOpb, IfStopped, WantsInstance}
 use Rattle.pb_tool.specs.declared.fault.ToolFault.{ToolFault}
 use Rattle.pb_tool.specs.declared.instance_text.InstanceText.{InstanceText}
-use Rattle.pb_tool.proofs.Ordered.{line_more, value_of, Follows, follows, text_behind}
+use Rattle.pb_tool.proofs.Ordered.{line_more, value_of, is_value, text_behind}
 use Rattle.pb_tool.proofs.TextFile.{tidies_value, wants_value}
 
 -- ---- the text so far, and a statement more
@@ -40,11 +40,7 @@ module _ (limit : ℕ) where
       ∙ ap (λ (x : List ℕ). gathered line_more x (events_of rest)) (pushed (line_if t.header) t.page.text (line_if t.objective) (line (Comment x)))
   kept-entry may n text (Objective terms) rest ih t h none =
       ih false (suc n) (with t (Objective terms)) h.2 (λ i. cc)
-      ∙ ap (λ (x : List ℕ). gathered line_more x (events_of rest)) (kept (line_if t.header) t.page.text (line (Objective terms)) t.objective (none (may_come may h.0)))
-    where
-      may_come : (b : Bool) → IsTrue b → b ≡ true
-      may_come true i = refl
-      may_come false i = cc
+      ∙ ap (λ (x : List ℕ). gathered line_more x (events_of rest)) (kept (line_if t.header) t.page.text (line (Objective terms)) t.objective (none h.0))
   kept-entry may n text (Constraint l) rest ih t h none =
       ih false n (with t (Constraint l)) h.1 (λ i. refl)
       ∙ ap (λ (x : List ℕ). gathered line_more x (events_of rest)) (pushed (line_if t.header) t.page.text (line_if t.objective) (line (Constraint l)))
@@ -63,11 +59,10 @@ module _ (limit top : ℕ) (empty : InstanceText) (no_page : empty.page.text ≡
   begun_text i rest (Objective t) h = absurd h
   begun_text i rest (Constraint l) h = absurd h
   begun_text i rest (Header n m tail) h =
-      let r : Follows true m (events_of rest) = follows limit true m rest h.3 in
       let first : List ℕ = line (Header n m tail) in
       let alone : text_of (with empty (Header n m tail)) ≡ first = ap₂ (λ (x : List ℕ) (o : Option OpbEvent). first ++ (x ++ line_if o)) no_page no_objective ∙ append-nil first in (
         value_of n tail (events_of rest),
-        record { variables = ap (last_or n) (sym r.variables); tail = ap (last_or tail) (sym r.tails); objective = refl; comments = refl; constraints = refl },
+        is_value n m tail limit rest h.3,
         kept_lines limit true m rest (with empty (Header n m tail)) h.3 (λ i. no_objective)
             ∙ (ap (λ (x : List ℕ). gathered line_more x (events_of rest)) alone ∙ text_behind limit top n m tail rest h.3),
       )

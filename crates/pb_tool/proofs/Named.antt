@@ -1,7 +1,8 @@
 -- Words that are right name no subcommand `help`.
-use Rattle.std.proofs.Common.{◌≡◌, ℕ, Bool, true, false, cond, List, [], ◌∷◌, ◌++◌, Option, Some, None, refl, sym, ap, ◌∙◌, subst, codes, is_some, inl, inr, get_or}
-use Rattle.std.specs.Prelude.{fold, find, option_map, ◌⊎◌, ◌||◌}
+use Rattle.std.proofs.Common.{◌≡◌, ℕ, Bool, true, false, cond, List, [], ◌∷◌, ◌++◌, Option, Some, None, refl, sym, ap, ◌∙◌, subst, codes, is_some, inl, inr, ⊎_elim, get_or}
+use Rattle.std.specs.Prelude.{fold, find, option_map, ◌⊎◌}
 use Rattle.std.specs.Str.{bytes_eq}
+use Rattle.std.proofs.lemmas.Bool.{false≢true, or_cases}
 use Rattle.std.proofs.lemmas.Slice.Eq.{bytes_eq-Decides}
 use Rattle.clap.specs.Kinds.{Kinds, or_else}
 use Rattle.clap.specs.Lexer.{long_of, short_of}
@@ -143,10 +144,6 @@ first_of_four x y z t s name = go (finds name x) (finds name y) (finds name z) (
 abbrev commands : App
 commands = built pb_command
 
-or_false : (b : Bool) → (b || false) ≡ true → b ≡ true
-or_false true e = refl
-or_false false e = e
-
 -- right words name `show`, `tidy` or `check`, where they name a subcommand
 pub reader_named : (words : List Text) (named : Text × List Row) → fault_of pb_command words ≡ [] → subcommand_of pb_command words ≡ Some named → IsReader named.0
 reader_named words named right met = at_stop (walk commands.top.rules (names_of commands) nothing_held (argument_words pb_command words)).stopped refl met
@@ -165,7 +162,7 @@ reader_named words named right met = at_stop (walk commands.top.rules (names_of 
           | inl h ↦ inl (name ∙ ap (λ (x : Shape). x.name) h)
           | inr (inl h) ↦ inr (inl (name ∙ ap (λ (x : Shape). x.name) h))
           | inr (inr (inl h)) ↦ inr (inr (name ∙ ap (λ (x : Shape). x.name) h))
-          | inr (inr (inr h)) ↦ absurd (is_help p e ((bytes_eq-Decides (codes "help") p.0).0 (or_false (bytes_eq (codes "help") p.0) h.1)))
+          | inr (inr (inr h)) ↦ absurd (⊎_elim (λ (yes : bytes_eq (codes "help") p.0 ≡ true). is_help p e ((bytes_eq-Decides (codes "help") p.0).0 yes)) false≢true (or_cases (bytes_eq (codes "help") p.0) false h.1))
         ]
 
     at_stop : (o : Option (Text × List Text)) → (walk commands.top.rules (names_of commands) nothing_held (argument_words pb_command words)).stopped ≡ o → entered commands o ≡ Some named → IsReader named.0

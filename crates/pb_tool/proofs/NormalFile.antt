@@ -2,6 +2,7 @@
 use Rattle.std.proofs.Common.{◌≡◌, ◌↔◌, ℕ, List, [], ◌∷◌, ◌++◌, map, length, false, true, IsTrue, Option, Some, None, Result, Ok, Err, refl, sym, ap, ap₂, ◌∙◌, subst, append_assoc, append-nil, ◌+◌}
 use Rattle.std.specs.List.{flat_map}
 use Rattle.std.proofs.lemmas.List.{length-map}
+use Rattle.std.proofs.lemmas.List.Folds.{flat_map-map}
 use Rattle.pb_text.specs.Limits.{largest, top_of}
 use Rattle.pb_text.specs.Spelling.{Item}
 use Rattle.pb_text.specs.Whole.{gathered, events_of}
@@ -9,7 +10,7 @@ use Rattle.pb_text.specs.declared.Limits.{Limits}
 use Rattle.pb_text.specs.declared.Stop.{Stop}
 use Rattle.pb_sums.specs.declared.Term.{Term}
 use Rattle.pb_sums.specs.declared.Linear.{Linear}
-use Rattle.pb_opb.specs.Canonical.{header_bytes, event_bytes, lines, objective_events, constraint_events, in_order, body_events, instance_bytes}
+use Rattle.pb_opb.specs.Canonical.{header_bytes, lines, objective_events, constraint_events, in_order, body_events, instance_bytes}
 use Rattle.pb_opb.specs.Gather.{MayKeep}
 use Rattle.pb_opb.specs.Instances.{IsBegun}
 use Rattle.pb_opb.specs.Values.{IsValueOf, last_or, objectives_in, constraints_in}
@@ -17,7 +18,6 @@ use Rattle.pb_opb.specs.declared.Instance.{Instance}
 use Rattle.pb_opb.specs.declared.OpbEvent.{OpbEvent}
 use Rattle.pb_opb.specs.declared.OpbEvent.TheVariants.{Header, Comment, Objective, Constraint}
 use Rattle.pb_normal.specs.Constraints.{AreFormsOf, constraint_names, sides_in}
-use Rattle.pb_normal.specs.Form.{Form}
 use Rattle.pb_normal.specs.Names.{with_names}
 use Rattle.pb_normal.specs.Written.{linear_of, names_of}
 use Rattle.pb_replay.specs.Problem.{names_in, objective_of}
@@ -25,7 +25,7 @@ use Rattle.pb_tool.specs.Faults.{faults_told}
 use Rattle.pb_tool.specs.Gathered.{IsGathered, IsNotGathered}
 use Rattle.pb_tool.specs.InstanceText.{line, line_if}
 use Rattle.pb_tool.specs.Normalised.{IsNormalised, SomePasses}
-use Rattle.pb_tool.specs.NormalText.{AreLines, IsInOrder, IsNoted, as_statement, form_lines, names_on, noted}
+use Rattle.pb_tool.specs.NormalText.{AreLines, IsInOrder, IsNoted, as_statement, names_at, names_on, noted}
 use Rattle.pb_tool.specs.Tidy.{IsAsked, IsDenied, IsNoNormalFile, IsNormalFile, IsOpb, IsOpbFile, IsNoOpbFile, WritesText, is_bare, tidied}
 use Rattle.pb_tool.specs.Wants.{AsksOpb, IfStopped, WantsInstance}
 use Rattle.pb_tool.specs.declared.fault.ToolFault.{ToolFault}
@@ -33,8 +33,8 @@ use Rattle.pb_tool.specs.declared.fault.ToolFault.TheVariants.{Text, Open, Overf
 use Rattle.pb_tool.specs.declared.fault.Input.TheVariants.{File, Instance as of_instance, Proof as of_proof}
 use Rattle.pb_tool.specs.declared.normal_text.Forms.{Forms}
 use Rattle.pb_tool.specs.declared.normal_text.Standing.TheVariants.{Kept}
-use Rattle.pb_tool.proofs.Feeds.{tidied_bare, tidied_more}
-use Rattle.pb_tool.proofs.Ordered.{Follows, follows, mains_in, value_of}
+use Rattle.pb_tool.proofs.Feeds.{tidied_bare}
+use Rattle.pb_tool.proofs.Ordered.{Follows, follows, headed, is_value, mains_in, value_of}
 use Rattle.pb_tool.proofs.TextFile.{file_as, refused_as, refused_wants}
 
 -- ---- what is written where there are no comments
@@ -43,20 +43,9 @@ plain_order : (n : ℕ) (events : List OpbEvent) → in_order n [] events ≡ ev
 plain_order n [] = refl
 plain_order n (e ∷ events) = ap (λ (es : List OpbEvent). e ∷ es) (plain_order (n + 1) events)
 
--- lines of which each has a line feed
-fed : (e : OpbEvent) (events : List OpbEvent) → flat_map line (e ∷ events) ≡ lines (e ∷ events) ++ 10 ∷ []
-fed e [] = append-nil (line e)
-fed e (f ∷ events) =
-    ap (λ (x : List ℕ). line e ++ x) (fed f events)
-    ∙ (append_assoc (event_bytes e) (10 ∷ []) (lines (f ∷ events) ++ 10 ∷ []) ∙ sym (append_assoc (event_bytes e) (10 ∷ lines (f ∷ events)) (10 ∷ [])))
-
-constraint_lines : (cs : List Linear) → flat_map (λ c. line (Constraint c)) cs ≡ flat_map line (constraint_events cs)
-constraint_lines [] = refl
-constraint_lines (c ∷ cs) = ap (λ (x : List ℕ). line (Constraint c) ++ x) (constraint_lines cs)
-
 statement_lines : (o : Option (List Term)) (cs : List Linear) → line_if (as_statement o) ++ flat_map (λ c. line (Constraint c)) cs ≡ flat_map line (objective_events o ++ constraint_events cs)
-statement_lines None cs = constraint_lines cs
-statement_lines (Some terms) cs = ap (λ (x : List ℕ). line (Objective terms) ++ x) (constraint_lines cs)
+statement_lines None cs = sym (flat_map-map line Constraint cs)
+statement_lines (Some terms) cs = ap (λ (x : List ℕ). line (Objective terms) ++ x) (sym (flat_map-map line Constraint cs))
 
 abbrev plain : ℕ → Option (List Term) → List Linear → Instance
 plain n o cs = record { variables = n; tail = []; objective = o; comments = []; constraints = cs }
@@ -67,19 +56,12 @@ full_text n o cs e events is full =
     let head : List ℕ = header_bytes n (length cs) [] in
     let body : body_events (plain n o cs) ≡ e ∷ events = plain_order 0 (objective_events o ++ constraint_events cs) ∙ is in
     let bytes : instance_bytes (plain n o cs) ≡ head ++ (10 ∷ lines (e ∷ events)) = ap (λ (es : List OpbEvent). head ++ (10 ∷ lines es)) body in
-    ap (λ (x : List ℕ). line (Header n (length cs) []) ++ x) (statement_lines o cs ∙ (ap (flat_map line) is ∙ fed e events))
-    ∙ (append_assoc head (10 ∷ []) (lines (e ∷ events) ++ 10 ∷ [])
-    ∙ (sym (append_assoc head (10 ∷ lines (e ∷ events)) (10 ∷ []))
-    ∙ (ap (λ (x : List ℕ). x ++ 10 ∷ []) (sym bytes) ∙ sym (tidied_more (plain n o cs) full))))
+    ap (λ (x : List ℕ). line (Header n (length cs) []) ++ x) (statement_lines o cs ∙ ap (flat_map line) is) ∙ headed (plain n o cs) head e events bytes full
 
 plain_text : (n : ℕ) (o : Option (List Term)) (cs : List Linear) → line (Header n (length cs) []) ++ (line_if (as_statement o) ++ flat_map (λ c. line (Constraint c)) cs) ≡ tidied (plain n o cs)
 plain_text n None [] = append-nil (line (Header n 0 [])) ∙ sym (tidied_bare (plain n None []) refl)
 plain_text n None (c ∷ cs) = full_text n None (c ∷ cs) (Constraint c) (constraint_events cs) refl refl
 plain_text n (Some terms) cs = full_text n (Some terms) cs (Objective terms) (constraint_events cs) refl refl
-
-forms_as : (names : List (List ℕ)) (forms : List Form) → form_lines names forms ≡ flat_map (λ c. line (Constraint c)) (map (linear_of names) forms)
-forms_as names [] = refl
-forms_as names (f ∷ forms) = ap (λ (x : List ℕ). line (Constraint (linear_of names f)) ++ x) (forms_as names forms)
 
 -- what was kept is the normal form of the instance
 module _ (events : List OpbEvent) (n : ℕ) (o : Option OpbEvent) (t : Forms) (h : IsNoted events n o t) (x : Limits × List OpbEvent) (view : (t.limits, events) ≡ x) (kept : t.standing ≡ Kept) (v : Instance) (told : IsInOrder x.1 v) where
@@ -120,7 +102,7 @@ module _ (events : List OpbEvent) (n : ℕ) (o : Option OpbEvent) (t : Forms) (h
   text_kept =
       let k = made.0 in
       let count : t.lines.count ≡ length constraints = k.count ∙ sym (length-map k.forms (linear_of t.lines.names)) in
-      let text : t.lines.page.text ≡ flat_map (λ c. line (Constraint c)) constraints = k.text ∙ forms_as t.lines.names k.forms in
+      let text : t.lines.page.text ≡ flat_map (λ c. line (Constraint c)) constraints = k.text ∙ sym (flat_map-map (λ (c : Linear). line (Constraint c)) (linear_of t.lines.names) k.forms) in
       let variables : n ≡ v.variables = h.variables_are ∙ sym order.0.variables in
       let objective : o ≡ as_statement v.objective = h.objective_is ∙ ap as_statement (sym order.0.objective) in
       ap₂ (λ (m k : ℕ). line (Header m k []) ++ (line_if o ++ t.lines.page.text)) variables count
@@ -139,13 +121,9 @@ names_of_mains (Comment t ∷ events) = names_of_mains events
 names_of_mains (Objective t ∷ events) = ap (λ (ns : List (List ℕ)). names_of t ++ ns) (names_of_mains events)
 names_of_mains (Constraint l ∷ events) = ap (λ (ns : List (List ℕ)). names_of l.terms ++ ns) (names_of_mains events)
 
-names_of_constraints : (cs : List Linear) → names_on (constraint_events cs) ≡ constraint_names cs
-names_of_constraints [] = refl
-names_of_constraints (c ∷ cs) = ap (λ (ns : List (List ℕ)). names_of c.terms ++ ns) (names_of_constraints cs)
-
 names_of_both : (o : Option (List Term)) (cs : List Linear) → names_on (objective_events o ++ constraint_events cs) ≡ names_of (objective_of o) ++ constraint_names cs
-names_of_both None cs = names_of_constraints cs
-names_of_both (Some terms) cs = ap (λ (ns : List (List ℕ)). names_of terms ++ ns) (names_of_constraints cs)
+names_of_both None cs = flat_map-map names_at Constraint cs
+names_of_both (Some terms) cs = ap (λ (ns : List (List ℕ)). names_of terms ++ ns) (flat_map-map names_at Constraint cs)
 
 gathered_noted : (limits : Limits) (before events : List OpbEvent) → gathered noted (limits, before) events ≡ (limits, before ++ events)
 gathered_noted limits before [] = ap (λ (es : List OpbEvent). (limits, es)) (sym (append-nil before))
@@ -164,7 +142,7 @@ module _ (limits : Limits) where
       let r : Follows true m (events_of rest) = follows (largest limits) true m rest h.3 in (
         value_of n tail (events_of rest),
         (
-          record { variables = ap (last_or n) (sym r.variables); tail = ap (last_or tail) (sym r.tails); objective = refl; comments = refl; constraints = refl },
+          is_value n m tail (largest limits) rest h.3,
           names_of_mains (events_of rest) ∙ (ap names_on r.mains ∙ names_of_both (last_or None (objectives_in (events_of rest))) (constraints_in (events_of rest))),
         ),
       )

@@ -12,7 +12,8 @@ use Rattle.pb_normal.specs.Form.{Form}
 use Rattle.pb_normal.specs.Names.{AreDistinct, HasNames, with_name, with_names}
 use Rattle.pb_normal.specs.Written.{linear_of, names_of}
 use Rattle.pb_normal.proofs.Appearing.{front, named, distinct, in_turn, written_alike}
-use Rattle.pb_normal.proofs.Loaded.{are_named, forms_more, forms_then, take_one}
+use Rattle.pb_normal.proofs.Loaded.{are_named, forms_more, forms_then}
+use Rattle.pb_text.proofs.Lists.{take_read}
 use Rattle.pb_normal.proofs.WrittenForms.{HasNames-append}
 use Rattle.pb_tool.specs.InstanceText.{line}
 use Rattle.pb_tool.specs.Normalised.{SomePasses}
@@ -24,7 +25,7 @@ pub named_at : (old names new : List (List ℕ)) (ts : List Term) (i : ℕ) (t :
     → new ≡ with_names old (names_of (take (i + 1) ts))
 named_at old names new ts i t lt e before k =
     let all : names_of (take (i + 1) ts) ≡ names_of (take i ts) ++ t.literal.name ∷ [] =
-    ap names_of (take_one ts i t lt e) ∙ map-append (λ (x : Term). x.literal.name) (take i ts) (t ∷ []) in
+    ap names_of (take_read ts i t t lt e) ∙ map-append (λ (x : Term). x.literal.name) (take i ts) (t ∷ []) in
     k ∙ ap (λ (ks : List (List ℕ)). with_name ks t.literal.name) before ∙ sym (in_turn old (names_of (take i ts)) (t.literal.name ∷ [])) ∙ ap (with_names old) (sym all)
 
 -- the lines of forms, over more names

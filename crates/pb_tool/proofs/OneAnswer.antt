@@ -1,13 +1,12 @@
 -- What the same bytes make a check answer.
-use Rattle.std.proofs.Common.{◌≡◌, ◌≢◌, ◌↔◌, ℕ, List, [], ◌++◌, Option, Some, None, Result, Ok, Err, refl, sym, ap, ◌∙◌, subst, append-nil}
+use Rattle.std.proofs.Common.{◌≡◌, ◌≢◌, ◌↔◌, ℕ, List, [], ◌++◌, Option, Some, Result, Ok, Err, refl, sym, ap, ◌∙◌, subst}
+use Rattle.std.proofs.lemmas.Option.{same_Some}
 use Rattle.std.specs.Prelude.{String, string_bytes}
 use Rattle.std.specs.declared.alloc.Global.{Global}
-use Rattle.pb_text.specs.Blank.{IsStray, place_from}
 use Rattle.pb_text.specs.Limits.{largest, top_of}
-use Rattle.pb_text.specs.Pulling.{Took}
 use Rattle.pb_text.specs.Reading.{HasFixedMarks, IsSpelled}
 use Rattle.pb_text.specs.Spelling.{Item}
-use Rattle.pb_text.specs.Whole.{events_of}
+use Rattle.pb_text.specs.Whole.{events_at, events_of}
 use Rattle.pb_text.specs.declared.Limits.{Limits}
 use Rattle.pb_text.specs.declared.Place.{Place}
 use Rattle.pb_text.specs.declared.Spanned.{Spanned}
@@ -28,9 +27,10 @@ use Rattle.pb_replay.specs.Statements.{Accepts}
 use Rattle.pb_replay.specs.declared.fault.Fault.{Fault}
 use Rattle.pb_replay.specs.declared.fault.Fault.TheVariants.{Memory as no_memory, Overflow as over}
 use Rattle.pb_replay.specs.declared.verdict.Verdict.{Verdict}
-use Rattle.pb_tool.specs.Checks.{statements_at}
+use Rattle.pb_opb.proofs.OneValue.{same_value}
 use Rattle.pb_tool.specs.Decided.{AnswersExactly, AreVerified, IsDecided, IsOfText, IsSame, OneAnswer}
 use Rattle.pb_tool.specs.Files.{IsProofFile, IsVeri}
+use Rattle.pb_tool.specs.Show.{IsSpelling}
 use Rattle.pb_tool.specs.Single.{AllSingle}
 use Rattle.pb_tool.specs.Tidy.{IsFile, IsOpb, IsOpbFile, IsNoOpbFile}
 use Rattle.pb_tool.specs.Tidy.IsRefused.{InText, InRest}
@@ -38,30 +38,11 @@ use Rattle.pb_tool.specs.Verified.{ChecksFiles, IsRefusedStep, IsRefusedText, Is
 use Rattle.pb_tool.specs.declared.fault.ToolFault.{ToolFault}
 use Rattle.pb_tool.specs.declared.fault.ToolFault.TheVariants.{Text, Open, Overflow, Memory, Write, Step}
 use Rattle.pb_tool.specs.declared.fault.Input.TheVariants.{File, Instance as of_instance, Proof as of_proof}
-use Rattle.pb_tool.proofs.Accepting.{Passed, no_step, ok_err, one_state, one_step, same_ok}
-use Rattle.pb_tool.proofs.Checked.{marks_events}
+use Rattle.pb_tool.proofs.Accepting.{Passed, no_step, one_state, one_step}
+use Rattle.pb_text.proofs.Results.{ok_or_err, same_ok}
+use Rattle.pb_tool.proofs.Checked.{spelled_events}
 use Rattle.pb_tool.proofs.OneRead.{OneSpelling, NoneGoesOn, marks_begin, one_spelled, reached_before, so_far_before, so_far_reached, spelling_reached, way_reached}
-use Rattle.pb_tool.proofs.Refusing.{Refusal, AtRest, AtStop, Whole, no_refusal, one_refusal}
-
--- ---- statements have one value
-
-instance : ℕ → List ℕ → Option (List Term) → List Comment → List Linear → Instance
-instance a b c d e = record { variables = a; tail = b; objective = c; comments = d; constraints = e }
-
-same_fields : (a a' : ℕ) (b b' : List ℕ) (c c' : Option (List Term)) (d d' : List Comment) (e e' : List Linear) → a ≡ a' → b ≡ b' → c ≡ c' → d ≡ d' → e ≡ e' → instance a b c d e ≡ instance a' b' c' d' e'
-same_fields a a' b b' c c' d d' e e' p q r s t = rw (p, q, r, s, t) refl
-
-one_value : (events : List OpbEvent) (v w : Instance) → IsValueOf events v → IsValueOf events w → v ≡ w
-unfolding instance
-one_value events v w h k =
-    same_fields v.variables w.variables v.tail w.tail v.objective w.objective v.comments w.comments v.constraints w.constraints
-    (h.variables ∙ sym k.variables) (h.tail ∙ sym k.tail) (h.objective ∙ sym k.objective) (h.comments ∙ sym k.comments) (h.constraints ∙ sym k.constraints)
-
-some_same : {A : Type 0} (a b : A) → Some a ≡ Some b → a ≡ b
-some_same a b h = cc
-
-all_taken : (input used : List ℕ) → input ≡ used ++ [] → input ≡ used
-all_taken input used e = e ∙ append-nil used
+use Rattle.pb_tool.proofs.Refusing.{Refusal, AtStop, all_taken, at_rest, no_refusal, one_refusal}
 
 -- ---- an input, in one way of reading
 
@@ -77,37 +58,12 @@ module _ {V E : Type 0} (format : List (Item E) → Type 0) (IsValue : List E �
       let items : s.items ≡ t.items = (one_spelled format longest one front f.used f.rest g.used g.rest f.spelled.marks g.spelled.marks both s t).1 in
       sym f.value ∙ (value (events_of t.items) f.read.event g.read.event (subst (λ (x : List (Item E)). IsValue (events_of x) f.read.event) items f.spelled.value) g.spelled.value ∙ g.value)
 
-  whole_of : (after : Option (List ℕ)) (v : V) → Has after v → Whole format longest input
-  whole_of after v f = record { used = f.used; rest = f.rest; marks = f.spelled.marks; input_is = all_taken input (f.used ++ f.rest) f.took.0; spelled = f.spelled.spelled; blank = f.blank; within = f.within }
+  whole_of : (after : Option (List ℕ)) (v : V) (f : Has after v) → IsSpelling format longest (Some input) after f.spelled.marks
+  whole_of after v f = record { used = f.used; rest = f.rest; took = f.took; spelled = f.spelled.spelled; blank = f.blank; within = f.within }
 
   -- a file that was taken leaves nothing
   taken : (after : Option (List ℕ)) (v : V) → Has after v → Has (Some []) v
   taken after v f = record { used = f.used; rest = f.rest; took = (f.took.0, refl); read = f.read; spelled = f.spelled; blank = f.blank; within = f.within; value = f.value }
-
--- ---- the instance
-
-module _ (laws : AllSingle) (limits : Limits) (longest : ℕ) (i : List ℕ) where
-  one_opb : OneSpelling (IsOpb limits)
-  one_opb items items' h k e = laws.one_instance (largest limits) (top_of limits) items items' h k e
-
-  front_opb : NoneGoesOn (IsOpb limits)
-  front_opb items items' more h k e = laws.instance_front (largest limits) (top_of limits) items items' more h k e
-
-  one_instance : (i' i'' : Option (List ℕ)) (v w : Instance) → IsOpbFile limits longest (Some i) i' v → IsOpbFile limits longest (Some i) i'' w → v ≡ w
-  one_instance = one_file (IsOpb limits) IsValueOf longest i one_opb front_opb one_value
-
-  instance_refusal : (i' : Option (List ℕ)) (s : Stop) → IsNoOpbFile limits longest (Some i) i' s → IsOfText s.why → Refusal (IsOpb limits) longest i s
-  instance_refusal i' s (InText (used, seen, took, Reading marks r)) d = AtStop used r.left marks (took.0 ∙ r.input_is) r.answer.0 r.place_is r.answer.2
-  instance_refusal i' s (InText (used, seen, took, Keeping viable is)) d = absurd (subst (λ (x : Stop). IsOfText x.why) is d)
-  instance_refusal i' s (InRest m mid (used, seen, took, read) (rest, more, t, blank, place, stray)) d =
-      let t' : Took (Some seen) rest more i' = subst (λ (z : Option (List ℕ)). Took z rest more i') took.1 t in
-      AtRest used seen read.marks took.0 read.spelled rest more t'.0 blank (place ∙ ap (λ (x : Place). place_from x rest) read.past) (subst (λ (x : Place). IsStray x rest more s.why) read.past stray)
-
-  no_instance : (i' i'' : Option (List ℕ)) (v : Instance) (s : Stop) → IsOpbFile limits longest (Some i) i' v → IsNoOpbFile limits longest (Some i) i'' s → IsOfText s.why → ⊥
-  no_instance i' i'' v s f r d = no_refusal (IsOpb limits) longest one_opb front_opb i s (whole_of (IsOpb limits) IsValueOf longest i i' v f) (instance_refusal i'' s r d) d
-
-  one_stop_of_instance : (i' i'' : Option (List ℕ)) (s t : Stop) → IsNoOpbFile limits longest (Some i) i' s → IsOfText s.why → IsNoOpbFile limits longest (Some i) i'' t → IsOfText t.why → t ≡ s
-  one_stop_of_instance i' i'' s t h d k d' = sym (one_refusal (IsOpb limits) longest one_opb front_opb i s t (instance_refusal i' s h d) (instance_refusal i'' t k d') d d')
 
 -- ---- the proof
 
@@ -127,16 +83,14 @@ module _ (laws : AllSingle) (limits : Limits) (longest : ℕ) (p : List ℕ) whe
   module _ (v : Problem) (first : State) where
     proof_refusal : (p' : Option (List ℕ)) (s : Stop) → IsRefusedText limits longest v first (Some p) p' s → Refusal (IsVeri limits) longest p s
     proof_refusal p' s (InProof last a) = let r = a.took.reads in AtStop a.took.used r.left a.marks (a.took.took.0 ∙ r.input_is) r.answer.0 r.place_is r.answer.2
-    proof_refusal p' s (BehindProof mid place last w a claimed (rest, more, t, blank, at, stray)) =
-        let r = a.took.reads in
-        let t' : Took (Some a.took.seen) rest more p' = subst (λ (z : Option (List ℕ)). Took z rest more p') a.took.took.1 t in
-        AtRest a.took.used a.took.seen a.marks a.took.took.0 r.answer.0 rest more t'.0 blank (at ∙ ap (λ (x : Place). place_from x rest) r.place_is) (subst (λ (x : Place). IsStray x rest more s.why) r.place_is stray)
+    proof_refusal p' s (BehindProof mid place last w a claimed rest) =
+        at_rest (IsVeri limits) longest p a.took.used a.took.seen mid p' a.marks place s a.took.took a.took.reads.answer.0 a.took.reads.place_is rest
 
     abbrev HasPassed : Type 0
     HasPassed = Passed laws.outcomes limits v fixed_veri longest first p
 
     -- the statements of a spelling, accepted
-    spelled_passed : (used left : List ℕ) (marks : List (Spanned Statement)) (last : State) → p ≡ used ++ left → IsSpelled (IsVeri limits) longest used marks → Accepts (largest limits) (top_of limits) v first (statements_at marks) last → HasPassed
+    spelled_passed : (used left : List ℕ) (marks : List (Spanned Statement)) (last : State) → p ≡ used ++ left → IsSpelled (IsVeri limits) longest used marks → Accepts (largest limits) (top_of limits) v first (events_at marks) last → HasPassed
     spelled_passed used left marks last is s accepted = record {
       marks = marks;
       last = last;
@@ -164,153 +118,167 @@ module _ (laws : AllSingle) (limits : Limits) (longest : ℕ) (p : List ℕ) whe
     proof_passed : (p' : Option (List ℕ)) (q : Proof) (last : State) → IsProofFile limits longest (Some p) p' q → Accepts (largest limits) (top_of limits) v first (statements_of q) last → HasPassed
     proof_passed p' q last f accepted =
         let s = f.spelled.spelled in
-        let same = ap (λ (x : List (Spanned Statement)). statements_at x) s.marks_are ∙ (marks_events None [] s.items ∙ (f.spelled.value ∙ ap (λ (x : Proof). statements_of x) f.value)) in
+        let same = spelled_events (IsVeri limits) longest f.used f.spelled.marks s ∙ (f.spelled.value ∙ ap (λ (x : Proof). statements_of x) f.value) in
         spelled_passed f.used f.rest f.spelled.marks last (all_taken p (f.used ++ f.rest) f.took.0) s (subst (λ (x : List Statement). Accepts (largest limits) (top_of limits) v first x last) (sym same) accepted)
 
--- ---- both
+-- ---- the instance
 
-module _ (laws : AllSingle) (limits : Limits) (longest : ℕ) (i p : List ℕ) where
-  instances : (i' i'' : Option (List ℕ)) (v w : Instance) → IsOpbFile limits longest (Some i) i' v → IsOpbFile limits longest (Some i) i'' w → v ≡ w
-  instances = one_instance laws limits longest i
+module _ (laws : AllSingle) (limits : Limits) (longest : ℕ) (i : List ℕ) where
+  one_opb : OneSpelling (IsOpb limits)
+  one_opb items items' h k e = laws.one_instance (largest limits) (top_of limits) items items' h k e
 
-  refused_instance : (i' i'' : Option (List ℕ)) (v : Instance) (s : Stop) → IsOpbFile limits longest (Some i) i' v → IsNoOpbFile limits longest (Some i) i'' s → IsOfText s.why → ⊥
-  refused_instance = no_instance laws limits longest i
+  front_opb : NoneGoesOn (IsOpb limits)
+  front_opb items items' more h k e = laws.instance_front (largest limits) (top_of limits) items items' more h k e
+
+  one_instance : (i' i'' : Option (List ℕ)) (v w : Instance) → IsOpbFile limits longest (Some i) i' v → IsOpbFile limits longest (Some i) i'' w → v ≡ w
+  one_instance = one_file (IsOpb limits) IsValueOf longest i one_opb front_opb same_value
+
+  instance_refusal : (i' : Option (List ℕ)) (s : Stop) → IsNoOpbFile limits longest (Some i) i' s → IsOfText s.why → Refusal (IsOpb limits) longest i s
+  instance_refusal i' s (InText (used, seen, took, Reading marks r)) d = AtStop used r.left marks (took.0 ∙ r.input_is) r.answer.0 r.place_is r.answer.2
+  instance_refusal i' s (InText (used, seen, took, Keeping viable is)) d = absurd (subst (λ (x : Stop). IsOfText x.why) is d)
+  instance_refusal i' s (InRest m mid (used, seen, took, read) rest) d = at_rest (IsOpb limits) longest i used seen mid i' read.marks m.past s took read.spelled read.past rest
+
+  no_instance : (i' i'' : Option (List ℕ)) (v : Instance) (s : Stop) → IsOpbFile limits longest (Some i) i' v → IsNoOpbFile limits longest (Some i) i'' s → IsOfText s.why → ⊥
+  no_instance i' i'' v s f r d = no_refusal (IsOpb limits) longest one_opb front_opb i s i' f.spelled.marks (whole_of (IsOpb limits) IsValueOf longest i i' v f) (instance_refusal i'' s r d) d
+
+  one_stop_of_instance : (i' i'' : Option (List ℕ)) (s t : Stop) → IsNoOpbFile limits longest (Some i) i' s → IsOfText s.why → IsNoOpbFile limits longest (Some i) i'' t → IsOfText t.why → t ≡ s
+  one_stop_of_instance i' i'' s t h d k d' = sym (one_refusal (IsOpb limits) longest one_opb front_opb i s t (instance_refusal i' s h d) (instance_refusal i'' t k d') d d')
 
   -- the problem that the first bytes open as
   problems : (i' i'' : Option (List ℕ)) (v w : Instance) (a b : Problem) → IsOpbFile limits longest (Some i) i' v → Opened (largest limits) v (Ok a) → IsOpbFile limits longest (Some i) i'' w → Opened (largest limits) w (Ok b) → a ≡ b
   problems i' i'' v w a b f h g k =
-      same_ok a b (laws.openings (largest limits) w (Ok a) (Ok b) (subst (λ (x : Instance). Opened (largest limits) x (Ok a)) (instances i' i'' v w f g) h) k)
+      same_ok (laws.openings (largest limits) w (Ok a) (Ok b) (subst (λ (x : Instance). Opened (largest limits) x (Ok a)) (one_instance i' i'' v w f g) h) k)
 
   opens : (i' i'' : Option (List ℕ)) (v w : Instance) (a : Problem) → IsOpbFile limits longest (Some i) i' v → Opened (largest limits) v (Ok a) → IsOpbFile limits longest (Some i) i'' w → Opened (largest limits) w (Err over) → ⊥
-  opens i' i'' v w a f h g k = ok_err a over (laws.openings (largest limits) w (Ok a) (Err over) (subst (λ (x : Instance). Opened (largest limits) x (Ok a)) (instances i' i'' v w f g) h) k)
+  opens i' i'' v w a f h g k = ok_or_err (laws.openings (largest limits) w (Ok a) (Err over) (subst (λ (x : Instance). Opened (largest limits) x (Ok a)) (one_instance i' i'' v w f g) h) k)
 
-  abbrev Went : Problem → Type 0
-  Went v = HasPassed laws limits longest p v (first_state v)
+  -- ---- both
 
-  module _ {W : Type 0} (contents : W → Option (List ℕ)) (faults : W → ℕ) where
-    abbrev Answers : Result Verdict ToolFault → W → Option (List ℕ) → Option (List ℕ) → W → Type 0
-    Answers result old i' p' new = ChecksFiles limits longest contents faults (Some i) (Some p) old result i' p' new
+  module _ (p : List ℕ) where
+    abbrev Went : Problem → Type 0
+    Went v = HasPassed laws limits longest p v (first_state v)
 
-    -- what is verified is answered
-    settled : (i1 p1 : Option (List ℕ)) (v : Instance) (q : Proof) (w : Verdict) → IsOpbFile limits longest (Some i) i1 v → IsProofFile limits longest (Some p) p1 q → IsVerified limits v q w
-        → (result : Result Verdict ToolFault) (old new : W) (i' p' : Option (List ℕ)) → Answers result old i' p' new → IsDecided result → result ≡ Ok w
-    settled i1 p1 v q w f g h (Ok x) old new i' p' (v', f', q', g', h', wrote) d =
-        let problem : h'.problem ≡ h.problem = problems i' i1 v' v h'.problem h.problem f' h'.opened f h.opened in
-        let proof : q' ≡ q = one_proof laws limits longest p p' p1 q' q g' g in
-        let here : Accepts (largest limits) (top_of limits) h.problem (first_state h.problem) (statements_of q) h'.last =
-        subst (λ (y : Problem). Accepts (largest limits) (top_of limits) y (first_state y) (statements_of q) h'.last) problem (subst (λ (y : Proof). Accepts (largest limits) (top_of limits) h'.problem (first_state h'.problem) (statements_of y) h'.last) proof h'.accepted) in
-        let last : h'.last ≡ h.last = one_state laws.outcomes limits h.problem (statements_of q) (first_state h.problem) h'.last h.last here h.accepted in
-        ap (λ (y : Verdict). Ok y) (some_same x w (sym h'.claimed ∙ (ap (λ (s : State). s.concluded) last ∙ h.claimed)))
-    settled i1 p1 v q w f g h (Err (Text of_instance s)) old new i' p' (r, kept, same) d = absurd (refused_instance i1 i' v s f r d)
-    settled i1 p1 v q w f g h (Err (Overflow of_instance)) old new i' p' (v', f', k, kept, same) d = absurd (opens i1 i' v v' h.problem f h.opened f' k)
-    settled i1 p1 v q w f g h (Err (Step place e name)) old new i' p' (v', f', problem, opened, r, x) d =
-        let same : h.problem ≡ problem = problems i1 i' v v' h.problem problem f h.opened f' opened in
-        let went : Went problem = subst Went same (proof_passed laws limits longest p h.problem (first_state h.problem) p1 q h.last g h.accepted) in
-        absurd (no_step laws.outcomes limits problem (fixed_veri laws limits longest p) longest (first_state problem) p p' place e (string_bytes name) went r d)
-    settled i1 p1 v q w f g h (Err (Text of_proof s)) old new i' p' (v', f', problem, opened, r, x) d =
-        absurd (no_refusal (IsVeri limits) longest (one_veri laws limits longest p) (front_veri laws limits longest p) p s
-        (whole_of (IsVeri limits) IsProofOf longest p p1 q g) (proof_refusal laws limits longest p problem (first_state problem) p' s r) d)
-    settled i1 p1 v q w f g h (Err (Text File s)) old new i' p' a d = absurd a
-    settled i1 p1 v q w f g h (Err (Overflow File)) old new i' p' a d = absurd a
-    settled i1 p1 v q w f g h (Err (Overflow of_proof)) old new i' p' a d = absurd a
-    settled i1 p1 v q w f g h (Err (Memory input)) old new i' p' a d = absurd d
-    settled i1 p1 v q w f g h (Err (Open input)) old new i' p' a d = absurd d
-    settled i1 p1 v q w f g h (Err Write) old new i' p' a d = absurd d
+    module _ {W : Type 0} (contents : W → Option (List ℕ)) (faults : W → ℕ) where
+      abbrev Answers : Result Verdict ToolFault → W → Option (List ℕ) → Option (List ℕ) → W → Type 0
+      Answers result old i' p' new = ChecksFiles limits longest contents faults (Some i) (Some p) old result i' p' new
 
-    verified_by : (w : Verdict) (old new : W) (i' p' : Option (List ℕ)) → Answers (Ok w) old i' p' new → AreVerified limits longest i p w
-    verified_by w old new i' p' (v, f, q, g, h, wrote) = record { instance = v; first = taken (IsOpb limits) IsValueOf longest i i' v f; proof = q; second = taken (IsVeri limits) IsProofOf longest p p' q g; verified = h }
+      -- what is verified is answered
+      settled : (i1 p1 : Option (List ℕ)) (v : Instance) (q : Proof) (w : Verdict) → IsOpbFile limits longest (Some i) i1 v → IsProofFile limits longest (Some p) p1 q → IsVerified limits v q w
+          → (result : Result Verdict ToolFault) (old new : W) (i' p' : Option (List ℕ)) → Answers result old i' p' new → IsDecided result → result ≡ Ok w
+      settled i1 p1 v q w f g h (Ok x) old new i' p' (v', f', q', g', h', wrote) d =
+          let problem : h'.problem ≡ h.problem = problems i' i1 v' v h'.problem h.problem f' h'.opened f h.opened in
+          let proof : q' ≡ q = one_proof laws limits longest p p' p1 q' q g' g in
+          let here : Accepts (largest limits) (top_of limits) h.problem (first_state h.problem) (statements_of q) h'.last =
+          subst (λ (y : Problem). Accepts (largest limits) (top_of limits) y (first_state y) (statements_of q) h'.last) problem (subst (λ (y : Proof). Accepts (largest limits) (top_of limits) h'.problem (first_state h'.problem) (statements_of y) h'.last) proof h'.accepted) in
+          let last : h'.last ≡ h.last = one_state laws.outcomes limits h.problem (statements_of q) (first_state h.problem) h'.last h.last here h.accepted in
+          ap (λ (y : Verdict). Ok y) (same_Some x w (sym h'.claimed ∙ (ap (λ (s : State). s.concluded) last ∙ h.claimed)))
+      settled i1 p1 v q w f g h (Err (Text of_instance s)) old new i' p' (r, kept, same) d = absurd (no_instance i1 i' v s f r d)
+      settled i1 p1 v q w f g h (Err (Overflow of_instance)) old new i' p' (v', f', k, kept, same) d = absurd (opens i1 i' v v' h.problem f h.opened f' k)
+      settled i1 p1 v q w f g h (Err (Step place e name)) old new i' p' (v', f', problem, opened, r, x) d =
+          let same : h.problem ≡ problem = problems i1 i' v v' h.problem problem f h.opened f' opened in
+          let went : Went problem = subst Went same (proof_passed laws limits longest p h.problem (first_state h.problem) p1 q h.last g h.accepted) in
+          absurd (no_step laws.outcomes limits problem (fixed_veri laws limits longest p) longest (first_state problem) p p' place e (string_bytes name) went r d)
+      settled i1 p1 v q w f g h (Err (Text of_proof s)) old new i' p' (v', f', problem, opened, r, x) d =
+          absurd (no_refusal (IsVeri limits) longest (one_veri laws limits longest p) (front_veri laws limits longest p) p s p1 g.spelled.marks
+          (whole_of (IsVeri limits) IsProofOf longest p p1 q g) (proof_refusal laws limits longest p problem (first_state problem) p' s r) d)
+      settled i1 p1 v q w f g h (Err (Text File s)) old new i' p' a d = absurd a
+      settled i1 p1 v q w f g h (Err (Overflow File)) old new i' p' a d = absurd a
+      settled i1 p1 v q w f g h (Err (Overflow of_proof)) old new i' p' a d = absurd a
+      settled i1 p1 v q w f g h (Err (Memory input)) old new i' p' a d = absurd d
+      settled i1 p1 v q w f g h (Err (Open input)) old new i' p' a d = absurd d
+      settled i1 p1 v q w f g h (Err Write) old new i' p' a d = absurd d
 
-    exactly : (i' p' : Option (List ℕ)) (old new : W) (result : Result Verdict ToolFault) (w : Verdict) → Answers result old i' p' new → IsDecided result → (result ≡ Ok w) ↔ AreVerified limits longest i p w
-    exactly i' p' old new result w a d = (
-      λ e. verified_by w old new i' p' (subst (λ (r : Result Verdict ToolFault). Answers r old i' p' new) e a),
-      λ v. settled (Some []) (Some []) v.instance v.proof w v.first v.second v.verified result old new i' p' a d,
-    )
+      verified_by : (w : Verdict) (old new : W) (i' p' : Option (List ℕ)) → Answers (Ok w) old i' p' new → AreVerified limits longest i p w
+      verified_by w old new i' p' (v, f, q, g, h, wrote) = record { instance = v; first = taken (IsOpb limits) IsValueOf longest i i' v f; proof = q; second = taken (IsVeri limits) IsProofOf longest p p' q g; verified = h }
 
-    -- ---- two answers
+      exactly : (i' p' : Option (List ℕ)) (old new : W) (result : Result Verdict ToolFault) (w : Verdict) → Answers result old i' p' new → IsDecided result → (result ≡ Ok w) ↔ AreVerified limits longest i p w
+      exactly i' p' old new result w a d = (
+        λ e. verified_by w old new i' p' (subst (λ (r : Result Verdict ToolFault). Answers r old i' p' new) e a),
+        λ v. settled (Some []) (Some []) v.instance v.proof w v.first v.second v.verified result old new i' p' a d,
+      )
 
-    -- what an answer that the bytes decide says of them
-    data Shown (result : Result Verdict ToolFault) : Type 0 where
-      Accepted : (w : Verdict) → result ≡ Ok w → AreVerified limits longest i p w → Shown result
-      NoInstance : (s : Stop) (i' : Option (List ℕ)) → result ≡ Err (Text of_instance s) → IsNoOpbFile limits longest (Some i) i' s → IsOfText s.why → Shown result
-      TooLarge : (v : Instance) (i' : Option (List ℕ)) → result ≡ Err (Overflow of_instance) → IsOpbFile limits longest (Some i) i' v → Opened (largest limits) v (Err over) → Shown result
-      NoStep : (v : Instance) (i' : Option (List ℕ)) (problem : Problem) (place : Place) (e : Fault) (name : String Global) (p' : Option (List ℕ)) → result ≡ Err (Step place e name) → IsOpbFile limits longest (Some i) i' v → Opened (largest limits) v (Ok problem)
-          → IsRefusedStep limits longest problem (first_state problem) (Some p) p' place e (string_bytes name) → e ≢ no_memory → Shown result
-      NoText : (v : Instance) (i' : Option (List ℕ)) (problem : Problem) (s : Stop) (p' : Option (List ℕ)) → result ≡ Err (Text of_proof s) → IsOpbFile limits longest (Some i) i' v → Opened (largest limits) v (Ok problem)
-          → IsRefusedText limits longest problem (first_state problem) (Some p) p' s → IsOfText s.why → Shown result
+      -- ---- two answers
 
-    shown : (result : Result Verdict ToolFault) (old new : W) (i' p' : Option (List ℕ)) → Answers result old i' p' new → IsDecided result → Shown result
-    shown (Ok w) old new i' p' a d = Accepted w refl (verified_by w old new i' p' a)
-    shown (Err (Text of_instance s)) old new i' p' (r, kept, same) d = NoInstance s i' refl r d
-    shown (Err (Overflow of_instance)) old new i' p' (v, f, k, kept, same) d = TooLarge v i' refl f k
-    shown (Err (Step place e name)) old new i' p' (v, f, problem, opened, r, x) d = NoStep v i' problem place e name p' refl f opened r d
-    shown (Err (Text of_proof s)) old new i' p' (v, f, problem, opened, r, x) d = NoText v i' problem s p' refl f opened r d
-    shown (Err (Text File s)) old new i' p' a d = absurd a
-    shown (Err (Overflow File)) old new i' p' a d = absurd a
-    shown (Err (Overflow of_proof)) old new i' p' a d = absurd a
-    shown (Err (Memory input)) old new i' p' a d = absurd d
-    shown (Err (Open input)) old new i' p' a d = absurd d
-    shown (Err Write) old new i' p' a d = absurd d
+      -- what an answer that the bytes decide says of them
+      data Shown (result : Result Verdict ToolFault) : Type 0 where
+        Accepted : (w : Verdict) → result ≡ Ok w → AreVerified limits longest i p w → Shown result
+        NoInstance : (s : Stop) (i' : Option (List ℕ)) → result ≡ Err (Text of_instance s) → IsNoOpbFile limits longest (Some i) i' s → IsOfText s.why → Shown result
+        TooLarge : (v : Instance) (i' : Option (List ℕ)) → result ≡ Err (Overflow of_instance) → IsOpbFile limits longest (Some i) i' v → Opened (largest limits) v (Err over) → Shown result
+        NoStep : (v : Instance) (i' : Option (List ℕ)) (problem : Problem) (place : Place) (e : Fault) (name : String Global) (p' : Option (List ℕ)) → result ≡ Err (Step place e name) → IsOpbFile limits longest (Some i) i' v → Opened (largest limits) v (Ok problem)
+            → IsRefusedStep limits longest problem (first_state problem) (Some p) p' place e (string_bytes name) → e ≢ no_memory → Shown result
+        NoText : (v : Instance) (i' : Option (List ℕ)) (problem : Problem) (s : Stop) (p' : Option (List ℕ)) → result ≡ Err (Text of_proof s) → IsOpbFile limits longest (Some i) i' v → Opened (largest limits) v (Ok problem)
+            → IsRefusedText limits longest problem (first_state problem) (Some p) p' s → IsOfText s.why → Shown result
 
-    to_same : (one other a b : Result Verdict ToolFault) → one ≡ a → other ≡ b → IsSame a b → IsSame one other
-    to_same one other a b e f h = subst (λ (x : Result Verdict ToolFault). IsSame x other) (sym e) (subst (λ (y : Result Verdict ToolFault). IsSame a y) (sym f) h)
+      shown : (result : Result Verdict ToolFault) (old new : W) (i' p' : Option (List ℕ)) → Answers result old i' p' new → IsDecided result → Shown result
+      shown (Ok w) old new i' p' a d = Accepted w refl (verified_by w old new i' p' a)
+      shown (Err (Text of_instance s)) old new i' p' (r, kept, same) d = NoInstance s i' refl r d
+      shown (Err (Overflow of_instance)) old new i' p' (v, f, k, kept, same) d = TooLarge v i' refl f k
+      shown (Err (Step place e name)) old new i' p' (v, f, problem, opened, r, x) d = NoStep v i' problem place e name p' refl f opened r d
+      shown (Err (Text of_proof s)) old new i' p' (v, f, problem, opened, r, x) d = NoText v i' problem s p' refl f opened r d
+      shown (Err (Text File s)) old new i' p' a d = absurd a
+      shown (Err (Overflow File)) old new i' p' a d = absurd a
+      shown (Err (Overflow of_proof)) old new i' p' a d = absurd a
+      shown (Err (Memory input)) old new i' p' a d = absurd d
+      shown (Err (Open input)) old new i' p' a d = absurd d
+      shown (Err Write) old new i' p' a d = absurd d
 
-    -- an accepted statement is not refused, and neither is one twice
-    text_or_step : (v w : Instance) (i' i'' : Option (List ℕ)) (a b : Problem) (s : Stop) (place : Place) (e : Fault) (name : String Global) (p' p'' : Option (List ℕ)) → IsOpbFile limits longest (Some i) i' v → Opened (largest limits) v (Ok a)
-        → IsRefusedText limits longest a (first_state a) (Some p) p' s → IsOfText s.why → IsOpbFile limits longest (Some i) i'' w → Opened (largest limits) w (Ok b) → IsRefusedStep limits longest b (first_state b) (Some p) p'' place e (string_bytes name) → e ≢ no_memory → ⊥
-    text_or_step v w i' i'' a b s place e name p' p'' f h r d g k x m =
-        let same : a ≡ b = problems i' i'' v w a b f h g k in
-        let went : Went b = subst Went same (refused_passed laws limits longest p a (first_state a) p' s r d) in
-        no_step laws.outcomes limits b (fixed_veri laws limits longest p) longest (first_state b) p p'' place e (string_bytes name) went x m
+      to_same : (one other a b : Result Verdict ToolFault) → one ≡ a → other ≡ b → IsSame a b → IsSame one other
+      to_same one other a b e f h = subst (λ (x : Result Verdict ToolFault). IsSame x other) (sym e) (subst (λ (y : Result Verdict ToolFault). IsSame a y) (sym f) h)
 
-    two_steps : (v w : Instance) (i' i'' : Option (List ℕ)) (a b : Problem) (place place' : Place) (e e' : Fault) (name name' : String Global) (p' p'' : Option (List ℕ)) → IsOpbFile limits longest (Some i) i' v → Opened (largest limits) v (Ok a)
-        → IsRefusedStep limits longest a (first_state a) (Some p) p' place e (string_bytes name) → e ≢ no_memory → IsOpbFile limits longest (Some i) i'' w → Opened (largest limits) w (Ok b)
-        → IsRefusedStep limits longest b (first_state b) (Some p) p'' place' e' (string_bytes name') → e' ≢ no_memory → IsSame (Err (Step place e name)) (Err (Step place' e' name'))
-    two_steps v w i' i'' a b place place' e e' name name' p' p'' f h r d g k r' d' =
-        let same : b ≡ a = problems i'' i' w v b a g k f h in
-        let (places, faults, names) =
-        one_step laws.outcomes limits a (fixed_veri laws limits longest p) longest (first_state a) p p' p'' place place' e e' (string_bytes name) (string_bytes name') r d
-        (subst (λ (x : Problem). IsRefusedStep limits longest x (first_state x) (Some p) p'' place' e' (string_bytes name')) same r') d' in
-        (name', ap (λ (x : Place). let t : Result Verdict ToolFault = Err (Step x e' name') in t) places ∙ ap (λ (x : Fault). let t : Result Verdict ToolFault = Err (Step place x name') in t) faults, names)
+      -- an accepted statement is not refused, and neither is one twice
+      text_or_step : (v w : Instance) (i' i'' : Option (List ℕ)) (a b : Problem) (s : Stop) (place : Place) (e : Fault) (name : String Global) (p' p'' : Option (List ℕ)) → IsOpbFile limits longest (Some i) i' v → Opened (largest limits) v (Ok a)
+          → IsRefusedText limits longest a (first_state a) (Some p) p' s → IsOfText s.why → IsOpbFile limits longest (Some i) i'' w → Opened (largest limits) w (Ok b) → IsRefusedStep limits longest b (first_state b) (Some p) p'' place e (string_bytes name) → e ≢ no_memory → ⊥
+      text_or_step v w i' i'' a b s place e name p' p'' f h r d g k x m =
+          let same : a ≡ b = problems i' i'' v w a b f h g k in
+          let went : Went b = subst Went same (refused_passed laws limits longest p a (first_state a) p' s r d) in
+          no_step laws.outcomes limits b (fixed_veri laws limits longest p) longest (first_state b) p p'' place e (string_bytes name) went x m
 
-    two_texts : (v w : Instance) (i' i'' : Option (List ℕ)) (a b : Problem) (s t : Stop) (p' p'' : Option (List ℕ)) → IsRefusedText limits longest a (first_state a) (Some p) p' s → IsOfText s.why → IsRefusedText limits longest b (first_state b) (Some p) p'' t → IsOfText t.why → t ≡ s
-    two_texts v w i' i'' a b s t p' p'' r d r' d' =
-        one_refusal (IsVeri limits) longest (one_veri laws limits longest p) (front_veri laws limits longest p) p t s
-        (proof_refusal laws limits longest p b (first_state b) p'' t r') (proof_refusal laws limits longest p a (first_state a) p' s r) d' d
+      two_steps : (v w : Instance) (i' i'' : Option (List ℕ)) (a b : Problem) (place place' : Place) (e e' : Fault) (name name' : String Global) (p' p'' : Option (List ℕ)) → IsOpbFile limits longest (Some i) i' v → Opened (largest limits) v (Ok a)
+          → IsRefusedStep limits longest a (first_state a) (Some p) p' place e (string_bytes name) → e ≢ no_memory → IsOpbFile limits longest (Some i) i'' w → Opened (largest limits) w (Ok b)
+          → IsRefusedStep limits longest b (first_state b) (Some p) p'' place' e' (string_bytes name') → e' ≢ no_memory → IsSame (Err (Step place e name)) (Err (Step place' e' name'))
+      two_steps v w i' i'' a b place place' e e' name name' p' p'' f h r d g k r' d' =
+          let same : b ≡ a = problems i'' i' w v b a g k f h in
+          let (places, faults, names) =
+          one_step laws.outcomes limits a (fixed_veri laws limits longest p) longest (first_state a) p p' p'' place place' e e' (string_bytes name) (string_bytes name') r d
+          (subst (λ (x : Problem). IsRefusedStep limits longest x (first_state x) (Some p) p'' place' e' (string_bytes name')) same r') d' in
+          (name', ap (λ (x : Place). let t : Result Verdict ToolFault = Err (Step x e' name') in t) places ∙ ap (λ (x : Fault). let t : Result Verdict ToolFault = Err (Step place x name') in t) faults, names)
 
-    one_stop_instance : (i' i'' : Option (List ℕ)) (s t : Stop) → IsNoOpbFile limits longest (Some i) i' s → IsOfText s.why → IsNoOpbFile limits longest (Some i) i'' t → IsOfText t.why → t ≡ s
-    one_stop_instance = one_stop_of_instance laws limits longest i
+      two_texts : (v w : Instance) (i' i'' : Option (List ℕ)) (a b : Problem) (s t : Stop) (p' p'' : Option (List ℕ)) → IsRefusedText limits longest a (first_state a) (Some p) p' s → IsOfText s.why → IsRefusedText limits longest b (first_state b) (Some p) p'' t → IsOfText t.why → t ≡ s
+      two_texts v w i' i'' a b s t p' p'' r d r' d' =
+          one_refusal (IsVeri limits) longest (one_veri laws limits longest p) (front_veri laws limits longest p) p t s
+          (proof_refusal laws limits longest p b (first_state b) p'' t r') (proof_refusal laws limits longest p a (first_state a) p' s r) d' d
 
-    same_refusals : (one other : Result Verdict ToolFault) → ((w : Verdict) → other ≡ Ok w → AreVerified limits longest i p w → one ≡ Ok w) → ((w : Verdict) → one ≡ Ok w → AreVerified limits longest i p w → other ≡ Ok w) → Shown one → Shown other → IsSame one other
-    same_refusals one other to from (Accepted w e v) y = to_same one other (Ok w) (Ok w) e (from w e v) refl
-    same_refusals one other to from (NoInstance s i' e r d) (Accepted w f v) = to_same one other (Ok w) (Ok w) (to w f v) f refl
-    same_refusals one other to from (TooLarge v i' e f k) (Accepted w g h) = to_same one other (Ok w) (Ok w) (to w g h) g refl
-    same_refusals one other to from (NoStep v i' problem place x name p' e f k r d) (Accepted w g h) = to_same one other (Ok w) (Ok w) (to w g h) g refl
-    same_refusals one other to from (NoText v i' problem s p' e f k r d) (Accepted w g h) = to_same one other (Ok w) (Ok w) (to w g h) g refl
-    same_refusals one other to from (NoInstance s i' e r d) (NoInstance t i'' e' r' d') = to_same one other (Err (Text of_instance s)) (Err (Text of_instance t)) e e' (ap (λ (x : Stop). Err (Text of_instance x)) (one_stop_instance i' i'' s t r d r' d'))
-    same_refusals one other to from (NoInstance s i' e r d) (TooLarge v i'' e' f k) = absurd (refused_instance i'' i' v s f r d)
-    same_refusals one other to from (NoInstance s i' e r d) (NoStep v i'' problem place x name p' e' f k r' d') = absurd (refused_instance i'' i' v s f r d)
-    same_refusals one other to from (NoInstance s i' e r d) (NoText v i'' problem t p' e' f k r' d') = absurd (refused_instance i'' i' v s f r d)
-    same_refusals one other to from (TooLarge v i' e f k) (NoInstance s i'' e' r d) = absurd (refused_instance i' i'' v s f r d)
-    same_refusals one other to from (TooLarge v i' e f k) (TooLarge w i'' e' g h) = to_same one other (Err (Overflow of_instance)) (Err (Overflow of_instance)) e e' refl
-    same_refusals one other to from (TooLarge v i' e f k) (NoStep w i'' problem place x name p' e' g h r d) = absurd (opens i'' i' w v problem g h f k)
-    same_refusals one other to from (TooLarge v i' e f k) (NoText w i'' problem s p' e' g h r d) = absurd (opens i'' i' w v problem g h f k)
-    same_refusals one other to from (NoStep v i' problem place x name p' e f k r d) (NoInstance s i'' e' r' d') = absurd (refused_instance i' i'' v s f r' d')
-    same_refusals one other to from (NoStep v i' problem place x name p' e f k r d) (TooLarge w i'' e' g h) = absurd (opens i' i'' v w problem f k g h)
-    same_refusals one other to from (NoStep v i' problem place x name p' e f k r d) (NoStep w i'' problem' place' x' name' p'' e' g h r' d') =
-        to_same one other (Err (Step place x name)) (Err (Step place' x' name')) e e' (two_steps v w i' i'' problem problem' place place' x x' name name' p' p'' f k r d g h r' d')
-    same_refusals one other to from (NoStep v i' problem place x name p' e f k r d) (NoText w i'' problem' s p'' e' g h r' d') = absurd (text_or_step w v i'' i' problem' problem s place x name p'' p' g h r' d' f k r d)
-    same_refusals one other to from (NoText v i' problem s p' e f k r d) (NoInstance t i'' e' r' d') = absurd (refused_instance i' i'' v t f r' d')
-    same_refusals one other to from (NoText v i' problem s p' e f k r d) (TooLarge w i'' e' g h) = absurd (opens i' i'' v w problem f k g h)
-    same_refusals one other to from (NoText v i' problem s p' e f k r d) (NoStep w i'' problem' place x name p'' e' g h r' d') = absurd (text_or_step v w i' i'' problem problem' s place x name p' p'' f k r d g h r' d')
-    same_refusals one other to from (NoText v i' problem s p' e f k r d) (NoText w i'' problem' t p'' e' g h r' d') =
-        to_same one other (Err (Text of_proof s)) (Err (Text of_proof t)) e e' (ap (λ (x : Stop). Err (Text of_proof x)) (two_texts v w i' i'' problem problem' s t p' p'' r d r' d'))
+      same_refusals : (one other : Result Verdict ToolFault) → ((w : Verdict) → other ≡ Ok w → AreVerified limits longest i p w → one ≡ Ok w) → ((w : Verdict) → one ≡ Ok w → AreVerified limits longest i p w → other ≡ Ok w) → Shown one → Shown other → IsSame one other
+      same_refusals one other to from (Accepted w e v) y = to_same one other (Ok w) (Ok w) e (from w e v) refl
+      same_refusals one other to from (NoInstance s i' e r d) (Accepted w f v) = to_same one other (Ok w) (Ok w) (to w f v) f refl
+      same_refusals one other to from (TooLarge v i' e f k) (Accepted w g h) = to_same one other (Ok w) (Ok w) (to w g h) g refl
+      same_refusals one other to from (NoStep v i' problem place x name p' e f k r d) (Accepted w g h) = to_same one other (Ok w) (Ok w) (to w g h) g refl
+      same_refusals one other to from (NoText v i' problem s p' e f k r d) (Accepted w g h) = to_same one other (Ok w) (Ok w) (to w g h) g refl
+      same_refusals one other to from (NoInstance s i' e r d) (NoInstance t i'' e' r' d') = to_same one other (Err (Text of_instance s)) (Err (Text of_instance t)) e e' (ap (λ (x : Stop). Err (Text of_instance x)) (one_stop_of_instance i' i'' s t r d r' d'))
+      same_refusals one other to from (NoInstance s i' e r d) (TooLarge v i'' e' f k) = absurd (no_instance i'' i' v s f r d)
+      same_refusals one other to from (NoInstance s i' e r d) (NoStep v i'' problem place x name p' e' f k r' d') = absurd (no_instance i'' i' v s f r d)
+      same_refusals one other to from (NoInstance s i' e r d) (NoText v i'' problem t p' e' f k r' d') = absurd (no_instance i'' i' v s f r d)
+      same_refusals one other to from (TooLarge v i' e f k) (NoInstance s i'' e' r d) = absurd (no_instance i' i'' v s f r d)
+      same_refusals one other to from (TooLarge v i' e f k) (TooLarge w i'' e' g h) = to_same one other (Err (Overflow of_instance)) (Err (Overflow of_instance)) e e' refl
+      same_refusals one other to from (TooLarge v i' e f k) (NoStep w i'' problem place x name p' e' g h r d) = absurd (opens i'' i' w v problem g h f k)
+      same_refusals one other to from (TooLarge v i' e f k) (NoText w i'' problem s p' e' g h r d) = absurd (opens i'' i' w v problem g h f k)
+      same_refusals one other to from (NoStep v i' problem place x name p' e f k r d) (NoInstance s i'' e' r' d') = absurd (no_instance i' i'' v s f r' d')
+      same_refusals one other to from (NoStep v i' problem place x name p' e f k r d) (TooLarge w i'' e' g h) = absurd (opens i' i'' v w problem f k g h)
+      same_refusals one other to from (NoStep v i' problem place x name p' e f k r d) (NoStep w i'' problem' place' x' name' p'' e' g h r' d') =
+          to_same one other (Err (Step place x name)) (Err (Step place' x' name')) e e' (two_steps v w i' i'' problem problem' place place' x x' name name' p' p'' f k r d g h r' d')
+      same_refusals one other to from (NoStep v i' problem place x name p' e f k r d) (NoText w i'' problem' s p'' e' g h r' d') = absurd (text_or_step w v i'' i' problem' problem s place x name p'' p' g h r' d' f k r d)
+      same_refusals one other to from (NoText v i' problem s p' e f k r d) (NoInstance t i'' e' r' d') = absurd (no_instance i' i'' v t f r' d')
+      same_refusals one other to from (NoText v i' problem s p' e f k r d) (TooLarge w i'' e' g h) = absurd (opens i' i'' v w problem f k g h)
+      same_refusals one other to from (NoText v i' problem s p' e f k r d) (NoStep w i'' problem' place x name p'' e' g h r' d') = absurd (text_or_step v w i' i'' problem problem' s place x name p' p'' f k r d g h r' d')
+      same_refusals one other to from (NoText v i' problem s p' e f k r d) (NoText w i'' problem' t p'' e' g h r' d') =
+          to_same one other (Err (Text of_proof s)) (Err (Text of_proof t)) e e' (ap (λ (x : Stop). Err (Text of_proof x)) (two_texts v w i' i'' problem problem' s t p' p'' r d r' d'))
 
-    alike : (i' p' i'' p'' : Option (List ℕ)) (old new old' new' : W) (one other : Result Verdict ToolFault) → Answers one old i' p' new → IsDecided one → Answers other old' i'' p'' new' → IsDecided other → IsSame one other
-    alike i' p' i'' p'' old new old' new' one other a d b d' =
-        same_refusals one other
-        (λ w e v. settled (Some []) (Some []) v.instance v.proof w v.first v.second v.verified one old new i' p' a d)
-        (λ w e v. settled (Some []) (Some []) v.instance v.proof w v.first v.second v.verified other old' new' i'' p'' b d')
-        (shown one old new i' p' a d) (shown other old' new' i'' p'' b d')
+      alike : (i' p' i'' p'' : Option (List ℕ)) (old new old' new' : W) (one other : Result Verdict ToolFault) → Answers one old i' p' new → IsDecided one → Answers other old' i'' p'' new' → IsDecided other → IsSame one other
+      alike i' p' i'' p'' old new old' new' one other a d b d' =
+          same_refusals one other
+          (λ w e v. settled (Some []) (Some []) v.instance v.proof w v.first v.second v.verified one old new i' p' a d)
+          (λ w e v. settled (Some []) (Some []) v.instance v.proof w v.first v.second v.verified other old' new' i'' p'' b d')
+          (shown one old new i' p' a d) (shown other old' new' i'' p'' b d')
 
 pub answers_exactly : {W : Type 0} (contents : W → Option (List ℕ)) (faults : W → ℕ) → AllSingle → AnswersExactly contents faults
 answers_exactly contents faults laws limits longest i p i' p' old new result w a d = exactly laws limits longest i p contents faults i' p' old new result w a d

@@ -1,7 +1,6 @@
 -- The same bytes are read in one way.
-use Rattle.std.proofs.Common.{◌≡◌, ◌⊎◌, inl, inr, ℕ, ◌<◌, ◌≤◌, List, [], ◌∷◌, ◌++◌, length, nat_le, Bool, true, false, cond, IsTrue, Option, None, refl, sym, ap, ◌∙◌, subst, append-nil, append_assoc, arith, length-append, le-leb}
-use Rattle.std.proofs.lemmas.List.{append_cancel_left}
-use Rattle.std.proofs.lemmas.Bool.{lt-leb}
+use Rattle.std.proofs.Common.{◌≡◌, ◌⊎◌, inl, inr, ℕ, ◌<◌, ◌≤◌, List, [], ◌∷◌, ◌++◌, length, nat_le, Bool, true, false, IsTrue, Option, None, refl, sym, ap, ◌∙◌, subst, append-nil, append_assoc, arith, length-append, le-leb}
+use Rattle.std.proofs.lemmas.Bool.{cond-false, cond-true, lt-leb}
 use Rattle.std.proofs.lemmas.Bool.Decides.{leb_tells}
 use Rattle.pb_text.specs.Classes.{is_digit}
 use Rattle.pb_text.specs.Reading.{AreShort, EndsInNumber, Explains, HasFixedMarks, IsBad, IsFull, IsFront, IsSpelled, IsUnderWay, Overruns, Reads, byte_limit, ended_within}
@@ -10,10 +9,10 @@ use Rattle.pb_text.specs.declared.Place.{Place}
 use Rattle.pb_text.specs.declared.Spanned.{Spanned}
 use Rattle.pb_text.specs.declared.Why.{Why}
 use Rattle.pb_text.specs.declared.Why.TheVariants.{Byte, TooLarge, Ended, TooLong, Read, Memory}
-use Rattle.pb_text.proofs.Lists.{bytes-append, bytes-plain}
+use Rattle.pb_text.proofs.Languages.{bytes-append, bytes-plain}
 use Rattle.pb_text.proofs.Short.{place_after-offset}
 use Rattle.pb_tool.specs.Decided.{IsOfText}
-use Rattle.pb_tool.proofs.Fronts.{Compared, two_fronts}
+use Rattle.pb_tool.proofs.Fronts.{begins_with, behind_front, one_front, same_behind}
 
 -- ---- marks within fronts
 
@@ -23,10 +22,10 @@ module _ {E : Type 0} where
   Begins front all = (more : List (Spanned E)) × (all ≡ front ++ more)
 
   within_more : (n : ℕ) (m : Spanned E) (marks : List (Spanned E)) → m.past.offset ≤ n → ended_within n (m ∷ marks) ≡ m ∷ ended_within n marks
-  within_more n m marks h = ap (λ (b : Bool). cond b (m ∷ ended_within n marks) (ended_within n marks)) (le-leb m.past.offset n h)
+  within_more n m marks h = cond-true (nat_le m.past.offset n) (m ∷ ended_within n marks) (ended_within n marks) (le-leb m.past.offset n h)
 
   within_less : (n : ℕ) (m : Spanned E) (marks : List (Spanned E)) → n < m.past.offset → ended_within n (m ∷ marks) ≡ ended_within n marks
-  within_less n m marks h = ap (λ (b : Bool). cond b (m ∷ ended_within n marks) (ended_within n marks)) (lt-leb m.past.offset n h)
+  within_less n m marks h = cond-false (nat_le m.past.offset n) (m ∷ ended_within n marks) (ended_within n marks) (lt-leb m.past.offset n h)
 
   within_first : (n : ℕ) (m : Spanned E) (marks : List (Spanned E)) → n < m.past.offset → ended_within n marks ≡ [] → ended_within n (m ∷ marks) ≡ []
   within_first n m marks h e = within_less n m marks h ∙ e
@@ -88,6 +87,16 @@ OneSpelling {E} format = (items items' : List (Item E)) → format items → for
 abbrev pub NoneGoesOn : {E : Type 0} → (List (Item E) → Type 0) → Type 0
 NoneGoesOn {E} format = (items items' : List (Item E)) (more : List ℕ) → format items → format items' → bytes_of items' ≡ bytes_of items ++ more → more ≡ []
 
+-- of two spellings in one text neither is longer
+module _ {E : Type 0} (format : List (Item E) → Type 0) (front : NoneGoesOn format) where
+  no_longer : (used used' : List ℕ) (items items' : List (Item E)) → format items → format items' → bytes_of items ≡ used → bytes_of items' ≡ used' → (x : ℕ) (m : List ℕ) → used' ≡ used ++ x ∷ m → ⊥
+  no_longer used used' items items' h h' are are' x m p =
+      let none : x ∷ m ≡ [] = front items items' (x ∷ m) h h' (are' ∙ (p ∙ ap (λ (y : List ℕ). y ++ x ∷ m) (sym are))) in
+      absurd cc
+
+  pub one_spelt : (used left used' left' : List ℕ) (items items' : List (Item E)) → used ++ left ≡ used' ++ left' → format items → format items' → bytes_of items ≡ used → bytes_of items' ≡ used' → used ≡ used'
+  one_spelt used left used' left' items items' e h h' are are' = one_front used left used' left' e (no_longer used used' items items' h h' are are') (no_longer used' used items' items h' h are' are)
+
 module _ {E : Type 0} (format : List (Item E) → Type 0) (longest : ℕ) where
   -- a front of a spelling with its marks, where no limit was passed
   pub record Reached (used : List ℕ) (marks : List (Spanned E)) : Type 0 where
@@ -118,7 +127,7 @@ module _ {E : Type 0} (format : List (Item E) → Type 0) (longest : ℕ) where
   -- ---- nothing is read behind a stop
   module _ (used left used' left' : List ℕ) (marks' : List (Spanned E)) (input_is : used ++ left ≡ used' ++ left') (r : Reached used' marks') where
     next : (x : ℕ) (m : List ℕ) → used' ≡ used ++ x ∷ m → left ≡ x ∷ (m ++ left')
-    next x m p = append_cancel_left used left (x ∷ (m ++ left')) (input_is ∙ (ap (λ (y : List ℕ). y ++ left') p ∙ append_assoc used (x ∷ m) left'))
+    next x m p = behind_front used left used' left' input_is (x ∷ m) p
 
     goes_on : (m : List ℕ) → used' ≡ used ++ m → bytes_of r.items ≡ used ++ (m ++ r.more)
     goes_on m p = r.begins ∙ (ap (λ (y : List ℕ). y ++ r.more) p ∙ append_assoc used m r.more)
@@ -144,11 +153,7 @@ module _ {E : Type 0} (format : List (Item E) → Type 0) (longest : ℕ) where
 
     -- what was reached of the text begins the used bytes
     pub reached_before : (why : Why) → IsOfText why → Explains format longest used left why → (m : List ℕ) × (used ≡ used' ++ m)
-    reached_before why d h = by (two_fronts used' left' used left (sym input_is))
-      where
-        by : Compared used' used → (m : List ℕ) × (used ≡ used' ++ m)
-        by (inl h') = h'
-        by (inr (x, m, p)) = absurd (no_further why d h x m p)
+    reached_before why d h = begins_with used' left' used left (sym input_is) (no_further why d h)
 
   -- ---- two stops
   module _ (used left : List ℕ) where
@@ -192,17 +197,10 @@ module _ {E : Type 0} (format : List (Item E) → Type 0) (longest : ℕ) where
   pub one_stop : (used left used' left' : List ℕ) (marks marks' : List (Spanned E)) (why why' : Why) → used ++ left ≡ used' ++ left' → IsUnderWay format longest used marks → IsOfText why → Explains format longest used left why
       → IsUnderWay format longest used' marks' → IsOfText why' → Explains format longest used' left' why' → (used ≡ used') × (why ≡ why')
   one_stop used left used' left' marks marks' why why' e u d x u' d' x' =
-      let same : used ≡ used' = by (two_fronts used left used' left' e) in
-      let rest : left ≡ left' = append_cancel_left used left left' (e ∙ ap (λ (y : List ℕ). y ++ left') (sym same)) in
+      let same : used ≡ used' =
+      one_front used left used' left' e (no_further used left used' left' marks' e (way_reached used' marks' u') why d x) (no_further used' left' used left marks (sym e) (way_reached used marks u) why' d' x') in
+      let rest : left ≡ left' = same_behind used left used' left' e same in
       (same, one_why used left why why' d d' x (subst (λ (y : List ℕ). Explains format longest used y why') (sym rest) (subst (λ (y : List ℕ). Explains format longest y left' why') (sym same) x')))
-    where
-      by_rest : (m : List ℕ) → used' ≡ used ++ m → used ≡ used'
-      by_rest [] p = sym (append-nil used) ∙ sym p
-      by_rest (y ∷ m) p = absurd (no_further used left used' left' marks' e (way_reached used' marks' u') why d x y m p)
-
-      by : Compared used used' → used ≡ used'
-      by (inl (m, p)) = by_rest m p
-      by (inr (y, m, p)) = absurd (no_further used' left' used left marks (sym e) (way_reached used marks u) why' d' x' y m p)
 
   -- ---- a spelling is not refused
   module _ (used left used' left' : List ℕ) (marks marks' : List (Spanned E)) (e : used ++ left ≡ used' ++ left') (u : IsUnderWay format longest used marks) (s : IsSpelled format longest used' marks') where
@@ -217,25 +215,13 @@ module _ {E : Type 0} (format : List (Item E) → Type 0) (longest : ℕ) where
 
     -- and a statement that was read comes within it
     pub way_before : (m : List ℕ) × (used' ≡ used ++ m)
-    way_before = by (two_fronts used left used' left' e)
-      where
-        by : Compared used used' → (m : List ℕ) × (used' ≡ used ++ m)
-        by (inl h) = h
-        by (inr (y, m, p)) = absurd (not_beyond (y ∷ m) p)
+    way_before = begins_with used left used' left' e (λ y m p. not_beyond (y ∷ m) p)
 
   module _ (one : OneSpelling format) (front : NoneGoesOn format) where
     pub one_spelled : (used left used' left' : List ℕ) (marks marks' : List (Spanned E)) → used ++ left ≡ used' ++ left' → (s : IsSpelled format longest used marks) → (s' : IsSpelled format longest used' marks') → (used ≡ used') × (s.items ≡ s'.items)
     one_spelled used left used' left' marks marks' e s s' =
-        let same : used ≡ used' = by (two_fronts used left used' left' e) in
+        let same : used ≡ used' = one_spelt format front used left used' left' s.items s'.items e s.spelled s'.spelled s.used_are s'.used_are in
         (same, one s.items s'.items s.spelled s'.spelled (s.used_are ∙ (same ∙ sym s'.used_are)))
-      where
-        by : Compared used used' → used ≡ used'
-        by (inl (m, p)) =
-            let none : m ≡ [] = front s.items s'.items m s.spelled s'.spelled (s'.used_are ∙ (p ∙ ap (λ (y : List ℕ). y ++ m) (sym s.used_are))) in
-            sym (append-nil used) ∙ (ap (λ (y : List ℕ). used ++ y) (sym none) ∙ sym p)
-        by (inr (y, m, p)) =
-            let none : y ∷ m ≡ [] = front s'.items s.items (y ∷ m) s'.spelled s.spelled (s.used_are ∙ (p ∙ ap (λ (z : List ℕ). z ++ y ∷ m) (sym s'.used_are))) in
-            absurd cc
 
     -- what was read so far of a text that spells comes within it
     pub so_far_before : (used left used' left' : List ℕ) (marks marks' : List (Spanned E)) (input : List ℕ) (place : Place) (done : Bool) → used ++ left ≡ used' ++ left' → Reads format longest input used marks place done None → IsSpelled format longest used' marks' → (m : List ℕ) × (used' ≡ used ++ m)

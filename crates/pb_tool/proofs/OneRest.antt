@@ -1,6 +1,6 @@
 -- The rest behind a text is blank or not.
-use Rattle.std.proofs.Common.{◌≡◌, ◌≢◌, inl, inr, ℕ, ◌+◌, ◌<◌, ◌≤◌, List, [], ◌∷◌, ◌++◌, length, false, IsTrue, refl, sym, ap, ap₂, ◌∙◌, subst, append-nil, append_assoc, arith, length-append}
-use Rattle.std.proofs.lemmas.List.{append_cancel_left}
+use Rattle.std.proofs.Common.{◌≡◌, ℕ, ◌+◌, ◌≤◌, List, ◌∷◌, ◌++◌, length, IsTrue, refl, sym, ap, ap₂, ◌∙◌, subst, arith, length-append}
+use Rattle.std.proofs.lemmas.Bool.{both_ways}
 use Rattle.std.proofs.Math.Seq.{get_or-append_seam, take-append_seam}
 use Rattle.pb_text.specs.Blank.{IsBlank, IsStray, passes}
 use Rattle.pb_text.specs.Reading.{byte_limit}
@@ -8,7 +8,7 @@ use Rattle.pb_text.specs.declared.Place.{Place}
 use Rattle.pb_text.specs.declared.Why.{Why}
 use Rattle.pb_text.specs.declared.Why.TheVariants.{Byte, TooLarge, Ended, TooLong, Read, Memory}
 use Rattle.pb_tool.specs.Decided.{IsOfText}
-use Rattle.pb_tool.proofs.Fronts.{Compared, two_fronts}
+use Rattle.pb_tool.proofs.Fronts.{behind_front, one_front, same_behind, some_left}
 
 -- a byte within a blank text passes
 passes_in : (text used more : List ℕ) (b : ℕ) → IsBlank text → text ≡ used ++ b ∷ more → IsTrue (passes used b)
@@ -16,17 +16,10 @@ passes_in text used more b blank e =
     let here : IsBlank (used ++ b ∷ more) = subst IsBlank e blank in
     subst IsTrue (ap₂ passes (take-append_seam used (b ∷ more)) (get_or-append_seam used b more 0)) (here (length used) (omega (arith, length-append used (b ∷ more))))
 
-no_flag : (used : List ℕ) (b : ℕ) → IsTrue (passes used b) → passes used b ≡ false → ⊥
-no_flag used b h e = let k : IsTrue false = subst IsTrue e h in absurd cc
-
-some_left : (left : List ℕ) → left ≢ [] → 0 < length left
-some_left [] h = absurd (h refl)
-some_left (b ∷ left) h = omega arith
-
 module _ (place : Place) where
   -- a blank rest has no stray byte
   pub not_stray : (used left : List ℕ) (why : Why) → IsBlank (used ++ left) → place.offset + length (used ++ left) ≤ byte_limit → IsOfText why → IsStray place used left why → ⊥
-  not_stray used left (Byte b) blank within d (more, e, bad, room) = no_flag used b (passes_in (used ++ left) used more b blank (ap (λ (x : List ℕ). used ++ x) e)) bad
+  not_stray used left (Byte b) blank within d (more, e, bad, room) = both_ways (passes used b) bad (passes_in (used ++ left) used more b blank (ap (λ (x : List ℕ). used ++ x) e))
   not_stray used left TooLong blank within d (some, full) = omega (arith, within, full, some_left left some, length-append used left)
   not_stray used left TooLarge blank within d h = h
   not_stray used left Ended blank within d h = h
@@ -36,10 +29,9 @@ module _ (place : Place) where
   -- no blank text goes on behind a stray byte
   no_more : (used left used' left' : List ℕ) (why : Why) → used ++ left ≡ used' ++ left' → IsBlank used' → place.offset + length used' ≤ byte_limit → IsOfText why → IsStray place used left why → (x : ℕ) (m : List ℕ) → used' ≡ used ++ x ∷ m → ⊥
   no_more used left used' left' (Byte b) e blank within d (more, is, bad, room) x m p =
-      let next : left ≡ x ∷ (m ++ left') = append_cancel_left used left (x ∷ (m ++ left')) (e ∙ (ap (λ (y : List ℕ). y ++ left') p ∙ append_assoc used (x ∷ m) left')) in
-      let k : b ∷ more ≡ x ∷ (m ++ left') = sym is ∙ next in
+      let k : b ∷ more ≡ x ∷ (m ++ left') = sym is ∙ behind_front used left used' left' e (x ∷ m) p in
       let same : x ≡ b = cc in
-      no_flag used b (passes_in used' used m b blank (p ∙ ap (λ (y : ℕ). used ++ y ∷ m) same)) bad
+      both_ways (passes used b) bad (passes_in used' used m b blank (p ∙ ap (λ (y : ℕ). used ++ y ∷ m) same))
   no_more used left used' left' TooLong e blank within d (some, full) x m p = omega (arith, within, full, ap (λ (y : List ℕ). length y) p, length-append used (x ∷ m))
   no_more used left used' left' TooLarge e blank within d h x m p = h
   no_more used left used' left' Ended e blank within d h x m p = h
@@ -78,14 +70,7 @@ module _ (place : Place) where
   -- the first stray byte is one
   pub one_stray : (used left used' left' : List ℕ) (why why' : Why) → used ++ left ≡ used' ++ left' → IsBlank used → IsBlank used' → IsOfText why → IsOfText why' → IsStray place used left why → IsStray place used' left' why' → (used ≡ used') × (why ≡ why')
   one_stray used left used' left' why why' e blank blank' d d' h h' =
-      let same : used ≡ used' = by (two_fronts used left used' left' e) in
-      let rest : left ≡ left' = append_cancel_left used left left' (e ∙ ap (λ (y : List ℕ). y ++ left') (sym same)) in
+      let same : used ≡ used' =
+      one_front used left used' left' e (no_more used left used' left' why e blank' (within_by used' left' why' d' h') d h) (no_more used' left' used left why' (sym e) blank (within_by used left why d h) d' h') in
+      let rest : left ≡ left' = same_behind used left used' left' e same in
       (same, one_why used left why why' d d' h (subst (λ (y : List ℕ). IsStray place used y why') (sym rest) (subst (λ (y : List ℕ). IsStray place y left' why') (sym same) h')))
-    where
-      by_rest : (m : List ℕ) → used' ≡ used ++ m → used ≡ used'
-      by_rest [] p = sym (append-nil used) ∙ sym p
-      by_rest (y ∷ m) p = absurd (no_more used left used' left' why e blank' (within_by used' left' why' d' h') d h y m p)
-
-      by : Compared used used' → used ≡ used'
-      by (inl (m, p)) = by_rest m p
-      by (inr (y, m, p)) = absurd (no_more used' left' used left why' (sym e) blank (within_by used left why d h) d' h' y m p)

@@ -1,12 +1,15 @@
 -- The statements of an instance come in the order in which its canonical text has them.
-use Rattle.std.proofs.Common.{◌≡◌, ℕ, suc, zero, ◌+◌, ◌≤◌, List, [], ◌∷◌, ◌++◌, take, drop, length, Bool, true, false, IsTrue, cond, nat_le, Option, Some, None, refl, sym, ap, ap₂, subst, ◌∙◌, append_assoc, arith}
+use Rattle.std.proofs.Common.{◌≡◌, ℕ, suc, zero, ◌+◌, ◌≤◌, List, [], ◌∷◌, ◌++◌, take, drop, length, Bool, true, false, cond, nat_le, Option, Some, None, refl, sym, ap, ap₂, subst, ◌∙◌, append_assoc, append-nil, ◌<◌, arith}
+use Rattle.std.specs.List.{flat_map}
+use Rattle.std.proofs.lemmas.Bool.{both_ways, leb-false, leb-true}
 use Rattle.pb_text.specs.Spelling.{Item, Letter}
 use Rattle.pb_text.specs.Whole.{gathered, events_of}
 use Rattle.pb_sums.specs.declared.Term.{Term}
 use Rattle.pb_sums.specs.declared.Linear.{Linear}
+use Rattle.pb_opb.proofs.Kept.{told}
 use Rattle.pb_opb.specs.Canonical.{header_bytes, event_bytes, lines, objective_events, constraint_events, comment_events, due, in_order, body_events, instance_bytes}
 use Rattle.pb_opb.specs.Instances.{IsEntry, IsBody}
-use Rattle.pb_opb.specs.Values.{last_or, variables_in, tails_in, objectives_in, constraints_in, comments_in, comment_at}
+use Rattle.pb_opb.specs.Values.{IsValueOf, last_or, variables_in, tails_in, objectives_in, constraints_in, comments_in, comment_at}
 use Rattle.pb_opb.specs.declared.Instance.{Instance}
 use Rattle.pb_opb.specs.declared.Comment as comment
 use Rattle.pb_opb.specs.declared.OpbEvent.{OpbEvent}
@@ -23,12 +26,6 @@ mains_in (Comment t ∷ events) = mains_in events
 mains_in (Objective t ∷ events) = Objective t ∷ mains_in events
 mains_in (Constraint l ∷ events) = Constraint l ∷ mains_in events
 
-le_false : (m n : ℕ) → nat_le m n ≡ false → n + 1 ≤ m
-le_false m n h = grind (arith, h)
-
-le_true : (m n : ℕ) → nat_le m n ≡ true → m ≤ n
-le_true m n h = grind (arith, h)
-
 -- a comment that comes now stands first
 comment_first : (k : ℕ) (t : List ℕ) (cs : List comment.Comment) (e : OpbEvent) (ms : List OpbEvent) → in_order k (comment_at k t ∷ cs) (e ∷ ms) ≡ Comment t ∷ in_order k cs (e ∷ ms)
 comment_first k t cs e ms = first (nat_le k k) refl
@@ -39,7 +36,7 @@ comment_first k t cs e ms = first (nat_le k k) refl
     first true h =
         let one : 1 + due k cs ≡ suc (due k cs) = omega arith in
         rw one refl
-    first false h = absurd (let late : k + 1 ≤ k = le_false k k h in omega arith)
+    first false h = absurd (let late : k < k = leb-false k k h in omega arith)
 
 -- no comment behind a later statement comes now
 late : (events : List OpbEvent) (k j : ℕ) → k + 1 ≤ j → due k (comments_in j events) ≡ 0
@@ -48,7 +45,7 @@ late (Header n m t ∷ events) k j h = late events k j h
 late (Comment t ∷ events) k j h = none (nat_le j k) refl
   where
     none : (b : Bool) → nat_le j k ≡ b → cond b (1 + due k (comments_in j events)) 0 ≡ 0
-    none true e = absurd (let i : j ≤ k = le_true j k e in omega arith)
+    none true e = absurd (let i : j ≤ k = leb-true j k e in omega arith)
     none false e = refl
 late (Objective t ∷ events) k j h = late events k (j + 1) (omega arith)
 late (Constraint l ∷ events) k j h = late events k (j + 1) (omega arith)
@@ -57,11 +54,8 @@ late (Constraint l ∷ events) k j h = late events k (j + 1) (omega arith)
 main_first : (k : ℕ) (cs : List comment.Comment) (e : OpbEvent) (ms : List OpbEvent) → due k cs ≡ 0 → in_order k cs (e ∷ ms) ≡ e ∷ in_order (k + 1) cs ms
 main_first k cs e ms h = rw h refl
 
--- What the statements behind a header say, of which n are constraints.
+-- How the statements behind a header stand, of which n are constraints.
 pub record Follows (may : Bool) (n : ℕ) (events : List OpbEvent) : Type 0 where
-  pub variables : variables_in events ≡ []
-  pub tails : tails_in events ≡ []
-  pub count : length (constraints_in events) ≡ n
   pub some : 1 ≤ n → ((l : Linear) × (ls : List Linear) × (constraints_in events ≡ l ∷ ls)) × ((e : OpbEvent) × (ms : List OpbEvent) × (mains_in events ≡ e ∷ ms))
   pub in_place : (k : ℕ) → in_order k (comments_in k events) (mains_in events) ≡ events
   pub only_constraints : may ≡ false → (objectives_in events ≡ []) × (mains_in events ≡ constraint_events (constraints_in events))
@@ -75,9 +69,6 @@ module _ (limit : ℕ) where
   follows-entry may n text (Comment t) rest ih h =
       let r : Follows may (suc n) (events_of rest) = ih may (suc n) h.2 in
       record {
-        variables = r.variables;
-        tails = r.tails;
-        count = r.count;
         some = r.some;
         in_place = λ k.
             let (f, ms, is) = (r.some (omega arith)).1 in
@@ -91,29 +82,19 @@ module _ (limit : ℕ) where
       let only = r.only_constraints refl in
       let first : OpbEvent = Objective t in
       record {
-        variables = r.variables;
-        tails = r.tails;
-        count = r.count;
         some = λ i. ((r.some i).0, (first, mains_in (events_of rest), refl));
         in_place = λ k.
             main_first k (comments_in (k + 1) (events_of rest)) first (mains_in (events_of rest)) (late (events_of rest) k (k + 1) (omega arith))
             ∙ ap (λ (xs : List OpbEvent). first ∷ xs) (r.in_place (k + 1));
-        only_constraints = λ e. absurd (not_both may h.0 e);
+        only_constraints = λ e. absurd (both_ways may e h.0);
         mains = rw (only.0, only.1) refl;
       }
-    where
-      not_both : (b : Bool) → IsTrue b → b ≡ false → ⊥
-      not_both true i e = cc
-      not_both false i e = cc
   follows-entry may n text (Constraint l) rest ih h =
       let r : Follows false n (events_of rest) = ih false n h.1 in
       let only = r.only_constraints refl in
       let first : OpbEvent = Constraint l in
       let all : mains_in (first ∷ events_of rest) ≡ constraint_events (constraints_in (first ∷ events_of rest)) = ap (λ (xs : List OpbEvent). first ∷ xs) only.1 in
       record {
-        variables = r.variables;
-        tails = r.tails;
-        count = ap suc r.count;
         some = λ i. ((l, constraints_in (events_of rest), refl), (first, mains_in (events_of rest), refl));
         in_place = λ k.
             main_first k (comments_in (k + 1) (events_of rest)) first (mains_in (events_of rest)) (late (events_of rest) k (k + 1) (omega arith))
@@ -123,7 +104,7 @@ module _ (limit : ℕ) where
       }
 
   pub follows : (may : Bool) (n : ℕ) (items : List (Item OpbEvent)) → IsBody limit may n items → Follows may n (events_of items)
-  follows may zero [] h = record { variables = refl; tails = refl; count = refl; some = λ i. absurd (let j : 1 ≤ 0 = i in omega arith); in_place = λ k. refl; only_constraints = λ e. (refl, refl); mains = refl }
+  follows may zero [] h = record { some = λ i. absurd (let j : 1 ≤ 0 = i in omega arith); in_place = λ k. refl; only_constraints = λ e. (refl, refl); mains = refl }
   follows may zero (i ∷ rest) h = absurd h
   follows may (suc n) [] h = absurd h
   follows may (suc n) (i ∷ rest) h = follows-entry may n i.text i.event rest (λ m k b. follows m k rest b) h.1
@@ -131,17 +112,35 @@ module _ (limit : ℕ) where
 abbrev pub line_more : List ℕ → OpbEvent → List ℕ
 line_more text e = text ++ line e
 
+-- lines of which each has a line feed
+fed : (e : OpbEvent) (events : List OpbEvent) → flat_map line (e ∷ events) ≡ lines (e ∷ events) ++ 10 ∷ []
+fed e [] = append-nil (line e)
+fed e (f ∷ events) =
+    ap (λ (x : List ℕ). line e ++ x) (fed f events)
+    ∙ (append_assoc (event_bytes e) (10 ∷ []) (lines (f ∷ events) ++ 10 ∷ []) ∙ sym (append_assoc (event_bytes e) (10 ∷ lines (f ∷ events)) (10 ∷ [])))
+
 -- the lines so far, and then those of the other statements
-ended : (e : OpbEvent) (rest : List OpbEvent) (text : List ℕ) → gathered line_more text (e ∷ rest) ≡ text ++ (lines (e ∷ rest) ++ 10 ∷ [])
-ended e [] text = refl
-ended e (f ∷ rest) text =
-    ended f rest (line_more text e)
-    ∙ (append_assoc text (event_bytes e ++ 10 ∷ []) (lines (f ∷ rest) ++ 10 ∷ [])
-    ∙ ap (λ (x : List ℕ). text ++ x) (append_assoc (event_bytes e) (10 ∷ []) (lines (f ∷ rest) ++ 10 ∷ []) ∙ sym (append_assoc (event_bytes e) (10 ∷ lines (f ∷ rest)) (10 ∷ []))))
+ended : (rest : List OpbEvent) (text : List ℕ) → gathered line_more text rest ≡ text ++ flat_map line rest
+ended [] text = sym (append-nil text)
+ended (e ∷ rest) text = ended rest (line_more text e) ∙ append_assoc text (line e) (flat_map line rest)
+
+-- the line of the header, and those of the other statements
+pub headed : (v : Instance) (head : List ℕ) (e : OpbEvent) (events : List OpbEvent) → instance_bytes v ≡ head ++ (10 ∷ lines (e ∷ events)) → is_bare v.objective v.constraints ≡ false
+    → (head ++ 10 ∷ []) ++ flat_map line (e ∷ events) ≡ tidied v
+headed v head e events bytes full =
+    ap (λ (x : List ℕ). (head ++ 10 ∷ []) ++ x) (fed e events)
+    ∙ (append_assoc head (10 ∷ []) (lines (e ∷ events) ++ 10 ∷ [])
+    ∙ (sym (append_assoc head (10 ∷ lines (e ∷ events)) (10 ∷ []))
+    ∙ (ap (λ (x : List ℕ). x ++ 10 ∷ []) (sym bytes) ∙ sym (tidied_more v full))))
 
 -- the value of a header and what follows it
 abbrev pub value_of : ℕ → List ℕ → List OpbEvent → Instance
 value_of n tail events = record { variables = n; tail = tail; objective = last_or None (objectives_in events); comments = comments_in 0 events; constraints = constraints_in events }
+
+pub is_value : (n m : ℕ) (tail : List ℕ) (limit : ℕ) (items : List (Item OpbEvent)) → IsBody limit true m items → IsValueOf (Header n m tail ∷ events_of items) (value_of n tail (events_of items))
+is_value n m tail limit items h =
+    let r = told limit true m items h in
+    record { variables = ap (last_or n) (sym r.variables); tail = ap (last_or tail) (sym r.tails); objective = refl; comments = refl; constraints = refl }
 
 module _ (limit top : ℕ) where
   bare_not : (o : Option (List Term)) (l : Linear) (ls : List Linear) → is_bare o (l ∷ ls) ≡ false
@@ -160,8 +159,5 @@ module _ (limit top : ℕ) where
       let (l, ls, some) = (r.some (omega arith)).0 in
       let full : is_bare v.objective v.constraints ≡ false = ap (is_bare v.objective) some ∙ bare_not v.objective l ls in
       let head : List ℕ = header_bytes n (suc m) tail in
-      let bytes : instance_bytes v ≡ head ++ (10 ∷ lines events) = ap₂ (λ (x : ℕ) (y : List OpbEvent). header_bytes n x tail ++ (10 ∷ lines y)) r.count body in
-      ended i.event (events_of rest) (head ++ 10 ∷ [])
-      ∙ (append_assoc head (10 ∷ []) (lines events ++ 10 ∷ [])
-      ∙ (sym (append_assoc head (10 ∷ lines events) (10 ∷ []))
-      ∙ (ap (λ (x : List ℕ). x ++ 10 ∷ []) (sym bytes) ∙ sym (tidied_more v full))))
+      let bytes : instance_bytes v ≡ head ++ (10 ∷ lines events) = ap₂ (λ (x : ℕ) (y : List OpbEvent). header_bytes n x tail ++ (10 ∷ lines y)) (told limit true (suc m) (i ∷ rest) h).count body in
+      ended events (head ++ 10 ∷ []) ∙ headed v head i.event (events_of rest) bytes full

@@ -3,6 +3,8 @@ use Rattle.std.proofs.Common.{◌≡◌, ◌↔◌, ℕ, List, [], ◌∷◌, �
 use Rattle.pb_text.specs.Spelling.{Item}
 use Rattle.pb_text.specs.Whole.{gathered, events_of}
 use Rattle.pb_text.specs.declared.Limits.{Limits}
+use Rattle.std.specs.List.{flat_map}
+use Rattle.std.proofs.lemmas.Grind.{flat_map-append}
 use Rattle.std.proofs.lemmas.List.Elements.{All-head, All-tail}
 use Rattle.pb_proof.specs.Gather.{asks, MayKeep}
 use Rattle.pb_proof.specs.Canonical.{statement_bytes, lines}
@@ -19,19 +21,11 @@ use Rattle.pb_tool.specs.declared.proof_text.ProofText.{ProofText}
 use Rattle.pb_tool.proofs.TextFile.{tidies_value, wants_value}
 
 -- lines, each with its line feed
-abbrev each_line : List Statement → List ℕ
-each_line [] = []
-each_line (s ∷ rest) = line s ++ each_line rest
-
-each_append : (first rest : List Statement) → each_line (first ++ rest) ≡ each_line first ++ each_line rest
-each_append [] rest = refl
-each_append (s ∷ first) rest = ap (λ (x : List ℕ). line s ++ x) (each_append first rest) ∙ sym (append_assoc (line s) (each_line first) (each_line rest))
-
-ended : (s : Statement) (rest : List Statement) → lines (s ∷ rest) ++ 10 ∷ [] ≡ each_line (s ∷ rest)
+ended : (s : Statement) (rest : List Statement) → lines (s ∷ rest) ++ 10 ∷ [] ≡ flat_map line (s ∷ rest)
 ended s [] = sym (append-nil (line s))
 ended s (r ∷ rest) =
     append_assoc (statement_bytes s) (10 ∷ lines (r ∷ rest)) (10 ∷ [])
-    ∙ (ap (λ (x : List ℕ). statement_bytes s ++ (10 ∷ x)) (ended r rest) ∙ sym (append_assoc (statement_bytes s) (10 ∷ []) (each_line (r ∷ rest))))
+    ∙ (ap (λ (x : List ℕ). statement_bytes s ++ (10 ∷ x)) (ended r rest) ∙ sym (append_assoc (statement_bytes s) (10 ∷ []) (flat_map line (r ∷ rest))))
 
 -- the text with more steps
 abbrev with_text : ProofText → List ℕ → ProofText
@@ -49,22 +43,22 @@ step_behind t Output h = absurd h
 step_behind t (Conclude c) h = absurd h
 step_behind t End h = absurd h
 
-steps_behind : (steps rest : List Statement) (t : ProofText) → All IsStep steps → gathered with t (steps ++ rest) ≡ gathered with (with_text t (each_line steps)) rest
+steps_behind : (steps rest : List Statement) (t : ProofText) → All IsStep steps → gathered with t (steps ++ rest) ≡ gathered with (with_text t (flat_map line steps)) rest
 steps_behind [] rest t h = ap (λ (x : List ℕ). gathered with (record t { steps = record t.steps { text = x } }) rest) (sym (append-nil t.steps.text))
 steps_behind (s ∷ steps) rest t h =
     ap (λ (x : ProofText). gathered with x (steps ++ rest)) (step_behind t s (All-head IsStep s steps h))
     ∙ (steps_behind steps rest (with_text t (line s)) (All-tail IsStep s steps h)
-    ∙ ap (λ (x : List ℕ). gathered with (record t { steps = record t.steps { text = x } }) rest) (append_assoc t.steps.text (line s) (each_line steps)))
+    ∙ ap (λ (x : List ℕ). gathered with (record t { steps = record t.steps { text = x } }) rest) (append_assoc t.steps.text (line s) (flat_map line steps)))
 
 proof_text : (empty : ProofText) → empty.steps.text ≡ [] → (v : Proof) → All IsStep v.steps → text_of (gathered with empty (statements_of v)) ≡ tidied_proof v
 proof_text empty n v h =
     let behind : List Statement = Output ∷ Conclude v.conclusion ∷ End ∷ [] in
     let back : List ℕ = line Output ++ (line (Conclude v.conclusion) ++ line End) in
-    let back_is : each_line behind ≡ back = ap (λ (x : List ℕ). line Output ++ (line (Conclude v.conclusion) ++ x)) (append-nil (line End)) in
+    let back_is : flat_map line behind ≡ back = ap (λ (x : List ℕ). line Output ++ (line (Conclude v.conclusion) ++ x)) (append-nil (line End)) in
     ap text_of (steps_behind v.steps behind (record empty { count = v.count }) h)
-    ∙ (ap (λ (x : List ℕ). (line Header ++ line (F v.count)) ++ ((x ++ each_line v.steps) ++ back)) n
-    ∙ (append_assoc (line Header) (line (F v.count)) (each_line v.steps ++ back)
-    ∙ (ap (λ (x : List ℕ). line Header ++ (line (F v.count) ++ x)) (ap (λ (x : List ℕ). each_line v.steps ++ x) (sym back_is) ∙ sym (each_append v.steps behind))
+    ∙ (ap (λ (x : List ℕ). (line Header ++ line (F v.count)) ++ ((x ++ flat_map line v.steps) ++ back)) n
+    ∙ (append_assoc (line Header) (line (F v.count)) (flat_map line v.steps ++ back)
+    ∙ (ap (λ (x : List ℕ). line Header ++ (line (F v.count) ++ x)) (ap (λ (x : List ℕ). flat_map line v.steps ++ x) (sym back_is) ∙ sym (flat_map-append line v.steps behind))
     ∙ sym (ended Header (F v.count ∷ (v.steps ++ behind))))))
 
 -- ---- what is written for a proof

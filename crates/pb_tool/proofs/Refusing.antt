@@ -1,8 +1,8 @@
 -- A text, with the rest behind it, is refused in one way or not at all.
-use Rattle.std.proofs.Common.{◌≡◌, ℕ, ◌≤◌, List, ◌++◌, length, sym, ap, ◌∙◌, subst, arith, length-append}
-use Rattle.std.proofs.lemmas.List.{append_cancel_left}
-use Rattle.pb_text.specs.Blank.{IsBlank, IsStray, place_from}
-use Rattle.pb_text.specs.Reading.{Explains, IsSpelled, IsUnderWay, byte_limit}
+use Rattle.std.proofs.Common.{◌≡◌, ℕ, List, [], ◌++◌, length, Option, Some, Err, sym, ap, ◌∙◌, subst, arith, append-nil, length-append}
+use Rattle.pb_text.specs.Blank.{IsBlank, IsStray, ReadsBlank, place_from}
+use Rattle.pb_text.specs.Pulling.{Took}
+use Rattle.pb_text.specs.Reading.{Explains, IsSpelled, IsUnderWay}
 use Rattle.pb_text.specs.Spelling.{Item, place_after}
 use Rattle.pb_text.specs.declared.Place.{Place}
 use Rattle.pb_text.specs.declared.Spanned.{Spanned}
@@ -10,8 +10,14 @@ use Rattle.pb_text.specs.declared.Stop.{Stop}
 use Rattle.pb_text.specs.declared.Why.{Why}
 use Rattle.pb_text.proofs.Short.{place_after-offset}
 use Rattle.pb_tool.specs.Decided.{IsOfText}
+use Rattle.pb_tool.specs.Show.{IsSpelling}
+use Rattle.pb_tool.proofs.Fronts.{same_behind}
 use Rattle.pb_tool.proofs.OneRead.{NoneGoesOn, OneSpelling, not_both, one_spelled, one_stop}
 use Rattle.pb_tool.proofs.OneRest.{not_stray, one_stray}
+
+-- all of an input was taken
+pub all_taken : (input used : List ℕ) → input ≡ used ++ [] → input ≡ used
+all_taken input used e = e ∙ append-nil used
 
 stop_at : Place → Why → Stop
 stop_at p w = record { place = p; why = w }
@@ -26,23 +32,21 @@ module _ {E : Type 0} (format : List (Item E) → Type 0) (longest : ℕ) where
     AtStop : (used left : List ℕ) (marks : List (Spanned E)) → input ≡ used ++ left → IsUnderWay format longest used marks → s.place ≡ place_after used → Explains format longest used left s.why → Refusal input s
     AtRest : (used left : List ℕ) (marks : List (Spanned E)) → input ≡ used ++ left → IsSpelled format longest used marks → (rest more : List ℕ) → left ≡ rest ++ more → IsBlank rest → s.place ≡ place_from (place_after used) rest → IsStray (place_after used) rest more s.why → Refusal input s
 
-  -- a whole text and a blank rest
-  pub record Whole (input : List ℕ) : Type 0 where
-    pub used : List ℕ
-    pub rest : List ℕ
-    pub marks : List (Spanned E)
-    pub input_is : input ≡ used ++ rest
-    pub spelled : IsSpelled format longest used marks
-    pub blank : IsBlank rest
-    pub within : length (used ++ rest) ≤ byte_limit
+  -- a whole text, and a rest that is not blank
+  pub at_rest : (input used seen : List ℕ) (mid after : Option (List ℕ)) (marks : List (Spanned E)) (place : Place) (s : Stop) → Took (Some input) used seen mid → IsSpelled format longest used marks → place ≡ place_after used
+      → ReadsBlank place mid (Err s) after → Refusal input s
+  at_rest input used seen mid after marks place s took spelled place_is (rest, more, t, blank, at, stray) =
+      let t' : Took (Some seen) rest more after = subst (λ (z : Option (List ℕ)). Took z rest more after) took.1 t in
+      AtRest used seen marks took.0 spelled rest more t'.0 blank (at ∙ ap (λ (x : Place). place_from x rest) place_is) (subst (λ (x : Place). IsStray x rest more s.why) place_is stray)
 
   module _ (one : OneSpelling format) (front : NoneGoesOn format) (input : List ℕ) where
-    pub no_refusal : (s : Stop) → Whole input → Refusal input s → IsOfText s.why → ⊥
-    no_refusal s w (AtStop used left marks is u place x) d = not_both format longest used left w.used w.rest marks w.marks (sym is ∙ w.input_is) u w.spelled s.why d x
-    no_refusal s w (AtRest used left marks is spelled rest more e blank place x) d =
-        let both : used ++ left ≡ w.used ++ w.rest = sym is ∙ w.input_is in
-        let same : used ≡ w.used = (one_spelled format longest one front used left w.used w.rest marks w.marks both spelled w.spelled).0 in
-        let behind : w.rest ≡ rest ++ more = sym (append_cancel_left used left w.rest (both ∙ ap (λ (y : List ℕ). y ++ w.rest) (sym same))) ∙ e in
+    -- not where it was a whole text and a blank rest
+    pub no_refusal : (s : Stop) (after : Option (List ℕ)) (marks : List (Spanned E)) → IsSpelling format longest (Some input) after marks → Refusal input s → IsOfText s.why → ⊥
+    no_refusal s after marks' w (AtStop used left marks is u place x) d = not_both format longest used left w.used w.rest marks marks' (sym is ∙ all_taken input (w.used ++ w.rest) w.took.0) u w.spelled s.why d x
+    no_refusal s after marks' w (AtRest used left marks is spelled rest more e blank place x) d =
+        let both : used ++ left ≡ w.used ++ w.rest = sym is ∙ all_taken input (w.used ++ w.rest) w.took.0 in
+        let same : used ≡ w.used = (one_spelled format longest one front used left w.used w.rest marks marks' both spelled w.spelled).0 in
+        let behind : w.rest ≡ rest ++ more = sym (same_behind used left w.used w.rest both same) ∙ e in
         not_stray (place_after used) rest more s.why (subst IsBlank behind w.blank)
         (omega (arith, place_after-offset used, ap (λ (y : List ℕ). length y) same, ap (λ (y : List ℕ). length y) behind, w.within, length-append w.used w.rest)) d x
 
@@ -55,7 +59,7 @@ module _ {E : Type 0} (format : List (Item E) → Type 0) (longest : ℕ) where
     one_refusal s t (AtRest used left marks is spelled rest more e blank place x) (AtRest used' left' marks' is' spelled' rest' more' e' blank' place' x') d d' =
         let both : used ++ left ≡ used' ++ left' = sym is ∙ is' in
         let same : used ≡ used' = (one_spelled format longest one front used left used' left' marks marks' both spelled spelled').0 in
-        let behind : left ≡ left' = append_cancel_left used left left' (both ∙ ap (λ (y : List ℕ). y ++ left') (sym same)) in
+        let behind : left ≡ left' = same_behind used left used' left' both same in
         let (rests, why) =
         one_stray (place_after used) rest more rest' more' s.why t.why (sym e ∙ (behind ∙ e')) blank blank' d d' x (subst (λ (y : List ℕ). IsStray (place_after y) rest' more' t.why) (sym same) x') in
         same_stop s t (place ∙ (ap (λ (y : List ℕ). place_from (place_after y) rest) same ∙ (ap (λ (y : List ℕ). place_from (place_after used') y) rests ∙ sym place'))) why

@@ -3,12 +3,12 @@ use Rattle.std.proofs.Common.{◌≡◌, ◌⊎◌, ℕ, ◌<◌, List, [], ◌�
 use Rattle.pb_text.specs.Limits.{largest, top_of}
 use Rattle.pb_text.specs.Automaton.{Accepts as AcceptsBytes}
 use Rattle.pb_text.specs.Reading.{Reads}
-use Rattle.pb_text.specs.Rows.{TookAll, TookSoFar}
+use Rattle.pb_text.specs.PullsInARow.{TookAll, TookSoFar}
+use Rattle.pb_text.specs.Spelling.{Item}
 use Rattle.pb_text.specs.declared.Limits.{Limits}
 use Rattle.pb_text.specs.declared.Place.{Place}
 use Rattle.pb_text.specs.declared.Spanned.{Spanned}
 use Rattle.pb_text.specs.declared.Stop.{Stop}
-use Rattle.pb_text.proofs.Formats as formats
 use Rattle.pb_proof.specs.Formats.{ReadsProofs}
 use Rattle.pb_proof.specs.Machine.State.{begin, proofs}
 use Rattle.pb_proof.specs.ValueLaws.{ReadStatements}
@@ -26,14 +26,16 @@ use Rattle.pb_replay.specs.declared.fault.Fault.{Fault}
 use Rattle.pb_replay.specs.declared.fault.Fault.TheVariants as fault
 use Rattle.pb_replay.specs.declared.verdict.Verdict.{Verdict}
 use Rattle.pb_tool.specs.Checker.{IsAt, StepsFrom}
-use Rattle.pb_tool.specs.Checks.{statements_at, Refuses, Takes}
+use Rattle.pb_text.specs.Whole.{events_at}
+use Rattle.pb_tool.specs.Checks.{Refuses, Takes}
 use Rattle.pb_replay.specs.Kept.{StandsFor}
 use Rattle.pb_tool.specs.Files.{IsVeri}
 use Rattle.pb_tool.specs.Runs.{KeepsNames, Runs, faults_of_text}
 use Rattle.pb_tool.specs.Verified.{IsAccepted}
 use Rattle.pb_tool.specs.declared.checker.CheckFault.{CheckFault}
 use Rattle.pb_tool.specs.declared.checker.CheckFault.TheVariants as check
-use Rattle.pb_tool.proofs.Checked.{accepts_more, last_is_value, shown_at, there}
+use Rattle.pb_tool.proofs.Checked.{accepts_more, last_is_value, proofs_read, shown_at, there}
+use Rattle.pb_tool.proofs.Shown.{all_to, so_far_to}
 
 -- what a step answers, from wherever the replay stood
 abbrev Answers : Replaying → Spanned Statement → Result Unit CheckFault → Replaying → Type 0
@@ -63,34 +65,38 @@ claimed Steps c w h = absurd (cc h)
 claimed Claim c w h = absurd (cc h)
 claimed Closing c w h = absurd (cc h)
 
+-- what the machine of proofs accepts
+abbrev pub Taken : Limits → List (Item Statement) → Type 0
+Taken limits = AcceptsBytes proofs (begin (largest limits) (top_of limits))
+
 module _ (exact : ReadsProofs) (limits : Limits) (longest : ℕ) where
   abbrev IsRead : List ℕ → List ℕ → List (Spanned Statement) → Place → Bool → Option Stop → Type 0
-  IsRead = Reads (AcceptsBytes proofs (begin (largest limits) (top_of limits))) longest
+  IsRead = Reads (Taken limits) longest
 
   to_proof : (input used : List ℕ) (marks : List (Spanned Statement)) (place : Place) (done : Bool) (stop : Option Stop) → IsRead input used marks place done stop → Reads (IsVeri limits) longest input used marks place done stop
-  to_proof = formats.reads (AcceptsBytes proofs (begin (largest limits) (top_of limits))) (IsVeri limits) (λ items h. (exact (largest limits) (top_of limits) items).0 h) (λ items h. (exact (largest limits) (top_of limits) items).1 h) longest
+  to_proof = proofs_read exact (largest limits) (top_of limits) longest
 
   module _ (before after : Option (List ℕ)) where
     abbrev HasAll : List (Spanned Statement) → Place → Bool → Option Stop → Type 0
-    HasAll = TookAll (AcceptsBytes proofs (begin (largest limits) (top_of limits))) longest before after
+    HasAll = TookAll (Taken limits) longest before after
 
     abbrev HasSoFar : List (Spanned Statement) → Place → Type 0
-    HasSoFar = TookSoFar (AcceptsBytes proofs (begin (largest limits) (top_of limits))) longest before after
+    HasSoFar = TookSoFar (Taken limits) longest before after
 
-    all_to : (marks : List (Spanned Statement)) (place : Place) (done : Bool) (stop : Option Stop) → HasAll marks place done stop → TookAll (IsVeri limits) longest before after marks place done stop
-    all_to marks place done stop t = record { used = t.used; seen = t.seen; took = t.took; reads = to_proof (t.used ++ t.seen) t.used marks place done stop t.reads }
+    read_all : (marks : List (Spanned Statement)) (place : Place) (done : Bool) (stop : Option Stop) → HasAll marks place done stop → TookAll (IsVeri limits) longest before after marks place done stop
+    read_all = all_to (Taken limits) (IsVeri limits) longest to_proof before after
 
-    so_far_to : (marks : List (Spanned Statement)) (place : Place) → HasSoFar marks place → TookSoFar (IsVeri limits) longest before after marks place
-    so_far_to marks place t = record { used = t.used; seen = t.seen; took = t.took; done = t.done; reads = to_proof t.used t.used marks place t.done None t.reads }
+    read_so_far : (marks : List (Spanned Statement)) (place : Place) → HasSoFar marks place → TookSoFar (IsVeri limits) longest before after marks place
+    read_so_far = so_far_to (Taken limits) (IsVeri limits) longest to_proof before after
 
     pub value_pulled : ReadStatements → (current : Limits) → current ≡ limits → (marks : List (Spanned Statement)) (m : Spanned Statement) (place : Place) → HasSoFar (marks ++ m ∷ []) place → IsStatementValue (largest current) (top_of current) m.event
     value_pulled values current same marks m place t =
-        let all = so_far_to (marks ++ m ∷ []) place t in
+        let all = read_so_far (marks ++ m ∷ []) place t in
         subst (λ (x : Limits). IsStatementValue (largest x) (top_of x) m.event) (sym same) (last_is_value values (largest limits) (top_of limits) longest all.used all.used marks m place all.done all.reads)
 
-    module _ (v : Problem) (first : State) (r : Replaying) (marks : List (Spanned Statement)) (led : (t : State) × StandsFor r t × Accepts (largest limits) (top_of limits) v first (statements_at marks) t) where
+    module _ (v : Problem) (first : State) (r : Replaying) (marks : List (Spanned Statement)) (led : (t : State) × StandsFor r t × Accepts (largest limits) (top_of limits) v first (events_at marks) t) where
       pub accepted : (place : Place) (done : Bool) (stop : Option Stop) → HasAll marks place done stop → IsAccepted limits longest v first before after place done stop led.0
-      accepted place done stop all = record { marks = marks; took = all_to marks place done stop all; accepted = led.2 }
+      accepted place done stop all = record { marks = marks; took = read_all marks place done stop all; accepted = led.2 }
 
       module _ (none : r.fault ≡ None) where
         pub ended : (place : Place) (w : Verdict) → HasAll marks place true None → Some w ≡ verdict_in r → (t : State) × IsAccepted limits longest v first before after place true None t × (t.concluded ≡ Some w)
@@ -98,12 +104,12 @@ module _ (exact : ReadsProofs) (limits : Limits) (longest : ℕ) where
 
         pub no_end : WholeProofsConclude → (place : Place) → HasAll marks place true None → None ≡ verdict_in r → ⊥
         no_end whole place all is =
-            let t = all_to marks place true None all in
+            let t = read_all marks place true None all in
             let (u, same, some) = there whole limits longest v (Ok first) (t.used ++ t.seen) t.used marks place (Ok led.0) t.reads (led.0, refl, led.2) in
             some (sym (shown_at r u (subst (λ (x : Result State Fault). IsAt r x) same (none, led.1))) ∙ sym is)
 
         module _ (new : Replaying) (m : Spanned Statement) (limited : r.limits ≡ limits) (problem : r.problem ≡ v) where
-          pub led_more : Answers r m (Ok tt) new → (t : State) × StandsFor new t × Accepts (largest limits) (top_of limits) v first (statements_at (marks ++ m ∷ [])) t
+          pub led_more : Answers r m (Ok tt) new → (t : State) × StandsFor new t × Accepts (largest limits) (top_of limits) v first (events_at (marks ++ m ∷ [])) t
           led_more steps =
               let (s, at, takes) = steps (Ok led.0) (none, led.1) in (
                 s,
@@ -123,6 +129,6 @@ module _ (exact : ReadsProofs) (limits : Limits) (longest : ℕ) where
               subst (λ (y : CheckFault). Runs limits longest v first before (Err y) after new) (sym is) (
                 m.event,
                 led.0,
-                record { marks = marks; last = m; took = so_far_to (marks ++ m ∷ []) m.past t; begins_is = refl; statement = refl; accepted = led.2 },
+                record { marks = marks; last = m; took = read_so_far (marks ++ m ∷ []) m.past t; begins_is = refl; statement = refl; accepted = led.2 },
                 told e (subst (λ (y : List (List ℕ)). KeepsNames y new.names e) (sym led.1.names) (names, λ n h. old m.first n (ap (λ (y : CheckFault). failed y) (is ∙ ap (λ (f : Fault). check.Step m.first f) h)))) here,
               )

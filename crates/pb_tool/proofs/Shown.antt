@@ -1,10 +1,11 @@
 -- Statements that are shown one after another.
-use Rattle.std.proofs.Common.{◌≡◌, ℕ, ◌≤◌, List, [], ◌∷◌, ◌++◌, length, Bool, true, false, Option, Some, None, Result, Ok, Err, refl, sym, ap, ◌∙◌, subst, append-nil, append_assoc, arith, length-append}
+use Rattle.std.proofs.Common.{◌≡◌, ℕ, ◌+◌, ◌-◌, ◌^◌, ◌<◌, ◌≤◌, List, [], ◌∷◌, ◌++◌, length, Bool, true, false, Option, Some, None, Result, Ok, Err, refl, sym, ap, ◌∙◌, subst, append-nil, arith, length-append}
+use Rattle.std.proofs.lemmas.Grind.{flat_map-append}
 use Rattle.pb_text.specs.Blank.{ReadsBlank}
 use Rattle.pb_text.specs.Feeding.{StandsAt, place_of, halt_of}
 use Rattle.pb_text.specs.Pulling.{Took}
-use Rattle.pb_text.specs.Reading.{Reads, byte_limit}
-use Rattle.pb_text.specs.Rows.{HasPulled, TookAll, TookSoFar}
+use Rattle.pb_text.specs.Reading.{IsSpelled, Reads, byte_limit}
+use Rattle.pb_text.specs.PullsInARow.{HasPulled, TookAll, TookSoFar}
 use Rattle.pb_text.specs.Spelling.{Item, place_after}
 use Rattle.pb_text.specs.declared.Place.{Place}
 use Rattle.pb_text.specs.declared.Spanned.{Spanned}
@@ -12,23 +13,30 @@ use Rattle.pb_text.specs.declared.Stop.{Stop}
 use Rattle.pb_text.specs.declared.Feeder.{Feeder}
 use Rattle.pb_text.specs.declared.Machine.{Ghosts}
 use Rattle.pb_text.specs.Writing.{Wrote}
-use Rattle.pb_text.proofs.Rows.{took_join}
+use Rattle.pb_text.proofs.PullsInARow.{took_join}
+use Rattle.pb_text.proofs.Short.{place_after-offset}
 use Rattle.pb_tool.specs.Show.{shown_line, shown, EndsAt, IsSpelling, IsRefusedAfter, InText, InRest, Shows}
 use Rattle.pb_tool.specs.declared.fault.ToolFault.{ToolFault}
 use Rattle.pb_tool.specs.declared.fault.ToolFault.TheVariants.{Text, Open, Overflow, Memory, Write, Step}
 use Rattle.pb_tool.specs.declared.fault.Input.TheVariants.{File, Instance, Proof}
+use Rattle.pb_tool.proofs.OneRead.{so_far_reached}
 
-pub after_offset : (text : List ℕ) → (place_after text).offset ≡ length text
-unfolding place_after
-after_offset text = refl
+-- a text and a blank rest behind it are no more than is read of an input
+pub rest_within : (used rest : List ℕ) (place : Place) → place ≡ place_after used → place.offset + length rest ≤ byte_limit → length (used ++ rest) ≤ byte_limit
+rest_within used rest place at bound =
+    let offset = ap (λ (p : Place). p.offset) at ∙ place_after-offset used in
+    omega (arith, bound, offset, length-append used rest)
+
+-- where more was read of an input, less is left of it
+pub fewer : (a b : ℕ) → b ≤ 2 ^ 40 → a < b → 2 ^ 40 + 1 - b < 2 ^ 40 + 1 - a
+fewer a b reach onward = omega arith
 
 -- one line more
 pub shown_more : {E : Type 0} (text : E → List ℕ) (marks : List (Spanned E)) (m : Spanned E) → shown text (marks ++ m ∷ []) ≡ shown text marks ++ shown_line text m
-shown_more text [] m = append-nil (shown_line text m)
-shown_more text (n ∷ marks) m = ap (λ (x : List ℕ). shown_line text n ++ x) (shown_more text marks m) ∙ sym (append_assoc (shown_line text n) (shown text marks) (shown_line text m))
+shown_more text marks m = flat_map-append (shown_line text) marks (m ∷ []) ∙ ap (λ (x : List ℕ). shown text marks ++ x) (append-nil (shown_line text m))
 
 -- nothing was taken of a source yet
-took_none : (before : Option (List ℕ)) → (seen : List ℕ) × Took before [] seen before
+pub took_none : (before : Option (List ℕ)) → (seen : List ℕ) × Took before [] seen before
 took_none None = ([], tt)
 took_none (Some bytes) = (bytes, (refl, refl))
 
@@ -38,28 +46,22 @@ first_pull longest start before f stands running offset =
     record { used = []; seen = t.0; took = t.1; offset_is = offset; stands = stands; running = running }
 
 module _ {E : Type 0} (format : List (Item E) → Type 0) (longest : ℕ) where
-  read_within : (used : List ℕ) (marks : List (Spanned E)) (place : Place) (done : Bool) → Reads format longest used used marks place done None → length used ≤ byte_limit
-  read_within used marks place true r = r.answer.0.within
-  read_within used marks place false r = r.answer.0.within
-
   -- what was taken is no more than is read of an input
   pub so_far_within : (before after : Option (List ℕ)) (marks : List (Spanned E)) (place : Place) → TookSoFar format longest before after marks place → place.offset ≤ byte_limit
   so_far_within before after marks place t =
-      let offset = ap (λ (p : Place). p.offset) t.reads.place_is ∙ after_offset t.used in
-      omega (arith, offset, read_within t.used marks place t.done t.reads)
+      let offset = ap (λ (p : Place). p.offset) t.reads.place_is ∙ place_after-offset t.used in
+      omega (arith, offset, (so_far_reached format longest t.used t.used marks place t.done t.reads).within)
 
   -- a spelling, and then a blank rest
   pub spelling : (before mid after : Option (List ℕ)) (marks : List (Spanned E)) (place : Place) → TookAll format longest before mid marks place true None → ReadsBlank place mid (Ok tt) after → IsSpelling format longest before after marks
-  spelling before mid after marks place t (rest, more, blank, bound) =
-      let offset = ap (λ (p : Place). p.offset) t.reads.place_is ∙ after_offset t.used in
-      record {
-        used = t.used;
-        rest = rest;
-        took = took_join before mid after t.used rest t.seen [] t.took more;
-        spelled = t.reads.answer.0;
-        blank = blank;
-        within = omega (arith, offset, bound, length-append t.used rest);
-      }
+  spelling before mid after marks place t (rest, more, blank, bound) = record {
+    used = t.used;
+    rest = rest;
+    took = took_join before mid after t.used rest t.seen [] t.took more;
+    spelled = t.reads.answer.0;
+    blank = blank;
+    within = rest_within t.used rest place t.reads.place_is bound;
+  }
 
   -- a spelling, and then a rest that is not blank
   pub stray : (before mid after : Option (List ℕ)) (marks : List (Spanned E)) (place : Place) (s : Stop) → TookAll format longest before mid marks place true None → ReadsBlank place mid (Err s) after → IsRefusedAfter format longest before after marks s
@@ -83,30 +85,27 @@ module _ {E : Type 0} (format : List (Item E) → Type 0) (longest : ℕ) where
 -- what is shown of a read under a format, where a read under it is one under another
 module _ {E : Type 0} (one other : List (Item E) → Type 0) (longest : ℕ)
     (to : (input used : List ℕ) (marks : List (Spanned E)) (place : Place) (done : Bool) (stop : Option Stop) → Reads one longest input used marks place done stop → Reads other longest input used marks place done stop) where
+  pub all_to : (before after : Option (List ℕ)) (marks : List (Spanned E)) (place : Place) (done : Bool) (stop : Option Stop) → TookAll one longest before after marks place done stop → TookAll other longest before after marks place done stop
+  all_to before after marks place done stop t = record { used = t.used; seen = t.seen; took = t.took; reads = to (t.used ++ t.seen) t.used marks place done stop t.reads }
+
+  pub so_far_to : (before after : Option (List ℕ)) (marks : List (Spanned E)) (place : Place) → TookSoFar one longest before after marks place → TookSoFar other longest before after marks place
+  so_far_to before after marks place t = record { used = t.used; seen = t.seen; took = t.took; done = t.done; reads = to t.used t.used marks place t.done None t.reads }
+
+  spelt_to : (used : List ℕ) (marks : List (Spanned E)) → IsSpelled one longest used marks → IsSpelled other longest used marks
+  spelt_to used marks s = (to used used marks (place_after used) true None (record { left = []; input_is = sym (append-nil used); place_is = refl; answer = (s, refl) })).answer.0
+
   spelling_to : (before after : Option (List ℕ)) (marks : List (Spanned E)) → IsSpelling one longest before after marks → IsSpelling other longest before after marks
-  spelling_to before after marks i =
-      let r = to i.used i.used marks (place_after i.used) true None (record { left = []; input_is = sym (append-nil i.used); place_is = refl; answer = (i.spelled, refl) }) in
-      record { used = i.used; rest = i.rest; took = i.took; spelled = r.answer.0; blank = i.blank; within = i.within }
+  spelling_to before after marks i = record { used = i.used; rest = i.rest; took = i.took; spelled = spelt_to i.used marks i.spelled; blank = i.blank; within = i.within }
 
   refused_to : (before after : Option (List ℕ)) (marks : List (Spanned E)) (s : Stop) → IsRefusedAfter one longest before after marks s → IsRefusedAfter other longest before after marks s
-  refused_to before after marks s (InText t) =
-      InText (record { used = t.used; seen = t.seen; took = t.took; reads = to (t.used ++ t.seen) t.used marks s.place false (Some s) t.reads })
-  refused_to before after marks s (InRest used seen mid took spelled r) =
-      let k = to used used marks (place_after used) true None (record { left = []; input_is = sym (append-nil used); place_is = refl; answer = (spelled, refl) }) in
-      InRest used seen mid took k.answer.0 r
+  refused_to before after marks s (InText t) = InText (all_to before after marks s.place false (Some s) t)
+  refused_to before after marks s (InRest used seen mid took spelled r) = InRest used seen mid took (spelt_to used marks spelled) r
 
   module _ (text : E → List ℕ) {W : Type 0} (contents : W → Option (List ℕ)) (faults : W → ℕ) where
     pub shows_to : (before : Option (List ℕ)) (old : W) (result : Result Unit ToolFault) (after : Option (List ℕ)) (new : W) → Shows one longest text contents faults before old result after new → Shows other longest text contents faults before old result after new
     shows_to before old (Ok u) after new (marks, i, w) = (marks, spelling_to before after marks i, w)
     shows_to before old (Err (Text File s)) after new (marks, i, w) = (marks, refused_to before after marks s i, w)
-    shows_to before old (Err Write) after new (marks, last, mid, t, w, b) = (
-      marks,
-      last,
-      mid,
-      record { used = t.used; seen = t.seen; took = t.took; done = t.done; reads = to t.used t.used (marks ++ last ∷ []) last.past t.done None t.reads },
-      w,
-      b,
-    )
+    shows_to before old (Err Write) after new (marks, last, mid, t, w, b) = (marks, last, mid, so_far_to before after (marks ++ last ∷ []) last.past t, w, b)
     shows_to before old (Err (Text Instance s)) after new h = h
     shows_to before old (Err (Text Proof s)) after new h = h
     shows_to before old (Err (Open i)) after new h = h

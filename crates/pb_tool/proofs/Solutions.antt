@@ -7,6 +7,7 @@ use Rattle.pb_sums.specs.declared.Linear.{Linear}
 use Rattle.pb_sums.specs.declared.Relation.{Relation}
 use Rattle.pb_sums.specs.declared.Relation.TheVariants.{AtLeast, Equal}
 use Rattle.pb_opb.specs.declared.Instance.{Instance}
+use Rattle.pb_normal.proofs.WrittenForms.{same_forms}
 use Rattle.pb_normal.specs.declared.Side.{Side}
 use Rattle.pb_normal.specs.declared.Side.TheVariants.{AtLeast as least, AtMost as most}
 use Rattle.pb_normal.specs.Constraints.{AreFormsOf, constraint_names, sides_in, with_sides}
@@ -77,19 +78,8 @@ module _
 
 -- What a law says of the forms of a written sum.
 module _ (unique : (names : List (List ℕ)) (ts : List Term) (d : ℤ) (r s : Form) → IsFormOf names ts d r → IsFormOf names ts d s → r ≡ s) where
-  same_forms : (names : List (List ℕ)) (sides : List (Side × Linear)) (fs gs : List Form) → AreFormsOf names sides fs → AreFormsOf names sides gs → fs ≡ gs
-  same_forms names [] [] [] h k = refl
-  same_forms names [] [] (g ∷ gs) h k = absurd k
-  same_forms names [] (f ∷ fs) gs h k = absurd h
-  same_forms names (s ∷ sides) [] gs h k = absurd h
-  same_forms names (s ∷ sides) (f ∷ fs) [] h k = absurd k
-  same_forms names (s ∷ sides) (f ∷ fs) (g ∷ gs) h k =
-      let first : f ≡ g = unique names _ _ f g h.0 k.0 in
-      let rest : fs ≡ gs = same_forms names sides fs gs h.1 k.1 in
-      cc
-
   same_loaded : (names : List (List ℕ)) (sides : List (Side × Linear)) (ls ms : List Linear) → AreLoaded names sides ls → AreLoaded names sides ms → ls ≡ ms
-  same_loaded names sides ls ms (fs, f, e) (gs, g, k) = e ∙ ap (map (linear_of names)) (same_forms names sides fs gs f g) ∙ sym k
+  same_loaded names sides ls ms (fs, f, e) (gs, g, k) = e ∙ ap (map (linear_of names)) (same_forms unique names sides fs gs f g) ∙ sym k
 
   pub one_form : (v w u : Instance) → IsNormalised v w → IsNormalised v u → w ≡ u
   one_form v w u h k =

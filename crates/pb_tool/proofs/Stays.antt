@@ -1,6 +1,5 @@
 -- What is read of a canonical text, with a line feed behind it or none.
 use Rattle.std.proofs.Common.{◌≡◌, ◌≢◌, ◌⊎◌, inl, inr, ℕ, ◌<◌, ◌≤◌, ◌^◌, List, [], ◌∷◌, ◌++◌, length, Bool, true, false, cond, Option, Some, Err, refl, sym, ap, ◌∙◌, subst, append-nil, append_assoc, arith, length-append}
-use Rattle.std.proofs.lemmas.List.{append_cancel_left}
 use Rattle.std.proofs.Math.Pow.{pow_mono}
 use Rattle.pb_text.specs.Blank.{ReadsBlank, IsStray, passes}
 use Rattle.pb_text.specs.Limits.{largest}
@@ -14,16 +13,14 @@ use Rattle.pb_text.specs.declared.Spanned.{Spanned}
 use Rattle.pb_text.specs.declared.Stop.{Stop}
 use Rattle.pb_text.specs.declared.Why.{Why}
 use Rattle.pb_text.specs.declared.Why.TheVariants.{Byte, TooLarge, Ended, TooLong, Read, Memory}
+use Rattle.pb_text.proofs.Short.{place_after-offset}
 use Rattle.pb_opb.specs.Canonical.{instance_bytes}
 use Rattle.pb_opb.specs.declared.Instance.{Instance}
 use Rattle.pb_tool.specs.Stays.{IsOutside}
 use Rattle.pb_tool.specs.Tidy.{ends_in_feed, tidied, IsFile, IsRefused}
 use Rattle.pb_tool.specs.Tidy.IsRefused.{InText, InRest}
-use Rattle.pb_tool.proofs.Fronts.{Compared, two_fronts}
-use Rattle.pb_tool.proofs.Shown.{after_offset}
-
-pub low : (limits : Limits) → largest limits < 2 ^ 127
-low limits = omega (arith, pow_mono limits.most_bits)
+use Rattle.pb_tool.proofs.Fronts.{Compared, behind_front, same_behind, some_left, two_fronts}
+use Rattle.pb_tool.proofs.OneRead.{NoneGoesOn, one_spelt}
 
 -- nothing, or a line feed
 abbrev IsFeed : List ℕ → Type 0
@@ -50,8 +47,7 @@ passes_feed rest (u ∷ []) more b (inr f) e p = cc
 passes_feed rest (u ∷ w ∷ used) more b (inr f) e p = cc
 
 longer : (used rest : List ℕ) → rest ≢ [] → byte_limit ≤ length used → byte_limit < length (used ++ rest)
-longer used [] h k = absurd (h refl)
-longer used (b ∷ rest) h k = omega (arith, k, length-append used (b ∷ rest))
+longer used rest h k = omega (arith, k, some_left rest h, length-append used rest)
 
 overrun : {E : Type 0} (longest n : ℕ) (marks : List (Spanned E)) → Overruns longest n marks → longest ≤ n
 overrun longest n [] h = absurd h
@@ -70,18 +66,10 @@ strays used more left rest place Memory feed e o h = tt
 
 -- a format, and a text that spells something of it, of which no spelling is a front of another
 module _ {E : Type 0} (format : List (Item E) → Type 0) (text : List ℕ) (own : List (Item E)) (spells : format own) (bytes : bytes_of own ≡ text)
-    (front : (items items' : List (Item E)) (more : List ℕ) → format items → format items' → bytes_of items' ≡ bytes_of items ++ more → more ≡ []) where
+    (front : NoneGoesOn format) where
   -- a spelling that begins the text, or that this begins, is it
   same_used : (used seen rest : List ℕ) (items : List (Item E)) → format items → bytes_of items ≡ used → used ++ seen ≡ text ++ rest → used ≡ text
-  same_used used seen rest items h e k = by_length (two_fronts text rest used seen (sym k))
-    where
-      by_length : Compared text used → used ≡ text
-      by_length (inl (m, p)) =
-          let none : m ≡ [] = front own items m spells h (e ∙ (p ∙ ap (λ (x : List ℕ). x ++ m) (sym bytes))) in
-          p ∙ (ap (λ (x : List ℕ). text ++ x) none ∙ append-nil text)
-      by_length (inr (x, m, p)) =
-          let none : x ∷ m ≡ [] = front items own (x ∷ m) h spells (bytes ∙ (p ∙ ap (λ (y : List ℕ). y ++ x ∷ m) (sym e))) in
-          absurd cc
+  same_used used seen rest items h e k = one_spelt format front used seen text rest items own k h spells e bytes
 
   -- what is under way there is a shorter front of the text
   shorter : (used left rest : List ℕ) (marks : List (Spanned E)) → IsUnderWay format (2 ^ 40) used marks → used ++ left ≡ text ++ rest → (x : ℕ) × (m : List ℕ) × (text ≡ used ++ x ∷ m)
@@ -92,7 +80,7 @@ module _ {E : Type 0} (format : List (Item E) → Type 0) (text : List ℕ) (own
       by_length (inr h) = h
 
   next_is : (used left rest m : List ℕ) (x : ℕ) → used ++ left ≡ text ++ rest → text ≡ used ++ x ∷ m → left ≡ x ∷ (m ++ rest)
-  next_is used left rest m x k p = append_cancel_left used left (x ∷ (m ++ rest)) (k ∙ (ap (λ (y : List ℕ). y ++ rest) p ∙ append_assoc used (x ∷ m) rest))
+  next_is used left rest m x k p = behind_front used left text rest k (x ∷ m) p
 
   not_bad : (used more rest : List ℕ) (b : ℕ) (marks : List (Spanned E)) → IsUnderWay format (2 ^ 40) used marks → IsBad format (2 ^ 40) used b → used ++ b ∷ more ≡ text ++ rest → ⊥
   not_bad used more rest b marks u bad k =
@@ -134,9 +122,9 @@ module _ {E : Type 0} (format : List (Item E) → Type 0) (text : List ℕ) (own
       → used ++ seen ≡ text ++ rest → IsFeed rest → mid ≡ Some seen → ReadsBlank past mid (Err s) after → IsOutside (length (used ++ seen)) s.why
   in_rest used seen rest items past mid after s h e at k feed is (more, left, took, blank, place, stray) =
       let same : used ≡ text = same_used used seen rest items h e k in
-      let behind : seen ≡ rest = append_cancel_left used seen rest (k ∙ ap (λ (x : List ℕ). x ++ rest) (sym same)) in
+      let behind : seen ≡ rest = same_behind used seen text rest k same in
       let now : Took (Some seen) more left after = subst (λ (z : Option (List ℕ)). Took z more left after) is took in
-      let offset : past.offset ≡ length used = ap (λ (p : Place). p.offset) at ∙ after_offset used in
+      let offset : past.offset ≡ length used = ap (λ (p : Place). p.offset) at ∙ place_after-offset used in
       subst (λ (t : List ℕ). IsOutside (length (used ++ t)) s.why) (sym now.0) (strays used more left rest past s.why feed (sym behind ∙ now.0) offset stray)
 
   -- the text with nothing behind it, or a line feed

@@ -1,11 +1,9 @@
 -- A file whose statements are put together is one with a value, where what they are put together to has it.
 use Rattle.std.proofs.Common.{◌≡◌, ◌↔◌, ℕ, List, Bool, IsTrue, Option, Result, Err, refl, sym, subst}
-use Rattle.pb_text.specs.Blank.{IsStray}
 use Rattle.pb_text.specs.Spelling.{Item}
 use Rattle.pb_text.specs.Whole.{gathered, events_of, IsWhole, ReadsWhole}
 use Rattle.pb_text.specs.declared.Spanned.{Spanned}
 use Rattle.pb_text.specs.declared.Stop.{Stop}
-use Rattle.pb_text.specs.declared.Why.{Why}
 use Rattle.pb_text.specs.ValueRead.{IsRead, ReadsValue, WantsMemory}
 use Rattle.pb_text.proofs.Formats as formats
 use Rattle.pb_text.proofs.Unkept.{stops_in, wants_in}
@@ -14,6 +12,7 @@ use Rattle.pb_tool.specs.Tidy.IsRefused.{InText, InRest}
 use Rattle.pb_tool.specs.Wants.{IfStopped}
 use Rattle.pb_tool.specs.declared.fault.ToolFault.{ToolFault}
 use Rattle.pb_tool.proofs.Restated.{written_so, stopped_so}
+use Rattle.pb_tool.proofs.Wanted.{not_stray}
 
 module _ {E T V : Type 0} (accepted format : List (Item E) → Type 0) (same : (items : List (Item E)) → accepted items ↔ format items) (longest : ℕ) (with : T → E → T) (empty : T)
     (IsValue : List E → V → Type 0) (Has : T → V → Type 0) (has_value : (items : List (Item E)) → format items → (v : V) × IsValue (events_of items) v × Has (gathered with empty (events_of items)) v) where
@@ -49,7 +48,7 @@ module _ {E T V : Type 0} (accepted format : List (Item E) → Type 0) (same : (
         (may_keep : (events : List E) (e : E) → IsTrue (keeps (gathered with empty events) e) → MayKeep events e) where
       pub refused_wants : (before after : Option (List ℕ)) (s : Stop) → IsRefused (ReadsWhole accepted longest with empty may_ask keeps) before after s → WantsMemory format longest MayAsk MayKeep {V = V} before (Err s) after
       refused_wants before after s (InText (used, seen, took, w)) = λ e. (used, seen, took, wants_in accepted format only each longest with empty may_ask keeps used seen s MayAsk (to used) MayKeep may_keep w e)
-      refused_wants before after s (InRest m mid r (rest, more, took, blank, place, stray)) = λ e. absurd (subst (λ (w : Why). IsStray m.past rest more w) e stray)
+      refused_wants before after s (InRest m mid r rest) = λ e. absurd (not_stray m.past mid after s rest e)
 
 -- where they are put together as text, and the text is what is written for the value
 module _ {E T V : Type 0} (accepted format : List (Item E) → Type 0) (same : (items : List (Item E)) → accepted items ↔ format items) (longest : ℕ) (with : T → E → T) (empty : T) (text_of : T → List ℕ)

@@ -2,12 +2,12 @@
 use Rattle.std.proofs.Common.{◌≡◌, ◌⊎◌, ℕ, List, [], ◌++◌, Bool, false, Option, Some, Result, Ok, Err, refl, sym, subst, inl, inr}
 use Rattle.std.specs.Io.KnownBytes.{Keeps}
 use Rattle.pb_text.specs.Automaton.{Accepts, MayAsk}
-use Rattle.pb_text.specs.Blank.{IsStray}
+use Rattle.pb_text.specs.Blank.{IsStray, ReadsBlank}
 use Rattle.pb_text.specs.Feeding.{halt_of}
 use Rattle.pb_text.specs.NothingRead.{first_fault}
 use Rattle.pb_text.specs.Pulling.{Pulls, Took}
 use Rattle.pb_text.specs.Reading.{Reads}
-use Rattle.pb_text.specs.Rows.{HasPulled}
+use Rattle.pb_text.specs.PullsInARow.{HasPulled}
 use Rattle.pb_text.specs.Spelling.{Item}
 use Rattle.pb_text.specs.Whole.{IsAsking, StopsAfter, Reading, Keeping}
 use Rattle.pb_text.specs.declared.Feeder.{Feeder}
@@ -33,6 +33,10 @@ use Rattle.pb_tool.specs.declared.fault.ToolFault.TheVariants.{Text, Open, Overf
 use Rattle.pb_tool.specs.declared.fault.Input.TheVariants.{File}
 use Rattle.pb_tool.specs.declared.fault.Input.TheVariants as input
 use Rattle.pb_tool.proofs.Chosen.{may_be, took_before}
+
+-- a rest that is not blank wants no memory
+pub not_stray : (place : Place) (mid after : Option (List ℕ)) (s : Stop) → ReadsBlank place mid (Err s) after → s.why ≡ why.Memory → ⊥
+not_stray place mid after s (used, seen, took, blank, at, stray) e = subst (λ (w : Why). IsStray place used seen w) e stray
 
 -- what is said of each stop is said of the answer's
 pub stopped_to : (One Other : Stop → Type 0) → ((s : Stop) → One s → Other s) → (result : Result (Unit {0}) ToolFault) → IfStopped result One → IfStopped result Other
@@ -116,7 +120,7 @@ pull_asking {g = g} longest start before now after marks old new h s given given
 pub end_asking : {E : Type 0} (format : List (Item E) → Type 0) (longest : ℕ) (May : List ℕ → ℕ → Type 0) (place : Place) (before mid after : Option (List ℕ)) (result : Result (Unit {0}) ToolFault) → EndsAt place mid result after
     → IfStopped result (WantsEach format longest May before after)
 end_asking format longest May place before mid after (Ok u) h = tt
-end_asking format longest May place before mid after (Err (Text File s)) (used, seen, took, blank, at, stray) = λ e. absurd (subst (λ (w : Why). IsStray place used seen w) e stray)
+end_asking format longest May place before mid after (Err (Text File s)) h = λ e. absurd (not_stray place mid after s h e)
 end_asking format longest May place before mid after (Err (Text input.Instance s)) h = absurd h
 end_asking format longest May place before mid after (Err (Text input.Proof s)) h = absurd h
 end_asking format longest May place before mid after (Err (Open i)) h = tt

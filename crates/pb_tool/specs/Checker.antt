@@ -14,7 +14,8 @@ use Rattle.pb_replay.specs.Replay.{State}
 use Rattle.pb_replay.specs.Kept.{Replaying}
 use Rattle.pb_replay.specs.Kept.{StandsFor}
 use Rattle.pb_replay.specs.declared.fault.Fault.{Fault}
-use Rattle.pb_tool.specs.Checks.{statements_at, Checks, Leads, Takes, Refuses}
+use Rattle.pb_text.specs.Whole.{events_at}
+use Rattle.pb_tool.specs.Checks.{Checks, Leads, Takes, Refuses}
 use Rattle.pb_tool.specs.declared.checker.CheckFault.{CheckFault}
 use Rattle.pb_tool.specs.declared.checker.CheckFault.TheVariants.{Step}
 
@@ -48,7 +49,7 @@ module _ (limits : Limits) (longest : ℕ) (v : Problem) (first : Result State F
     pub problem : r.problem ≡ v
     pub now : Result State Fault
     pub at : IsAt r now
-    pub accepted : Leads limits v first (statements_at marks) now
+    pub accepted : Leads limits v first (events_at marks) now
 
   -- The feeder and the replay of a checker were fed the input.
   abbrev pub Stands : ProofFeeder → Replaying → Option CheckFault → Type 0

@@ -1,5 +1,6 @@
 -- What a check says of the text of a proof: how far its statements were accepted, and why not further.
 use Rattle.std.specs.Prelude.{◌≡◌, ◌⊎◌, ℕ, List, [], ◌∷◌, ◌++◌, map, Bool, true, false, Option, Some, None, Result, Ok, Err}
+use Rattle.pb_text.specs.Whole.{events_at}
 use Rattle.pb_text.specs.Limits.{largest, top_of}
 use Rattle.pb_text.specs.Reading.{Reads}
 use Rattle.pb_text.specs.declared.Limits.{Limits}
@@ -17,10 +18,6 @@ use Rattle.pb_replay.specs.declared.fault.Fault.TheVariants as fault
 use Rattle.pb_replay.specs.declared.verdict.Verdict.{Verdict}
 use Rattle.pb_tool.specs.declared.checker.CheckFault.{CheckFault}
 use Rattle.pb_tool.specs.declared.checker.CheckFault.TheVariants.{Text, Step}
-
--- the statements of marks, without their places
-abbrev pub statements_at : List (Spanned Statement) → List Statement
-statements_at marks = map (λ m. m.event) marks
 
 -- A replay over the problem is in a state, or a fault has spent it.
 module _ (limits : Limits) (v : Problem) where
@@ -46,7 +43,7 @@ module _ (limits : Limits) (longest : ℕ) (v : Problem) (first : Result State F
     pub used : List ℕ
     pub marks : List (Spanned Statement)
     pub reads : Reads (IsProof (largest limits) (top_of limits)) longest input used marks place done stop
-    pub accepted : Leads limits v first (statements_at marks) now
+    pub accepted : Leads limits v first (events_at marks) now
 
   -- Every statement but the last was accepted, and that one, which began at begins, was refused. Nothing behind it was
   -- read.
@@ -60,7 +57,7 @@ module _ (limits : Limits) (longest : ℕ) (v : Problem) (first : Result State F
     pub input_is : input ≡ used ++ left
     pub reads : Reads (IsProof (largest limits) (top_of limits)) longest used used (marks ++ last ∷ []) place done None
     pub begins_is : begins ≡ last.first
-    pub accepted : Leads limits v first (statements_at marks) before
+    pub accepted : Leads limits v first (events_at marks) before
     pub refused : Refuses limits v before last.event e
 
   -- how far it came, or which fault comes first

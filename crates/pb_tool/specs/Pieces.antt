@@ -1,5 +1,6 @@
 -- What a feed says of a checker.
 use Rattle.std.specs.Prelude.{◌≡◌, ◌≢◌, ◌≤◌, ℕ, List, [], ◌∷◌, ◌++◌, take, Bool, true, false, Option, Some, None, Result, Ok, Err}
+use Rattle.std.specs.List.{flat_map}
 use Rattle.pb_text.specs.Automaton.{MayAsk}
 use Rattle.pb_text.specs.Feeding.{place_of, is_complete}
 use Rattle.pb_text.specs.Limits.{largest, top_of}
@@ -61,8 +62,7 @@ Feeds before [] after = before ≡ after
 Feeds before (piece ∷ pieces) after = (mid : Checking) × ChecksOnce before piece mid × Feeds mid pieces after
 
 abbrev pub joined : List (List ℕ) → List ℕ
-joined [] = []
-joined (piece ∷ pieces) = piece ++ joined pieces
+joined = flat_map (λ piece. piece)
 
 -- However the text of a proof is cut: after any feeds in a row of a checker that was new, what it answers is said of all
 -- bytes joined.

@@ -1,9 +1,10 @@
 -- What `pb show` writes: a line for each statement that was read.
 use Rattle.std.specs.Prelude.{ℕ, ◌≤◌, List, [], ◌∷◌, ◌++◌, length, decimal, false, Option, Some, Result, Ok, Err}
+use Rattle.std.specs.List.{flat_map}
 use Rattle.pb_text.specs.Blank.{IsBlank, ReadsBlank}
 use Rattle.pb_text.specs.Pulling.{Took}
 use Rattle.pb_text.specs.Reading.{IsSpelled, byte_limit}
-use Rattle.pb_text.specs.Rows.{TookAll, TookSoFar}
+use Rattle.pb_text.specs.PullsInARow.{TookAll, TookSoFar}
 use Rattle.pb_text.specs.Spelling.{Item, place_after}
 use Rattle.pb_text.specs.Writing.{Wrote, Broke}
 use Rattle.pb_text.specs.declared.Place.{Place}
@@ -24,8 +25,7 @@ module _ {E : Type 0} (text : E → List ℕ) where
 
   -- the lines of statements, in their order
   abbrev pub shown : List (Spanned E) → List ℕ
-  shown [] = []
-  shown (m ∷ marks) = shown_line m ++ shown marks
+  shown = flat_map shown_line
 
 -- The rest of an input was blank, or else why it was not, or was not read to its end.
 abbrev pub EndsAt : Place → Option (List ℕ) → Result Unit ToolFault → Option (List ℕ) → Type 0

@@ -2,7 +2,7 @@
 use Rattle.std.specs.Prelude.{◌≡◌, ◌⊎◌, ℕ, List, [], ◌∷◌, ◌++◌, codes, get_or, string_bytes, Bool, true, false, Option, Some, None, Result, Ok, Err}
 use Rattle.pb_text.specs.Blank.{ReadsBlank}
 use Rattle.pb_text.specs.Limits.{largest, top_of}
-use Rattle.pb_text.specs.Rows.{TookAll, TookSoFar}
+use Rattle.pb_text.specs.PullsInARow.{TookAll, TookSoFar}
 use Rattle.pb_text.specs.Writing.{Wrote, Broke}
 use Rattle.pb_text.specs.declared.Limits.{Limits}
 use Rattle.pb_text.specs.declared.Place.{Place}
@@ -20,7 +20,7 @@ use Rattle.pb_replay.specs.declared.fault.Fault.{Fault}
 use Rattle.pb_replay.specs.declared.fault.Fault.TheVariants.{Memory as no_memory, Overflow as over, NotTotal}
 use Rattle.pb_replay.specs.declared.verdict.Verdict.{Verdict}
 use Rattle.pb_replay.specs.declared.verdict.Verdict.TheVariants as verdict
-use Rattle.pb_tool.specs.Checks.{statements_at}
+use Rattle.pb_text.specs.Whole.{events_at}
 use Rattle.pb_tool.specs.Files.{IsVeri, IsProofFile}
 use Rattle.pb_tool.specs.Tidy.{IsOpbFile, IsNoOpbFile}
 use Rattle.pb_tool.specs.declared.fault.ToolFault.{ToolFault}
@@ -53,7 +53,7 @@ module _ (limits : Limits) where
     pub record IsAccepted (after : Option (List ℕ)) (place : Place) (done : Bool) (stop : Option Stop) (last : State) : Type 0 where
       pub marks : List (Spanned Statement)
       pub took : TookAll (IsVeri limits) longest before after marks place done stop
-      pub accepted : Accepts (largest limits) (top_of limits) v first (statements_at marks) last
+      pub accepted : Accepts (largest limits) (top_of limits) v first (events_at marks) last
 
     -- All statements before this one, which begins at the place, were accepted and lead to the state. Nothing behind it was
     -- taken.
@@ -63,7 +63,7 @@ module _ (limits : Limits) where
       pub took : TookSoFar (IsVeri limits) longest before after (marks ++ last ∷ []) last.past
       pub begins_is : begins ≡ last.first
       pub statement : last.event ≡ st
-      pub accepted : Accepts (largest limits) (top_of limits) v first (statements_at marks) state
+      pub accepted : Accepts (largest limits) (top_of limits) v first (events_at marks) state
 
     -- The statement that begins at the place is the first that is refused: by its rules, or because memory ran out.
     abbrev pub IsRefusedStep : Option (List ℕ) → Place → Fault → List ℕ → Type 0

@@ -52,11 +52,11 @@ impl OpbMachine {
         requires { plan self.old.top self.old.phase byte ≡ Move.Give phase }
         ensures { Closes opb self.old byte result self.new }
     {
-        match self.inner.closes(byte) {
+        match self.sums.closes(byte) {
             Some(event) => {
                 self.owed = owed_after(phase, self.owed);
                 self.phase = phase_owing(false, self.owed);
-                self.inner.restart(Part::Linear);
+                self.sums.restart(Part::Linear);
                 Some(statement_of(event))
             }
             None => None,

@@ -1,6 +1,5 @@
 -- Lemmas on the machine of claims.
 pub mod Asks
-pub mod Bytes
 pub mod Each
 pub mod Front
 pub mod Parts

@@ -4,6 +4,5 @@ pub mod ByteKinds
 pub mod Ends
 pub mod IdPrefixes
 pub mod Laws
-pub mod One
 pub mod Spelled
 pub mod Texts

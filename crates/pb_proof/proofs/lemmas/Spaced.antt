@@ -1,19 +1,19 @@
 -- Words with blanks between them, byte by byte.
-use Rattle.std.proofs.Common.{◌≡◌, ℕ, Bool, true, false, not, ◌&&◌, List, [], ◌∷◌, ◌++◌, refl, sym, ap, subst, ◌∙◌, append_assoc, cond}
+use Rattle.std.proofs.Common.{◌≡◌, ℕ, ◌<◌, Bool, true, false, not, ◌&&◌, List, [], ◌∷◌, ◌++◌, refl, sym, ap, subst, ◌∙◌, append_assoc, cond, length, arith}
 use Rattle.std.proofs.lemmas.List.{append-nil}
-use Rattle.std.proofs.lemmas.Bool.{eqb-true}
-use Rattle.std.specs.Prelude.{IsTrue, nat_eq}
+use Rattle.std.proofs.lemmas.Bool.{eqb-true, and_parts, not-true}
+use Rattle.std.specs.Prelude.{nat_eq}
 use Rattle.pb_text.specs.Classes.{is_blank}
 use Rattle.pb_text.specs.Languages.{unmarked, Language, ◌⋅◌, Empty, Byte, Bytes, Blanks1}
 use Rattle.pb_text.specs.Spelling.{Letter, plain}
-use Rattle.pb_text.proofs.Languages.{grown, none_yet, regroup, regroup⁻¹, behind_it, some-grown, some-one}
+use Rattle.pb_text.proofs.Languages.{grown, none_yet, regroup, regroup⁻¹, behind_it}
+use Rattle.pb_text.proofs.Letters.{as_unmarked}
 use Rattle.pb_proof.specs.Machine.Transition.{words_of, meets}
 use Rattle.pb_proof.specs.Lines.{pseudo_word, proof_word, version_word, two_word, f_word, pol_word, rup_word, del_word, id_word, output_word, none_word, conclusion_word, end_word}
 use Rattle.pb_proof.specs.Machine.Transition.{sol_word}
 use Rattle.pb_proof.specs.declared.machine.phase.Keyword.{Keyword}
 use Rattle.pb_proof.specs.declared.machine.phase.Keyword.TheVariants.{Header, Formula, Pol, Rup, Solution, Delete, Output, Conclusion, End}
-use Rattle.pb_proof.proofs.lemmas.Choices.{both}
-use Rattle.pb_proof.proofs.lemmas.Line.Ends.{as_unmarked}
+use Rattle.pb_proof.proofs.lemmas.Line.Ends.{first_blank, further_blank, nil_last}
 
 abbrev pub chooses : Bool → Language → Language → Language
 chooses true P Q = P
@@ -32,8 +32,8 @@ pub one_met : (c : ℕ) (l : Letter) → meets c l.byte ≡ true → l.numeral �
 one_met c l h n = by_test (nat_eq c 32) h
   where
     by_test : (x : Bool) → cond x (is_blank l.byte) (nat_eq l.byte c) ≡ true → chooses x Blanks1 (Byte c) (l ∷ [])
-    by_test true e = some-one (λ b. IsTrue (is_blank b)) l.byte l (as_unmarked l l.byte refl n) e
-    by_test false e = ap (λ x. x ∷ []) (as_unmarked l c (eqb-true l.byte c e) n)
+    by_test true e = first_blank l [] e n refl
+    by_test false e = ap (λ x. x ∷ []) (as_unmarked l c n (eqb-true l.byte c e))
 
 -- one more byte of the words
 pub spaced_then : (cs ds : List ℕ) (p q : List Letter) → Spaced cs p → Spaced ds q → Spaced (cs ++ ds) (p ++ q)
@@ -48,10 +48,7 @@ spaced_more cs c p l h k = spaced_then cs (c ∷ []) p (l ∷ []) h (l ∷ [], [
 pub spaced_blank : (cs : List ℕ) (p : List Letter) (l : Letter) → is_blank l.byte ≡ true → l.numeral ≡ false → Spaced (cs ++ 32 ∷ []) p → Spaced (cs ++ 32 ∷ []) (p ++ l ∷ [])
 spaced_blank [] p l h n k =
     none_yet Blanks1 Empty (p ++ l ∷ []) refl
-    (some-grown (λ b. IsTrue (is_blank b)) l.byte l (as_unmarked l l.byte refl n) h p (whole k))
-  where
-    whole : (Blanks1 ⋅ Empty) p → Blanks1 p
-    whole (a, b, e, i, j) = subst Blanks1 (sym (e ∙ (ap (λ x. a ++ x) j ∙ append-nil a))) i
+    (further_blank l p h n (nil_last Blanks1 p k))
 spaced_blank (c ∷ cs) p l h n k = grown (One c) (Spaced (cs ++ 32 ∷ [])) (Spaced (cs ++ 32 ∷ [])) p l (λ q i. spaced_blank cs q l h n i) k
 
 -- Words without spaces, and words with a space before each.
@@ -72,33 +69,29 @@ abbrev pub Words : Language → List (List ℕ) → Language
 Words P [] = P
 Words P (w ∷ ws) = Words (P ⋅ Blanks1 ⋅ Bytes w) ws
 
-is_not : (x : Bool) → not x ≡ true → x ≡ false
-is_not true h = sym h
-is_not false h = refl
-
 plain_only : (w more : List ℕ) → is_plain w ≡ true → (t : List Letter) → Spaced (w ++ more) t → (Bytes w ⋅ Spaced more) t
 plain_only [] more h t k = ([], t, refl, refl, k)
 plain_only (c ∷ w) more h t (a, b, e, i, j) =
-    let g = both (not (nat_eq c 32)) (is_plain w) h in
-    let first : a ≡ unmarked c ∷ [] = subst (λ x. chooses x Blanks1 (Byte c) a) (is_not (nat_eq c 32) g.0) i in
+    let g = and_parts (not (nat_eq c 32)) (is_plain w) h in
+    let first : a ≡ unmarked c ∷ [] = subst (λ x. chooses x Blanks1 (Byte c) a) (not-true (nat_eq c 32) g.0) i in
     let (p, q, f, u, v) = plain_only w more g.1 b j in
     (unmarked c ∷ p, q, e ∙ (ap (λ x. x ++ b) first ∙ ap (λ x. unmarked c ∷ x) f), ap (λ x. unmarked c ∷ x) u, v)
 
 plain_each : (w more : List ℕ) → is_plain w ≡ true → (t : List Letter) → (Bytes w ⋅ Spaced more) t → Spaced (w ++ more) t
 plain_each [] more h t (a, b, e, i, j) = subst (Spaced more) (sym (e ∙ ap (λ x. x ++ b) i)) j
 plain_each (c ∷ w) more h t (a, b, e, i, j) =
-    let g = both (not (nat_eq c 32)) (is_plain w) h in (
+    let g = and_parts (not (nat_eq c 32)) (is_plain w) h in (
       unmarked c ∷ [],
       plain w ++ b,
       e ∙ ap (λ x. x ++ b) i,
-      subst (λ x. chooses x Blanks1 (Byte c) (unmarked c ∷ [])) (sym (is_not (nat_eq c 32) g.0)) refl,
+      subst (λ x. chooses x Blanks1 (Byte c) (unmarked c ∷ [])) (sym (not-true (nat_eq c 32) g.0)) refl,
       plain_each w more g.1 (plain w ++ b) (plain w, b, refl, refl, j),
     )
 
 led_only : (P : Language) (ws : List (List ℕ)) → are_plain ws ≡ true → (t : List Letter) → (P ⋅ Spaced (led ws)) t → Words P ws t
-led_only P [] h t (a, b, e, i, j) = subst P (sym (e ∙ (ap (λ x. a ++ x) j ∙ append-nil a))) i
+led_only P [] h t k = nil_last P t k
 led_only P (w ∷ ws) h t k =
-    let g = both (is_plain w) (are_plain ws) h in
+    let g = and_parts (is_plain w) (are_plain ws) h in
     led_only (P ⋅ Blanks1 ⋅ Bytes w) ws g.1 t
     (regroup⁻¹ (P ⋅ Blanks1) (Bytes w) (Spaced (led ws)) t
     (behind_it (P ⋅ Blanks1) (Spaced (w ++ led ws)) (Bytes w ⋅ Spaced (led ws)) t (plain_only w (led ws) g.0)
@@ -107,7 +100,7 @@ led_only P (w ∷ ws) h t k =
 led_each : (P : Language) (ws : List (List ℕ)) → are_plain ws ≡ true → (t : List Letter) → Words P ws t → (P ⋅ Spaced (led ws)) t
 led_each P [] h t k = (t, [], sym (append-nil t), k, refl)
 led_each P (w ∷ ws) h t k =
-    let g = both (is_plain w) (are_plain ws) h in
+    let g = and_parts (is_plain w) (are_plain ws) h in
     regroup P Blanks1 (Spaced (w ++ led ws)) t
     (behind_it (P ⋅ Blanks1) (Bytes w ⋅ Spaced (led ws)) (Spaced (w ++ led ws)) t (plain_each w (led ws) g.0)
     (regroup (P ⋅ Blanks1) (Bytes w) (Spaced (led ws)) t
@@ -130,6 +123,18 @@ first_word Delete = del_word
 first_word Output = output_word
 first_word Conclusion = conclusion_word
 first_word End = end_word
+
+-- all of them have a byte
+pub some_byte : (f : Keyword) → 0 < length (words_of f)
+some_byte Header = omega arith
+some_byte Formula = omega arith
+some_byte Pol = omega arith
+some_byte Rup = omega arith
+some_byte Solution = omega arith
+some_byte Delete = omega arith
+some_byte Output = omega arith
+some_byte Conclusion = omega arith
+some_byte End = omega arith
 
 abbrev pub more_words : Keyword → List (List ℕ)
 more_words Header = proof_word ∷ version_word ∷ two_word ∷ []

@@ -1,6 +1,7 @@
 -- The given literals, and what a completion from them is.
 use Rattle.std.specs.Prelude.{Option, Some, None}
 use Rattle.std.proofs.Common.{◌≡◌, ℕ, ◌+◌, ◌<◌, ◌||◌, ◌++◌, ◌∷◌, [], List, Bool, true, false, refl, sym, ◌∙◌, ap, inl, inr, length, get_or, take}
+use Rattle.std.specs.Cmp.{both_ways as same_answers}
 use Rattle.std.proofs.lemmas.Bool.{both_ways, or_cases}
 use Rattle.std.proofs.lemmas.List.{take_more}
 use Rattle.pb_normal.specs.Form.{Form}
@@ -10,9 +11,9 @@ use Rattle.pb_replay.specs.Engine.Counts.{Adopted, kept, added, AreSingle, more}
 use Rattle.pb_replay.specs.Propagation.{on, begin, MeetsConflict, IsCompletion}
 use Rattle.pb_replay.specs.Engine.Live.{value_says, Gives}
 use Rattle.pb_replay.specs.Engine.Rest.{IsRefuted, opposite as opposites, derived as from, IsEnded}
-use Rattle.pb_replay.proofs.Engine.Literals.{has-none, has-get, has-push_old, has-push_new, push-within}
-use Rattle.pb_replay.proofs.Engine.Bridge.{AreKept, Matches, literal, same_Bool, only-same, Derived, derives, conflicts, is-closed, has-none as conflict-free}
-use Rattle.pb_replay.proofs.Engine.Completions.{closed-none}
+use Rattle.pb_replay.proofs.Engine.Literals.{literal, has-none, has-get, has-push_old, has-push_new, push-within}
+use Rattle.pb_replay.proofs.Engine.Bridge.{AreKept, Matches, only-same, Derived, derives, conflicts, is-closed, has-none as conflict-free}
+use Rattle.pb_replay.proofs.lemmas.Completing.{closed-none}
 use Rattle.pb_replay.proofs.Engine.Values.{Agree, opposite}
 
 -- a literal was tried
@@ -52,7 +53,7 @@ on-has (l ∷ ls) v n = ap (λ b. b || on ls v n) (only-same l v n) ∙ ap (λ b
 
 given-matches : (given first : List NumberedLiteral) → IsWithin first given → IsWithin given first → Matches given first
 given-matches given first w c v n =
-    on-has given v n ∙ same_Bool (has given (literal v n)) (has first (literal v n)) (c (literal v n)) (w (literal v n))
+    on-has given v n ∙ same_answers (has given (literal v n)) (has first (literal v n)) (c (literal v n)) (w (literal v n))
 
 pub refuted-meets : (F : Form → Type 0) (shapes : List Shape) (given list : List NumberedLiteral) → AreKept F shapes → IsRefuted shapes given list → MeetsConflict F given
 refuted-meets F shapes given list a (opposites l here there) =

@@ -1,48 +1,37 @@
 -- The engine's lists and forms are those of the definitions.
 use Rattle.std.specs.Prelude.{sum_by, map, Contains}
-use Rattle.std.proofs.Common.{◌≡◌, ℕ, zero, suc, ◌+◌, ◌<◌, ◌≤◌, ◌⊎◌, ◌++◌, ◌∷◌, [], List, Bool, true, false, not, ◌||◌, refl, sym, ◌∙◌, ap, subst, arith, inl, inr, length, length-append}
+use Rattle.std.proofs.Common.{◌≡◌, ℕ, suc, ◌+◌, ◌<◌, ◌⊎◌, ◌++◌, ◌∷◌, [], List, Bool, true, false, not, ◌||◌, refl, sym, ◌∙◌, ap, subst, arith, inl, inr, length, length-append}
+use Rattle.std.specs.Cmp.{both_ways as same_answers}
+use Rattle.std.proofs.Math.Bool.{or_comm}
 use Rattle.std.proofs.lemmas.Bool.{cases_Bool, both_ways}
 use Rattle.std.proofs.lemmas.List.{get_or-map, length-map}
 use Rattle.std.proofs.lemmas.List.Sums.{sum_by-cons}
 use Rattle.std.proofs.lemmas.List.Sorted.{IsPermutation-sym, sum_by-IsPermutation, Contains-permutation}
 use Rattle.pb_normal.specs.declared.entry.Entry.{Entry}
 use Rattle.pb_normal.specs.Form.{Form, IsRising, total, counted}
+use Rattle.pb_normal.specs.Rules.{only}
 use Rattle.pb_replay.specs.declared.numbered.NumberedLiteral.{NumberedLiteral}
 use Rattle.pb_replay.specs.declared.propagate.term.Term.{Term}
 use Rattle.pb_replay.specs.Engine.Forms.{entry_of, IsKeptAs}
 use Rattle.pb_replay.specs.Engine.Lists.{Shape, negation, same, has, open_part, open_sum, IsSettled, Puts, Derives, begin as start, put as more, Conflicts, opposed as both, broken as low}
-use Rattle.pb_replay.specs.Propagation.{only, on, opened, MayPut, Derivation, begin, put, HasConflict, opposed, broken}
-use Rattle.pb_replay.proofs.Engine.Choices.{only-true, only-self}
-use Rattle.pb_replay.proofs.Engine.Literals.{same-true, same-refl, has-push, open_part-falsified, open_part-open, literal_ext}
+use Rattle.pb_replay.specs.Propagation.{on, opened, MayPut, Derivation, begin, put, HasConflict, opposed, broken}
+use Rattle.pb_replay.proofs.lemmas.Choices.{total-has, rising-positive, only-true, only-self}
+use Rattle.pb_replay.proofs.Engine.Literals.{literal, same-true, same-refl, has-push, open_part-falsified, open_part-open, literal_ext}
 use Rattle.pb_replay.proofs.Engine.Derivations.{one_itself}
 use Rattle.pb_replay.proofs.Engine.Sources.{source}
-
-abbrev pub literal : ℕ → Bool → NumberedLiteral
-literal v n = record { variable = v; negated = n }
 
 -- the first list has the literals of the second
 abbrev pub Matches : List NumberedLiteral → List NumberedLiteral → Type 0
 Matches new old = (v : ℕ) (n : Bool) → on new v n ≡ has old (literal v n)
 
-pub same_Bool : (b c : Bool) → (b ≡ true → c ≡ true) → (c ≡ true → b ≡ true) → b ≡ c
-same_Bool true c f g = sym (f refl)
-same_Bool false true f g = g refl
-same_Bool false false f g = refl
-
 pub only-same : (l : NumberedLiteral) (v : ℕ) (n : Bool) → only l.variable l.negated v n ≡ same l (literal v n)
-only-same l v n = same_Bool (only l.variable l.negated v n) (same l (literal v n))
+only-same l v n = same_answers (only l.variable l.negated v n) (same l (literal v n))
     (λ h. let parts = only-true l.variable l.negated v n h in rw (parts.0, parts.1) (ap (same l) (literal_ext (literal l.variable l.negated) l refl refl) ∙ same-refl l))
     (λ h. let is = same-true l (literal v n) h in rw (ap (λ (k : NumberedLiteral). k.variable) is, ap (λ (k : NumberedLiteral). k.negated) is) (only-self v n))
 
-or_swap : (a b : Bool) → (a || b) ≡ (b || a)
-or_swap true true = refl
-or_swap true false = refl
-or_swap false true = refl
-or_swap false false = refl
-
 pub matches-put : (new old : List NumberedLiteral) (l : NumberedLiteral) → Matches new old → Matches (l ∷ new) (old ++ (l ∷ []))
 matches-put new old l m v n =
-    ap (λ b. b || on new v n) (only-same l v n) ∙ ap (λ b. same l (literal v n) || b) (m v n) ∙ or_swap (same l (literal v n)) (has old (literal v n)) ∙ sym (has-push old l (literal v n))
+    ap (λ b. b || on new v n) (only-same l v n) ∙ ap (λ b. same l (literal v n) || b) (m v n) ∙ or_comm (same l (literal v n)) (has old (literal v n)) ∙ sym (has-push old l (literal v n))
 
 pub matches-at : (new old : List NumberedLiteral) (l : NumberedLiteral) → Matches new old → on new l.variable l.negated ≡ has old l
 matches-at new old l m = m l.variable l.negated ∙ ap (has old) (literal_ext (literal l.variable l.negated) l refl refl)
@@ -72,20 +61,6 @@ counted-open new old m t =
 pub total-open : (f : Form) (x : Shape) (new old : List NumberedLiteral) → IsKeptAs f x → Matches new old → total (opened new) f.terms ≡ open_sum old x.terms
 total-open f x new old k m =
     omega (arith, total-sum (opened new) f.terms, sum_by-IsPermutation (counted (opened new)) (map entry_of x.terms) f.terms k.terms, sum-entries (counted (opened new)) (open_part old) (counted-open new old m) x.terms)
-
-pub total-has : (p : ℕ → Bool → Bool) (es : List Entry) (e : Entry) → Contains es e → p e.variable e.negated ≡ true → e.coefficient ≤ total p es
-total-has p [] e (k, inside, is) h = absurd (omega (arith, inside))
-total-has p (x ∷ xs) e (zero, inside, is) h =
-    let whole : counted p x ≡ e.coefficient = ap (counted p) is ∙ rw h refl in
-    omega (arith, whole)
-total-has p (x ∷ xs) e (suc k, inside, is) h =
-    let rest = total-has p xs e (k, omega (arith, inside), is) h in
-    omega (arith, rest)
-
-rising-positive : (n : ℕ) (es : List Entry) (e : Entry) → IsRising n es → Contains es e → 0 < e.coefficient
-rising-positive n [] e r (k, inside, is) = absurd (omega (arith, inside))
-rising-positive n (x ∷ xs) e r (zero, inside, is) = omega (arith, r.1, ap (λ (y : Entry). y.coefficient) is)
-rising-positive n (x ∷ xs) e r (suc k, inside, is) = rising-positive (x.variable + 1) xs e r.2 (k, omega (arith, inside), is)
 
 -- past its variable a literal has no coefficient
 rising-past : (n v : ℕ) (b : Bool) (es : List Entry) → v < n → IsRising n es → total (only v b) es ≡ 0

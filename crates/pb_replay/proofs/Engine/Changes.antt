@@ -1,10 +1,10 @@
 -- The store after a form came, left, or was made empty.
-use Rattle.std.specs.Prelude.{map, Option, None}
-use Rattle.std.proofs.Common.{◌≡◌, ℕ, ◌+◌, ◌<◌, ◌≤◌, ◌++◌, ◌∷◌, [], List, Vec, Global, refl, sym, ◌∙◌, ap, subst, arith, inl, inr, length, get_or, take, set, length-set, length-append, get_or-set_same, get_or-set_other, zero, suc}
+use Rattle.std.specs.Prelude.{Option, None}
+use Rattle.std.proofs.Common.{◌≡◌, ℕ, ◌+◌, ◌<◌, ◌++◌, ◌∷◌, [], List, Vec, Global, refl, sym, ◌∙◌, ap, subst, arith, inl, inr, length, get_or, take, set, length-set, length-append, get_or-set_same, get_or-set_other, zero, suc}
 use Rattle.std.proofs.Math.Seq.{set-append_seam}
 use Rattle.std.proofs.lemmas.Bool.{cases_eq, cases_lt}
 use Rattle.pb_normal.specs.Form.{Form}
-use Rattle.std.proofs.lemmas.List.{map-append, length-map, get_or_past, take_more, take_all, length-take-le, get_or_append_left, map-set}
+use Rattle.std.proofs.lemmas.List.{get_or-take, set-set, take-map, map-append, length-map, get_or_past, take_more, take_all, length-take-le, get_or_append_left, map-set}
 use Rattle.std.proofs.lemmas.List.Elements.{All-push, All-set, All-take}
 use Rattle.pb_replay.specs.declared.propagate.term.Term.{Term}
 use Rattle.pb_replay.specs.declared.propagate.term.Occurrence.{Occurrence}
@@ -13,7 +13,7 @@ use Rattle.pb_replay.specs.Engine.Lists.{Shape, AreInside}
 use Rattle.pb_replay.specs.Engine.Fields.{shapes_of, kept_shape, forms_of, spots_of, entries_of}
 use Rattle.pb_replay.specs.Engine.Terms.{terms_of}
 use Rattle.pb_replay.specs.Engine.Links.{terms_at, degree_at, IsLinked, IsStored, cut}
-use Rattle.pb_replay.proofs.Engine.Gets.{last-is}
+use Rattle.pb_replay.proofs.Engine.Gets.{lt_of_apart, last-is}
 use Rattle.pb_replay.proofs.Engine.Places.{entries-length}
 use Rattle.pb_replay.proofs.Engine.Links.{cut-length}
 use Rattle.pb_replay.proofs.Engine.Storages.{linked-named, link-start, link-end, link-vacant, cut-all}
@@ -26,6 +26,9 @@ set-end xs ys n y z e at = ap (λ zs. set zs n z) e ∙ ap (λ m. set (xs ++ (y 
 pub empty-end : (keep keep' : List Kept) (k : Kept) (n : ℕ) → keep' ≡ keep ++ (k ∷ []) → n ≡ length keep → (terms_of k.terms) ≡ [] → terms_at (shapes_of keep') n ≡ []
 empty-end keep keep' k n e at empty =
     rw (e, map-append kept_shape keep (k ∷ [])) (ap (λ (f : Shape). f.terms) (last-is (shapes_of keep) (kept_shape k) (record { terms = []; degree = 0 }) n (at ∙ sym (length-map keep kept_shape))) ∙ empty)
+
+none_inside : (n : ℕ) (ts : List Term) → ts ≡ [] → AreInside n ts
+none_inside n ts h i d less = absurd (omega (arith, less, ap length h))
 
 -- an empty form behind the others
 pub widened-forms : (keep : List Kept) (k : Kept) (sp : List (Vec ℕ Global)) (v : Vec ℕ Global) (occ : List (Vec Occurrence Global)) (n : ℕ) → (terms_of k.terms) ≡ [] → v.items ≡ [] →
@@ -45,7 +48,7 @@ widened-forms keep k sp v occ n empty no_spots old =
       whole = whole;
       named = linked-named base (spots_of sp ++ ([] ∷ [])) (entries_of base occ) whole;
       places = omega (arith, old.places, entries-length forms occ, entries-length base occ);
-      inside = All-push (λ (f : Shape). AreInside n f.terms) forms x old.inside (none_inside (terms_of k.terms) empty);
+      inside = All-push (λ (f : Shape). AreInside n f.terms) forms x old.inside (none_inside n (terms_of k.terms) empty);
       rooms = λ s less. elim (cases_lt s (length forms)) [
         | inl before ↦
             ap length (get_or_append_left (spots_of sp) ([] ∷ []) [] s (omega (arith, before, old.whole.sizes)))
@@ -57,9 +60,6 @@ widened-forms keep k sp v occ n empty no_spots old =
             mine ∙ sym its
       ];
     })
-  where
-    none_inside : (ts : List Term) → ts ≡ [] → AreInside n ts
-    none_inside ts h i d less = absurd (omega (arith, less, ap length h))
 
 -- a form where an empty one stood
 pub filled-stored : (keep : List Kept) (k : Kept) (sp : List (Vec ℕ Global)) (v : Vec ℕ Global) (occ occ' : List (Vec Occurrence Global)) (n form : ℕ) (terms : List Term) →
@@ -78,7 +78,7 @@ filled-stored keep k sp v occ occ' n form terms room empty terms_is sizes count 
     let bare : IsLinked (cut forms form 0) (spots_of sp) (entries_of forms occ) = rw (cut-all forms form 0 (omega (arith, ap length empty))) old.whole in
     let first : Shape = record { terms = take 0 (terms_at base form); degree = degree_at base form } in
     let same : entries_of base occ ≡ entries_of forms occ = entries-apart forms base occ form (λ j n. terms-set forms form x j n) (others-named forms (spots_of sp) occ form here bare) in
-    let ready : IsLinked (cut base form 0) (set (spots_of sp) form []) (entries_of forms occ) = rw (set-twice forms form x first) (link-vacant forms (spots_of sp) (entries_of forms occ) form first here (nothing (terms_at base form)) bare) in
+    let ready : IsLinked (cut base form 0) (set (spots_of sp) form []) (entries_of forms occ) = rw (set-set forms form x first) (link-vacant forms (spots_of sp) (entries_of forms occ) form first here refl bare) in
     let start : IsLinked (cut base form 0) (set (spots_of sp) form []) (entries_of base occ) = subst (IsLinked (cut base form 0) (set (spots_of sp) form [])) (sym same) ready in
     let done : IsLinked (cut base form (length terms)) (set (spots_of sp) form v.items) (entries_of base occ') = link base (spots_of sp) form_in terms_here wide start in
     let whole : IsLinked base (set (spots_of sp) form v.items) (entries_of base occ') = rw (cut-all base form (length terms) (omega (arith, ap length terms_here))) at done in
@@ -94,36 +94,17 @@ filled-stored keep k sp v occ occ' n form terms room empty terms_is sizes count 
         | inr other ↦ ap length (get_or-set_other (spots_of sp) form s v.items [] other) ∙ old.rooms s (omega (arith, less, length-set forms form x)) ∙ sym (ap (λ (f : Shape). length f.terms) (get_or-set_other forms form s x none other))
       ];
     })
-  where
-    nothing : (ts : List Term) → take 0 ts ≡ []
-    nothing [] = refl
-    nothing (t ∷ ts) = refl
-
-    set-twice : {X : Type 0} (xs : List X) (i : ℕ) (y z : X) → set (set xs i y) i z ≡ set xs i z
-    set-twice [] i y z = refl
-    set-twice (w ∷ xs) zero y z = refl
-    set-twice (w ∷ xs) (suc i) y z = ap (λ ys. w ∷ ys) (set-twice xs i y z)
 
 split-last : {X : Type 0} (xs : List X) (n : ℕ) (d : X) → length xs ≡ n + 1 → xs ≡ take n xs ++ (get_or xs n d ∷ [])
 split-last xs n d h = sym (take_all (n + 1) xs (omega (arith, h))) ∙ take_more xs n d (omega (arith, h))
-
-get-take_front : {X : Type 0} (xs : List X) (n s : ℕ) (d : X) → s < n → get_or (take n xs) s d ≡ get_or xs s d
-get-take_front [] zero s d h = absurd (omega (arith, h))
-get-take_front [] (suc n) s d h = refl
-get-take_front (x ∷ xs) zero s d h = absurd (omega (arith, h))
-get-take_front (x ∷ xs) (suc n) zero d h = refl
-get-take_front (x ∷ xs) (suc n) (suc s) d h = get-take_front xs n s d (omega (arith, h))
 
 terms-taken : (forms : List Shape) (n k : ℕ) → length forms ≡ n + 1 → (k ≡ n → ⊥) → terms_at (take n forms) k ≡ terms_at forms k
 terms-taken forms n k size other =
     let e : Shape = record { terms = []; degree = 0 } in
     elim (cases_lt k n) [
-      | inl less ↦ ap (λ (f : Shape). f.terms) (get-take_front forms n k e less)
-      | inr more ↦ ap (λ (f : Shape). f.terms) (get_or_past (take n forms) k e (omega (arith, length-take-le n forms (omega (arith, size)), more)) ∙ sym (get_or_past forms k e (omega (arith, size, beyond k n more other))))
+      | inl less ↦ ap (λ (f : Shape). f.terms) (get_or-take n forms k e less)
+      | inr more ↦ ap (λ (f : Shape). f.terms) (get_or_past (take n forms) k e (omega (arith, length-take-le n forms (omega (arith, size)), more)) ∙ sym (get_or_past forms k e (omega (arith, size, lt_of_apart n k more other))))
     ]
-  where
-    beyond : (a b : ℕ) → b ≤ a → (a ≡ b → ⊥) → b < a
-    beyond a b h n = grind arith
 
 pub left-stored : (keep : List Kept) (sp sp0 : List (Vec ℕ Global)) (occ occ0 : List (Vec Occurrence Global)) (n number : ℕ) → length keep ≡ number + 1 → length occ ≡ length occ0 →
     ((s : ℕ) → length (get_or (spots_of sp) s []) ≡ length (get_or (spots_of sp0) s [])) → IsLinked (cut (shapes_of keep) number 0) (spots_of sp) (entries_of (shapes_of keep) occ) → IsStored (shapes_of keep) (spots_of sp0) (entries_of (shapes_of keep) occ0) n →
@@ -144,8 +125,8 @@ left-stored keep sp sp0 occ occ0 n number count sizes rooms linked old =
     let bare : IsLinked front (take number (spots_of sp)) (entries_of forms occ) = link-end front (take number (spots_of sp)) (entries_of forms occ) (get_or forms number e) (get_or (spots_of sp) number []) (omega (arith, front_size, spots_front)) at_end in
     let same : entries_of front occ ≡ entries_of forms occ = entries-apart forms front occ number (λ k n. terms-taken forms number k forms_size n) (others-named forms (spots_of sp) occ number (omega (arith, forms_size)) linked) in
     let whole : IsLinked front (take number (spots_of sp)) (entries_of front occ) = subst (IsLinked front (take number (spots_of sp))) (sym same) bare in
-    let forms_less : shapes_of (take number keep) ≡ front = map-take kept_shape number keep in
-    let spots_less : spots_of (take number sp) ≡ take number (spots_of sp) = map-take (λ (w : Vec ℕ Global). w.items) number sp in
+    let forms_less : shapes_of (take number keep) ≡ front = sym (take-map kept_shape number keep) in
+    let spots_less : spots_of (take number sp) ≡ take number (spots_of sp) = sym (take-map (λ (w : Vec ℕ Global). w.items) number sp) in
     rw (forms_less, spots_less) (record {
       whole = whole;
       named = linked-named front (take number (spots_of sp)) (entries_of front occ) whole;
@@ -153,14 +134,8 @@ left-stored keep sp sp0 occ occ0 n number count sizes rooms linked old =
       inside = All-take (λ (f : Shape). AreInside n f.terms) number forms old.inside;
       rooms = λ s less.
           let before : s < number = omega (arith, less, front_size) in
-          ap length (get-take_front (spots_of sp) number s [] before) ∙ rooms s ∙ old.rooms s (omega (arith, before, forms_size)) ∙ sym (ap (λ (f : Shape). length f.terms) (get-take_front forms number s e before));
+          ap length (get_or-take number (spots_of sp) s [] before) ∙ rooms s ∙ old.rooms s (omega (arith, before, forms_size)) ∙ sym (ap (λ (f : Shape). length f.terms) (get_or-take number forms s e before));
     })
-  where
-    map-take : {X Y : Type 0} (f : X → Y) (m : ℕ) (xs : List X) → map f (take m xs) ≡ take m (map f xs)
-    map-take f zero [] = refl
-    map-take f (suc m) [] = refl
-    map-take f zero (x ∷ xs) = refl
-    map-take f (suc m) (x ∷ xs) = ap (λ ys. f x ∷ ys) (map-take f m xs)
 
 pub vacated-stored : (keep : List Kept) (k : Kept) (sp sp0 : List (Vec ℕ Global)) (v : Vec ℕ Global) (occ occ0 : List (Vec Occurrence Global)) (n form : ℕ) → form < length keep → (terms_of k.terms) ≡ [] → v.items ≡ [] → length occ ≡ length occ0 →
     ((s : ℕ) → length (get_or (spots_of sp) s []) ≡ length (get_or (spots_of sp0) s [])) → IsLinked (cut (shapes_of keep) form 0) (spots_of sp) (entries_of (shapes_of keep) occ) → IsStored (shapes_of keep) (spots_of sp0) (entries_of (shapes_of keep) occ0) n →
@@ -181,15 +156,12 @@ vacated-stored keep k sp sp0 v occ occ0 n form inside empty no_spots sizes rooms
       whole = whole;
       named = linked-named base (set (spots_of sp) form []) (entries_of base occ) whole;
       places = omega (arith, old.places, sizes, entries-length base occ, entries-length forms occ0);
-      inside = All-set (λ (f : Shape). AreInside n f.terms) forms form (kept_shape k) (none_inside (terms_of k.terms) empty) old.inside;
+      inside = All-set (λ (f : Shape). AreInside n f.terms) forms form (kept_shape k) (none_inside n (terms_of k.terms) empty) old.inside;
       rooms = λ s less. elim (cases_eq s form) [
         | inl at ↦ rw at (ap length (get_or-set_same (spots_of sp) form [] [] (omega (arith, here, spots_size))) ∙ sym (ap (λ (f : Shape). length f.terms) (get_or-set_same forms form (kept_shape k) e here) ∙ ap length empty))
         | inr other ↦ ap length (get_or-set_other (spots_of sp) form s [] [] other) ∙ rooms s ∙ old.rooms s (omega (arith, less, length-set forms form (kept_shape k))) ∙ sym (ap (λ (f : Shape). length f.terms) (get_or-set_other forms form s (kept_shape k) e other))
       ];
     })
-  where
-    none_inside : (ts : List Term) → ts ≡ [] → AreInside n ts
-    none_inside ts h i d less = absurd (omega (arith, less, ap length h))
 
 pub take-at : {X : Type 0} (xs ys : List X) (a b : ℕ) → a ≡ b → xs ≡ ys → take a xs ≡ take b ys
 take-at xs ys a b e f = ap (λ n. take n xs) e ∙ ap (take b) f

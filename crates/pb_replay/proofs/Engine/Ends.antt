@@ -4,9 +4,10 @@ use Rattle.std.proofs.Common.{◌≡◌, ℕ, zero, suc, ◌+◌, ◌<◌, ◌�
 use Rattle.std.proofs.lemmas.Bool.{cases_Bool, cases_lt}
 use Rattle.pb_normal.specs.declared.entry.Entry.{Entry}
 use Rattle.pb_normal.specs.Form.{Form, total}
+use Rattle.pb_normal.specs.Rules.{only}
 use Rattle.pb_replay.specs.declared.numbered.NumberedLiteral.{NumberedLiteral}
-use Rattle.pb_replay.specs.Propagation.{only, on, opened, MayPut, Derivation, begin, put, IsCompletion}
-use Rattle.pb_replay.proofs.Engine.Choices.{only-true, only-self}
+use Rattle.pb_replay.specs.Propagation.{on, opened, MayPut, Derivation, begin, put, IsCompletion}
+use Rattle.pb_replay.proofs.lemmas.Choices.{only-true, only-self}
 
 -- a literal that a form forces
 pub record Forced (list : List NumberedLiteral) (f : Form) (v : ℕ) (n : Bool) : Type 0 where

@@ -1,7 +1,16 @@
 -- What stands at a place of a list.
-use Rattle.std.specs.Prelude.{Option, Some, None, slice_get, map}
+use Rattle.std.specs.Prelude.{Contains, Option, Some, None, slice_get, map}
 use Rattle.std.proofs.Common.{◌≡◌, ℕ, zero, suc, ◌+◌, ◌<◌, ◌≤◌, ◌++◌, ◌∷◌, [], List, refl, sym, ◌∙◌, ap, arith, inl, inr, length, get_or, take, set}
 use Rattle.std.proofs.lemmas.Bool.{cases_lt}
+
+-- at least a number, and not that number
+pub lt_of_apart : (a b : ℕ) → a ≤ b → (b ≡ a → ⊥) → a < b
+lt_of_apart a b h n = grind arith
+
+-- nothing stands on the empty list
+pub contains-none : {X : Type 0} (xs : List X) (x : X) → xs ≡ [] → Contains xs x → ⊥
+contains-none [] x e (k, lt, is) = omega (arith, lt)
+contains-none (y ∷ xs) x e c = cc
 
 pub get-take_less : {X : Type 0} (xs : List X) (i j : ℕ) → j < i → slice_get (take i xs) j ≡ slice_get xs j
 get-take_less [] zero j h = absurd (omega (arith, h))
@@ -21,11 +30,8 @@ pub get-take_step : {X : Type 0} (xs : List X) (i j : ℕ) → (j ≡ i → ⊥)
 get-take_step xs i j n =
     elim (cases_lt j i) [
       | inl less ↦ get-take_less xs (i + 1) j (omega (arith, less)) ∙ sym (get-take_less xs i j less)
-      | inr more ↦ get-take_past xs (i + 1) j (after j i more n) ∙ sym (get-take_past xs i j more)
+      | inr more ↦ get-take_past xs (i + 1) j (omega (arith, lt_of_apart i j more n)) ∙ sym (get-take_past xs i j more)
     ]
-  where
-    after : (a b : ℕ) → b ≤ a → (a ≡ b → ⊥) → b + 1 ≤ a
-    after a b h k = grind arith
 
 pub get-set_same : {X : Type 0} (xs : List X) (j : ℕ) (y : X) → j < length xs → slice_get (set xs j y) j ≡ Some y
 get-set_same [] j y h = absurd (omega (arith, h))
@@ -37,10 +43,7 @@ get-set_other [] j k y n = refl
 get-set_other (x ∷ xs) zero zero y n = absurd (n refl)
 get-set_other (x ∷ xs) zero (suc k) y n = refl
 get-set_other (x ∷ xs) (suc j) zero y n = refl
-get-set_other (x ∷ xs) (suc j) (suc k) y n = get-set_other xs j k y (λ e. n (up k j e))
-  where
-    up : (a b : ℕ) → a ≡ b → suc a ≡ suc b
-    up a b e = ap suc e
+get-set_other (x ∷ xs) (suc j) (suc k) y n = get-set_other xs j k y (λ e. n (omega (arith, e)))
 
 pub get-push_less : {X : Type 0} (xs : List X) (k : ℕ) (y : X) → k < length xs → slice_get (xs ++ (y ∷ [])) k ≡ slice_get xs k
 get-push_less [] k y h = absurd (omega (arith, h))
@@ -63,10 +66,7 @@ pub get-push_other : {X : Type 0} (xs : List X) (k : ℕ) (y : X) → (k ≡ len
 get-push_other [] zero y n = absurd (n refl)
 get-push_other [] (suc k) y n = refl
 get-push_other (x ∷ xs) zero y n = refl
-get-push_other (x ∷ xs) (suc k) y n = get-push_other xs k y (λ e. n (up k (length xs) e))
-  where
-    up : (a b : ℕ) → a ≡ b → suc a ≡ suc b
-    up a b e = ap suc e
+get-push_other (x ∷ xs) (suc k) y n = get-push_other xs k y (λ e. n (omega (arith, e)))
 
 -- the last of two lists that differ there alone
 pub last-is : {X : Type 0} (xs : List X) (y d : X) (k : ℕ) → k ≡ length xs → get_or (xs ++ (y ∷ [])) k d ≡ y
@@ -79,10 +79,7 @@ pub not_last : {X : Type 0} (xs : List X) (y z d : X) (k : ℕ) → (k ≡ lengt
 not_last [] y z d zero n = absurd (n refl)
 not_last [] y z d (suc k) n = refl
 not_last (x ∷ xs) y z d zero n = refl
-not_last (x ∷ xs) y z d (suc k) n = not_last xs y z d k (λ e. n (up k (length xs) e))
-  where
-    up : (a b : ℕ) → a ≡ b → suc a ≡ suc b
-    up a b e = ap suc e
+not_last (x ∷ xs) y z d (suc k) n = not_last xs y z d k (λ e. n (omega (arith, e)))
 
 pub get-map : {X Y : Type 0} (f : X → Y) (xs : List X) (i : ℕ) (x : X) → i < length xs → x ≡ get_or xs i x → slice_get (map f xs) i ≡ Some (f x)
 get-map f [] i x h e = absurd (omega (arith, h))

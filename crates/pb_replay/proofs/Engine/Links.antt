@@ -1,7 +1,8 @@
 -- One term more or less stands in the lists.
 use Rattle.std.specs.Prelude.{sum_by, Some, None, slice_get}
-use Rattle.std.proofs.Common.{◌≡◌, ℕ, zero, suc, ◌+◌, ◌<◌, ◌≤◌, ◌++◌, ◌∷◌, [], List, refl, sym, ◌∙◌, ap, arith, inl, inr, length, get_or, take, set, length-set, length-append, get_or-set_same, get_or-set_other}
-use Rattle.std.proofs.lemmas.Bool.{cases_eq, cases_lt, cases_Bool}
+use Rattle.std.proofs.Common.{◌≡◌, ℕ, ◌+◌, ◌<◌, ◌≤◌, ◌++◌, ◌∷◌, [], List, refl, sym, ◌∙◌, ap, arith, inl, inr, length, get_or, take, set, length-set, length-append, get_or-set_same, get_or-set_other}
+use Rattle.std.proofs.lemmas.Bool.{cases_eq, cases_Bool}
+use Rattle.std.proofs.lemmas.List.{length-take-le}
 use Rattle.std.proofs.lemmas.List.Sums.{sum_by_push, sum_by-set, sum_by_more}
 use Rattle.std.proofs.lemmas.Option.{slice_get-get_or, slice_get_past}
 use Rattle.pb_replay.specs.declared.numbered.NumberedLiteral.{NumberedLiteral}
@@ -12,7 +13,7 @@ use Rattle.pb_replay.specs.Engine.Links.{terms_at, degree_at, entry_cross, term_
 use Rattle.pb_replay.proofs.Engine.Runs.{entry_weight-same, entry_weight-other, term_weight-same, term_weight-other}
 use Rattle.pb_replay.proofs.Engine.Literals.{same-true, same-refl}
 use Rattle.pb_replay.proofs.Engine.Spent.{place-injective}
-use Rattle.pb_replay.proofs.Engine.Gets.{get-take_less, get-take_past, get-take_step, get-push_less, get-push_same, get-push_past}
+use Rattle.pb_replay.proofs.Engine.Gets.{get-take_less, get-take_past, get-take_step, get-push_same, get-push_other}
 use Rattle.pb_replay.proofs.Engine.Crosses.{to, Same, crossed-add}
 
 -- what the cut form and the others are
@@ -98,18 +99,12 @@ linked-less base lists lists' s0 i t e inside within is form coefficient g old s
     let before = old s d l (omega (arith, here, cut-length base s0 (i + 1))) in
     omega (arith, before, by.left, by.right)
 
-length-cut : {X : Type 0} (xs : List X) (i : ℕ) → i ≤ length xs → length (take i xs) ≡ i
-length-cut [] zero h = refl
-length-cut [] (suc i) h = absurd (omega (arith, h))
-length-cut (x ∷ xs) zero h = refl
-length-cut (x ∷ xs) (suc i) h = let more = length-cut xs i (omega (arith, h)) in omega (arith, more)
-
 pub cut-total : (base : List Shape) (s0 i : ℕ) → s0 < length base → i ≤ length (terms_at base s0) → sum_by (λ f. length f.terms) (cut base s0 i) + length (terms_at base s0) ≡ sum_by (λ f. length f.terms) base + i
 cut-total base s0 i inside within =
     let x : Shape = record { terms = take i (terms_at base s0); degree = degree_at base s0 } in
     let none_shape : Shape = record { terms = []; degree = 0 } in
     let change = sum_by-set (λ (f : Shape). length f.terms) base s0 x none_shape inside in
-    omega (arith, change, length-cut (terms_at base s0) i within)
+    omega (arith, change, length-take-le i (terms_at base s0) within)
 
 pub totals-step : (base : List Shape) (s0 i a b : ℕ) → s0 < length base → i < length (terms_at base s0) → b ≡ a + 1 → (a ≡ sum_by (λ f. length f.terms) (cut base s0 i)) → b ≡ sum_by (λ f. length f.terms) (cut base s0 (i + 1))
 totals-step base s0 i a b inside within e h =
@@ -196,14 +191,5 @@ link-next base spots spots' lists lists' s0 i t e inside within is room form ind
     entry-other : (q k : ℕ) → (Same q k (place t.literal) (length (get_or lists (place t.literal) [])) → ⊥) → entry_at lists' q k ≡ entry_at lists q k
     entry-other q k n = elim (cases_eq q (place t.literal)) [
       | inr other ↦ ap (λ xs. entry_cross (slice_get xs k)) (ap (λ (ls : List (List Weighted)). get_or ls q []) longer ∙ get_or-set_other lists (place t.literal) q (get_or lists (place t.literal) [] ++ (e ∷ [])) [] other)
-      | inl here ↦ rw here (ap (λ xs. entry_cross (slice_get xs k)) (ap (λ (ls : List (List Weighted)). get_or ls (place t.literal) []) longer ∙ get_or-set_same lists (place t.literal) (get_or lists (place t.literal) [] ++ (e ∷ [])) [] room) ∙ ap entry_cross (push-other (get_or lists (place t.literal) []) k (λ h. n (here, h))))
+      | inl here ↦ rw here (ap (λ xs. entry_cross (slice_get xs k)) (ap (λ (ls : List (List Weighted)). get_or ls (place t.literal) []) longer ∙ get_or-set_same lists (place t.literal) (get_or lists (place t.literal) [] ++ (e ∷ [])) [] room) ∙ ap entry_cross (get-push_other (get_or lists (place t.literal) []) k e (λ h. n (here, h))))
     ]
-      where
-        push-other : (xs : List Weighted) (k : ℕ) → (k ≡ length xs → ⊥) → slice_get (xs ++ (e ∷ [])) k ≡ slice_get xs k
-        push-other xs k n = elim (cases_lt k (length xs)) [
-          | inl less ↦ get-push_less xs k e less
-          | inr more ↦ get-push_past xs k e (beyond k (length xs) more n) ∙ sym (slice_get_past xs k more)
-        ]
-          where
-            beyond : (a b : ℕ) → b ≤ a → (a ≡ b → ⊥) → b < a
-            beyond a b h k = grind arith

@@ -2,6 +2,7 @@ use Rattle.std.specs.Prelude.{◌==◌, ◌||◌, Bool, true, false, not, Contai
 use Rattle.std.specs.Bool.{beq}
 use Rattle.std.specs.List.{list_any}
 use Rattle.std.proofs.Common.{◌≡◌, ℕ, zero, suc, ◌+◌, ◌<◌, ◌≤◌, ◌⊎◌, ◌++◌, ◌∷◌, [], List, length, get_or, refl, sym, ◌∙◌, ap, inl, inr, arith, eq-eqb}
+use Rattle.std.proofs.Math.Bool.{or-false, not-not}
 use Rattle.std.proofs.lemmas.Bool.{cases_Bool, eqb-true, and_parts, or_cases, or_left, or_right, both_ways}
 use Rattle.std.proofs.lemmas.List.Folds.{list_any-append}
 use Rattle.std.proofs.lemmas.List.Sums.{sum_by-le-sum_by, sum_by-cons}
@@ -25,18 +26,13 @@ beq-not true false = refl
 beq-not false true = refl
 beq-not false false = refl
 
-pub not-not : (a : Bool) → not (not a) ≡ a
-not-not true = refl
-not-not false = refl
-
-made : ℕ → Bool → NumberedLiteral
-made v n = record { variable = v; negated = n }
+abbrev pub literal : ℕ → Bool → NumberedLiteral
+literal v n = record { variable = v; negated = n }
 
 pub literal_ext : (a b : NumberedLiteral) → a.variable ≡ b.variable → a.negated ≡ b.negated → a ≡ b
-unfolding made
 literal_ext a b v n =
-    let first : made a.variable a.negated ≡ made b.variable a.negated = ap (λ x. made x a.negated) v in
-    let second : made b.variable a.negated ≡ made b.variable b.negated = ap (λ x. made b.variable x) n in
+    let first : literal a.variable a.negated ≡ literal b.variable a.negated = ap (λ x. literal x a.negated) v in
+    let second : literal b.variable a.negated ≡ literal b.variable b.negated = ap (λ x. literal b.variable x) n in
     first ∙ second
 
 pub same-true : (a b : NumberedLiteral) → same a b ≡ true → a ≡ b
@@ -51,10 +47,6 @@ same-refl a = rw (eq-eqb a.variable a.variable refl, beq-refl a.negated)
 
 pub negation-negation : (l : NumberedLiteral) → negation (negation l) ≡ l
 negation-negation l = literal_ext _ _ refl (not-not l.negated)
-
-pub or-false : (b : Bool) → (b || false) ≡ b
-or-false true = refl
-or-false false = refl
 
 -- one more literal
 pub has-push : (xs : List NumberedLiteral) (l k : NumberedLiteral) → has (xs ++ (l ∷ [])) k ≡ (has xs k || same l k)

@@ -14,18 +14,12 @@ use Rattle.pb_replay.specs.Engine.Slots.{form_at, numbered, ArePlaced}
 use Rattle.pb_replay.specs.Propagation.{With}
 use Rattle.pb_replay.proofs.Engine.Bridge.{AreKept}
 use Rattle.pb_replay.proofs.Engine.Gets.{get-set_same, get-set_other, get-push_less, get-push_same}
-use Rattle.pb_replay.proofs.Engine.Seats.{some-one}
-
-apart : (o : Option Form) (f : Form) → o ≡ None → o ≡ Some f → ⊥
-apart o f h k = differ f (sym h ∙ k)
-  where
-    differ : (g : Form) → ◌≡◌ {A = Option Form} None (Some g) → ⊥
-    differ g e = cc e
+use Rattle.pb_replay.proofs.lemmas.Options.{some-one, none-some}
 
 at-inside : (forms : List (Option Form)) (s : ℕ) (f : Form) → form_at forms s ≡ Some f → s < length forms
 at-inside forms s f h = elim (cases_lt s (length forms)) [
   | inl less ↦ less
-  | inr past ↦ absurd (apart (form_at forms s) f (get_or_past forms s None past) h)
+  | inr past ↦ absurd (none-some (form_at forms s) f (get_or_past forms s None past) h)
 ]
 
 at-any : (forms : List (Option Form)) (s : ℕ) (d : Option Form) → s < length forms → get_or forms s d ≡ form_at forms s
@@ -114,7 +108,7 @@ slot-empty forms slot h = get_or_from_slice_get forms slot None None h
 slot-free : (forms : List (Option Form)) (places : List ℕ) (slot n : ℕ) → slice_get forms slot ≡ Some None → slot < 2 ^ 64 - 1 → ArePlaced forms places → slice_get places n ≡ Some slot → ⊥
 slot-free forms places slot n none small p h = elim (p.live n slot h) [
   | inl past ↦ omega (arith, past, small)
-  | inr found ↦ apart (form_at forms slot) found.0 (slot-empty forms slot none) found.1
+  | inr found ↦ none-some (form_at forms slot) found.0 (slot-empty forms slot none) found.1
 ]
 
 pub numbered-filled : (forms : List (Option Form)) (places : List ℕ) (slot : ℕ) (f : Form) → slice_get forms slot ≡ Some None → slot < 2 ^ 64 - 1 → ArePlaced forms places → numbered (set forms slot (Some f)) places ≡ numbered forms places
@@ -227,7 +221,7 @@ placed-left forms places number slot t p = record {
     inside = slice_get_within places number slot t.got
 
     away : (s : ℕ) (g : Form) → form_at (set forms slot None) s ≡ Some g → s ≡ slot → ⊥
-    away s g e same = apart (form_at (set forms slot None) s) g (ap (form_at (set forms slot None)) same ∙ get_or-set_same forms slot None None (at-inside forms slot t.form t.at)) e
+    away s g e same = none-some (form_at (set forms slot None) s) g (ap (form_at (set forms slot None)) same ∙ get_or-set_same forms slot None None (at-inside forms slot t.form t.at)) e
 
     before : (s : ℕ) (g : Form) → form_at (set forms slot None) s ≡ Some g → form_at forms s ≡ Some g
     before s g e = sym (get_or-set_other forms slot s None None (away s g e)) ∙ e
@@ -237,7 +231,7 @@ placed-left forms places number slot t p = record {
       | inr other ↦ sym (get-set_other places number n (2 ^ 64 - 1) other) ∙ h
       | inl here ↦
           let past : s ≡ 2 ^ 64 - 1 = some-one (slice_get (set places number (2 ^ 64 - 1)) n) s (2 ^ 64 - 1) h (ap (slice_get (set places number (2 ^ 64 - 1))) here ∙ get-set_same places number (2 ^ 64 - 1) inside) in
-          absurd (apart (form_at (set forms slot None) s) g (ap (form_at (set forms slot None)) past ∙ none-past forms slot t.short) e)
+          absurd (none-some (form_at (set forms slot None) s) g (ap (form_at (set forms slot None)) past ∙ none-past forms slot t.short) e)
     ]
 
 -- nothing leaves where nothing was

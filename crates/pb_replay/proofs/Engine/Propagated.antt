@@ -1,6 +1,6 @@
 use Rattle.std.specs.Prelude.{Contains, sum, sum_by, filter, Bool, true, false}
 use Rattle.std.proofs.Common.{◌≡◌, ℕ, ◌+◌, ◌-◌, ◌*◌, ◌^◌, ◌<◌, ◌≤◌, ◌++◌, ◌∷◌, [], List, cond, refl, sym, ◌∙◌, ap, arith, take, drop, length, length-append, get_or}
-use Rattle.std.proofs.lemmas.List.{append-nil, drop_more, drop_all, take-append-drop, length-drop, take_all}
+use Rattle.std.proofs.lemmas.List.{append-nil, drop_more, drop_all, take-append-drop}
 use Rattle.std.proofs.lemmas.List.Elements.{All-push, filter-append}
 use Rattle.std.proofs.lemmas.List.Filters.{length-filter_more}
 use Rattle.std.proofs.lemmas.List.{get_or_read}
@@ -120,10 +120,6 @@ Propagating-next p waiting forms lists n list0 cands0 work0 next0 visits0 taken 
   candidate_sizes = c ∙ s.candidate_sizes;
   within = within;
 }
-
--- what a slice from a place on is
-pub tail-all : (xs : List ℕ) (k : ℕ) → take (length xs - k) (drop k xs) ≡ drop k xs
-tail-all xs k = ap (λ n. take n (drop k xs)) (sym (length-drop k xs)) ∙ take_all (length (drop k xs)) (drop k xs) (omega arith)
 
 fewer : (p : ℕ → Bool) (xs : List ℕ) (k : ℕ) → length (filter p (take k xs)) ≤ length (filter p xs)
 fewer p xs k = omega (arith, length-append (filter p (take k xs)) (filter p (drop k xs)), ap length (sym (filter-append p (take k xs) (drop k xs))), ap (λ ys. length (filter p ys)) (take-append-drop k xs))

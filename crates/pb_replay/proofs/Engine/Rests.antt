@@ -2,8 +2,10 @@
 use Rattle.std.specs.Prelude.{All, map, filter, Option, Some, None, slice_get, Contains}
 use Rattle.std.proofs.Common.{◌≡◌, ℕ, zero, suc, ◌+◌, ◌-◌, ◌<◌, ◌≤◌, ◌⊎◌, ◌++◌, ◌∷◌, [], List, Bool, true, false, refl, sym, ◌∙◌, ap, subst, arith, inl, inr, length, get_or, take, set, length-append}
 use Rattle.std.proofs.lemmas.Bool.{cases_lt, cases_Bool, both_ways}
-use Rattle.std.proofs.lemmas.List.{length-map, map-append, get_or_append_left, append-nil}
-use Rattle.std.proofs.lemmas.List.Elements.{All-nil, All-cons, filter-append}
+use Rattle.std.proofs.Math.Seq.{take-append_seam}
+use Rattle.std.proofs.lemmas.Option.{same_Some}
+use Rattle.std.proofs.lemmas.List.{ext_get_or, get_or-map, length-map, map-append, get_or_append_left, append-nil}
+use Rattle.std.proofs.lemmas.List.Elements.{Contains-push_cases, Contains-append_left, All-nil, All-cons, filter-append}
 use Rattle.pb_normal.specs.Form.{Form}
 use Rattle.pb_normal.specs.Rules.{opposite}
 use Rattle.pb_normal.specs.declared.entry.Entry.{Entry}
@@ -31,20 +33,6 @@ element (x ∷ xs) (suc s) h =
     let e = element xs s (omega (arith, h)) in
     record { value = e.value; at = e.at; got = e.got }
 
-mapped : {X Y : Type 0} (f : X → Y) (xs : List X) (s : ℕ) (d : Y) (e : X) → s < length xs → get_or (map f xs) s d ≡ f (get_or xs s e)
-mapped f [] s d e h = absurd (omega (arith, h))
-mapped f (x ∷ xs) zero d e h = refl
-mapped f (x ∷ xs) (suc s) d e h = mapped f xs s d e (omega (arith, h))
-
-same-lists : (xs ys : List ℕ) → length xs ≡ length ys → ((s : ℕ) → s < length ys → get_or xs s 0 ≡ get_or ys s 0) → xs ≡ ys
-same-lists [] [] e h = refl
-same-lists [] (y ∷ ys) e h = absurd (omega (arith, e))
-same-lists (x ∷ xs) [] e h = absurd (omega (arith, e))
-same-lists (x ∷ xs) (y ∷ ys) e h =
-    let first : x ≡ y = h 0 (omega arith) in
-    let rest = same-lists xs ys (omega (arith, e)) (λ s less. h (suc s) (omega (arith, less))) in
-    rw (first, rest) refl
-
 -- at rest each form is as it was made
 pub rest-undone : (keep : List Kept) (opens cands : List ℕ) → AreAtRest keep opens cands → IsUndone (shapes_of keep) opens cands [] 0
 rest-undone keep opens cands r = record {
@@ -52,34 +40,32 @@ rest-undone keep opens cands r = record {
       let inside : s < length keep = omega (arith, less, length-map keep kept_shape) in
       let e = element keep s inside in
       let k = e.value in
-      let opened : get_or opens s 0 ≡ k.total = ap (λ (xs : List ℕ). get_or xs s 0) r.opened ∙ mapped (λ (x : Kept). x.total) keep s 0 k inside ∙ ap (λ (x : Kept). x.total) (e.at k) in
-      let passed : get_or cands s 0 ≡ 0 = ap (λ (xs : List ℕ). get_or xs s 0) r.passed ∙ mapped (λ (x : Kept). 0) keep s 0 k inside in
-      let shape : get_or (shapes_of keep) s d ≡ kept_shape k = mapped kept_shape keep s d k inside ∙ ap kept_shape (e.at k) in
+      let opened : get_or opens s 0 ≡ k.total = ap (λ (xs : List ℕ). get_or xs s 0) r.opened ∙ get_or-map (λ (x : Kept). x.total) keep s k 0 inside ∙ ap (λ (x : Kept). x.total) (e.at k) in
+      let passed : get_or cands s 0 ≡ 0 = ap (λ (xs : List ℕ). get_or xs s 0) r.passed ∙ get_or-map (λ (x : Kept). 0) keep s k 0 inside in
+      let shape : get_or (shapes_of keep) s d ≡ kept_shape k = get_or-map kept_shape keep s k d inside ∙ ap kept_shape (e.at k) in
       (opened ∙ k.sum ∙ sym (ap (λ (f : Shape). size f.terms) shape), passed);
   named = λ i d h. absurd (omega (arith, h));
 }
 
 pub undone-rest : (keep : List Kept) (opens cands work : List ℕ) (from : ℕ) → length opens ≡ length keep → length cands ≡ length keep → length work ≤ from → IsUndone (shapes_of keep) opens cands work from → AreAtRest keep opens cands
 undone-rest keep opens cands work from o c all u = record {
-  opened = same-lists opens (map (λ k. k.total) keep) (omega (arith, o, length-map keep (λ (k : Kept). k.total))) (λ s less. (both_at s less).0);
-  passed = same-lists cands (map (λ k. 0) keep) (omega (arith, c, length-map {B = ℕ} keep (λ (k : Kept). 0))) (λ s less. (zero_at s less));
+  opened = ext_get_or 0 opens (map (λ k. k.total) keep) (omega (arith, o, length-map keep (λ (k : Kept). k.total))) (λ s less. total_at s (omega (arith, less, o)));
+  passed = ext_get_or 0 cands (map (λ k. 0) keep) (omega (arith, c, length-map {B = ℕ} keep (λ (k : Kept). 0))) (λ s less. zero_at s (omega (arith, less, c)));
 }
   where
-    both_at : (s : ℕ) → s < length (map (λ (k : Kept). k.total) keep) → (get_or opens s 0 ≡ get_or (map (λ (k : Kept). k.total) keep) s 0) × (s ≡ s)
-    both_at s less =
-        let inside : s < length keep = omega (arith, less, length-map keep (λ (k : Kept). k.total)) in
+    total_at : (s : ℕ) → s < length keep → get_or opens s 0 ≡ get_or (map (λ (k : Kept). k.total) keep) s 0
+    total_at s inside =
         let e = element keep s inside in
         let k = e.value in
-        let shape : get_or (shapes_of keep) s (kept_shape k) ≡ kept_shape k = mapped kept_shape keep s (kept_shape k) k inside ∙ ap kept_shape (e.at k) in
+        let shape : get_or (shapes_of keep) s (kept_shape k) ≡ kept_shape k = get_or-map kept_shape keep s k (kept_shape k) inside ∙ ap kept_shape (e.at k) in
         let clean = u.clean s (kept_shape k) (omega (arith, inside, length-map keep kept_shape)) (λ i after h. absurd (omega (arith, after, h, all))) in
-        (clean.0 ∙ ap (λ (f : Shape). size f.terms) shape ∙ sym k.sum ∙ sym (mapped (λ (x : Kept). x.total) keep s 0 k inside ∙ ap (λ (x : Kept). x.total) (e.at k)), refl)
+        clean.0 ∙ ap (λ (f : Shape). size f.terms) shape ∙ sym k.sum ∙ sym (get_or-map (λ (x : Kept). x.total) keep s k 0 inside ∙ ap (λ (x : Kept). x.total) (e.at k))
 
-    zero_at : (s : ℕ) → s < length {A = ℕ} (map (λ (k : Kept). 0) keep) → get_or cands s 0 ≡ get_or {A = ℕ} (map (λ (k : Kept). 0) keep) s 0
-    zero_at s less =
-        let inside : s < length keep = omega (arith, less, length-map {B = ℕ} keep (λ (k : Kept). 0)) in
+    zero_at : (s : ℕ) → s < length keep → get_or cands s 0 ≡ get_or {A = ℕ} (map (λ (k : Kept). 0) keep) s 0
+    zero_at s inside =
         let e = element keep s inside in
         let clean = u.clean s (kept_shape e.value) (omega (arith, inside, length-map keep kept_shape)) (λ i after h. absurd (omega (arith, after, h, all))) in
-        clean.1 ∙ sym (mapped (λ (x : Kept). 0) keep s 0 e.value inside)
+        clean.1 ∙ sym (get_or-map (λ (x : Kept). 0) keep s e.value 0 inside)
 
 pub rest-lengths : (keep : List Kept) (opens cands : List ℕ) → AreAtRest keep opens cands → (length opens ≡ length keep) × (length cands ≡ length keep)
 rest-lengths keep opens cands r = (ap length r.opened ∙ length-map keep (λ (k : Kept). k.total), ap length r.passed ∙ length-map {B = ℕ} keep (λ (k : Kept). 0))
@@ -93,7 +79,7 @@ calm-but keep work e = record {
       let x = element keep s inside in
       let k = x.value in
       let idle : k.eager ≡ false = sym (ap kept_waits x.got) ∙ e.aside s inside gone in
-      let shape : get_or (shapes_of keep) s d ≡ kept_shape k = mapped kept_shape keep s d k inside ∙ ap kept_shape (x.at k) in
+      let shape : get_or (shapes_of keep) s d ≡ kept_shape k = get_or-map kept_shape keep s k d inside ∙ ap kept_shape (x.at k) in
       let calm : IsCalm (kept_shape k) (size (kept_shape k).terms) 0 = rw k.sum at k.aside idle in
       rw shape calm;
 }
@@ -198,17 +184,10 @@ slots-length (o ∷ os) (y ∷ ys) a = let rest = slots-length os ys a.1 in omeg
 
 -- the last form has left
 front-of : {X : Type 0} (xs ys : List X) (y : X) → xs ≡ ys ++ (y ∷ []) → take (length xs - 1) xs ≡ ys
-front-of xs ys y e = rw e (front ys y)
+front-of xs ys y e = rw e (ap (λ n. take n (ys ++ (y ∷ []))) short ∙ take-append_seam ys (y ∷ []))
   where
-    front : {X : Type 0} (zs : List X) (z : X) → take (length (zs ++ (z ∷ [])) - 1) (zs ++ (z ∷ [])) ≡ zs
-    front zs z = ap (λ n. take n (zs ++ (z ∷ []))) (count zs z) ∙ drop-end zs z
-      where
-        count : {X : Type 0} (ws : List X) (w : X) → length (ws ++ (w ∷ [])) - 1 ≡ length ws
-        count ws w = omega (arith, length-append ws (w ∷ []))
-
-        drop-end : {X : Type 0} (ws : List X) (w : X) → take (length ws) (ws ++ (w ∷ [])) ≡ ws
-        drop-end [] w = refl
-        drop-end (v ∷ ws) w = ap (λ us. v ∷ us) (drop-end ws w)
+    short : length (ys ++ (y ∷ [])) - 1 ≡ length ys
+    short = omega (arith, length-append ys (y ∷ []))
 
 pub rest-left : (f : Form) (keep keep' keep'' : List Kept) (opens opens' cands cands' opens1 opens2 cands1 cands2 : List ℕ) → HasEntered f keep keep' opens opens' cands cands' → AreAtRest keep' opens1 cands1 → keep'' ≡ take (length keep' - 1) keep' → opens2 ≡ take (length opens1 - 1) opens1 → cands2 ≡ take (length cands1 - 1) cands1 → (keep'' ≡ keep) × AreAtRest keep'' opens2 cands2
 rest-left f keep keep' keep'' opens opens' cands cands' opens1 opens2 cands1 cands2 h r k o c =
@@ -256,19 +235,14 @@ pub slots-kept : (os : List (Option Form)) (xs : List Shape) → AreSlots os xs 
 slots-kept os xs a = record { forth = slots-forth os xs a; back = slots-back os xs a }
 
 live-push : (os : List (Option Form)) (g f : Form) → Live (os ++ (Some g ∷ [])) f → With (Live os) g f
-live-push os g f (i, inside, is) =
-    elim (cases_lt i (length os)) [
-      | inl before ↦ inl (i, before, sym (get_or_append_left os (Some g ∷ []) (Some f) i before) ∙ is)
-      | inr after ↦
-          let same : Some g ≡ Some f = sym (last-is os (Some g) (Some f) i (omega (arith, after, inside, length-append os (Some g ∷ [])))) ∙ is in
-          inr (some-same f g (sym same))
+live-push os g f h =
+    elim (Contains-push_cases os (Some g) (Some f) h) [
+      | inl before ↦ inl before
+      | inr same ↦ inr (same_Some f g (sym same))
     ]
-  where
-    some-same : (x y : Form) → ◌≡◌ {A = Option Form} (Some x) (Some y) → x ≡ y
-    some-same x y e = cc (e)
 
 push-live : (os : List (Option Form)) (g f : Form) → With (Live os) g f → Live (os ++ (Some g ∷ [])) f
-push-live os g f (inl (i, inside, is)) = (i, omega (arith, inside, length-append os (Some g ∷ [])), get_or_append_left os (Some g ∷ []) (Some f) i inside ∙ is)
+push-live os g f (inl h) = Contains-append_left os (Some g ∷ []) (Some f) h
 push-live os g f (inr e) = (length os, omega (arith, length-append os (Some g ∷ [])), last-is os (Some g) (Some f) (length os) refl ∙ ap (λ x. Some x) (sym e))
 
 pub with-kept : (os : List (Option Form)) (g : Form) (xs : List Shape) → AreSlots (os ++ (Some g ∷ [])) xs → AreKept (With (Live os) g) xs
@@ -299,7 +273,7 @@ pub opposite-inside : (es : List Entry) (n : ℕ) → All (λ e. e.variable < n)
 opposite-inside es n all k d h =
     let inside : k < length es = omega (arith, h, length-map es opposite) in
     let e = element es k inside in
-    let is : get_or (map opposite es) k d ≡ opposite e.value = mapped opposite es k d e.value inside ∙ ap opposite (e.at e.value) in
+    let is : get_or (map opposite es) k d ≡ opposite e.value = get_or-map opposite es k e.value d inside ∙ ap opposite (e.at e.value) in
     let small : (get_or es k e.value).variable < n = all k e.value inside in
     omega (arith, ap (λ (x : Entry). x.variable) is, ap (λ (x : Entry). x.variable) (e.at e.value), small)
 

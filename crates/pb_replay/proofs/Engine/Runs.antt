@@ -10,6 +10,7 @@ use Rattle.pb_replay.specs.Engine.Lists.{Shape, negation, same, has, open_part, 
 use Rattle.pb_replay.specs.Engine.Counts.{entry_weight, weight_in, term_weight, weight_on, AreFalling, IsCalm, IsDone, ArePassed, IsAbsent, IsCounted, IsTidy, Grown, pushed, spared}
 use Rattle.pb_replay.proofs.Engine.Derivations.{settled-of_terms}
 use Rattle.pb_replay.proofs.Engine.Literals.{negation-negation, has-push, has-push_old, has-push_new, same-true, same-refl, open_part-falsified, open_part-open}
+use Rattle.pb_replay.proofs.Engine.Gets.{lt_of_apart}
 
 -- the sum of two functions
 sum_by-two : {X : Type 0} (f g h : X → ℕ) → ((x : X) → f x ≡ g x + h x) → (xs : List X) → sum_by f xs ≡ sum_by g xs + sum_by h xs
@@ -243,7 +244,7 @@ pub Tidy-next : (aside : List ℕ) (forms : List Shape) (opens cands : List ℕ)
 Tidy-next aside forms opens cands list work trail next r = record {
   calm = λ s d inside idle off gone. r.calm s d inside (λ e. absurd (omega (arith, e, inside))) off (λ i from less at. elim (cases_eq i next) [
     | inl here ↦ idle (sym at ∙ ap (λ j. get_or work j 0) here)
-    | inr later ↦ gone i (after i next from later) less at
+    | inr later ↦ gone i (omega (arith, lt_of_apart next i from later)) less at
   ]);
   passed = r.passed;
   bounded = r.bounded;
@@ -252,9 +253,6 @@ Tidy-next aside forms opens cands list work trail next r = record {
   marked = r.marked;
   traced = r.traced;
 }
-  where
-    after : (i n : ℕ) → n ≤ i → (i ≡ n → ⊥) → n + 1 ≤ i
-    after i n from later = grind arith
 
 pub Tidy-settle : (aside : List ℕ) (forms : List Shape) (opens cands : List ℕ) (list : List NumberedLiteral) (work trail : List ℕ) (next busy : ℕ) (e : Shape) → IsCalm (get_or forms busy e) (get_or opens busy 0) (get_or cands busy 0) → IsTidy aside forms opens cands list work trail next busy → IsTidy aside forms opens cands list work trail next (length forms)
 Tidy-settle aside forms opens cands list work trail next busy e calm r = record {

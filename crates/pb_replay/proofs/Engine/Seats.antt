@@ -1,26 +1,15 @@
 -- A list of numbers, each once, and where each stands in it.
-use Rattle.std.specs.Prelude.{Option, Some, None, slice_get, swap_remove}
-use Rattle.std.proofs.Common.{◌≡◌, ℕ, zero, suc, ◌+◌, ◌-◌, ◌<◌, ◌≤◌, ◌⊎◌, ◌++◌, ◌∷◌, [], List, Bool, true, false, if◌then◌else◌, sym, ◌∙◌, ap, arith, inl, inr, length, get_or, set}
+use Rattle.std.specs.Prelude.{Some, slice_get, swap_remove}
+use Rattle.std.proofs.Common.{◌≡◌, ℕ, zero, suc, ◌+◌, ◌-◌, ◌<◌, ◌⊎◌, ◌++◌, ◌∷◌, [], List, Bool, true, false, if◌then◌else◌, sym, ◌∙◌, ap, arith, inl, inr, length, get_or, set}
 use Rattle.std.proofs.lemmas.Bool.{cases_eq, cases_lt}
 use Rattle.std.proofs.lemmas.Option.{slice_get_within, slice_get-get_or, get_or_from_slice_get}
 use Rattle.pb_replay.specs.Engine.Counts.{IsAbsent}
-use Rattle.pb_replay.proofs.Engine.Gets.{get-set_same, get-set_other, get-push_less, get-push_same, get-push_past}
+use Rattle.pb_replay.proofs.lemmas.Options.{some-one, none-some}
+use Rattle.pb_replay.proofs.Engine.Gets.{lt_of_apart, get-set_same, get-set_other, get-push_less, get-push_same, get-push_past}
 use Rattle.pb_replay.proofs.Engine.Unlinks.{swap-other, swap-last, swap-here, swap-length}
 
 abbrev pub AreSeated : List ℕ → List ℕ → Type 0
 AreSeated list seats = (i s : ℕ) → slice_get list i ≡ Some s → slice_get seats s ≡ Some i
-
-pub some-one : (o : Option ℕ) (a b : ℕ) → o ≡ Some a → o ≡ Some b → a ≡ b
-some-one o a b h k = inside a b (sym h ∙ k)
-  where
-    inside : (x y : ℕ) → ◌≡◌ {A = Option ℕ} (Some x) (Some y) → x ≡ y
-    inside x y e = cc e
-
-pub none-some : (o : Option ℕ) (a : ℕ) → o ≡ None → o ≡ Some a → ⊥
-none-some o a h k = apart a (sym h ∙ k)
-  where
-    apart : (x : ℕ) → ◌≡◌ {A = Option ℕ} None (Some x) → ⊥
-    apart x e = cc e
 
 -- a number that is not absent stands somewhere
 pub stands : (xs : List ℕ) (x : ℕ) → ((i : ℕ) × (slice_get xs i ≡ Some x)) ⊎ IsAbsent xs 0 x
@@ -58,12 +47,9 @@ seated-put list seats form inside gone old i s h = elim (cases_lt i (length list
     | inl here ↦
         let same : form ≡ s = some-one (slice_get (list ++ (form ∷ [])) i) form s (get-push_same list i form here) h in
         ap (slice_get (set seats form (length list))) (sym same) ∙ get-set_same seats form (length list) inside ∙ ap (λ z. Some z) (sym here)
-    | inr other ↦ absurd (none-some (slice_get (list ++ (form ∷ [])) i) s (get-push_past list i form (beyond i (length list) more other)) h)
+    | inr other ↦ absurd (none-some (slice_get (list ++ (form ∷ [])) i) s (get-push_past list i form (lt_of_apart (length list) i more other)) h)
   ]
 ]
-  where
-    beyond : (a b : ℕ) → b ≤ a → (a ≡ b → ⊥) → b < a
-    beyond a b h n = grind arith
 
 pub seated-moved : (list seats : List ℕ) (q d m : ℕ) → q + 1 < length list → slice_get list (length list - 1) ≡ Some m → AreSeated list seats → AreSeated (swap_remove list q d) (set seats m q)
 seated-moved list seats q d m more last old i s h = elim (cases_eq i q) [
@@ -115,24 +101,18 @@ swap-from xs q d i t inside h = elim (cases_eq i (length xs - 1)) [
   | inr before ↦ elim (cases_eq i q) [
     | inr other ↦ (i, sym (swap-other xs q i d other before) ∙ h, other)
     | inl here ↦
-        let more : q + 1 < length xs = beyond i q (length xs) inside here before in
+        let more : q + 1 < length xs = omega (arith, inside, here, lt_of_apart i (length xs - 1) (omega (arith, inside, here)) (λ e. before (sym e))) in
         let last = slice_get-get_or xs (length xs - 1) d (omega (arith, more)) in
         let same : get_or xs (length xs - 1) d ≡ t = some-one (slice_get (swap_remove xs q d) i) (get_or xs (length xs - 1) d) t (ap (slice_get (swap_remove xs q d)) here ∙ swap-here xs q d (get_or xs (length xs - 1) d) more last) h in
         (length xs - 1, last ∙ ap (λ z. Some z) same, λ e. before (here ∙ sym e))
   ]
 ]
-  where
-    beyond : (a b n : ℕ) → b < n → a ≡ b → (a ≡ n - 1 → ⊥) → b + 1 < n
-    beyond a b n h e k = grind arith
 
 pub swap-to : (xs : List ℕ) (q d j t : ℕ) → q < length xs → slice_get xs j ≡ Some t → (j ≡ q → ⊥) → (i : ℕ) × (slice_get (swap_remove xs q d) i ≡ Some t)
 swap-to xs q d j t inside h other = elim (cases_eq j (length xs - 1)) [
   | inr before ↦ (j, swap-other xs q j d other before ∙ h)
-  | inl end ↦ (q, swap-here xs q d t (beyond j q (length xs) inside end other) (ap (slice_get xs) (sym end) ∙ h))
+  | inl end ↦ (q, swap-here xs q d t (omega (arith, inside, end, lt_of_apart q j (omega (arith, inside, end)) other)) (ap (slice_get xs) (sym end) ∙ h))
 ]
-  where
-    beyond : (a b n : ℕ) → b < n → a ≡ n - 1 → (a ≡ b → ⊥) → b + 1 < n
-    beyond a b n h e k = grind arith
 
 -- one number more may stand on the list
 pub seated-widened : (list seats seats' : List ℕ) (b : Bool) → seats' ≡ (if b then seats ++ (0 ∷ []) else seats) → AreSeated list seats → AreSeated list seats'

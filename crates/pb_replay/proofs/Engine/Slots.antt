@@ -15,11 +15,12 @@ use Rattle.pb_replay.specs.Engine.Counts.{IsAbsent}
 use Rattle.pb_replay.specs.Engine.Fields.{shapes_of, kept_shape, IsSound, HasFilled, IsEmpty}
 use Rattle.pb_replay.specs.Engine.Links.{terms_at}
 use Rattle.pb_replay.specs.Engine.Rest.{AreSlots, waits, kept_waits, eager_one, AllWait, IsEager, IsAtRest}
-use Rattle.pb_replay.proofs.Engine.Gets.{get-set_same, get-set_other, get-push_less, get-push_same, last-is}
+use Rattle.pb_replay.proofs.Engine.Gets.{lt_of_apart, get-set_same, get-set_other, get-push_less, get-push_same, last-is}
 use Rattle.pb_replay.proofs.Engine.Runs.{absent-push, absent-new}
 use Rattle.pb_replay.proofs.Engine.Rests.{map-zero, slots-set, slots-more, slots-length, waits-before}
-use Rattle.pb_replay.proofs.Engine.Seats.{AreSeated, some-one, absent-get, get-absent, swap-from, swap-to}
+use Rattle.pb_replay.proofs.Engine.Seats.{AreSeated, absent-get, get-absent, swap-from, swap-to}
 use Rattle.pb_replay.proofs.Engine.Unlinks.{swap-length}
+use Rattle.pb_replay.proofs.lemmas.Options.{some-one}
 
 -- what an empty slot is
 pub record IsBare (keep : List Kept) (s : ℕ) : Type 0 where
@@ -82,7 +83,7 @@ exact-widened keep k list e x =
         aside = λ s less gone. elim (cases_eq s (length keep)) [
           | inl here ↦ ap kept_waits (get-push_same keep s k here) ∙ e.eager
           | inr other ↦
-              let before : s < length keep = below s (length keep) (omega (arith, less, long)) other in
+              let before : s < length keep = lt_of_apart s (length keep) (omega (arith, less, long)) (λ e. other (sym e)) in
               waits-before keep k s before ∙ x.eager.aside s before gone
         ];
       };
@@ -91,9 +92,6 @@ exact-widened keep k list e x =
           waits-before keep k s (waits-inside keep s w) ∙ w;
       few = omega (arith, x.few, sum_by_push eager_one keep k);
     }
-  where
-    below : (a b : ℕ) → a < b + 1 → (a ≡ b → ⊥) → a < b
-    below a b h n = grind arith
 
 pub rest-widened : (store store' : Store) (run run' : Run) (waiting waiting' : Eager) (forms : List (Option Form)) (k : Kept) → IsSound store' → IsEmpty k → store'.kept.items ≡ store.kept.items ++ (k ∷ []) → run'.opens.items ≡ run.opens.items ++ (0 ∷ []) → run'.candidates.items ≡ run.candidates.items ++ (0 ∷ []) →
     store'.variables ≡ store.variables → run'.trail ≡ run.trail → ((run'.assignment ≡ run.assignment) × (run'.work ≡ run.work) × (run'.next ≡ run.next) × (run'.visits ≡ run.visits)) → waiting'.list.items ≡ waiting.list.items → length waiting'.seats.items ≡ length waiting.seats.items + 1 →

@@ -21,11 +21,7 @@ pub record IsStanding (es : List Entry) (ranks : List Rank) (i : ℕ) : Type 0 w
   pub same : map entry_of (picked es (map (λ r. r.place) ranks)) ≡ take i es
 
 pub standing-none : (es : List Entry) (ranks : List Rank) → ranks ≡ [] → IsStanding es ranks 0
-standing-none es ranks e = rw e (record { placed = λ k d h. absurd (omega (arith, h)); same = sym (nothing es) })
-  where
-    nothing : (xs : List Entry) → take 0 xs ≡ []
-    nothing [] = refl
-    nothing (x ∷ xs) = refl
+standing-none es ranks e = rw e (record { placed = λ k d h. absurd (omega (arith, h)); same = refl })
 
 pub standing-next : (es : List Entry) (ranks more : List Rank) (i : ℕ) → i < length es → more ≡ ranks ++ (record { place = i; coefficient = (entry_at_place es i).coefficient } ∷ []) → IsStanding es ranks i → IsStanding es more (i + 1)
 standing-next es ranks more i inside m old =

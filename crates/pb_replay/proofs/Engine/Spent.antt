@@ -1,7 +1,7 @@
 use Rattle.std.specs.Prelude.{sum, sum_by, map, if◌then◌else◌}
 use Rattle.std.proofs.Common.{◌≡◌, ℕ, zero, suc, ◌+◌, ◌*◌, ◌<◌, ◌≤◌, ◌∷◌, [], List, Bool, true, false, refl, sym, ◌∙◌, ap, arith, inl, inr, length, get_or, set, get_or-set_other}
 use Rattle.std.proofs.lemmas.Bool.{cases_lt, both_ways, or_left, or_right}
-use Rattle.std.proofs.lemmas.List.{get_or_past}
+use Rattle.std.proofs.lemmas.List.{get_or_past, set_past}
 use Rattle.std.proofs.lemmas.List.Sums.{sum_by-set, sum_by_push, sum_by-cons, sum-map}
 use Rattle.pb_replay.specs.declared.numbered.NumberedLiteral.{NumberedLiteral}
 use Rattle.pb_replay.specs.Engine.Lists.{Shape, negation, same, has, Derives, begin, put, Weighted}
@@ -47,14 +47,9 @@ sum-clear xs p =
           omega (arith, e)
       | inr past ↦
           let zero_there = get_or_past xs p 0 past in
-          let same_list : set xs p 0 ≡ xs = set_past xs p past in
+          let same_list : set xs p 0 ≡ xs = set_past xs p 0 past in
           omega (arith, zero_there, ap sum same_list)
     ]
-  where
-    set_past : (ys : List ℕ) (q : ℕ) → length ys ≤ q → set ys q 0 ≡ ys
-    set_past [] q h = refl
-    set_past (y ∷ ys) zero h = absurd (omega (arith, h))
-    set_past (y ∷ ys) (suc q) h = ap (λ zs. y ∷ zs) (set_past ys q (omega (arith, h)))
 
 -- the places of different literals are counted once
 single-sum : (list : List NumberedLiteral) → AreSingle list → (xs : List ℕ) → sum_by (λ l. get_or xs (place (negation l)) 0) list ≤ sum xs

@@ -12,7 +12,7 @@ use Rattle.pb_replay.specs.Engine.Forms.{entry_of}
 use Rattle.pb_replay.specs.Engine.Lists.{Shape, AreInside, Weighted}
 use Rattle.pb_replay.specs.Engine.Counts.{place, entry_weight, weight_in, weight_on, NameForms}
 use Rattle.pb_replay.specs.Engine.Links.{terms_at, degree_at, term_cross, entry_at, term_at, AreCrossed, IsLinked, cut}
-use Rattle.pb_replay.proofs.Engine.Gets.{last-is}
+use Rattle.pb_replay.proofs.Engine.Gets.{lt_of_apart, last-is}
 use Rattle.pb_replay.proofs.Engine.Runs.{entry_weight-other}
 use Rattle.pb_replay.proofs.Engine.Links.{cut-here, cut-other, cut-length, cut-total}
 use Rattle.pb_replay.proofs.Engine.Unlinks.{named-term}
@@ -71,11 +71,8 @@ end-same forms others x y s i sizes =
     cut_nothing : (b : List Shape) (k : ℕ) → length forms ≤ k → length b ≡ length forms + 1 → terms_at (cut b (length forms) 0) k ≡ []
     cut_nothing b k past long = elim (cases_eq k (length forms)) [
       | inl here ↦ rw here (cut-here b (length forms) 0 (omega (arith, long)) (record { terms = []; degree = 0 }))
-      | inr other ↦ ap (λ (f : Shape). f.terms) (get_or_past (cut b (length forms) 0) k (record { terms = []; degree = 0 }) (omega (arith, cut-length b (length forms) 0, long, beyond k (length forms) past other)))
+      | inr other ↦ ap (λ (f : Shape). f.terms) (get_or_past (cut b (length forms) 0) k (record { terms = []; degree = 0 }) (omega (arith, cut-length b (length forms) 0, long, lt_of_apart (length forms) k past other)))
     ]
-      where
-        beyond : (a b : ℕ) → b ≤ a → (a ≡ b → ⊥) → b < a
-        beyond a b h n = grind arith
 
 end-total : (forms : List Shape) (x : Shape) → sum_by (λ f. length f.terms) (cut (forms ++ (x ∷ [])) (length forms) 0) ≡ sum_by (λ f. length f.terms) forms
 end-total forms x =

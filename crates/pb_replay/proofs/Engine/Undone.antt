@@ -1,4 +1,4 @@
-use Rattle.std.proofs.Common.{◌≡◌, ℕ, ◌+◌, ◌<◌, ◌≤◌, ◌⊎◌, List, sym, ◌∙◌, ap, inl, inr, arith, length, get_or, set, get_or-set_same, get_or-set_other}
+use Rattle.std.proofs.Common.{◌≡◌, ℕ, ◌+◌, ◌<◌, ◌⊎◌, List, sym, ◌∙◌, ap, inl, inr, arith, length, get_or, set, get_or-set_same, get_or-set_other}
 use Rattle.std.proofs.lemmas.Bool.{cases_eq}
 use Rattle.std.proofs.lemmas.List.{get_or_read, length-map}
 use Rattle.pb_replay.specs.declared.propagate.kept.Kept.{Kept}
@@ -6,6 +6,7 @@ use Rattle.pb_replay.specs.Engine.Lists.{Shape, size}
 use Rattle.pb_replay.specs.Engine.Counts.{IsAbsent, IsUndone}
 use Rattle.pb_replay.specs.Engine.Fields.{shapes_of, kept_shape}
 use Rattle.pb_replay.proofs.Engine.Looks.{shape-at}
+use Rattle.pb_replay.proofs.Engine.Gets.{lt_of_apart}
 
 pub undo-form : (keep : List Kept) (opens cands work : List ℕ) (i form : ℕ) → i < length work → form ≡ get_or work i form → IsUndone (shapes_of keep) opens cands work i → form < length keep
 undo-form keep opens cands work i form inside is u =
@@ -27,10 +28,7 @@ undo-next keep opens cands opens' cands' work i form total k inside is named at 
     clean_at s d in_forms gone (inr other) =
         let before : IsAbsent work i s = λ j after less place. elim (cases_eq j i) [
           | inl here ↦ other (sym place ∙ ap (λ x. get_or work x 0) here ∙ sym (get_or_read work i form inside is 0))
-          | inr later ↦ gone j (past j i after later) less place
+          | inr later ↦ gone j (omega (arith, lt_of_apart i j after later)) less place
         ] in
         let kept_clean = u.clean s d in_forms before in
         (get_or-set_other opens form s total 0 other ∙ kept_clean.0, get_or-set_other cands form s 0 0 other ∙ kept_clean.1)
-      where
-        past : (a b : ℕ) → b ≤ a → (a ≡ b → ⊥) → b + 1 ≤ a
-        past a b h n = grind arith

@@ -1,15 +1,15 @@
 -- A term's entry is taken out.
 use Rattle.std.specs.Prelude.{sum_by, Option, Some, None, slice_get, swap_remove}
-use Rattle.std.proofs.Common.{◌≡◌, ℕ, ◌+◌, ◌-◌, ◌<◌, ◌≤◌, [], List, refl, sym, ◌∙◌, ap, arith, inl, inr, length, get_or, set, length-set, get_or-set_same, get_or-set_other}
+use Rattle.std.proofs.Common.{◌≡◌, ℕ, ◌+◌, ◌-◌, ◌<◌, [], List, refl, sym, ◌∙◌, ap, arith, inl, inr, length, get_or, set, length-set, get_or-set_same, get_or-set_other}
 use Rattle.std.proofs.lemmas.Bool.{cases_eq, cases_lt}
 use Rattle.std.proofs.lemmas.List.{length-take-le, get_or_past}
 use Rattle.std.proofs.lemmas.List.Sums.{sum_by-set, sum_by-swap_remove}
-use Rattle.std.proofs.lemmas.Option.{slice_get_within, get_or_from_slice_get, slice_get_past}
+use Rattle.std.proofs.lemmas.Option.{same_Some, slice_get_within, get_or_from_slice_get, slice_get_past}
 use Rattle.pb_replay.specs.declared.propagate.term.Term.{Term}
 use Rattle.pb_replay.specs.Engine.Lists.{Shape, Weighted}
 use Rattle.pb_replay.specs.Engine.Counts.{place, entry_weight, weight_in}
 use Rattle.pb_replay.specs.Engine.Links.{terms_at, entry_cross, term_cross, entry_at, term_at, AreCrossed, IsLinked, cut}
-use Rattle.pb_replay.proofs.Engine.Gets.{get-take_less, get-take_past, get-set_same, get-set_other}
+use Rattle.pb_replay.proofs.Engine.Gets.{lt_of_apart, get-take_less, get-take_past, get-set_same, get-set_other}
 use Rattle.pb_replay.proofs.Engine.Links.{Gains, linked-less, totals-back, term-here, term-none, term-other, terms-step, entry-is, cut-length}
 use Rattle.pb_replay.proofs.Engine.Crosses.{to, to-parts, to-none, Same, crossed-drop, crossed-move}
 
@@ -18,11 +18,8 @@ pub swap-other : {X : Type 0} (es : List X) (q k : ℕ) (d : X) → (k ≡ q →
 swap-other es q k d n m =
     elim (cases_lt k (length es - 1)) [
       | inl less ↦ get-take_less (set es q (get_or es (length es - 1) d)) (length es - 1) k less ∙ get-set_other es q k (get_or es (length es - 1) d) n
-      | inr more ↦ get-take_past (set es q (get_or es (length es - 1) d)) (length es - 1) k more ∙ sym (slice_get_past es k (beyond k (length es) more m))
+      | inr more ↦ get-take_past (set es q (get_or es (length es - 1) d)) (length es - 1) k more ∙ sym (slice_get_past es k (omega (arith, lt_of_apart (length es - 1) k more m)))
     ]
-  where
-    beyond : (a b : ℕ) → b - 1 ≤ a → (a ≡ b - 1 → ⊥) → b ≤ a
-    beyond a b h k = grind arith
 
 pub swap-last : {X : Type 0} (es : List X) (q : ℕ) (d : X) → slice_get (swap_remove es q d) (length es - 1) ≡ None
 swap-last es q d = get-take_past (set es q (get_or es (length es - 1) d)) (length es - 1) (length es - 1) (omega arith)
@@ -176,11 +173,8 @@ leaving-crossed base spots _ lists lists' s0 i q p es t e (goes m more at) l =
     apart h =
         let named = named-term (cut base s0 (i + 1)) spots lists p (length es - 1) m at_lists l.old in
         let spot_now : slice_get (get_or spots s0 []) i ≡ Some (length es - 1) = rw (h.0, h.1) at named.spot in
-        let same : q ≡ length es - 1 = some-same q (length es - 1) (sym l.spot ∙ spot_now) in
+        let same : q ≡ length es - 1 = same_Some q (length es - 1) (sym l.spot ∙ spot_now) in
         absurd (omega (arith, same, more))
-      where
-        some-same : (a b : ℕ) → ◌≡◌ {A = Option ℕ} (Some a) (Some b) → a ≡ b
-        some-same a b e = cc (e)
 
     term_new : term_at (cut base s0 i) spots' m.form m.index ≡ to p q m.coefficient
     term_new =

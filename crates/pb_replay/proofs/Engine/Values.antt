@@ -1,13 +1,14 @@
 use Rattle.std.specs.Prelude.{◌==◌, ◌||◌, Bool, true, false, not, sum_by, Option, Some, None}
 use Rattle.std.specs.Bool.{beq}
 use Rattle.std.proofs.Common.{◌≡◌, ℕ, zero, suc, ◌+◌, ◌-◌, ◌<◌, ◌≤◌, cond, drop, ◌⊎◌, ◌++◌, ◌∷◌, [], List, length, get_or, set, refl, sym, ◌∙◌, ap, inl, inr, arith, get_or-set_same, get_or-set_other}
+use Rattle.std.proofs.Math.Bool.{or-false, not-not}
 use Rattle.std.proofs.lemmas.Bool.{cases_lt, cases_eq, ne_eqb, eq-eqb, both_ways}
 use Rattle.std.proofs.lemmas.List.Sums.{sum_by-set, sum_by_push, sum_by-cons}
 use Rattle.std.specs.List.{list_any}
 use Rattle.std.proofs.lemmas.List.{length-append, get_or_append_left, get_or-append_right, get_or_past, set_past, drop_more, drop_all}
 use Rattle.pb_replay.specs.declared.numbered.NumberedLiteral.{NumberedLiteral}
 use Rattle.pb_replay.specs.Engine.Lists.{negation, same, has, says, holds, vacancy}
-use Rattle.pb_replay.proofs.Engine.Literals.{has-none, has-push, has-get, beq-refl, literal_ext, not-not, or-false}
+use Rattle.pb_replay.proofs.Engine.Literals.{has-none, has-push, has-get, beq-refl, literal_ext}
 
 -- the values are those that the list gives
 abbrev pub Agree : List (Option Bool) → List NumberedLiteral → Type 0

@@ -115,10 +115,7 @@ pub terms-before : (forms : List Shape) (x : Shape) (k : ℕ) → (k ≡ length 
 terms-before [] x zero n = absurd (n refl)
 terms-before [] x (suc k) n = refl
 terms-before (f ∷ fs) x zero n = refl
-terms-before (f ∷ fs) x (suc k) n = terms-before fs x k (λ e. n (up k (length fs) e))
-  where
-    up : (a b : ℕ) → a ≡ b → suc a ≡ suc b
-    up a b e = ap suc e
+terms-before (f ∷ fs) x (suc k) n = terms-before fs x k (λ e. n (omega (arith, e)))
 
 pub terms-set : (forms : List Shape) (s : ℕ) (x : Shape) (k : ℕ) → (k ≡ s → ⊥) → terms_at (set forms s x) k ≡ terms_at forms k
 terms-set forms s x k n = ap (λ (f : Shape). f.terms) (get_or-set_other forms s k x (record { terms = []; degree = 0 }) n)

@@ -5,25 +5,21 @@ use Rattle.std.proofs.lemmas.Int.{ints}
 use Rattle.std.proofs.lemmas.List.Elements.{Contains-push, Contains-append_left, Contains-push_cases}
 use Rattle.pb_replay.specs.Replay.{Logged}
 use Rattle.pb_replay.specs.Kept.{IsBest, IsBetter}
-
-none-some : {A B : Type 0} {x : A} → (let o : Option A = None in o) ≡ Some x → B
-none-some h = absurd cc
+use Rattle.std.proofs.lemmas.Option.{none-some}
+use Rattle.pb_replay.proofs.Engine.Gets.{contains-none}
 
 pub nothing : (logged : List Logged) (best : Option ℤ) → IsBest logged best → best ≡ None → logged ≡ []
 nothing logged None h e = h
-nothing logged (Some b) h e = none-some (sym e)
+nothing logged (Some b) h e = absurd (none-some b (sym e))
 
 pub best-push : (logged : List Logged) (best : Option ℤ) (g : Logged) (r : ℤ) → IsBest logged best → IsBetter best g.value r → IsBest (logged ++ g ∷ []) (Some r)
 best-push logged None g r h e = (
   (g, Contains-push logged g, sym e),
   λ k c. elim (Contains-push_cases logged g k c) [
-    | inl old ↦ absurd (let P : List Logged → Type 0 = λ gs. Contains gs k in let bad : P [] = rw h at old in not_in k bad)
+    | inl old ↦ absurd (contains-none logged k h old)
     | inr new ↦ omega (arith, ints, e, ap (λ (x : Logged). x.value) new)
   ],
 )
-  where
-    not_in : (x : Logged) → Contains [] x → ⊥
-    not_in x (j, lt, is) = omega (arith, lt)
 best-push logged (Some b) g r h e = (
   reached e.2,
   λ k c. elim (Contains-push_cases logged g k c) [

@@ -2,6 +2,7 @@
 use Rattle.std.specs.Prelude.{Result, Ok, Err, Option, Some, None, Contains, ℤ, option_map}
 use Rattle.std.proofs.Common.{◌≡◌, ◌⊎◌, ℕ, ◌≤ℤ◌, List, [], refl, sym, ◌∙◌, ap, arith, inl, inr, subst}
 use Rattle.std.proofs.lemmas.Int.{ints}
+use Rattle.std.proofs.lemmas.Option.{same_Some}
 use Rattle.pb_text.specs.Limits.{largest}
 use Rattle.pb_sums.specs.declared.Linear.{Linear}
 use Rattle.pb_sums.specs.declared.Literal.{Literal}
@@ -25,40 +26,37 @@ use Rattle.pb_replay.specs.Conclusions.{IsShownBy, contradicted, contradiction, 
 use Rattle.pb_replay.specs.Problem.{Problem}
 use Rattle.pb_replay.specs.Replay.{IsLive, Logged, State, normal_form, numbered}
 use Rattle.pb_replay.specs.Kept.{GoesAt, HasNamed, IsBest, IsProper, Keeps, problem_of, state_of}
+use Rattle.pb_text.proofs.Results.{ok_or_err}
 use Rattle.pb_replay.proofs.lemmas.Best.{below}
-use Rattle.pb_replay.proofs.lemmas.Concluded.{contains-none}
+use Rattle.pb_replay.proofs.Engine.Gets.{contains-none}
 use Rattle.pb_replay.proofs.lemmas.Going.{form-of}
-use Rattle.pb_replay.proofs.lemmas.Living.{some-same}
 use Rattle.pb_replay.proofs.lemmas.Ready.{same_problem}
 use Rattle.pb_replay.proofs.lemmas.States.{same-state}
 
-ok-err : {A B : Type 0} {x : A} {e : Fault} → Ok x ≡ Err e → B
-ok-err h = absurd cc
-
-err-same : {A B : Type 0} {d e : Fault} → (let r : Result A Fault = Err d in r) ≡ Err e → (let s : Result B Fault = Err d in s) ≡ Err e
-err-same h = cc
+err-moved : {A B : Type 0} {d e : Fault} → (let r : Result A Fault = Err d in r) ≡ Err e → (let s : Result B Fault = Err d in s) ≡ Err e
+err-moved h = cc
 
 contra-then : {A : Type 0} (live : List (Option Form)) (id : Option ℤ) (next : Answer A) (r : Result A Fault) (u : Unit {0}) → contradicted live id (gives (tt {0})) (Ok u) → next r → contradicted live id next r
 contra-then live None next r u (inl (h, k)) n = inl (h, n)
-contra-then live None next r u (inr (h, k)) n = ok-err k
+contra-then live None next r u (inr (h, k)) n = ok_or_err k
 contra-then live (Some i) next r u (inl (f, is, inl (h, k))) n = inl (f, is, inl (h, n))
-contra-then live (Some i) next r u (inl (f, is, inr (h, k))) n = ok-err k
-contra-then live (Some i) next r u (inr (h, k)) n = ok-err k
+contra-then live (Some i) next r u (inl (f, is, inr (h, k))) n = ok_or_err k
+contra-then live (Some i) next r u (inr (h, k)) n = ok_or_err k
 
 contra-stop : {A : Type 0} (live : List (Option Form)) (id : Option ℤ) (next : Answer A) (e : Fault) → contradicted live id (gives (tt {0})) (Err e) → contradicted live id next (Err e)
-contra-stop live None next e (inl (h, k)) = ok-err (sym k)
-contra-stop live None next e (inr (h, k)) = inr (h, err-same k)
-contra-stop live (Some i) next e (inl (f, is, inl (h, k))) = ok-err (sym k)
-contra-stop live (Some i) next e (inl (f, is, inr (h, k))) = inl (f, is, inr (h, err-same k))
-contra-stop live (Some i) next e (inr (h, k)) = inr (h, err-same k)
+contra-stop live None next e (inl (h, k)) = ok_or_err (sym k)
+contra-stop live None next e (inr (h, k)) = inr (h, err-moved k)
+contra-stop live (Some i) next e (inl (f, is, inl (h, k))) = ok_or_err (sym k)
+contra-stop live (Some i) next e (inl (f, is, inr (h, k))) = inl (f, is, inr (h, err-moved k))
+contra-stop live (Some i) next e (inr (h, k)) = inr (h, err-moved k)
 
 pub left-then : {A : Type 0} (s : State) (id : Option ℤ) (next : Answer A) (r : Result A Fault) (u : Unit {0}) → none_left s id (gives (tt {0})) (Ok u) → next r → none_left s id next r
 left-then s id next r u (inl (none, h)) n = inl (none, contra-then s.live id next r u h n)
-left-then s id next r u (inr (h, k)) n = ok-err k
+left-then s id next r u (inr (h, k)) n = ok_or_err k
 
 pub left-stop : {A : Type 0} (s : State) (id : Option ℤ) (next : Answer A) (e : Fault) → none_left s id (gives (tt {0})) (Err e) → none_left s id next (Err e)
 left-stop s id next e (inl (none, h)) = inl (none, contra-stop s.live id next e h)
-left-stop s id next e (inr (h, k)) = inr (h, err-same k)
+left-stop s id next e (inr (h, k)) = inr (h, err-moved k)
 
 -- bounds by the best value
 pub below-to : (logged : List Logged) (best : Option ℤ) (b : ℤ) → IsBest logged best → IsBelow best b → (g : Logged) → Contains logged g → b ≤ℤ g.value
@@ -97,8 +95,8 @@ module _ (r : Running) (b : ℤ) where
 
   pub objective-err : (f : Option Form) (e : Fault) → (e ≡ Memory) ⊎ HasObjective (largest r.limits) r.names (problem_of r).objective least b (Err e) → ObjectiveShown r f b (Err e)
   objective-err f e (inl memory) = inl memory
-  objective-err f e (inr (inl (p, is, inl (fits, (g, made, same))))) = ok-err (sym same)
-  objective-err f e (inr (inl (p, is, inr (late, same)))) = inr (λ o has. inr (subst (λ (ts : List Term). Fits (largest r.limits) (objective_with ts b) → ⊥) (some-same (sym is ∙ has)) late, err-same same))
+  objective-err f e (inr (inl (p, is, inl (fits, (g, made, same))))) = ok_or_err (sym same)
+  objective-err f e (inr (inl (p, is, inr (late, same)))) = inr (λ o has. inr (subst (λ (ts : List Term). Fits (largest r.limits) (objective_with ts b) → ⊥) (same_Some _ _ (sym is ∙ has)) late, err-moved same))
   objective-err f e (inr (inr (none, same))) = inr (λ o has. absurd (none o has))
 
   module _ (id : Option ℤ) where
@@ -121,47 +119,47 @@ lower-infinite r id (Err e) h = inr (λ logged o best has. h logged best)
 -- what follows a bound
 form-then : {A : Type 0} (limit : ℕ) (names : List (List ℕ)) (linear : Linear) (P : Form → Type 0) (next : Answer A) (r : Result A Fault) (u : Unit {0}) → normal_form limit names least linear (λ g. need (P g) NotBound (gives (tt {0}))) (Ok u) → next r → normal_form limit names least linear (λ g. need (P g) NotBound next) r
 form-then limit names linear P next r u (inl (fits, (g, made, inl (h, k)))) n = inl (fits, (g, made, inl (h, n)))
-form-then limit names linear P next r u (inl (fits, (g, made, inr (h, k)))) n = ok-err k
-form-then limit names linear P next r u (inr (late, k)) n = ok-err k
+form-then limit names linear P next r u (inl (fits, (g, made, inr (h, k)))) n = ok_or_err k
+form-then limit names linear P next r u (inr (late, k)) n = ok_or_err k
 
 form-stop : {A : Type 0} (limit : ℕ) (names : List (List ℕ)) (linear : Linear) (P : Form → Type 0) (next : Answer A) (e : Fault) → normal_form limit names least linear (λ g. need (P g) NotBound (gives (tt {0}))) (Err e) → normal_form limit names least linear (λ g. need (P g) NotBound next) (Err e)
-form-stop limit names linear P next e (inl (fits, (g, made, inl (h, k)))) = ok-err (sym k)
-form-stop limit names linear P next e (inl (fits, (g, made, inr (h, k)))) = inl (fits, (g, made, inr (h, err-same k)))
-form-stop limit names linear P next e (inr (late, k)) = inr (late, err-same k)
+form-stop limit names linear P next e (inl (fits, (g, made, inl (h, k)))) = ok_or_err (sym k)
+form-stop limit names linear P next e (inl (fits, (g, made, inr (h, k)))) = inl (fits, (g, made, inr (h, err-moved k)))
+form-stop limit names linear P next e (inr (late, k)) = inr (late, err-moved k)
 
 pub lower-then : {A : Type 0} (limit : ℕ) (s : State) (o : List Term) (b : Bound) (id : Option ℤ) (next : Answer A) (r : Result A Fault) (u : Unit {0}) → lower_bound limit s o b id (gives (tt {0})) (Ok u) → next r → lower_bound limit s o b id next r
 lower-then limit s o Infinite id next r u h n = left-then s id next r u h n
 lower-then limit s o (Finite b) None next r u (inl (low, h)) n = inl (low, form-then limit s.names (objective_with o b) (IsShownBy s.live None) next r u h n)
 lower-then limit s o (Finite b) (Some i) next r u (inl (low, inl (f, is, h))) n = inl (low, inl (f, is, form-then limit s.names (objective_with o b) (IsShownBy s.live (Some f)) next r u h n))
-lower-then limit s o (Finite b) (Some i) next r u (inl (low, inr (none, k))) n = ok-err k
-lower-then limit s o (Finite b) None next r u (inr (late, k)) n = ok-err k
-lower-then limit s o (Finite b) (Some i) next r u (inr (late, k)) n = ok-err k
+lower-then limit s o (Finite b) (Some i) next r u (inl (low, inr (none, k))) n = ok_or_err k
+lower-then limit s o (Finite b) None next r u (inr (late, k)) n = ok_or_err k
+lower-then limit s o (Finite b) (Some i) next r u (inr (late, k)) n = ok_or_err k
 
 pub lower-stop : {A : Type 0} (limit : ℕ) (s : State) (o : List Term) (b : Bound) (id : Option ℤ) (next : Answer A) (e : Fault) → lower_bound limit s o b id (gives (tt {0})) (Err e) → lower_bound limit s o b id next (Err e)
 lower-stop limit s o Infinite id next e h = left-stop s id next e h
 lower-stop limit s o (Finite b) None next e (inl (low, h)) = inl (low, form-stop limit s.names (objective_with o b) (IsShownBy s.live None) next e h)
 lower-stop limit s o (Finite b) (Some i) next e (inl (low, inl (f, is, h))) = inl (low, inl (f, is, form-stop limit s.names (objective_with o b) (IsShownBy s.live (Some f)) next e h))
-lower-stop limit s o (Finite b) (Some i) next e (inl (low, inr (none, k))) = inl (low, inr (none, err-same k))
-lower-stop limit s o (Finite b) None next e (inr (late, k)) = inr (late, err-same k)
-lower-stop limit s o (Finite b) (Some i) next e (inr (late, k)) = inr (late, err-same k)
+lower-stop limit s o (Finite b) (Some i) next e (inl (low, inr (none, k))) = inl (low, inr (none, err-moved k))
+lower-stop limit s o (Finite b) None next e (inr (late, k)) = inr (late, err-moved k)
+lower-stop limit s o (Finite b) (Some i) next e (inr (late, k)) = inr (late, err-moved k)
 
 pub upper-then : {A : Type 0} (v : Problem) (s : State) (b : Bound) (written : Option (List Literal)) (next : Answer A) (r : Result A Fault) (u : Unit {0}) → upper_of v s.logged b (option_map (numbered s.names) written) (Ok u) → next r → upper_bound v s b written next r
 upper-then v s Infinite written next r u h n = n
 upper-then v s (Finite z) None next r u (inl (some, inl (less, k))) n = inl (some, inl (less, n))
-upper-then v s (Finite z) None next r u (inl (some, inr (late, k))) n = ok-err k
-upper-then v s (Finite z) None next r u (inr (late, k)) n = ok-err k
+upper-then v s (Finite z) None next r u (inl (some, inr (late, k))) n = ok_or_err k
+upper-then v s (Finite z) None next r u (inr (late, k)) n = ok_or_err k
 upper-then v s (Finite z) (Some ls) next r u (inl (g, is, inl (less, k))) n = inl (g, is, inl (less, n))
-upper-then v s (Finite z) (Some ls) next r u (inl (g, is, inr (late, k))) n = ok-err k
-upper-then v s (Finite z) (Some ls) next r u (inr (late, k)) n = ok-err k
+upper-then v s (Finite z) (Some ls) next r u (inl (g, is, inr (late, k))) n = ok_or_err k
+upper-then v s (Finite z) (Some ls) next r u (inr (late, k)) n = ok_or_err k
 
 pub upper-stop : {A : Type 0} (v : Problem) (s : State) (b : Bound) (written : Option (List Literal)) (next : Answer A) (e : Fault) → upper_of v s.logged b (option_map (numbered s.names) written) (Err e) → upper_bound v s b written next (Err e)
-upper-stop v s Infinite written next e h = ok-err (sym h)
-upper-stop v s (Finite z) None next e (inl (some, inl (less, k))) = ok-err (sym k)
-upper-stop v s (Finite z) None next e (inl (some, inr (late, k))) = inl (some, inr (late, err-same k))
-upper-stop v s (Finite z) None next e (inr (late, k)) = inr (late, err-same k)
-upper-stop v s (Finite z) (Some ls) next e (inl (g, is, inl (less, k))) = ok-err (sym k)
-upper-stop v s (Finite z) (Some ls) next e (inl (g, is, inr (late, k))) = inl (g, is, inr (late, err-same k))
-upper-stop v s (Finite z) (Some ls) next e (inr (late, k)) = inr (late, err-same k)
+upper-stop v s Infinite written next e h = ok_or_err (sym h)
+upper-stop v s (Finite z) None next e (inl (some, inl (less, k))) = ok_or_err (sym k)
+upper-stop v s (Finite z) None next e (inl (some, inr (late, k))) = inl (some, inr (late, err-moved k))
+upper-stop v s (Finite z) None next e (inr (late, k)) = inr (late, err-moved k)
+upper-stop v s (Finite z) (Some ls) next e (inl (g, is, inl (less, k))) = ok_or_err (sym k)
+upper-stop v s (Finite z) (Some ls) next e (inl (g, is, inr (late, k))) = inl (g, is, inr (late, err-moved k))
+upper-stop v s (Finite z) (Some ls) next e (inr (late, k)) = inr (late, err-moved k)
 
 -- both bounds
 module _ (old m : Running) (lower : Bound) (id : Option ℤ) (upper : Bound) (given : Option (List NumberedLiteral)) where

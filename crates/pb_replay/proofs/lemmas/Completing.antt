@@ -1,25 +1,20 @@
 -- The completion is one set
-use Rattle.std.proofs.Common.{◌≡◌, ℕ, Bool, true, false, not, List, ◌∷◌, refl, sym, arith, inl, inr}
-use Rattle.std.proofs.lemmas.Bool.{cases_Bool, or_cases, or_right, both_ways}
+use Rattle.std.proofs.Common.{◌≡◌, ℕ, Bool, true, false, not, List, ◌∷◌, arith, inl, inr}
+use Rattle.std.specs.Cmp.{both_ways as same_answers}
+use Rattle.std.proofs.lemmas.Bool.{cases_Bool, or_cases, or_right, both_ways, not-true, false_from_ne_true, not_from_false}
 use Rattle.pb_replay.specs.declared.numbered.NumberedLiteral.{NumberedLiteral}
 use Rattle.pb_normal.specs.Form.{Form}
-use Rattle.pb_replay.specs.Propagation.{only, on, opened, MayPut, Derivation, begin, put, HasConflict, broken, MeetsConflict, IsCompletion}
-use Rattle.pb_replay.proofs.lemmas.Propagating.{only-true, total-fits, total-within}
+use Rattle.pb_normal.specs.Rules.{only}
+use Rattle.pb_replay.specs.Propagation.{on, opened, MayPut, Derivation, begin, put, HasConflict, opposed, broken, MeetsConflict, IsCompletion}
+use Rattle.pb_replay.proofs.lemmas.Choices.{only-true, total-fits, total-within}
 
 -- each literal of the first list is on the second
 abbrev pub IsPart : List NumberedLiteral → List NumberedLiteral → Type 0
 IsPart a b = (v : ℕ) (n : Bool) → on a v n ≡ true → on b v n ≡ true
 
-not_true : (b : Bool) → (b ≡ true → ⊥) → not b ≡ true
-not_true true h = absurd (h refl)
-not_true false h = refl
-
-not_of : (b : Bool) → not b ≡ true → b ≡ true → ⊥
-not_of true h k = cc
-not_of false h k = cc
-
 pub opened-part : (a b : List NumberedLiteral) → IsPart a b → (v : ℕ) (n : Bool) → opened b v n ≡ true → opened a v n ≡ true
-opened-part a b w v n h = not_true (on a v (not n)) (λ e. not_of (on b v (not n)) h (w v (not n) e))
+opened-part a b w v n h =
+    not_from_false (on a v (not n)) (false_from_ne_true (on a v (not n)) (λ e. both_ways _ (not-true (on b v (not n)) h) (w v (not n) e)))
 
 at_literal : (list : List NumberedLiteral) (l : NumberedLiteral) (v : ℕ) (n : Bool) → v ≡ l.variable → n ≡ l.negated → (b : Bool) → on list l.variable (not l.negated) ≡ b → on list v (not n) ≡ b
 at_literal list l v n e f b h = rw (e, f) h
@@ -38,8 +33,8 @@ lasting forms a b l w m =
           elim (cases_Bool (on b l.variable (not l.negated))) [
             | inl falsified ↦
                 let lower = total-fits (opened b) (only l.variable l.negated) (opened a) (opened-part a b w)
-                (λ v n e. let same = only-true l.variable l.negated v n e in not_true (on a v (not n)) (λ k. both_ways _ (at_literal a l v n same.0 same.1 false m.not_falsified) k))
-                (λ v n p e. let same = only-true l.variable l.negated v n e in not_of (on b v (not n)) p (at_literal b l v n same.0 same.1 true falsified))
+                (λ v n e. let same = only-true l.variable l.negated v n e in not_from_false (on a v (not n)) (at_literal a l v n same.0 same.1 false m.not_falsified))
+                (λ v n p e. let same = only-true l.variable l.negated v n e in both_ways _ (not-true (on b v (not n)) p) (at_literal b l v n same.0 same.1 true falsified))
                 m.form.terms in
                 conflicting (broken m.form m.among (omega (arith, lower, m.forced)))
             | inr free ↦
@@ -77,15 +72,21 @@ derivation-part forms given closed w c n _ (put {list} l d m) =
       | conflicting bad ↦ absurd (n bad)
     ]
 
+-- a conflict stays on longer lists
+pub conflict-part : (forms : Form → Type 0) (a b : List NumberedLiteral) → IsPart a b → HasConflict forms a → HasConflict forms b
+conflict-part forms a b w (opposed v here there) = opposed v (w v true here) (w v false there)
+conflict-part forms a b w (broken f among low) =
+    broken f among (omega (arith, total-within (opened b) (opened a) (opened-part a b w) f.terms, low))
+
+-- a closed list without a conflict refutes each derivation that would have one
+pub closed-none : (forms : Form → Type 0) (given closed : List NumberedLiteral) → Derivation forms given closed → ((l : NumberedLiteral) → MayPut forms closed l → ⊥) → (HasConflict forms closed → ⊥) → MeetsConflict forms given → ⊥
+closed-none forms given closed d c n m =
+    n (conflict-part forms m.list closed (derivation-part forms given closed (derivation-keeps forms given closed d) c n m.list m.derived) m.conflict)
+
 completion-part : (forms : Form → Type 0) (given a b : List NumberedLiteral) → (MeetsConflict forms given → ⊥) → IsCompletion forms given a → IsCompletion forms given b → IsPart a b
 completion-part forms given a b free p q =
     derivation-part forms given b (derivation-keeps forms given b q.derived) q.closed (λ bad. free (record { list = b; derived = q.derived; conflict = bad })) a p.derived
 
-same_Bool : (b c : Bool) → (b ≡ true → c ≡ true) → (c ≡ true → b ≡ true) → b ≡ c
-same_Bool true c f g = sym (f refl)
-same_Bool false true f g = g refl
-same_Bool false false f g = refl
-
 pub completion-one : (forms : Form → Type 0) (given a b : List NumberedLiteral) → (MeetsConflict forms given → ⊥) → IsCompletion forms given a → IsCompletion forms given b → (v : ℕ) (n : Bool) → on a v n ≡ on b v n
 completion-one forms given a b free p q v n =
-    same_Bool (on a v n) (on b v n) (completion-part forms given a b free p q v n) (completion-part forms given b a free q p v n)
+    same_answers (on a v n) (on b v n) (completion-part forms given a b free p q v n) (completion-part forms given b a free q p v n)

@@ -1,8 +1,9 @@
 -- What an accepted conclusion means
 use Rattle.std.specs.Prelude.{Contains, Option, Some, None, Ok, ℤ}
-use Rattle.std.proofs.Common.{◌≡◌, ℕ, Bool, List, [], ◌∷◌, length, sym, ◌∙◌, arith, inl, inr, ◌≤ℤ◌}
+use Rattle.std.proofs.Common.{◌≡◌, ℕ, Bool, List, [], length, sym, ◌∙◌, arith, inl, inr, ◌≤ℤ◌}
 use Rattle.std.proofs.lemmas.Bool.{cases_lt}
 use Rattle.std.proofs.lemmas.Int.{ints}
+use Rattle.std.proofs.lemmas.Option.{none-some, same_Some}
 use Rattle.pb_sums.specs.declared.Literal.{Literal}
 use Rattle.pb_sums.specs.declared.Term.{Term}
 use Rattle.pb_proof.specs.declared.Bound.{Bound}
@@ -24,17 +25,15 @@ use Rattle.pb_replay.specs.Replay.{State, Live, value, numbered}
 use Rattle.pb_replay.specs.Conclusions.{contradicted, none_left, named, objective_with, IsShownBy, trivial, contradiction, sum, propagated, lower_bound, upper_bound, Concludes, verdict_of}
 use Rattle.pb_replay.specs.Meaning.{IsSolution, HasNone, IsAtLeast, IsAtMost, Means, Accounted, known, beaten, allowed, IsSound, IsProblem}
 use Rattle.pb_replay.proofs.lemmas.Accepting.{needed}
-use Rattle.pb_replay.proofs.lemmas.Living.{IsLive-live, some-same, none_some}
-use Rattle.pb_replay.proofs.lemmas.Naming.{value-over, value-agree, side-holds, HasNames-append, objective-named}
+use Rattle.pb_replay.proofs.lemmas.Living.{IsLive-live}
+use Rattle.pb_normal.proofs.WrittenForms.{HasNames-append}
+use Rattle.pb_replay.proofs.lemmas.Naming.{value-over, value-agree, side-holds, objective-named}
 use Rattle.pb_replay.proofs.lemmas.Propagating.{IsRup-holds}
 use Rattle.pb_replay.proofs.lemmas.Solutions.{Completed-taken}
+use Rattle.pb_replay.proofs.Engine.Gets.{contains-none}
 
 contradiction-fails : (a : ℕ → Bool) (f : Form) → IsContradiction f → Holds a f → ⊥
 contradiction-fails a f c h = omega (arith, total-le-each (true_at a) f.terms)
-
-pub contains-none : {X : Type 0} (xs : List X) (x : X) → xs ≡ [] → Contains xs x → ⊥
-contains-none [] x e (k, lt, is) = omega (arith, lt)
-contains-none (y ∷ xs) x e c = cc
 
 pub contradicted-has : (live : List (Option Form)) (id : Option ℤ) (next : Answer State) (t : State) → contradicted live id next (Ok t) → ((f : Form) × Live live f × IsContradiction f) × next (Ok t)
 contradicted-has live None next t h = needed h
@@ -55,10 +54,10 @@ none_left-means v s id next t sound h =
     refute none f a (allowed holds) = contradiction-fails a f.0 f.2 (holds f.0 f.1)
 
 named-live : (live : List (Option Form)) (id : Option ℤ) (next : Option Form → Answer State) (t : State) → named live id next (Ok t) → (o : Option Form) × ((f : Form) → o ≡ Some f → Live live f) × next o (Ok t)
-named-live live None next t h = (None, λ f e. none_some e, h)
+named-live live None next t h = (None, λ f e. absurd (none-some _ e), h)
 named-live live (Some i) next t h =
     let at = needed h in
-    (Some at.0, λ f e. rw (some-same e) at (IsLive-live live i at.0 at.1), at.2)
+    (Some at.0, λ f e. rw (same_Some _ _ e) at (IsLive-live live i at.0 at.1), at.2)
 
 shown-holds : (a : ℕ → Bool) (live : List (Option Form)) (id : Option Form) (g : Form) → HoldAll a (Live live) → ((f : Form) → id ≡ Some f → Live live f) → IsShownBy live id g → Holds a g
 shown-holds a live id g holds in_live (trivial none) = omega (arith, none)

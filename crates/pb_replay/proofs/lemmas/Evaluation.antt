@@ -1,18 +1,20 @@
 -- The words so far, and those that are left
 use Rattle.std.specs.Prelude.{Result, Ok, Err, Option, reverse}
-use Rattle.std.proofs.Common.{◌≡◌, ℕ, zero, suc, ◌+◌, ◌-◌, ◌<◌, ◌≤◌, List, [], ◌∷◌, ◌++◌, length, take, drop, get_or, refl, sym, ◌∙◌, ap, arith, inl, inr, drop-cons, length-append}
-use Rattle.std.proofs.lemmas.List.{take_more}
+use Rattle.std.proofs.Common.{◌≡◌, ℕ, ◌+◌, ◌-◌, ◌<◌, ◌≤◌, List, [], ◌∷◌, ◌++◌, length, take, drop, get_or, refl, sym, ◌∙◌, ap, arith, inl, inr, length-append}
+use Rattle.std.proofs.lemmas.List.{drop_more, drop_all}
 use Rattle.pb_proof.specs.declared.PolWord.{PolWord}
 use Rattle.pb_proof.specs.declared.PolWord.TheVariants.{Id, Axiom, Add, Multiply, Divide, Saturate, Weaken}
 use Rattle.pb_proof.specs.Postfix.{IsPostfix, words}
 use Rattle.pb_normal.specs.Form.{Form}
 use Rattle.pb_normal.specs.Names.{HasNames, with_names}
 use Rattle.pb_normal.proofs.Appearing.{front, in_turn}
+use Rattle.pb_text.proofs.Lists.{take_read}
 use Rattle.pb_replay.specs.declared.fault.Fault.{Fault}
 use Rattle.pb_replay.specs.Answer.{some}
 use Rattle.pb_replay.specs.Meaning.{IsFront}
 use Rattle.pb_replay.specs.Replay.{TreeForm}
-use Rattle.pb_replay.specs.Stack.{takes, Leaves, Word, Words}
+use Rattle.pb_replay.specs.Stack.{Word, Words}
+use Rattle.pb_proof.specs.Leaving.{takes, Leaves}
 use Rattle.pb_replay.specs.Statements.{word_names}
 use Rattle.pb_replay.proofs.lemmas.Made.{last_first}
 use Rattle.pb_replay.proofs.lemmas.Stacks.{leaves-one, tree-leaves, tree-fails}
@@ -31,7 +33,7 @@ pub next_names : (old names new : List (List ℕ)) (ws : List PolWord) (i : ℕ)
     → new ≡ with_names old (word_names (take (i + 1) ws))
 next_names old names new ws i w lt e before k =
     let all : word_names (take (i + 1) ws) ≡ word_names (take i ws) ++ word_names (w ∷ []) =
-    ap word_names (take_more ws i w lt ∙ ap (λ (y : PolWord). take i ws ++ y ∷ []) (sym e)) ∙ word_names-append (take i ws) (w ∷ []) in
+    ap word_names (take_read ws i w w lt e) ∙ word_names-append (take i ws) (w ∷ []) in
     k ∙ ap (λ (ks : List (List ℕ)). with_names ks (word_names (w ∷ []))) before ∙ sym (in_turn old (word_names (take i ws)) (word_names (w ∷ []))) ∙ ap (with_names old) (sym all)
 
 pub front_of : (old names new others : List (List ℕ)) → names ≡ with_names old others → new ≡ names → IsFront old new
@@ -52,8 +54,7 @@ stands_first limit top names live ws postfix named = record {
 
 rest_is : (ws : List PolWord) (i : ℕ) (w : PolWord) → i < length ws → w ≡ get_or ws i w → drop i ws ≡ w ∷ drop (i + 1) ws
 rest_is ws i w lt e =
-    let one : suc i ≡ i + 1 = omega arith in
-    drop-cons ws i w lt ∙ ap (λ (x : PolWord). x ∷ drop (suc i) ws) (sym e) ∙ ap (λ k. w ∷ drop k ws) one
+    drop_more ws i w lt ∙ ap (λ (x : PolWord). x ∷ drop (i + 1) ws) (sym e)
 
 named_apart : (names : List (List ℕ)) (w : PolWord) (ws : List PolWord) → HasNames names (word_names (w ∷ ws)) → HasNames names (word_names (w ∷ [])) × HasNames names (word_names ws)
 named_apart names (Id id) ws h = (tt, h)
@@ -90,12 +91,6 @@ module _ (limit top : ℕ) (names : List (List ℕ)) (live : List (Option Form))
       }
 
 -- at the end
-drop_past : {A : Type 0} (xs : List A) (i : ℕ) → length xs ≤ i → drop i xs ≡ []
-drop_past [] zero le = refl
-drop_past [] (suc i) le = refl
-drop_past (x ∷ xs) zero le = absurd (omega arith)
-drop_past (x ∷ xs) (suc i) le = drop_past xs i (omega (arith, le))
-
 none_left : (fs gs : List Form) (f : Form) → fs ≡ gs ++ f ∷ [] → length fs ≡ 1 → gs ≡ []
 none_left fs [] f e n = refl
 none_left fs (g ∷ gs) f e n = absurd (omega (arith, ap length e, length-append gs (f ∷ []), n))
@@ -103,7 +98,7 @@ none_left fs (g ∷ gs) f e n = absurd (omega (arith, ap length e, length-append
 pub some_form : (limit top : ℕ) (names : List (List ℕ)) (live : List (Option Form)) (ws : List PolWord) (stack left : List Form) (f : Form) (i : ℕ) → IsPostfix ws → length ws ≤ i → Standing limit top names live ws i stack → stack ≡ left ++ f ∷ []
     → some (λ tree. ws ≡ words tree) (TreeForm limit names live) (Ok f)
 some_form limit top names live ws stack left f i postfix le s is =
-    let rest : drop i ws ≡ [] = drop_past ws i le in
+    let rest : drop i ws ≡ [] = drop_all i ws le in
     let l = s.leaves in
     let one : length stack ≡ 1 = rw rest at l in
     let none : left ≡ [] = none_left stack left f is one in

@@ -1,32 +1,28 @@
 -- What `solx` and `soli` do once their parts are done
 use Rattle.std.specs.Prelude.{Result, Ok, Err, Option, Some, None, ℤ, All, IsSome, option_map}
-use Rattle.std.proofs.Common.{rules, ◌≡◌, ℕ, zero, suc, ◌+◌, ◌<◌, ◌≤◌, get_or, Bool, true, false, not, List, [], ◌∷◌, ◌++◌, length, map, refl, sym, ◌∙◌, ap, arith, inl, inr, subst, cond}
+use Rattle.std.proofs.Common.{rules, ◌≡◌, ℕ, ◌<◌, get_or, Bool, true, false, not, List, [], ◌∷◌, ◌++◌, length, map, refl, sym, ◌∙◌, ap, arith, inl, inr, subst, cond}
 use Rattle.pb_sums.specs.declared.Literal.{Literal}
 use Rattle.pb_sums.specs.declared.Term.{Term}
 use Rattle.pb_sums.specs.declared.Linear.{Linear}
 use Rattle.pb_proof.specs.declared.Statement.TheVariants.{Soli, Solx}
-use Rattle.pb_normal.specs.Form.{Form, IsRising, total}
-use Rattle.pb_normal.specs.Rules.{IsCountOf, among}
+use Rattle.pb_normal.specs.Form.{Form, total}
+use Rattle.pb_normal.specs.Rules.{IsCountOf, among, only}
 use Rattle.pb_replay.specs.declared.fault.Fault.{Fault}
 use Rattle.pb_replay.specs.declared.numbered.NumberedLiteral.{NumberedLiteral}
 use Rattle.pb_replay.specs.declared.state.Running.{Running}
 use Rattle.pb_replay.specs.Bounds.{Demands}
 use Rattle.pb_replay.specs.Problem.{Problem}
-use Rattle.pb_replay.specs.Propagation.{only, on, begin, opposed}
+use Rattle.pb_replay.specs.Propagation.{on, begin, opposed}
 use Rattle.pb_replay.specs.Replay.{Completed, IsClause, Live, Logged, numbered}
 use Rattle.pb_replay.specs.Kept.{GoesAt, IsInside, Logs, problem_of}
 use Rattle.std.proofs.lemmas.Bool.{or_cases}
-use Rattle.std.proofs.lemmas.List.Elements.{All-head, All-tail}
-use Rattle.pb_normal.specs.declared.entry.Entry.{Entry}
+use Rattle.std.proofs.lemmas.List.Elements.{All-head, All-tail, Contains-get_or}
 use Rattle.pb_replay.proofs.lemmas.Accepting.{needed}
-use Rattle.pb_replay.proofs.lemmas.Propagating.{only-true, only-self}
+use Rattle.pb_replay.proofs.lemmas.Choices.{only-true, only-self, total-has, rising-positive}
 
 -- literals that complete to something are not opposed
 pub apart : (v : Problem) (F : Form → Type 0) (n : ℕ) (given : List NumberedLiteral) (g : Logged) → Completed v F n given (Ok g) → (x : ℕ) → on given x true ≡ true → on given x false ≡ true → ⊥
 apart v F n given g h x t f = (needed h).0 (record { list = given; derived = begin; conflict = opposed x t f })
-
-negated : NumberedLiteral → ℕ × Bool
-negated l = (l.variable, not l.negated)
 
 not_sign : (n m : Bool) → cond (not n) m (not m) ≡ cond n (not m) (not (not m))
 not_sign true true = refl
@@ -39,31 +35,28 @@ among-on [] x m = refl
 among-on (l ∷ ls) x m = rw (not_sign l.negated m, among-on ls x m) refl
 
 module _ (old : Running) (given : List NumberedLiteral) (written : List Literal) (numbers : given ≡ numbered old.names written) where
+  over : (r : Result Logged Fault) → Completed (problem_of old) (Live old.engine.forms) (length old.names) given r → Completed (problem_of old) (Live old.engine.forms) (length old.names) (numbered old.names written) r
+  over r c = subst (λ (x : List NumberedLiteral). Completed (problem_of old) (Live old.engine.forms) (length old.names) x r) numbers c
+
   pub solx-ok : (z : ℤ) (form : Form) (result : Result Unit Fault) (new : Running) → (g : Logged) × Completed (problem_of old) (Live old.engine.forms) (length old.names) given (Ok g) × (g.value ≡ z) → IsClause given form → Logs old z form result new → GoesAt old (Solx written) result new
   solx-ok z form (Ok u) new (g, done, value) clause h = λ logged best.
       let k = h logged g best value in
-      (logged ++ g ∷ [], k.0, inl (g, over done, (form, subst (λ (x : List NumberedLiteral). IsClause x form) numbers clause, k.1)))
-    where
-      over : Completed (problem_of old) (Live old.engine.forms) (length old.names) given (Ok g) → Completed (problem_of old) (Live old.engine.forms) (length old.names) (numbered old.names written) (Ok g)
-      over c = subst (λ (x : List NumberedLiteral). Completed (problem_of old) (Live old.engine.forms) (length old.names) x (Ok g)) numbers c
+      (logged ++ g ∷ [], k.0, inl (g, over (Ok g) done, (form, subst (λ (x : List NumberedLiteral). IsClause x form) numbers clause, k.1)))
   solx-ok z form (Err e) new (g, done, value) clause (inl memory) = inl memory
-  solx-ok z form (Err e) new (g, done, value) clause (inr h) = inr (λ logged best. inl (g, over done, (form, subst (λ (x : List NumberedLiteral). IsClause x form) numbers clause, h logged g)))
-    where
-      over : Completed (problem_of old) (Live old.engine.forms) (length old.names) given (Ok g) → Completed (problem_of old) (Live old.engine.forms) (length old.names) (numbered old.names written) (Ok g)
-      over c = subst (λ (x : List NumberedLiteral). Completed (problem_of old) (Live old.engine.forms) (length old.names) x (Ok g)) numbers c
+  solx-ok z form (Err e) new (g, done, value) clause (inr h) = inr (λ logged best. inl (g, over (Ok g) done, (form, subst (λ (x : List NumberedLiteral). IsClause x form) numbers clause, h logged g)))
 
   pub solx-err : (e : Fault) (new : Running) → Completed (problem_of old) (Live old.engine.forms) (length old.names) given (Err e) → GoesAt old (Solx written) (Err e) new
-  solx-err e new h = inr (λ logged best. inr (e, subst (λ (x : List NumberedLiteral). Completed (problem_of old) (Live old.engine.forms) (length old.names) x (Err e)) numbers h, refl))
+  solx-err e new h = inr (λ logged best. inr (e, over (Err e) h, refl))
 
   pub soli-ok : (z : ℤ) (o : List Term) (result : Result Unit Fault) (new : Running) → (problem_of old).objective ≡ Some o → (g : Logged) × Completed (problem_of old) (Live old.engine.forms) (length old.names) given (Ok g) × (g.value ≡ z) → Demands old z result new → GoesAt old (Soli written) result new
   soli-ok z o (Ok u) new has (g, done, value) h = λ logged best.
       let k = h logged g o best value has in
-      (logged ++ g ∷ [], k.0, inl (o, has, inl (g, subst (λ (x : List NumberedLiteral). Completed (problem_of old) (Live old.engine.forms) (length old.names) x (Ok g)) numbers done, k.1)))
+      (logged ++ g ∷ [], k.0, inl (o, has, inl (g, over (Ok g) done, k.1)))
   soli-ok z o (Err e) new has (g, done, value) (inl memory) = inl memory
-  soli-ok z o (Err e) new has (g, done, value) (inr h) = inr (λ logged best. inl (o, has, inl (g, subst (λ (x : List NumberedLiteral). Completed (problem_of old) (Live old.engine.forms) (length old.names) x (Ok g)) numbers done, h logged g o value has)))
+  soli-ok z o (Err e) new has (g, done, value) (inr h) = inr (λ logged best. inl (o, has, inl (g, over (Ok g) done, h logged g o value has)))
 
   pub soli-err : (o : List Term) (e : Fault) (new : Running) → (problem_of old).objective ≡ Some o → Completed (problem_of old) (Live old.engine.forms) (length old.names) given (Err e) → GoesAt old (Soli written) (Err e) new
-  soli-err o e new has h = inr (λ logged best. inl (o, has, inr (e, subst (λ (x : List NumberedLiteral). Completed (problem_of old) (Live old.engine.forms) (length old.names) x (Err e)) numbers h, refl)))
+  soli-err o e new has h = inr (λ logged best. inl (o, has, inr (e, over (Err e) h, refl)))
 
 abbrev negations-of : List NumberedLiteral → List (ℕ × Bool)
 negations-of given = map (λ l. (l.variable, not l.negated)) given
@@ -87,17 +80,6 @@ on-below (l ∷ ls) n x m h e =
       | inr rest ↦ on-below ls n x m (All-tail (λ (k : NumberedLiteral). k.variable < n) l ls h) rest
     ]
 
--- each entry of a rising list counts for its own literal
-own-counts : (ts : List Entry) (k : ℕ) (d : Entry) → k < length ts → (get_or ts k d).coefficient ≤ total (only (get_or ts k d).variable (get_or ts k d).negated) ts
-own-counts [] k d lt = absurd (omega (arith, lt))
-own-counts (t ∷ ts) zero d lt = rw (only-self t.variable t.negated) (omega arith)
-own-counts (t ∷ ts) (suc k) d lt = omega (arith, own-counts ts k d (omega (arith, lt)))
-
-positive : (n : ℕ) (ts : List Entry) → IsRising n ts → (k : ℕ) (d : Entry) → k < length ts → 0 < (get_or ts k d).coefficient
-positive n [] h k d lt = absurd (omega (arith, lt))
-positive n (t ∷ ts) h zero d lt = h.1
-positive n (t ∷ ts) h (suc k) d lt = positive (t.variable + 1) ts h.2 k d (omega (arith, lt))
-
 counts-true : (b : Bool) → 0 < cond b 1 0 → b ≡ true
 counts-true true h = refl
 counts-true false h = absurd (omega (arith, h))
@@ -105,7 +87,8 @@ counts-true false h = absurd (omega (arith, h))
 pub count-inside : (given : List NumberedLiteral) (r : Form) (n : ℕ) → IsCountOf (negations-of given) 1 r → All (λ l. l.variable < n) given → IsInside n r
 count-inside given r n h below k d lt =
     let t = get_or r.terms k d in
-    let some : 0 < total (only t.variable t.negated) r.terms = omega (arith, own-counts r.terms k d lt, positive 0 r.terms h.ordered k d lt) in
+    let there = Contains-get_or r.terms k d lt in
+    let some : 0 < total (only t.variable t.negated) r.terms = omega (arith, total-has (only t.variable t.negated) r.terms t there (only-self t.variable t.negated), rising-positive 0 r.terms t h.ordered there) in
     let here = counts-true (among (negations-of given) t.variable t.negated) (omega (arith, some, h.coefficients t.variable t.negated)) in
     on-below given n t.variable (not t.negated) below (sym (among-on given t.variable t.negated) ∙ here)
 

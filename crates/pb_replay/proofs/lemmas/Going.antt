@@ -1,6 +1,7 @@
 -- From the state once a statement's names have appeared to the state before
 use Rattle.std.specs.Prelude.{Result, Ok, Err, Option, Some, ℤ}
 use Rattle.std.proofs.Common.{◌≡◌, ℕ, List, [], ◌∷◌, ◌++◌, sym, ◌∙◌, inl, inr, subst, pos, ◌-ℤ◌}
+use Rattle.std.proofs.lemmas.Option.{same_Some}
 use Rattle.pb_text.specs.Limits.{largest, top_of}
 use Rattle.pb_text.specs.declared.Limits.{Limits}
 use Rattle.pb_proof.specs.declared.Statement.{Statement}
@@ -14,7 +15,6 @@ use Rattle.pb_normal.specs.declared.Side.TheVariants.{AtMost as most}
 use Rattle.pb_normal.specs.declared.Side.{Side}
 use Rattle.pb_normal.specs.Written.{IsSideOf}
 use Rattle.pb_replay.proofs.lemmas.Accepting.{ok-same}
-use Rattle.pb_replay.proofs.lemmas.Living.{some-same}
 use Rattle.pb_replay.specs.Bounds.{Demands, HasObjective}
 use Rattle.pb_replay.specs.Conclusions.{objective_with}
 use Rattle.pb_replay.specs.Problem.{Problem}
@@ -23,7 +23,7 @@ use Rattle.pb_replay.specs.Kept.{Adding, Goes, GoesAt, HasNamed, IsBest, IsBette
 use Rattle.pb_replay.specs.Statements.{Does, mentioned}
 use Rattle.pb_replay.proofs.lemmas.Best.{best-push}
 use Rattle.pb_replay.proofs.lemmas.Ready.{same_problem}
-use Rattle.pb_replay.proofs.lemmas.States.{same-state}
+use Rattle.pb_replay.proofs.lemmas.States.{same-state, added-over}
 
 module _ (old m : Running) (st : Statement) (named : HasNamed (mentioned st) old m) (proper : IsProper old) (kept : Keeps old m) where
   pub does-from : (logged : List Logged) (r : Result State Fault) → Does (largest m.limits) (top_of m.limits) (problem_of m) (state_of m logged) st r
@@ -44,22 +44,16 @@ module _ (old m : Running) (st : Statement) (named : HasNamed (mentioned st) old
 
 -- a step that took nothing but looks
 module _ (old m : Running) (named : HasNamed [] old m) (kept : Keeps old m) where
+  moved : (before after : List Logged) (form : Form) (r : Result State Fault) → added (top_of m.limits) (state_of m before) after form r → added (top_of old.limits) (state_of old before) after form r
+  moved before after form r =
+      added-over old.limits m.limits kept.limits (state_of m before) (state_of old before) (same-state named.forms named.names named.next named.concluded) after form r
+
   pub logs-from : (z : ℤ) (form : Form) (result : Result Unit Fault) (new : Running) → Logs m z form result new → Logs old z form result new
   logs-from z form (Ok u) new h = λ before g best is.
       let k = h before g (subst (λ (b : Option ℤ). IsBest before b) (sym named.best) best) is in
-      (k.0, moved before (before ++ g ∷ []) (Ok (state_of new (before ++ g ∷ []))) k.1)
-    where
-      moved : (before after : List Logged) (r : Result State Fault) → added (top_of m.limits) (state_of m before) after form r → added (top_of old.limits) (state_of old before) after form r
-      moved before after r k =
-          let same : state_of m before ≡ state_of old before = same-state named.forms named.names named.next named.concluded in
-          subst (λ (l : Limits). added (top_of l) (state_of old before) after form r) kept.limits (subst (λ (s : State). added (top_of m.limits) s after form r) same k)
+      (k.0, moved before (before ++ g ∷ []) form (Ok (state_of new (before ++ g ∷ []))) k.1)
   logs-from z form (Err e) new (inl memory) = inl memory
-  logs-from z form (Err e) new (inr h) = inr (λ before g. moved before (before ++ g ∷ []) (Err e) (h before g))
-    where
-      moved : (before after : List Logged) (r : Result State Fault) → added (top_of m.limits) (state_of m before) after form r → added (top_of old.limits) (state_of old before) after form r
-      moved before after r k =
-          let same : state_of m before ≡ state_of old before = same-state named.forms named.names named.next named.concluded in
-          subst (λ (l : Limits). added (top_of l) (state_of old before) after form r) kept.limits (subst (λ (s : State). added (top_of m.limits) s after form r) same k)
+  logs-from z form (Err e) new (inr h) = inr (λ before g. moved before (before ++ g ∷ []) form (Err e) (h before g))
 
 pub logs-ok : (old new : Running) (best : Option ℤ) (z b : ℤ) (form : Form) → best ≡ old.best → IsBetter best z b → new.best ≡ Some b
     → ((before after : List Logged) → added (top_of old.limits) (state_of old before) after form (Ok (state_of new after))) → Logs old z form (Ok tt) new
@@ -89,7 +83,7 @@ demands-from old m named proper kept z (Err e) new (inr h) = inr (λ before g o 
 pub form-of : (limit : ℕ) (names : List (List ℕ)) (objective : Option (List Term)) (side : Side) (degree : ℤ) (form : Form) → HasObjective limit names objective side degree (Ok form) → (o : List Term) → objective ≡ Some o
     → Fits limit (objective_with o degree) × IsSideOf names side (objective_with o degree) form
 form-of limit names objective side degree form (inl (p, is, inl (fits, (r, made, same)))) o has =
-    let e : p ≡ o = some-same (sym is ∙ has) in
+    let e : p ≡ o = same_Some _ _ (sym is ∙ has) in
     (subst (λ (ts : List Term). Fits limit (objective_with ts degree)) e fits, subst (λ (ts : List Term). IsSideOf names side (objective_with ts degree) form) e (subst (λ (f : Form). IsSideOf names side (objective_with p degree) f) (sym (ok-same same)) made))
 form-of limit names objective side degree form (inl (p, is, inr (late, same))) o has = absurd (let f : Ok form ≡ Err Overflow = same in cc)
 form-of limit names objective side degree form (inr (late, same)) o has = absurd (let f : Ok form ≡ Err NoObjective = same in cc)

@@ -10,6 +10,7 @@ use Rattle.pb_normal.specs.declared.entry.Entry.{Entry}
 use Rattle.pb_normal.specs.Form.{Form}
 use Rattle.pb_normal.specs.Names.{HasNames, number_in}
 use Rattle.pb_normal.specs.Rules.{multiplied, divided, saturated, weakened, with_coefficient}
+use Rattle.pb_normal.proofs.Appearing.{names_split}
 use Rattle.pb_normal.proofs.Keeps.{IsOver-sum, IsOver-mapped, IsOver-filtered, IsOver-below}
 use Rattle.pb_normal.proofs.Numbering.{number_in-below}
 use Rattle.pb_replay.specs.Replay.{Live, TreeForm}
@@ -19,14 +20,6 @@ use Rattle.pb_replay.proofs.lemmas.Accepting.{needed, followed, ok-same}
 use Rattle.pb_replay.proofs.lemmas.Evaluation.{word_names-append}
 use Rattle.pb_replay.proofs.lemmas.Living.{IsLive-live}
 
-named-left : (names xs ys : List (List ℕ)) → HasNames names (xs ++ ys) → HasNames names xs
-named-left names [] ys h = tt
-named-left names (x ∷ xs) ys h = (h.0, named-left names xs ys h.1)
-
-named-right : (names xs ys : List (List ℕ)) → HasNames names (xs ++ ys) → HasNames names ys
-named-right names [] ys h = h
-named-right names (x ∷ xs) ys h = named-right names xs ys h.1
-
 inside-saturated : (n : ℕ) (f : Form) → IsInside n f → IsInside n (saturated f)
 inside-saturated n f h =
     let over = (IsOver-below n f).1 h in
@@ -35,8 +28,7 @@ inside-saturated n f h =
 module _ (limit : ℕ) (names : List (List ℕ)) (live : List (Option Form)) (within : (f : Form) → Live live f → IsInside (length names) f) where
   split : (xs ys : List PolWord) → HasNames names (word_names (xs ++ ys)) → HasNames names (word_names xs) × HasNames names (word_names ys)
   split xs ys h =
-      let all = subst (λ (ns : List (List ℕ)). HasNames names ns) (word_names-append xs ys) h in
-      (named-left names (word_names xs) (word_names ys) all, named-right names (word_names xs) (word_names ys) all)
+      names_split names (word_names xs) (word_names ys) (subst (λ (ns : List (List ℕ)). HasNames names ns) (word_names-append xs ys) h)
 
   pub tree-inside : (t : Tree) (r : Form) → HasNames names (word_names (words t)) → TreeForm limit names live t (Ok r) → IsInside (length names) r
   tree-inside (Constraint id) r h k = let f = needed k in subst (λ (x : Form). IsInside (length names) x) (sym (ok-same f.2)) (within f.0 (IsLive-live live id f.0 f.1))

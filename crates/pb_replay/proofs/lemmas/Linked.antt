@@ -2,20 +2,17 @@
 use Rattle.std.specs.Prelude.{Option, Some, Contains, false}
 use Rattle.std.proofs.Common.{◌≡◌, ℕ, ◌≤◌, List, [], ◌∷◌, ◌++◌, length, map, ◌∙◌, ap, arith, inl, inr, subst, length-append}
 use Rattle.std.proofs.lemmas.List.Elements.{Contains-push_cases}
+use Rattle.std.proofs.lemmas.Option.{same_Some}
 use Rattle.pb_normal.specs.Form.{Form}
 use Rattle.pb_normal.specs.Names.{with_names}
 use Rattle.pb_normal.proofs.Appearing.{front}
 use Rattle.pb_replay.specs.declared.state.Running.{Running}
-use Rattle.pb_replay.specs.Meaning.{IsFront}
 use Rattle.pb_replay.specs.Replay.{Live}
 use Rattle.pb_replay.specs.Kept.{IsInside, IsLinked}
-use Rattle.pb_replay.proofs.lemmas.Living.{Live-loaded, some-same}
+use Rattle.pb_replay.proofs.lemmas.Living.{Live-loaded}
 
 pub inside-more : (n m : ℕ) (f : Form) → n ≤ m → IsInside n f → IsInside m f
 inside-more n m f le h = λ k d lt. omega (arith, le, h k d lt)
-
-pub front-longer : (old new : List (List ℕ)) → IsFront old new → length old ≤ length new
-front-longer old new (more, e) = omega (arith, ap length e, length-append old more)
 
 pub grown : (old new others : List (List ℕ)) → new ≡ with_names old others → length old ≤ length new
 grown old new others e = let f = front old others in omega (arith, ap length (e ∙ f.1), length-append old f.0)
@@ -24,7 +21,7 @@ pub inside-added : (n : ℕ) (old new : List (Option Form)) (form : Form) → ((
 inside-added n old new form h is e f c =
     elim (Contains-push_cases old (Some form) (Some f) (subst (λ (l : List (Option Form)). Contains l (Some f)) e c)) [
       | inl before ↦ h f before
-      | inr same ↦ subst (λ (x : Form). IsInside n x) (some-same same) is
+      | inr same ↦ subst (λ (x : Form). IsInside n x) (same_Some _ _ same) is
     ]
 
 -- the same forms over more names

@@ -29,9 +29,7 @@ use Rattle.pb_replay.specs.Laws.{ProblemsAreProper, MeaningsAgree, VerdictsMean,
 use Rattle.pb_replay.proofs.lemmas.Accepting.{needed, ok-same}
 use Rattle.pb_replay.proofs.lemmas.Naming.{Holds-agree, back, true_sum-agree, value-agree}
 use Rattle.pb_replay.proofs.lemmas.Sound.{first-sound, run-sound}
-
-none-of : {X : Type 0} (y : X) → Contains [] y → ⊥
-none-of y (k, lt, is) = omega (arith, lt)
+use Rattle.pb_replay.proofs.Engine.Gets.{contains-none}
 
 -- of each member of a longer list
 module _ {X : Type 0} (P : X → Type 0) where
@@ -67,7 +65,7 @@ one_more names a Equal c sides (r ∷ s ∷ forms) P e d h rest f =
 
 pub all_same : (names : List (List ℕ)) (a : List ℕ → Bool) (cs : List Linear) (forms : List Form) → AreDistinct names → HasNames names (constraint_names cs) → AreFormsOf names (sides_in cs) forms
     → ((c : Linear) → Contains cs c → HoldsWritten a c) ↔ HoldAll (by_number names a) (Contains forms)
-all_same names a [] [] d h f = (λ w r k. absurd (none-of r k), λ w c k. absurd (none-of c k))
+all_same names a [] [] d h f = (λ w r k. absurd (contains-none [] r refl k), λ w c k. absurd (contains-none [] c refl k))
 all_same names a [] (r ∷ forms) d h f = absurd f
 all_same names a (c ∷ cs) forms d h f =
     let W = HoldsWritten a in
@@ -79,7 +77,7 @@ all_same names a (c ∷ cs) forms d h f =
 
 -- each form reads names alone
 are_named : (names : List (List ℕ)) (sides : List (Side × Linear)) (forms : List Form) → AreFormsOf names sides forms → (r : Form) → Contains forms r → All (λ t. t.variable < length names) r.terms
-are_named names [] [] f r c = absurd (none-of r c)
+are_named names [] [] f r c = absurd (contains-none [] r refl c)
 are_named names [] (g ∷ forms) f r c = absurd f
 are_named names (s ∷ sides) [] f r c = absurd f
 are_named names (s ∷ sides) (g ∷ forms) f r c =

@@ -18,21 +18,16 @@ use Rattle.pb_replay.specs.Propagation.{MeetsConflict, IsCompletion, With}
 use Rattle.pb_replay.specs.Replay.{Live, added}
 use Rattle.pb_replay.specs.Kept.{Adding, state_of}
 use Rattle.pb_replay.specs.Visits.{Looks, IsFew, CoversConflict, CoversCompletion}
-
-err-same : {A : Type 0} {d e : Fault} → (let r : Result A Fault = Err d in r) ≡ Err e → d ≡ e
-err-same h = cc
-
-ok-err : {A B : Type 0} {x : A} {e : Fault} → Ok x ≡ Err e → B
-ok-err h = absurd cc
+use Rattle.pb_text.proofs.Results.{ok_or_err, same_err}
 
 adding-fault : (old new : Running) (form : Form) (result : Result Unit Fault) (e : Fault) → Adding old form result new → result ≡ Err e → (e ≡ Memory) ⊎ (e ≡ IdsSpent)
-adding-fault old new form (Ok u) e h is = ok-err is
-adding-fault old new form (Err d) e (inl memory) is = inl (sym (err-same is) ∙ memory)
-adding-fault old new form (Err d) e (inr h) is = inr (sym (err-same is) ∙ spent (h [] []))
+adding-fault old new form (Ok u) e h is = ok_or_err is
+adding-fault old new form (Err d) e (inl memory) is = inl (sym (same_err is) ∙ memory)
+adding-fault old new form (Err d) e (inr h) is = inr (sym (same_err is) ∙ spent (h [] []))
   where
     spent : added (top_of old.limits) (state_of old []) [] form (Err d) → d ≡ IdsSpent
-    spent (inl k) = ok-err (sym k.1)
-    spent (inr k) = err-same k.1
+    spent (inl k) = ok_or_err (sym k.1)
+    spent (inr k) = same_err k.1
 
 neither : (e : Fault) → (e ≡ Memory) ⊎ (e ≡ IdsSpent) → (e ≡ Order) ⊎ ((e ≡ Overflow) ⊎ (e ≡ NotImplied)) → ⊥
 neither e (inl h) (inl k) = let bad = sym h ∙ k in cc
@@ -75,7 +70,7 @@ module _ (linear : Linear) (mid live : List (Option Form)) (names new : List (Li
   pub looks-not : (list : List NumberedLiteral) × IsCompletion (With (Live mid) (negation_of form)) [] list × (length list ≤ count) → Looks live (with_names names (names_of linear.terms)) linear (Err NotImplied) visits
   looks-not done = record {
     few = few-of;
-    conflict = λ e goal h. ok-err (sym e);
+    conflict = λ e goal h. ok_or_err (sym e);
     completion = λ e goal h.
         let at : CoversCompletion mid form visits = (done.0, done.1, omega (arith, done.2, same)) in
         subst (λ (f : Form). CoversCompletion live f visits) (over goal h) (subst (λ (l : List (Option Form)). CoversCompletion l form visits) forms at);
@@ -84,21 +79,21 @@ module _ (linear : Linear) (mid live : List (Option Form)) (names new : List (Li
   }
     where
       late : (let r : Result Unit Fault = Err NotImplied in r ≡ Err Order) ⊎ (let r : Result Unit Fault = Err NotImplied in r ≡ Err Overflow) → ⊥
-      late (inl e) = let bad = err-same e in cc
-      late (inr e) = let bad = err-same e in cc
+      late (inl e) = let bad = same_err e in cc
+      late (inr e) = let bad = same_err e in cc
 
   -- memory ran out in the midst
   pub looks-memory : (result : Result Unit Fault) → result ≡ Err Memory → Looks live (with_names names (names_of linear.terms)) linear result visits
   looks-memory result memory = record {
     few = few-of;
-    conflict = λ h goal k. ok-err (sym h ∙ memory);
+    conflict = λ h goal k. ok_or_err (sym h ∙ memory);
     completion = λ h goal k. absurd (other NotImplied h (inr (inr refl)));
     unasked = unasked-of;
     refused = λ bad. absurd (elim bad [ inl h ↦ other Order h (inl refl) | inr h ↦ other Overflow h (inr (inl refl)) ]);
   }
     where
       other : (e : Fault) → result ≡ Err e → (e ≡ Order) ⊎ ((e ≡ Overflow) ⊎ (e ≡ NotImplied)) → ⊥
-      other e h = neither e (inl (err-same (sym h ∙ memory)))
+      other e h = neither e (inl (same_err (sym h ∙ memory)))
 
   pub looks-judged : (old after : Running) (result : Result Unit Fault) (implied : Bool) → (implied ≡ true → (form.degree ≡ 0) ⊎ ((m : MeetsConflict (With (Live mid) (negation_of form)) []) × (length m.list ≤ count)))
       → (implied ≡ false → (list : List NumberedLiteral) × IsCompletion (With (Live mid) (negation_of form)) [] list × (length list ≤ count)) → (implied ≡ true → Adding old form result after) → (implied ≡ false → result ≡ Err NotImplied)
@@ -111,8 +106,8 @@ module _ (linear : Linear) (mid live : List (Option Form)) (names new : List (Li
 pub looks-none : (linear : Linear) (live : List (Option Form)) (names : List (List ℕ)) {P : Type 0} (e : Fault) (result : Result Unit Fault) (visits : ℕ) → result ≡ Err e → visits ≡ 0 → (e ≡ Memory) ⊎ ((e ≡ Overflow) × P) → Looks live names linear result visits
 looks-none linear live names e result visits same none bad = record {
   few = λ goal h. omega (arith, none);
-  conflict = λ h goal k. ok-err (sym h ∙ same);
-  completion = λ h goal k. absurd (other (err-same (sym same ∙ h)) bad);
+  conflict = λ h goal k. ok_or_err (sym h ∙ same);
+  completion = λ h goal k. absurd (other (same_err (sym same ∙ h)) bad);
   unasked = λ goal h zero. none;
   refused = λ h. none;
 }

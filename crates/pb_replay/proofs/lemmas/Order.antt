@@ -1,18 +1,13 @@
 -- The order in which literals are put on a list does not matter.
-use Rattle.std.proofs.Common.{◌≡◌, ◌⊎◌, ◌||◌, Bool, true, false, List, ◌∷◌, arith, inl, inr}
-use Rattle.std.proofs.lemmas.Bool.{or_right}
+use Rattle.std.proofs.Common.{◌≡◌, ◌⊎◌, true, List, ◌∷◌, inl, inr}
+use Rattle.std.proofs.lemmas.Bool.{or_left, or_right}
 use Rattle.pb_normal.specs.Form.{Form}
+use Rattle.pb_normal.specs.Rules.{only}
 use Rattle.pb_replay.specs.declared.numbered.NumberedLiteral.{NumberedLiteral}
 use Rattle.pb_replay.specs.Laws.{InList, OrderIsFree, CompletionIsOne}
-use Rattle.pb_replay.specs.Propagation.{only, on, opened, Derivation, begin, put, HasConflict, opposed, broken, MeetsConflict}
-use Rattle.pb_replay.proofs.lemmas.Completing.{IsPart, on_it, still, conflicting, lasting, opened-part, put-part, derivation-keeps, completion-one}
-use Rattle.pb_replay.proofs.lemmas.Propagating.{only-self, total-within}
-
--- a conflict stays on longer lists
-conflict-part : (forms : Form → Type 0) (a b : List NumberedLiteral) → IsPart a b → HasConflict forms a → HasConflict forms b
-conflict-part forms a b w (opposed v on_true on_false) = opposed v (w v true on_true) (w v false on_false)
-conflict-part forms a b w (broken f among low) =
-    broken f among (omega (arith, low, total-within (opened b) (opened a) (opened-part a b w) f.terms))
+use Rattle.pb_replay.specs.Propagation.{on, Derivation, begin, put, HasConflict, MeetsConflict}
+use Rattle.pb_replay.proofs.lemmas.Completing.{IsPart, on_it, still, conflicting, lasting, put-part, derivation-keeps, conflict-part, completion-one}
+use Rattle.pb_replay.proofs.lemmas.Choices.{only-self}
 
 -- a list made longer until it has a conflict, or the literals of another one
 pub record Reached (forms : Form → Type 0) (from other : List NumberedLiteral) : Type 0 where
@@ -25,10 +20,6 @@ grown a l v n h = or_right (only l.variable l.negated v n) (on a v n) h
 
 here : (a : List NumberedLiteral) (l : NumberedLiteral) → on (l ∷ a) l.variable l.negated ≡ true
 here a l = or_left (only l.variable l.negated l.variable l.negated) (on a l.variable l.negated) (only-self l.variable l.negated)
-  where
-    or_left : (b c : Bool) → b ≡ true → (b || c) ≡ true
-    or_left true c e = e
-    or_left false c e = absurd cc
 
 part_then : (a b c : List NumberedLiteral) → IsPart a b → IsPart b c → IsPart a c
 part_then a b c w u v n h = u v n (w v n h)

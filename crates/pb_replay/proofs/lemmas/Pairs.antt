@@ -5,10 +5,10 @@ use Rattle.std.proofs.Common.{◌≡◌, ℕ, zero, suc, ◌<◌, Bool, true, fa
 use Rattle.pb_sums.specs.declared.Term.{Term}
 use Rattle.pb_normal.specs.declared.entry.Entry.{Entry}
 use Rattle.pb_normal.specs.Form.{Form, Holds, total}
-use Rattle.pb_normal.specs.Rules.{assignment}
+use Rattle.pb_normal.specs.Rules.{assignment, only}
 use Rattle.pb_replay.specs.declared.numbered.NumberedLiteral.{NumberedLiteral}
 use Rattle.pb_replay.specs.Problem.{Problem}
-use Rattle.pb_replay.specs.Propagation.{only, on, begin, MayPut}
+use Rattle.pb_replay.specs.Propagation.{on, begin, MayPut}
 use Rattle.pb_replay.specs.Replay.{Live, HasValue, AreValues, IsClause, Completed, logged_of}
 use Rattle.pb_replay.specs.Example.{name_x, name_y}
 use Rattle.pb_replay.proofs.lemmas.Propagating.{AreTrue, AreTrue-put, conflict-none}

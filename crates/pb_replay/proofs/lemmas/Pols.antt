@@ -2,10 +2,9 @@
 use Rattle.std.specs.Prelude.{Result, Ok, Err, Option}
 use Rattle.std.proofs.Common.{◌≡◌, ℕ, List, length, ◌∙◌, inl, inr, subst}
 use Rattle.pb_text.specs.Limits.{largest, top_of}
-use Rattle.pb_text.specs.declared.Limits.{Limits}
 use Rattle.pb_proof.specs.declared.PolWord.{PolWord}
 use Rattle.pb_proof.specs.declared.Statement.TheVariants.{Pol}
-use Rattle.pb_proof.specs.Postfix.{words}
+use Rattle.pb_proof.specs.Postfix.{Tree, words}
 use Rattle.pb_normal.specs.Form.{Form}
 use Rattle.pb_normal.specs.Names.{HasNames, with_names}
 use Rattle.pb_replay.specs.declared.fault.Fault.{Fault}
@@ -16,40 +15,30 @@ use Rattle.pb_replay.specs.Replay.{Live, Logged, State, TreeForm, added}
 use Rattle.pb_replay.specs.Kept.{Adding, Goes, IsInside, IsLinked, state_of, with_mentioned}
 use Rattle.pb_replay.specs.Statements.{word_names}
 use Rattle.pb_replay.proofs.lemmas.Insides.{tree-inside}
-use Rattle.pb_replay.proofs.lemmas.Linked.{front-longer, inside-more}
+use Rattle.pb_replay.proofs.lemmas.Linked.{inside-more}
+use Rattle.pb_replay.proofs.lemmas.Naming.{length-front}
 use Rattle.pb_replay.proofs.lemmas.Rups.{goes-ok, goes-err}
-use Rattle.pb_replay.proofs.lemmas.States.{same-state}
+use Rattle.pb_replay.proofs.lemmas.States.{same-state, added-over}
 
 pub pol-inside : (old : Running) (names : List (List ℕ)) (live : List (Option Form)) (limit : ℕ) (ws : List PolWord) (form : Form) → IsLinked old → IsFront old.names names → live ≡ old.engine.forms → HasNames names (word_names ws)
     → some (λ tree. ws ≡ words tree) (TreeForm limit names live) (Ok form) → IsInside (length names) form
 pol-inside old names live limit ws form linked begins same named (tree, is, made) =
-    tree-inside limit names live (λ f c. inside-more (length old.names) (length names) f (front-longer old.names names begins) (linked.inside f (subst (λ (l : List (Option Form)). Live l f) same c)))
+    tree-inside limit names live (λ f c. inside-more (length old.names) (length names) f (length-front old.names names begins) (linked.inside f (subst (λ (l : List (Option Form)). Live l f) same c)))
     tree form (subst (λ (us : List PolWord). HasNames names (word_names us)) is named) made
 
-state-same : (old m : Running) (ws : List PolWord) → m.names ≡ with_names old.names (word_names ws) → m.engine.forms ≡ old.engine.forms → m.next ≡ old.next → m.concluded ≡ old.concluded → (logged : List Logged) → state_of m logged ≡ with_mentioned (state_of old logged) (Pol ws)
-state-same old m ws e f n d logged = same-state f e n d
-
 module _ (old m : Running) (ws vs : List PolWord) (form : Form) where
+  over : (tree : Tree) → m.names ≡ with_names old.names (word_names ws) → m.engine.forms ≡ old.engine.forms → TreeForm (largest old.limits) m.names m.engine.forms tree (Ok form) → TreeForm (largest old.limits) (with_names old.names (word_names ws)) old.engine.forms tree (Ok form)
+  over tree e f made =
+      subst (λ (l : List (Option Form)). TreeForm (largest old.limits) (with_names old.names (word_names ws)) l tree (Ok form)) f (subst (λ (ns : List (List ℕ)). TreeForm (largest old.limits) ns m.engine.forms tree (Ok form)) e made)
+
+  moved : m.names ≡ with_names old.names (word_names ws) → m.engine.forms ≡ old.engine.forms → m.limits ≡ old.limits → m.next ≡ old.next → m.concluded ≡ old.concluded → (logged : List Logged) (r : Result State Fault)
+      → added (top_of m.limits) (state_of m logged) logged form r → added (top_of old.limits) (with_mentioned (state_of old logged) (Pol ws)) logged form r
+  moved e f l n d logged r = added-over old.limits m.limits l (state_of m logged) (with_mentioned (state_of old logged) (Pol ws)) (same-state f e n d) logged form r
+
   pub pol-goes : (result : Result Unit Fault) (new : Running) → ws ≡ vs → m.names ≡ with_names old.names (word_names ws) → m.engine.forms ≡ old.engine.forms → m.limits ≡ old.limits → m.next ≡ old.next → m.concluded ≡ old.concluded → new.best ≡ old.best
       → some (λ tree. vs ≡ words tree) (TreeForm (largest old.limits) m.names m.engine.forms) (Ok form) → Adding m form result new → Goes old (Pol ws) result new
   pol-goes (Ok u) new w e f l n d b (tree, is, made) h =
-      goes-ok old new (Pol ws) b (λ logged. (tree, w ∙ is, inl (form, over, moved logged)))
-    where
-      over : TreeForm (largest old.limits) (with_names old.names (word_names ws)) old.engine.forms tree (Ok form)
-      over = subst (λ (l : List (Option Form)). TreeForm (largest old.limits) (with_names old.names (word_names ws)) l tree (Ok form)) f (subst (λ (ns : List (List ℕ)). TreeForm (largest old.limits) ns m.engine.forms tree (Ok form)) e made)
-
-      moved : (logged : List Logged) → added (top_of old.limits) (with_mentioned (state_of old logged) (Pol ws)) logged form (Ok (state_of new logged))
-      moved logged =
-          subst (λ (x : Limits). added (top_of x) (with_mentioned (state_of old logged) (Pol ws)) logged form (Ok (state_of new logged))) l
-          (subst (λ (s : State). added (top_of m.limits) s logged form (Ok (state_of new logged))) (state-same old m ws e f n d logged) (h logged logged))
+      goes-ok old new (Pol ws) b (λ logged. (tree, w ∙ is, inl (form, over tree e f made, moved e f l n d logged (Ok (state_of new logged)) (h logged logged))))
   pol-goes (Err x) new w e f l n d b (tree, is, made) (inl memory) = inl memory
   pol-goes (Err x) new w e f l n d b (tree, is, made) (inr h) =
-      goes-err old new (Pol ws) x (λ logged. (tree, w ∙ is, inl (form, over, moved logged)))
-    where
-      over : TreeForm (largest old.limits) (with_names old.names (word_names ws)) old.engine.forms tree (Ok form)
-      over = subst (λ (l : List (Option Form)). TreeForm (largest old.limits) (with_names old.names (word_names ws)) l tree (Ok form)) f (subst (λ (ns : List (List ℕ)). TreeForm (largest old.limits) ns m.engine.forms tree (Ok form)) e made)
-
-      moved : (logged : List Logged) → added (top_of old.limits) (with_mentioned (state_of old logged) (Pol ws)) logged form (Err x)
-      moved logged =
-          subst (λ (y : Limits). added (top_of y) (with_mentioned (state_of old logged) (Pol ws)) logged form (Err x)) l
-          (subst (λ (s : State). added (top_of m.limits) s logged form (Err x)) (state-same old m ws e f n d logged) (h logged logged))
+      goes-err old new (Pol ws) x (λ logged. (tree, w ∙ is, inl (form, over tree e f made, moved e f l n d logged (Err x) (h logged logged))))

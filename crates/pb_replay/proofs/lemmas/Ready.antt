@@ -1,7 +1,7 @@
 -- What is true before each statement
-use Rattle.std.specs.Prelude.{Result, Ok, Err, Contains, Option, Some, None, IfSome, is_some, option_map}
+use Rattle.std.specs.Prelude.{Result, Ok, Err, Contains, Option, Some, None, IfSome, option_map}
 use Rattle.std.specs.List.{All as AllOf}
-use Rattle.std.proofs.Common.{◌≡◌, ℕ, zero, suc, ◌∷◌, ◌<◌, ◌≤◌, List, [], ◌++◌, length, take, refl, sym, ◌∙◌, ap, subst, arith, inl, inr, ◌⊎◌, length-append, false}
+use Rattle.std.proofs.Common.{◌≡◌, ℕ, ◌<◌, ◌≤◌, List, [], ◌++◌, length, take, refl, sym, ◌∙◌, ap, subst, arith, inl, inr, ◌⊎◌, length-append}
 use Rattle.std.proofs.lemmas.List.{take-append-le}
 use Rattle.std.proofs.Math.Seq.{take-length}
 use Rattle.std.proofs.lemmas.List.Elements.{All-contains}
@@ -31,9 +31,13 @@ use Rattle.pb_replay.proofs.lemmas.States.{same-state}
 use Rattle.pb_replay.specs.Meaning.{IsFront, IsSound, Means, MeansWritten}
 use Rattle.pb_replay.specs.Kept.{Comes, Keeps, IsBest, IsFirst, IsInside, IsKept, IsLinked, IsProper, IsReady, problem_of, state_of}
 use Rattle.pb_text.specs.declared.Limits.{Limits}
-use Rattle.pb_replay.proofs.lemmas.Concluded.{contains-none}
+use Rattle.pb_replay.proofs.Engine.Gets.{contains-none}
 use Rattle.pb_replay.proofs.lemmas.Loads.{problems-proper, loaded-inside, meanings-agree}
 use Rattle.pb_replay.proofs.lemmas.Sound.{first-sound, statements-sound}
+use Rattle.std.proofs.lemmas.List.{length-take-le}
+use Rattle.std.proofs.lemmas.Option.{none-some, same_Some}
+use Rattle.pb_text.proofs.Results.{same_err}
+use Rattle.pb_replay.proofs.lemmas.Naming.{length-front}
 
 pub meant : (v : Problem) (s : State) (o : Option Verdict) → IsSound v s → o ≡ s.concluded → IfSome o (Means v)
 meant v s None sound e = tt
@@ -133,52 +137,31 @@ opened_err limit i cs normal.Overflow fault same is past =
     let (c, has, over) = past refl in
     inr (inr (λ fits. over (fits.constraints c (subst (λ (xs : List Linear). Contains xs c) same has)), ap (λ (x : Fault). let r : Result Problem Fault = Err x in r) is))
 
-pub none_of : {A : Type 0} (o : Option A) → is_some o ≡ false → o ≡ None
-none_of None e = refl
-none_of (Some x) e = absurd cc
-
 pub own-length : (r : Running) → IsProper r → r.own ≡ length (take r.own r.names)
-own-length r p = at r.own r.names p.own
-  where
-    at : (k : ℕ) (ns : List (List ℕ)) → k ≤ length ns → k ≡ length (take k ns)
-    at zero ns le = refl
-    at (suc k) [] le = absurd (omega (arith, le))
-    at (suc k) (n ∷ ns) le = ap suc (at k ns (omega (arith, le)))
+own-length r p = sym (length-take-le r.own r.names p.own)
 
 -- what a verdict means of each instance that opens as the problem
 pub meant-written : (v : Problem) (o : Option Verdict) → IfSome o (Means v) → IfSome o (λ w. (limit : ℕ) (i : Instance) → Opened limit i (Ok v) → MeansWritten i w)
 meant-written v None h = tt
 meant-written v (Some w) h = λ limit i opened. meanings-agree limit i v w opened h
 
-err-fault : {d e : Fault} → (let r : Result Unit Fault = Err d in r) ≡ Err e → d ≡ e
-err-fault h = cc
-
 -- a name that gets no value was there before
 pub step-unvalued : (old new : Running) (st : Statement) (d : Fault) (n : ℕ) → IsReady old → Comes old st (Err d) new → (let r : Result Unit Fault = Err d in r) ≡ Err (NotTotal n) → n < length old.names
-step-unvalued old new st d n ready (inl memory) e = absurd (let bad = sym memory ∙ err-fault e in cc)
+step-unvalued old new st d n ready (inl memory) e = absurd (let bad = sym memory ∙ same_err e in cc)
 step-unvalued old new st d n ready (inr h) e =
     let s = ready.sound in
     unvalued-old (largest old.limits) (top_of old.limits) (problem_of old) (state_of old s.0) st n (s.2).distinct
-    (subst (λ (f : Fault). Outcome (largest old.limits) (top_of old.limits) (problem_of old) (state_of old s.0) st (Err f)) (err-fault e) (h s.0 s.1))
-
-some-fault : {d e : Fault} → (let o : Option Fault = Some d in o) ≡ Some e → d ≡ e
-some-fault h = cc
-
-more-names : (old new : Running) → Keeps old new → length old.names ≤ length new.names
-more-names old new k = omega (arith, ap length (k.names).1, length-append old.names (k.names).0)
+    (subst (λ (f : Fault). Outcome (largest old.limits) (top_of old.limits) (problem_of old) (state_of old s.0) st (Err f)) (same_err e) (h s.0 s.1))
 
 -- what is true behind a statement
 pub kept-ok : (old new : Running) (st : Statement) (fault : Option Fault) → IsStatementValue (largest old.limits) (top_of old.limits) st → IsKept old fault → Comes old st (Ok tt) new → Keeps old new → IsLinked new → IsKept new fault
 kept-ok old new st fault value is comes k linked = record {
   ready = λ none. ready_after old new st value (is.ready none) comes k linked;
-  told = λ n e. omega (arith, is.told n e, more-names old new k);
+  told = λ n e. omega (arith, is.told n e, length-front old.names new.names k.names);
 }
 
 pub kept-err : (old new : Running) (st : Statement) (d : Fault) → IsReady old → Comes old st (Err d) new → Keeps old new → IsKept new (Some d)
 kept-err old new st d ready comes k = record {
-  ready = λ none. absurd (bad none);
-  told = λ n e. omega (arith, step-unvalued old new st d n ready comes (ap (λ (x : Fault). let r : Result Unit Fault = Err x in r) (some-fault e)), more-names old new k);
+  ready = λ none. absurd (none-some _ (sym none));
+  told = λ n e. omega (arith, step-unvalued old new st d n ready comes (ap (λ (x : Fault). let r : Result Unit Fault = Err x in r) (same_Some _ _ e)), length-front old.names new.names k.names);
 }
-  where
-    bad : (let o : Option Fault = Some d in o) ≡ None → ⊥
-    bad h = cc

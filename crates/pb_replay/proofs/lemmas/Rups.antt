@@ -20,8 +20,7 @@ use Rattle.pb_replay.specs.declared.fault.Fault.{Fault}
 use Rattle.pb_replay.specs.declared.fault.Fault.TheVariants.{Memory, NotImplied, Overflow}
 use Rattle.std.specs.Prelude.{Option, Some}
 use Rattle.std.proofs.Common.{subst, map, length}
-use Rattle.pb_text.specs.declared.Limits.{Limits}
-use Rattle.pb_replay.proofs.lemmas.States.{same-state}
+use Rattle.pb_replay.proofs.lemmas.States.{same-state, added-over}
 use Rattle.pb_replay.specs.declared.state.Running.{Running}
 use Rattle.pb_replay.specs.Propagation.{IsRup}
 use Rattle.pb_replay.specs.Replay.{Live, Logged, State, added}
@@ -52,29 +51,18 @@ module _ (old : Running) (linear : Linear) (names : List (List ℕ)) (form : For
   over : IsSideOf (with_names old.names (names_of linear.terms)) least linear form
   over = rw appeared at is
 
+  moved : (middle : Running) → middle.names ≡ names → middle.engine.forms ≡ old.engine.forms → middle.limits ≡ old.limits → middle.next ≡ old.next → middle.concluded ≡ old.concluded → (logged : List Logged) (r : Result State Fault)
+      → added (top_of middle.limits) (state_of middle logged) logged form r → added (top_of old.limits) (with_mentioned (state_of old logged) (Rup linear)) logged form r
+  moved middle e f l n c logged r =
+      added-over old.limits middle.limits l (state_of middle logged) (with_mentioned (state_of old logged) (Rup linear)) (same-state f (e ∙ appeared) n c) logged form r
+
   pub rup_added : (middle : Running) (result : Result Unit Fault) (new : Running) → middle.names ≡ names → middle.engine.forms ≡ old.engine.forms → middle.limits ≡ old.limits → middle.next ≡ old.next → middle.concluded ≡ old.concluded → new.best ≡ old.best
       → IsRup (Live old.engine.forms) form → Adding middle form result new → Goes old (Rup linear) result new
   rup_added middle (Ok u) new e f l n c b implied h =
-      goes-ok old new (Rup linear) b (λ logged. inl (fits, (form, over, inl (implied, moved logged))))
-    where
-      same : (logged : List Logged) → state_of middle logged ≡ with_mentioned (state_of old logged) (Rup linear)
-      same logged = same-state f (e ∙ appeared) n c
-
-      moved : (logged : List Logged) → added (top_of old.limits) (with_mentioned (state_of old logged) (Rup linear)) logged form (Ok (state_of new logged))
-      moved logged =
-          subst (λ (x : Limits). added (top_of x) (with_mentioned (state_of old logged) (Rup linear)) logged form (Ok (state_of new logged))) l
-          (subst (λ (s : State). added (top_of middle.limits) s logged form (Ok (state_of new logged))) (same logged) (h logged logged))
-  rup_added middle (Err e') new e f l n c b implied (inl memory) = inl memory
-  rup_added middle (Err e') new e f l n c b implied (inr h) =
-      goes-err old new (Rup linear) e' (λ logged. inl (fits, (form, over, inl (implied, moved logged))))
-    where
-      same : (logged : List Logged) → state_of middle logged ≡ with_mentioned (state_of old logged) (Rup linear)
-      same logged = same-state f (e ∙ appeared) n c
-
-      moved : (logged : List Logged) → added (top_of old.limits) (with_mentioned (state_of old logged) (Rup linear)) logged form (Err e')
-      moved logged =
-          subst (λ (x : Limits). added (top_of x) (with_mentioned (state_of old logged) (Rup linear)) logged form (Err e')) l
-          (subst (λ (s : State). added (top_of middle.limits) s logged form (Err e')) (same logged) (h logged logged))
+      goes-ok old new (Rup linear) b (λ logged. inl (fits, (form, over, inl (implied, moved middle e f l n c logged (Ok (state_of new logged)) (h logged logged)))))
+  rup_added middle (Err d) new e f l n c b implied (inl memory) = inl memory
+  rup_added middle (Err d) new e f l n c b implied (inr h) =
+      goes-err old new (Rup linear) d (λ logged. inl (fits, (form, over, inl (implied, moved middle e f l n c logged (Err d) (h logged logged)))))
 
   pub rup_refused : (new : Running) → (IsRup (Live old.engine.forms) form → ⊥) → Goes old (Rup linear) (Err NotImplied) new
   rup_refused new none = goes-err old new (Rup linear) NotImplied (λ logged. inl (fits, (form, over, inr (none, refl))))

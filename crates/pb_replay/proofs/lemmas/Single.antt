@@ -1,7 +1,9 @@
 -- Answers have at most one value or fault
 use Rattle.std.specs.Prelude.{Result, Ok, Err, Contains, Option, Some, None, ℤ, set, unsigned_abs}
-use Rattle.std.proofs.Common.{◌≡◌, ℕ, suc, ◌<◌, Bool, true, false, List, [], ◌∷◌, ◌++◌, length, get_or, refl, sym, ◌∙◌, ap, arith, inl, inr, pos, ◌-ℤ◌}
+use Rattle.std.proofs.Common.{◌≡◌, ℕ, ◌<◌, Bool, true, false, List, [], ◌∷◌, ◌++◌, length, sym, ◌∙◌, ap, arith, inl, inr, pos, ◌-ℤ◌}
 use Rattle.std.proofs.lemmas.Bool.{cases_order}
+use Rattle.std.proofs.lemmas.List.{ext_get_or}
+use Rattle.std.proofs.lemmas.Option.{same_Some}
 use Rattle.pb_sums.specs.declared.Literal.{Literal}
 use Rattle.pb_sums.specs.declared.Term.{Term}
 use Rattle.pb_sums.specs.declared.Linear.{Linear}
@@ -23,7 +25,7 @@ use Rattle.pb_replay.specs.declared.numbered.NumberedLiteral.{NumberedLiteral}
 use Rattle.pb_replay.specs.Answer.{Answer, gives, need, each_below, found, some, after}
 use Rattle.pb_normal.specs.Rules.{IsSum, multiplied}
 use Rattle.pb_normal.proofs.Unique.{IsSum-unique, IsRising-same, same_form}
-use Rattle.pb_normal.proofs.WrittenForms.{IsFormOf-unique}
+use Rattle.pb_normal.proofs.WrittenForms.{IsFormOf-unique, same_forms}
 use Rattle.pb_replay.specs.Problem.{Problem, FitsAll, names_in}
 use Rattle.pb_replay.specs.Propagation.{on}
 use Rattle.pb_replay.specs.Replay.{State, Live, IsLive, place, TreeForm, normal_form, HasValue, AreValues, Solution, Completed, Shown, logged_of, IsClause, Deleted, added, numbered}
@@ -31,9 +33,9 @@ use Rattle.pb_replay.specs.Conclusions.{none_left, named, objective_with, lower_
 use Rattle.pb_replay.specs.Statements.{Does, mentioned}
 use Rattle.pb_replay.specs.Laws.{IsSingle, OpeningsAreSingle, OutcomesAreSingle}
 use Rattle.pb_replay.proofs.lemmas.Accepting.{ok-same}
+use Rattle.pb_text.proofs.Results.{ok_or_err, same_err}
 use Rattle.pb_replay.proofs.lemmas.Completing.{completion-one}
-use Rattle.pb_replay.proofs.lemmas.Living.{some-same}
-use Rattle.pb_replay.proofs.lemmas.Reading.{words-one}
+use Rattle.pb_proof.proofs.lemmas.Pol.Postfix.{words_tell}
 
 IsClause-unique : (given : List NumberedLiteral) (r s : Form) → IsClause given r → IsClause given s → r ≡ s
 IsClause-unique given r s p q =
@@ -41,12 +43,6 @@ IsClause-unique given r s p q =
     let on_negated = λ (x : ℕ). p.coefficients x true ∙ sym (q.coefficients x true) in
     let terms = IsRising-same 0 r.terms s.terms p.ordered q.ordered (λ x. omega (arith, on_plain x, on_negated x)) in
     same_form r.terms s.terms r.degree s.degree terms (p.degree ∙ sym q.degree)
-
-ok_err : {X : Type 0} {x : X} {e : Fault} → Ok x ≡ Err e → ⊥
-ok_err h = cc
-
-err-same : {X : Type 0} {d e : Fault} → (let r : Result X Fault = Err d in r) ≡ Err e → d ≡ e
-err-same h = cc
 
 module _ {A : Type 0} where
   single-gives : (x : A) → IsSingle (gives x)
@@ -80,12 +76,12 @@ module _ {A : Type 0} where
 
   single-after : {X : Type 0} (m : Answer X) (next : X → Answer A) → IsSingle m → ((x : X) → IsSingle (next x)) → IsSingle (after m next)
   single-after m next one h r s (inl p) (inl q) = h q.0 r s (rw (ok-same (one (Ok p.0) (Ok q.0) p.1 q.1)) at p.2) q.2
-  single-after m next one h r s (inl p) (inr q) = absurd (ok_err (one (Ok p.0) (Err q.0) p.1 q.1))
-  single-after m next one h r s (inr p) (inl q) = absurd (ok_err (one (Ok q.0) (Err p.0) q.1 p.1))
-  single-after m next one h r s (inr p) (inr q) = p.2 ∙ ap (λ e. Err e) (err-same (one (Err p.0) (Err q.0) p.1 q.1)) ∙ sym q.2
+  single-after m next one h r s (inl p) (inr q) = ok_or_err (one (Ok p.0) (Err q.0) p.1 q.1)
+  single-after m next one h r s (inr p) (inl q) = ok_or_err (one (Ok q.0) (Err p.0) q.1 p.1)
+  single-after m next one h r s (inr p) (inr q) = p.2 ∙ ap (λ e. Err e) (same_err (one (Err p.0) (Err q.0) p.1 q.1)) ∙ sym q.2
 
 IsLive-one : (live : List (Option Form)) (i : ℤ) (f g : Form) → IsLive live i f → IsLive live i g → f ≡ g
-IsLive-one live i f g p q = some-same (sym p ∙ q)
+IsLive-one live i f g p q = same_Some _ _ (sym p ∙ q)
 
 single-tree : (limit : ℕ) (names : List (List ℕ)) (live : List (Option Form)) (t : Tree) → IsSingle (TreeForm limit names live t)
 single-tree limit names live (Constraint i) = single-found (IsLive live i) _ _ (IsLive-one live i) (λ f. single-gives f)
@@ -99,47 +95,29 @@ single-tree limit names live (Divided a k) = single-after (TreeForm limit names 
 single-tree limit names live (Saturated a) = single-after (TreeForm limit names live a) _ (single-tree limit names live a) (λ f. single-gives _)
 single-tree limit names live (Weakened a name) = single-after (TreeForm limit names live a) _ (single-tree limit names live a) (λ f. single-gives _)
 
-same_values : (xs ys : List Bool) → length xs ≡ length ys → ((k : ℕ) → k < length xs → get_or xs k false ≡ get_or ys k false) → xs ≡ ys
-same_values [] [] e h = refl
-same_values [] (y ∷ ys) e h = absurd (omega (arith, e))
-same_values (x ∷ xs) [] e h = absurd (omega (arith, e))
-same_values (x ∷ xs) (y ∷ ys) e h =
-    let first : x ≡ y = h 0 (omega arith) in
-    let rest = same_values xs ys (omega (arith, e)) (λ k lt. h (suc k) (omega (arith, lt))) in
-    cc (first, rest)
-
 AreValues-one : (list : List NumberedLiteral) (names : ℕ) (xs ys : List Bool) → AreValues list names xs → AreValues list names ys → xs ≡ ys
 AreValues-one list names xs ys p q =
-    same_values xs ys (p.count ∙ sym q.count) (λ k lt. let inside : k < names = omega (arith, lt, p.count) in p.each k inside ∙ sym (q.each k inside))
+    ext_get_or false xs ys (p.count ∙ sym q.count) (λ k lt. let inside : k < names = omega (arith, lt, p.count) in p.each k inside ∙ sym (q.each k inside))
 
-abbrev Rest : Problem → ℕ → List NumberedLiteral → Answer Logged
-Rest = Solution
-
-single-rest : (v : Problem) (names : ℕ) (list : List NumberedLiteral) → IsSingle (Rest v names list)
-single-rest v names list =
+single-solution : (v : Problem) (names : ℕ) (list : List NumberedLiteral) → IsSingle (Solution v names list)
+single-solution v names list =
     single-each (HasValue list) names _ _ (single-some (AreValues list names) _ (AreValues-one list names) (λ values. single-each _ _ _ _ (single-gives (logged_of v values))))
 
-Rest-same : (v : Problem) (names : ℕ) (a b : List NumberedLiteral) → ((x : ℕ) (n : Bool) → on a x n ≡ on b x n) → (r : Result Logged Fault) → Rest v names a r → Rest v names b r
-Rest-same v names a b same r (inl p) =
-    inl (λ k lt. valued k (p.0 k lt), ((p.1).0, record { count = ((p.1).1).count; each = λ k lt. ((p.1).1).each k lt ∙ same k false }, (p.1).2))
-  where
-    valued : (k : ℕ) → HasValue a k → HasValue b k
-    valued k (inl h) = inl (sym (same k false) ∙ h)
-    valued k (inr h) = inr (sym (same k true) ∙ h)
-Rest-same v names a b same r (inr p) = inr (p.0, p.1, λ h. p.2 (back p.0 h), λ j lt. forth j (p.3 j lt), p.4)
-  where
-    back : (k : ℕ) → HasValue b k → HasValue a k
-    back k (inl h) = inl (same k false ∙ h)
-    back k (inr h) = inr (same k true ∙ h)
+-- lists with the same literals give the same values
+HasValue-same : (a b : List NumberedLiteral) → ((x : ℕ) (n : Bool) → on a x n ≡ on b x n) → (k : ℕ) → HasValue a k → HasValue b k
+HasValue-same a b same k (inl h) = inl (sym (same k false) ∙ h)
+HasValue-same a b same k (inr h) = inr (sym (same k true) ∙ h)
 
-    forth : (k : ℕ) → HasValue a k → HasValue b k
-    forth k (inl h) = inl (sym (same k false) ∙ h)
-    forth k (inr h) = inr (sym (same k true) ∙ h)
+Solution-same : (v : Problem) (names : ℕ) (a b : List NumberedLiteral) → ((x : ℕ) (n : Bool) → on a x n ≡ on b x n) → (r : Result Logged Fault) → Solution v names a r → Solution v names b r
+Solution-same v names a b same r (inl p) =
+    inl (λ k lt. HasValue-same a b same k (p.0 k lt), ((p.1).0, record { count = ((p.1).1).count; each = λ k lt. ((p.1).1).each k lt ∙ same k false }, (p.1).2))
+Solution-same v names a b same r (inr p) =
+    inr (p.0, p.1, λ h. p.2 (HasValue-same b a (λ x n. sym (same x n)) p.0 h), λ j lt. HasValue-same a b same j (p.3 j lt), p.4)
 
 pub single-completed : (v : Problem) (forms : Form → Type 0) (names : ℕ) (given : List NumberedLiteral) → IsSingle (Completed v forms names given)
 single-completed v forms names given r s (inl p) (inl q) =
     let same = completion-one forms given (p.1).0 (q.1).0 p.0 (p.1).1 (q.1).1 in
-    single-rest v names (q.1).0 r s (Rest-same v names (p.1).0 (q.1).0 same r (p.1).2) (q.1).2
+    single-solution v names (q.1).0 r s (Solution-same v names (p.1).0 (q.1).0 same r (p.1).2) (q.1).2
 single-completed v forms names given r s (inl p) (inr q) = absurd (q.0 p.0)
 single-completed v forms names given r s (inr p) (inl q) = absurd (p.0 q.0)
 single-completed v forms names given r s (inr p) (inr q) = p.1 ∙ sym q.1
@@ -175,7 +153,7 @@ single-upper v s (Finite u) (Some given) next h = single-found (Shown v (numbere
 single-upper v s (Finite u) None next h = single-need _ _ _ (single-need _ _ _ h)
 
 objective-one : (v : Problem) (o p : List Term) → v.objective ≡ Some o → v.objective ≡ Some p → o ≡ p
-objective-one v o p d e = some-same (sym d ∙ e)
+objective-one v o p d e = same_Some _ _ (sym d ∙ e)
 
 single-concludes : (limit : ℕ) (v : Problem) (s : State) (c : Conclusion) (next : Answer State) → IsSingle next → IsSingle (Concludes limit v s c next)
 single-concludes limit v s NoClaim next h = h
@@ -189,7 +167,7 @@ single-does : (limit top : ℕ) (v : Problem) (s : State) (st : Statement) → I
 single-does limit top v s Header = single-gives _
 single-does limit top v s (F count) = single-need _ _ _ (single-need _ _ _ (single-gives _))
 single-does limit top v s (Pol ws) =
-    single-some (λ tree. ws ≡ words tree) _ (λ t u p q. words-one t u (sym p ∙ q)) (λ tree.
+    single-some (λ tree. ws ≡ words tree) _ (λ t u p q. words_tell t u (sym p ∙ q)) (λ tree.
     single-after (TreeForm limit s.names s.live tree) _ (single-tree limit s.names s.live tree) (λ r. single-added top s s.logged r))
 single-does limit top v s (Rup linear) = single-normal limit s.names least linear _ (λ r. single-need _ _ _ (single-added top s s.logged r))
 single-does limit top v s (Solx given) =
@@ -207,16 +185,5 @@ single-does limit top v s End = single-gives _
 pub outcomes-single : OutcomesAreSingle
 outcomes-single limit top v s st = single-need _ _ _ (single-does limit top v (record s { names = with_names s.names (mentioned st) }) st)
 
-same_forms : (names : List (List ℕ)) (sides : List (Side × Linear)) (fs gs : List Form) → AreFormsOf names sides fs → AreFormsOf names sides gs → fs ≡ gs
-same_forms names [] [] [] h k = refl
-same_forms names [] [] (g ∷ gs) h k = absurd k
-same_forms names [] (f ∷ fs) gs h k = absurd h
-same_forms names (s ∷ sides) [] gs h k = absurd h
-same_forms names (s ∷ sides) (f ∷ fs) [] h k = absurd k
-same_forms names (s ∷ sides) (f ∷ fs) (g ∷ gs) h k =
-    let first : f ≡ g = IsFormOf-unique names _ _ f g h.0 k.0 in
-    let rest : fs ≡ gs = same_forms names sides fs gs h.1 k.1 in
-    cc
-
 pub openings-single : OpeningsAreSingle
-openings-single limit i = single-need (FitsAll limit i) _ _ (single-some (AreFormsOf (names_in i) (sides_in i.constraints)) _ (same_forms (names_in i) (sides_in i.constraints)) (λ forms. single-gives _))
+openings-single limit i = single-need (FitsAll limit i) _ _ (single-some (AreFormsOf (names_in i) (sides_in i.constraints)) _ (same_forms IsFormOf-unique (names_in i) (sides_in i.constraints)) (λ forms. single-gives _))

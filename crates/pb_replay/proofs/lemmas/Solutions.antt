@@ -1,18 +1,19 @@
 -- Logged and shown solutions
 use Rattle.std.specs.Prelude.{Ok}
-use Rattle.std.proofs.Common.{◌≡◌, ℕ, ◌<◌, Bool, true, false, not, List, length, get_or, refl, sym, ◌∙◌, arith, inl, inr, cond}
-use Rattle.std.proofs.lemmas.Bool.{cases_Bool}
+use Rattle.std.proofs.Common.{◌≡◌, ℕ, ◌<◌, Bool, true, false, not, List, length, get_or, refl, sym, ◌∙◌, arith, inl, inr}
+use Rattle.std.proofs.lemmas.Bool.{cases_Bool, both_ways, not-true, not_from_false, cond-true}
 use Rattle.std.proofs.lemmas.List.{get_or_default}
 use Rattle.pb_normal.specs.Form.{Form, Holds, total, true_at}
-use Rattle.pb_normal.specs.Rules.{assignment}
+use Rattle.pb_normal.specs.Rules.{assignment, only}
 use Rattle.pb_replay.specs.Replay.{Logged}
 use Rattle.pb_replay.specs.declared.numbered.NumberedLiteral.{NumberedLiteral}
 use Rattle.pb_replay.specs.Problem.{Problem}
-use Rattle.pb_replay.specs.Propagation.{only, on, HoldAll, MeetsConflict, IsCompletion}
+use Rattle.pb_replay.specs.Propagation.{on, HoldAll, MeetsConflict, IsCompletion}
 use Rattle.pb_replay.specs.Replay.{Completed, HasValue, AreValues, IsClause, value, no_form, logged_of}
 use Rattle.pb_replay.specs.Meaning.{IsSolution}
 use Rattle.pb_replay.proofs.lemmas.Accepting.{needed, eached, ok-same}
-use Rattle.pb_replay.proofs.lemmas.Propagating.{AreTrue, derivation-true, only-true, total-within, true_at-not}
+use Rattle.pb_replay.proofs.lemmas.Choices.{only-true, total-within}
+use Rattle.pb_replay.proofs.lemmas.Propagating.{AreTrue, derivation-true, true_at-not}
 
 -- what an accepted completion has
 pub record IsTaken (v : Problem) (forms : Form → Type 0) (names : ℕ) (given : List NumberedLiteral) (g : Logged) : Type 0 where
@@ -46,14 +47,6 @@ Completed-taken v forms names given g h =
     } in
     rw is taken
 
-not_both : (b : Bool) → b ≡ true → not b ≡ true → ⊥
-not_both true h k = cc
-not_both false h k = cc
-
-not_is : (b : Bool) → not b ≡ true → b ≡ false
-not_is true h = cc
-not_is false h = refl
-
 -- an assignment at which the forms and the given literals hold is the completion
 pub taken-known : (v : Problem) (forms : Form → Type 0) (names : ℕ) (given : List NumberedLiteral) (g : Logged) (a : ℕ → Bool) → IsTaken v forms names given g → HoldAll a forms → AreTrue a given → (k : ℕ) → k < names → a k ≡ assignment g.values k
 taken-known v forms names given g a t holds h k lt =
@@ -62,8 +55,8 @@ taken-known v forms names given g a t holds h k lt =
       | inl plain ↦ list k false plain ∙ sym (t.values.each k lt ∙ plain)
       | inr negated ↦
           elim (cases_Bool (on t.list k false)) [
-            | inl plain ↦ absurd (not_both (a k) (list k false plain) (list k true negated))
-            | inr gone ↦ not_is (a k) (list k true negated) ∙ sym (t.values.each k lt ∙ gone)
+            | inl plain ↦ absurd (both_ways _ (not-true (a k) (list k true negated)) (list k false plain))
+            | inr gone ↦ not-true (a k) (list k true negated) ∙ sym (t.values.each k lt ∙ gone)
           ]
     ]
 
@@ -72,23 +65,15 @@ not_off : (given : List NumberedLiteral) (x : ℕ) (n : Bool) → on given x n �
 not_off given x true h = h
 not_off given x false h = h
 
-cond_true : (b : Bool) → b ≡ true → ◌≡◌ {A = ℕ} (cond b 1 0) 1
-cond_true true h = refl
-cond_true false h = cc
-
-not_false : (b : Bool) → b ≡ false → not b ≡ true
-not_false true h = cc
-not_false false h = refl
-
 pub clause-fails : (given : List NumberedLiteral) (r : Form) (a : ℕ → Bool) → IsClause given r → total (true_at a) r.terms < r.degree → AreTrue a given
 clause-fails given r a c low x n h =
     elim (cases_Bool (true_at a x n)) [
       | inl here ↦ here
       | inr gone ↦
-          let one = c.coefficients x (not n) ∙ cond_true (on given x (not (not n))) (not_off given x n h) in
+          let one = c.coefficients x (not n) ∙ cond-true (on given x (not (not n))) 1 0 (not_off given x n h) in
           let less = total-within (only x (not n)) (true_at a) (λ w m e. let same = only-true x (not n) w m e in at_other w m same.0 same.1 gone) r.terms in
           absurd (omega (arith, one, less, c.degree))
     ]
   where
     at_other : (w : ℕ) (m : Bool) → w ≡ x → m ≡ not n → true_at a x n ≡ false → true_at a w m ≡ true
-    at_other w m e f gone = rw (e, f) (true_at-not a x n ∙ not_false (true_at a x n) gone)
+    at_other w m e f gone = rw (e, f) (true_at-not a x n ∙ not_from_false (true_at a x n) gone)

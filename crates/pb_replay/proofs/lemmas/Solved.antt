@@ -1,6 +1,7 @@
 -- From the values that an engine gives to the solution of a definition
 use Rattle.std.specs.Prelude.{Result, Ok, Err, Option, Some, None, Contains, IsSome, IfOk, IfErr, ℤ}
 use Rattle.std.proofs.Common.{rules, ◌≡◌, ◌⊎◌, ℕ, ◌+◌, ◌<◌, Bool, true, false, not, List, length, get_or, refl, sym, ◌∙◌, ap, inl, inr}
+use Rattle.std.proofs.lemmas.Option.{none-some}
 use Rattle.pb_normal.specs.Form.{Form, Holds}
 use Rattle.pb_normal.specs.Rules.{assignment}
 use Rattle.pb_replay.specs.declared.fault.Fault.{Fault}
@@ -10,11 +11,10 @@ use Rattle.pb_replay.specs.Engine.Live.{Gives, value_says}
 use Rattle.pb_replay.specs.Problem.{Problem}
 use Rattle.pb_replay.specs.Propagation.{on, MayPut, Derivation, begin, put, HasConflict, opposed, broken, MeetsConflict, IsCompletion}
 use Rattle.pb_replay.specs.Replay.{Logged, HasValue, AreValues, Solution, Completed, Shown, no_form, logged_of, value}
+use Rattle.pb_replay.proofs.lemmas.Accepting.{ok-same}
+use Rattle.pb_text.proofs.Results.{ok_or_err, same_err}
 use Rattle.pb_replay.proofs.lemmas.Single.{single-completed}
 use Rattle.pb_replay.specs.Solutions.{AllHold, AreTotal, Given, Judged}
-
-some-none : {A B : Type 0} {x : A} → Some x ≡ (let o : Option A = None in o) → B
-some-none h = absurd cc
 
 -- what a value says of the plain literal and of its negation
 says-some : (o : Option Bool) (m : Bool) → o ≡ Some m → (value_says o false ≡ m) × (value_says o true ≡ not m)
@@ -26,7 +26,7 @@ says-some None m e = absurd cc
 
 says-none : (o : Option Bool) → o ≡ None → (value_says o false ≡ false) × (value_says o true ≡ false)
 says-none None e = (refl, refl)
-says-none (Some m) e = some-none e
+says-none (Some m) e = absurd (none-some m (sym e))
 
 is-some : (o : Option Bool) (b : Bool) → o ≡ Some b → IsSome o
 is-some (Some c) b e = search rules
@@ -42,30 +42,21 @@ has-none list k (Some m) h s v = s (search rules)
 has-none list k None h s (inl e) = absurd (let bad = sym (h false) ∙ e in cc)
 has-none list k None h s (inr e) = absurd (let bad = sym (h true) ∙ e in cc)
 
-ok-is : {A : Type 0} {x y : A} → (let a : Result A Fault = Ok x in a) ≡ Ok y → x ≡ y
-ok-is h = cc
-
-err-is : {A : Type 0} {x y : Fault} → (let a : Result A Fault = Err x in a) ≡ Err y → x ≡ y
-err-is h = cc
-
-ok-err : {A B : Type 0} {x : A} {e : Fault} → Ok x ≡ Err e → B
-ok-err h = absurd cc
-
 given-ok : (given : List (Option Bool)) (names : ℕ) (values : List Bool) → Given given names (Ok values) → ((k : ℕ) → k < names → IsSome (get_or given k None)) × AreTotal given names values
-given-ok given names values (inl (all, (vs, total, is))) = (all, rw (ok-is is) total)
-given-ok given names values (inr (k, lt, gone, before, is)) = ok-err is
+given-ok given names values (inl (all, (vs, total, is))) = (all, rw (ok-same is) total)
+given-ok given names values (inr (k, lt, gone, before, is)) = ok_or_err is
 
 given-err : (given : List (Option Bool)) (names : ℕ) (e : Fault) → Given given names (Err e) → (k : ℕ) × (k < names) × (IsSome (get_or given k None) → ⊥) × ((j : ℕ) → j < k → IsSome (get_or given j None)) × (e ≡ NotTotal k)
-given-err given names e (inl (all, (vs, total, is))) = ok-err (sym is)
-given-err given names e (inr (k, lt, gone, before, is)) = (k, lt, gone, before, err-is is)
+given-err given names e (inl (all, (vs, total, is))) = ok_or_err (sym is)
+given-err given names e (inr (k, lt, gone, before, is)) = (k, lt, gone, before, same_err is)
 
 hold-ok : (loaded : List Form) (values : List Bool) (u : Unit {0}) → AllHold loaded values (Ok u) → (k : ℕ) → k < length loaded → Holds (assignment values) (get_or loaded k no_form)
 hold-ok loaded values u (inl (all, is)) = all
-hold-ok loaded values u (inr (k, lt, gone, before, is)) = ok-err is
+hold-ok loaded values u (inr (k, lt, gone, before, is)) = ok_or_err is
 
 hold-err : (loaded : List Form) (values : List Bool) (e : Fault) → AllHold loaded values (Err e) → (k : ℕ) × (k < length loaded) × (Holds (assignment values) (get_or loaded k no_form) → ⊥) × ((j : ℕ) → j < k → Holds (assignment values) (get_or loaded j no_form)) × (e ≡ Violates (k + 1))
-hold-err loaded values e (inl (all, is)) = ok-err (sym is)
-hold-err loaded values e (inr (k, lt, gone, before, is)) = (k, lt, gone, before, err-is is)
+hold-err loaded values e (inl (all, is)) = ok_or_err (sym is)
+hold-err loaded values e (inr (k, lt, gone, before, is)) = (k, lt, gone, before, same_err is)
 
 module _ (v : Problem) (list : List NumberedLiteral) (given : List (Option Bool)) (says : Gives list given) (names : ℕ) where
   values-of : (values : List Bool) → AreTotal given names values → AreValues list names values
@@ -151,4 +142,4 @@ module _ (v : Problem) (F : Form → Type 0) (names : ℕ) (given : List Numbere
 
 -- a solution of the instance's own constraints is shown, or there is none
 pub shown-none : (v : Problem) (given : List NumberedLiteral) (e : Fault) → Completed v (Contains v.loaded) (length v.names) given (Err e) → (g : Logged) → Shown v given g → ⊥
-shown-none v given e h g s = ok-err (single-completed v (Contains v.loaded) (length v.names) given (Ok g) (Err e) s h)
+shown-none v given e h g s = ok_or_err (single-completed v (Contains v.loaded) (length v.names) given (Ok g) (Err e) s h)

@@ -4,6 +4,7 @@ use Rattle.std.proofs.Common.{◌≡◌, ◌⊎◌, ℕ, ◌<◌, Bool, List, []
 use Rattle.std.proofs.lemmas.Bool.{cases_lt}
 use Rattle.std.proofs.lemmas.Int.{ints}
 use Rattle.std.proofs.lemmas.List.Elements.{Contains-push, Contains-append_left, Contains-push_cases, All-head, All-tail, All-nil, All-cons}
+use Rattle.std.proofs.lemmas.Option.{none-some, same_Some}
 use Rattle.pb_sums.specs.declared.Term.{Term}
 use Rattle.pb_proof.specs.declared.PolWord.TheVariants.{Divide}
 use Rattle.pb_proof.specs.declared.Statement.{Statement}
@@ -27,12 +28,13 @@ use Rattle.pb_replay.specs.Statements.{Does, Accepts, mentioned}
 use Rattle.pb_replay.specs.Meaning.{IsSolution, Accounted, known, beaten, allowed, IsFront, IsSound, IsProblem}
 use Rattle.pb_replay.specs.Laws.{FirstIsSound, StatementsAreSound}
 use Rattle.pb_replay.proofs.lemmas.Accepting.{needed, followed, ok-same}
-use Rattle.pb_replay.proofs.lemmas.Living.{Live-deleted, Live-loaded, HoldAll-added, some-same, none_some}
+use Rattle.pb_replay.proofs.lemmas.Living.{Live-deleted, Live-loaded, HoldAll-added}
 use Rattle.pb_replay.proofs.lemmas.Naming.{IsFront-more, length-front, side-holds, value-over}
 use Rattle.pb_replay.proofs.lemmas.Propagating.{IsRup-holds}
 use Rattle.pb_replay.proofs.lemmas.Trees.{HasDivisors, TreeForm-holds}
 use Rattle.pb_replay.proofs.lemmas.Solutions.{Completed-taken, taken-known, clause-fails}
-use Rattle.pb_replay.proofs.lemmas.Concluded.{contains-none, Concludes-means, objective-numbers}
+use Rattle.pb_replay.proofs.Engine.Gets.{contains-none}
+use Rattle.pb_replay.proofs.lemmas.Concluded.{Concludes-means, objective-numbers}
 
 pub first-sound : FirstIsSound
 first-sound v p = record {
@@ -41,7 +43,7 @@ first-sound v p = record {
   distinct = p.distinct;
   solutions = λ g c. absurd (contains-none [] g refl c);
   values = λ g c. absurd (contains-none [] g refl c);
-  meant = λ w e. none_some e;
+  meant = λ w e. absurd (none-some _ e);
 }
 
 -- the divisors among the words of an expression are above 0
@@ -175,7 +177,7 @@ Does-sound limit top v s t (Conclude c) p q sound h =
       distinct = sound.distinct;
       solutions = sound.solutions;
       values = sound.values;
-      meant = λ w e. rw (some-same e) at (meant.0);
+      meant = λ w e. rw (same_Some _ _ e) at (meant.0);
     })
   where
     stood : (a : ℕ → Bool) → Accounted v s a → Accounted v (record s { next = Closing; concluded = Some (verdict_of c) }) a

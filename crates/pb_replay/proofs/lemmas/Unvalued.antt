@@ -1,7 +1,7 @@
 -- A name that gets no value was there before the statement.
 use Rattle.std.specs.Prelude.{Result, Err, Option, Some, None, ℤ, set}
-use Rattle.std.proofs.Common.{◌≡◌, ℕ, ◌+◌, ◌<◌, ◌≤◌, ◌||◌, Bool, true, false, cond, List, [], ◌∷◌, ◌++◌, length, get_or, refl, sym, ◌∙◌, ap, arith, inl, inr, length-append, pos, ◌-ℤ◌}
-use Rattle.std.proofs.lemmas.Bool.{cases_lt, or_right}
+use Rattle.std.proofs.Common.{◌≡◌, ℕ, ◌+◌, ◌<◌, ◌≤◌, Bool, true, false, cond, List, [], ◌∷◌, ◌++◌, length, get_or, refl, sym, ◌∙◌, ap, arith, inl, inr, length-append, pos, ◌-ℤ◌}
+use Rattle.std.proofs.lemmas.Bool.{cases_lt, or_left, or_right}
 use Rattle.std.proofs.Math.Seq.{get_or-append_seam}
 use Rattle.std.proofs.lemmas.List.{get_or_append_left}
 use Rattle.std.proofs.lemmas.Option.{slice_get-get_or}
@@ -13,7 +13,7 @@ use Rattle.pb_normal.proofs.Numbering.{number_in-get}
 use Rattle.pb_replay.specs.declared.fault.Fault.{Fault}
 use Rattle.pb_replay.specs.declared.fault.Fault.TheVariants as fault
 use Rattle.pb_replay.specs.declared.numbered.NumberedLiteral.{NumberedLiteral}
-use Rattle.pb_replay.specs.Propagation.{only, on}
+use Rattle.pb_replay.specs.Propagation.{on}
 use Rattle.pb_replay.specs.Replay.{State, Live, IsLive, place, TreeForm, limited, normal_form, HasValue, Completed, Shown, IsClause, Deleted, added, numbered}
 use Rattle.pb_replay.specs.Statements.{Does, literal_names, mentioned}
 use Rattle.pb_sums.specs.declared.Term.{Term}
@@ -27,14 +27,14 @@ use Rattle.pb_proof.specs.declared.Statement.TheVariants.{Header, F, Pol, Rup, S
 use Rattle.pb_proof.specs.Postfix.{Tree, Constraint, True, Sum, Times, Divided, Saturated, Weakened, words}
 use Rattle.pb_normal.specs.declared.Side.{Side}
 use Rattle.pb_normal.specs.declared.Side.TheVariants.{AtLeast as least, AtMost as most}
-use Rattle.pb_normal.specs.Rules.{IsSum}
+use Rattle.pb_normal.specs.Rules.{IsSum, only}
 use Rattle.pb_replay.specs.Replay.{Logged}
 use Rattle.pb_replay.specs.Answer.{Answer, gives, need, found, some, after}
 use Rattle.pb_replay.specs.Problem.{Problem}
 use Rattle.pb_replay.specs.Conclusions.{none_left, named, objective_with, lower_bound, upper_bound, Concludes}
 use Rattle.pb_replay.specs.Laws.{UnvaluedAreOld}
 use Rattle.pb_replay.proofs.lemmas.Completing.{derivation-keeps}
-use Rattle.pb_replay.proofs.lemmas.Propagating.{only-self}
+use Rattle.pb_replay.proofs.lemmas.Choices.{only-self}
 
 -- one of the names that appeared stands at each new place
 data Among (q : List ℕ) : List (List ℕ) → Type 0 where
@@ -71,10 +71,6 @@ appeared old (n ∷ ns) k le lt =
           let rest = appeared (with_name old n) ns k past lt in
           record { name = rest.name; among = later rest.among; at = rest.at }
     ]
-
-or_left : (b c : Bool) → b ≡ true → (b || c) ≡ true
-or_left true c e = e
-or_left false c e = absurd cc
 
 same_only : (v w : ℕ) (n : Bool) → v ≡ w → only v n w n ≡ true
 same_only v w n e = rw e (only-self w n)

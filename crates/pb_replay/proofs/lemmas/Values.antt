@@ -2,26 +2,23 @@
 use Rattle.std.specs.Prelude.{ℤ, All, Option, Some, option_map, unsigned_abs, true}
 use Rattle.std.proofs.Common.{◌≡◌, ℕ, zero, suc, ◌+◌, ◌<◌, ◌≤◌, Bool, List, [], ◌∷◌, ◌++◌, length, get_or, take, drop, sym, ◌∙◌, ap, arith, subst, ◌+ℤ◌, ◌^◌}
 use Rattle.std.specs.Int.{w128}
-use Rattle.std.proofs.Math.Pow.{pow_mono}
 use Rattle.std.specs.Prelude.{FitsSigned}
 use Rattle.std.proofs.lemmas.Int.{ints, fits_signed_from_abs}
-use Rattle.std.proofs.lemmas.List.{take-append-drop, take_more}
+use Rattle.std.proofs.lemmas.List.{take-append-drop}
 use Rattle.pb_text.specs.Limits.{largest}
-use Rattle.pb_text.specs.declared.Limits.{Limits}
 use Rattle.pb_sums.specs.declared.Term.{Term}
 use Rattle.pb_sums.specs.declared.Linear.{Linear}
 use Rattle.pb_normal.specs.Names.{has_name, HasNames, number_in}
 use Rattle.pb_normal.specs.Written.{magnitude, names_of, true_sum}
 use Rattle.pb_normal.proofs.Numbering.{number_in-append, number_in-below}
+use Rattle.pb_text.proofs.Lists.{take_read}
+use Rattle.pb_text.proofs.Numbers.{largest_small}
 use Rattle.pb_replay.specs.declared.state.Running.{Running}
 use Rattle.pb_replay.specs.Problem.{objective_of}
 use Rattle.pb_replay.specs.Replay.{by_name, value}
 use Rattle.pb_replay.specs.Kept.{IsProper, problem_of}
-use Rattle.pb_replay.proofs.lemmas.Naming.{HasNames-append, objective-named, value-over}
-
-pub magnitude-append : (xs ys : List Term) → magnitude (xs ++ ys) ≡ magnitude xs + magnitude ys
-magnitude-append [] ys = omega arith
-magnitude-append (x ∷ xs) ys = omega (arith, magnitude-append xs ys)
+use Rattle.pb_normal.proofs.WrittenForms.{HasNames-append, magnitude-append}
+use Rattle.pb_replay.proofs.lemmas.Naming.{objective-named, value-over}
 
 pub true_sum-append : (a : List ℕ → Bool) (xs ys : List Term) → true_sum a (xs ++ ys) ≡ (true_sum a xs +ℤ true_sum a ys)
 true_sum-append a [] ys = omega (arith, ints)
@@ -32,14 +29,11 @@ magnitude-front ts k = omega (arith, magnitude-append (take k ts) (drop k ts), a
 
 -- one term more
 module _ (ts : List Term) (i : ℕ) (t : Term) (lt : i < length ts) (e : t ≡ get_or ts i t) where
-  front-more : take (i + 1) ts ≡ take i ts ++ t ∷ []
-  front-more = take_more ts i t lt ∙ ap (λ (x : Term). take i ts ++ x ∷ []) (sym e)
-
   pub sum-more : (a : List ℕ → Bool) → true_sum a (take (i + 1) ts) ≡ (true_sum a (take i ts) +ℤ true_sum a (t ∷ []))
-  sum-more a = ap (true_sum a) front-more ∙ true_sum-append a (take i ts) (t ∷ [])
+  sum-more a = ap (true_sum a) (take_read ts i t t lt e) ∙ true_sum-append a (take i ts) (t ∷ [])
 
   pub magnitude-more : magnitude (take (i + 1) ts) ≡ magnitude (take i ts) + unsigned_abs t.coefficient
-  magnitude-more = let all = ap magnitude front-more ∙ magnitude-append (take i ts) (t ∷ []) in omega (arith, all)
+  magnitude-more = let all = ap magnitude (take_read ts i t t lt e) ∙ magnitude-append (take i ts) (t ∷ []) in omega (arith, all)
 
   pub next-small : (sum part : ℤ) → unsigned_abs sum ≤ magnitude (take i ts) → unsigned_abs part ≤ unsigned_abs t.coefficient → unsigned_abs (sum +ℤ part) ≤ magnitude (take (i + 1) ts)
   next-small sum part h k = omega (arith, ints, magnitude-more, h, k)
@@ -77,9 +71,6 @@ objective-inside r o n p e le =
     short zero ns = omega arith
     short (suc k) [] = omega arith
     short (suc k) (x ∷ ns) = omega (arith, short k ns)
-
-largest_small : (l : Limits) → largest l < 2 ^ 127
-largest_small l = let more : 2 ^ l.bits ≤ 2 ^ 127 = pow_mono l.most_bits in omega (arith, more)
 
 pub objective-small : (r : Running) (linear : Linear) → IsProper r → r.objective ≡ Some linear → magnitude linear.terms < 2 ^ 127
 objective-small r linear p e =

@@ -16,7 +16,6 @@ use Rattle.pb_replay.specs.declared.fault.Fault.TheVariants.{SolutionLogged, Not
 use Rattle.pb_replay.specs.declared.verdict.Verdict.TheVariants as verdict
 use Rattle.pb_proof.specs.declared.Bound.TheVariants.{Finite}
 use Rattle.pb_proof.specs.declared.Stage.TheVariants.{Claim}
-use Rattle.pb_replay.specs.declared.numbered.NumberedLiteral.{NumberedLiteral}
 use Rattle.pb_replay.specs.Problem.{Problem, Opened}
 use Rattle.pb_replay.specs.Propagation.{MayPut, begin, put, broken, With, IsRup}
 use Rattle.pb_replay.specs.Replay.{Live, State, Logged, first_state, logged_of}
@@ -24,6 +23,7 @@ use Rattle.pb_replay.specs.Statements.{Accepts}
 use Rattle.pb_replay.specs.Conclusions.{objective_with, propagated}
 use Rattle.pb_replay.specs.Example.{name_x, name_y, unit_on, at_least_one, both_terms, either, all_logged, logged_proof, shown_proof, best_logged, best_proof, bounds_of, Verifies, Refuses}
 use Rattle.pb_replay.proofs.lemmas.Pairs.{entry, pair, values, problem, met, completed, live-met, own-met, clause-of}
+use Rattle.pb_replay.proofs.Engine.Literals.{literal}
 
 abbrev names : List (List ℕ)
 names = name_x ∷ name_y ∷ []
@@ -111,9 +111,6 @@ live_4 = Some (pair false false 1) ∷ Some (pair true true 1) ∷ Some (pair tr
 
 abbrev live_5 : List (Option Form)
 live_5 = Some (pair false false 1) ∷ Some (pair true true 1) ∷ Some (pair true false 1) ∷ Some (pair false true 1) ∷ Some unit ∷ []
-
-abbrev literal : ℕ → Bool → NumberedLiteral
-literal x negated = record { variable = x; negated = negated }
 
 -- no x1: then x2, by the first form, and the fourth is broken
 unit_rup : IsRup (Live live_4) unit

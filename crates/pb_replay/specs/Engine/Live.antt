@@ -1,8 +1,9 @@
 -- The engine as its callers see it.
-use Rattle.std.specs.Prelude.{◌≡◌, ℕ, Bool, not, false, List, length, Option, Some, None, Contains, slice_index_or, if◌then◌else◌}
+use Rattle.std.specs.Prelude.{◌≡◌, ℕ, Bool, not, false, List, length, Option, Some, None, slice_index_or, if◌then◌else◌}
 use Rattle.pb_normal.specs.Form.{Form}
 use Rattle.pb_replay.specs.Propagation.{on}
 use Rattle.pb_replay.specs.declared.numbered.NumberedLiteral.{NumberedLiteral}
+pub use Rattle.pb_replay.specs.Replay.{Live}
 
 -- the forms by number, the variables, the looks of the last test, and whether memory was refused in the middle of a call
 pub record Standing : Type 0 where
@@ -10,10 +11,6 @@ pub record Standing : Type 0 where
   pub variables : ℕ
   pub visits : ℕ
   pub spent : Bool
-
--- the forms that have not left
-abbrev pub Live : List (Option Form) → Form → Type 0
-Live forms f = Contains forms (Some f)
 
 -- whether a literal of a variable, negated or not, is true at its value
 abbrev pub value_says : Option Bool → Bool → Bool

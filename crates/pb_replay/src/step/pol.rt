@@ -10,7 +10,8 @@ ghost use Rattle.pb_replay.specs.Answer.{some};
 ghost use Rattle.pb_replay.specs.Meaning.{IsFront};
 ghost use Rattle.pb_replay.specs.Replay.{TreeForm, limited};
 ghost use Rattle.pb_replay.specs.Kept.{Keeps, Goes, IsLinked, IsReady};
-ghost use Rattle.pb_replay.specs.Stack.{takes, Word};
+ghost use Rattle.pb_replay.specs.Stack.{Word};
+ghost use Rattle.pb_proof.specs.Leaving.{takes};
 ghost use Rattle.pb_replay.specs.Statements.{word_names};
 
 use crate::fault::Fault;

@@ -3,7 +3,8 @@ use Rattle.std.specs.Int.{w128}
 use Rattle.std.proofs.lemmas.Int.{to_z-of_z}
 use Rattle.pb_normal.specs.Names.{AfterFront}
 use Rattle.pb_normal.specs.Written.{names_of}
-use Rattle.pb_normal.proofs.Numbering.{Numbering-push, AfterFront-from, OnErr-always, take_term}
+use Rattle.pb_normal.proofs.Numbering.{Numbering-push, AfterFront-from, OnErr-always}
+use Rattle.pb_text.proofs.Lists.{take_read}
 use Rattle.pb_normal.proofs.WrittenForms.{magnitude-read}
 use Rattle.pb_normal.proofs.linear.numbered.Goals as goal
 
@@ -24,7 +25,7 @@ pub returns-in_err-push-clause-err : goal.returns-in_err-push-clause-err
 returns-in_err-push-clause-err c =
     let t = c.t-item.result in
     let step = Numbering-push c.args.side _ _ _ _ t _ _ c.loop-t.invariant (rw c.as_str.ensures at c.in_ok-variable.ensures.names) (rw c.as_str.ensures at c.in_ok-variable.ensures.number) in
-    let whole = rw (← take_term c.args.terms.now c.loop-t.t-index t (omega arith) c.t-item.is) at step in
+    let whole = rw (← take_read c.args.terms.now c.loop-t.t-index t t (omega arith) c.t-item.is) at step in
     OnErr-always _ _ (AfterFront-from _ _ _ c.args.terms.now _ _ whole)
 
 pub loop-t-preserved : goal.loop-t-preserved
@@ -37,4 +38,4 @@ loop-t-preserved c =
     let signed_same : to_z w128 (of_z w128 c.signed-coefficient.result) ≡ c.signed-coefficient.result = to_z-of_z w128 c.signed-coefficient.result signed_fits in
     let entry = rw (signed_same, signed) at c.raw.ensures in
     let step = Numbering-push c.args.side _ _ _ _ t _ _ c.loop-t.invariant (rw c.as_str.ensures at c.in_ok-variable.ensures.names) (rw c.as_str.ensures at c.in_ok-variable.ensures.number) in
-    rw (take_term c.args.terms.now c.loop-t.t-index t (omega arith) c.t-item.is, c.in_ok-push.ensures.items, entry) step
+    rw (take_read c.args.terms.now c.loop-t.t-index t t (omega arith) c.t-item.is, c.in_ok-push.ensures.items, entry) step

@@ -1,11 +1,11 @@
 -- Where the machine of claims asks.
 use Rattle.std.proofs.Common.{◌≡◌, ℕ, ◌+◌, ◌-◌, ◌*◌, Bool, true, false, ◌&&◌, List, [], ◌∷◌, ◌++◌, refl, sym, ap, subst, ◌∙◌, append_assoc, Some, None}
-use Rattle.std.proofs.lemmas.Bool.{false≢true}
+use Rattle.std.proofs.lemmas.Bool.{false≢true, cond_both}
 use Rattle.std.specs.Prelude.{ℤ, nat_eq, nat_le, slice_index}
 use Rattle.pb_text.specs.Automaton.{Next, Go, End, Refuse, Reads}
 use Rattle.pb_text.specs.Classes.{is_blank, is_digit}
 use Rattle.pb_text.specs.Spelling.{Letter, bytes}
-use Rattle.pb_text.proofs.Lists.{bytes-append}
+use Rattle.pb_text.proofs.Languages.{bytes-append}
 use Rattle.pb_text.proofs.Walking.{Walks, fronts}
 use Rattle.pb_sums.specs.declared.Literal.{Literal}
 use Rattle.pb_proof.specs.Asking.{AsksShown, AsksClaim}
@@ -27,7 +27,6 @@ use Rattle.pb_proof.specs.declared.line.claim.phase.Claim.TheVariants as claim
 use Rattle.pb_proof.specs.declared.line.claim.phase.Phase.{Phase}
 use Rattle.pb_proof.specs.declared.line.claim.phase.Phase.TheVariants as phase
 use Rattle.pb_proof.specs.declared.line.claim.phase.Move.{Move}
-use Rattle.pb_proof.proofs.lemmas.Choices.{chosen}
 use Rattle.pb_proof.proofs.lemmas.Claim.Front as claims
 use Rattle.pb_proof.proofs.lemmas.Line.Asks.{literals_asked}
 
@@ -36,23 +35,23 @@ module _ (s : ClaimState) (b : ℕ) where
   Quiet m = asks s b m ≡ false
 
   spells : (w : List ℕ) (k : ℕ) (more whole : Phase) → Quiet (spell w k b more whole)
-  spells w k more whole = chosen Quiet (nat_eq b (slice_index w k)) _ _ (λ _. refl) (λ _. refl)
+  spells w k more whole = cond_both (nat_eq b (slice_index w k)) _ _ Quiet (λ _. refl) (λ _. refl)
 
   words : Quiet (first_word b)
   words =
-      chosen Quiet (nat_eq b 78) _ _ (λ _. refl)
-      (λ _. chosen Quiet (nat_eq b 85) _ _ (λ _. refl)
-      (λ _. chosen Quiet (nat_eq b 83) _ _ (λ _. refl)
-      (λ _. chosen Quiet (nat_eq b 66) _ _ (λ _. refl) (λ _. refl))))
+      cond_both (nat_eq b 78) _ _ Quiet (λ _. refl)
+      (λ _. cond_both (nat_eq b 85) _ _ Quiet (λ _. refl)
+      (λ _. cond_both (nat_eq b 83) _ _ Quiet (λ _. refl)
+      (λ _. cond_both (nat_eq b 66) _ _ Quiet (λ _. refl) (λ _. refl))))
 
   digit : (limit : ℕ) (x : Side) (negative : Bool) (n : ℕ) → Quiet (digits limit x negative n b)
-  digit limit x negative n = chosen Quiet (is_digit b && nat_le (10 * n + (b - 48)) limit) _ _ (λ _. refl) (λ _. refl)
+  digit limit x negative n = cond_both (is_digit b && nat_le (10 * n + (b - 48)) limit) _ _ Quiet (λ _. refl) (λ _. refl)
 
   bounds : (limit : ℕ) (x : Side) → Quiet (begin_bound limit x b)
   bounds limit x =
-      chosen Quiet (nat_eq b 43) _ _ (λ _. refl)
-      (λ _. chosen Quiet (nat_eq b 45) _ _ (λ _. refl)
-      (λ _. chosen Quiet (nat_eq b 73) _ _ (λ _. refl) (λ _. digit limit x false 0)))
+      cond_both (nat_eq b 43) _ _ Quiet (λ _. refl)
+      (λ _. cond_both (nat_eq b 45) _ _ Quiet (λ _. refl)
+      (λ _. cond_both (nat_eq b 73) _ _ Quiet (λ _. refl) (λ _. digit limit x false 0)))
 
   colons : (c : Claim) → Quiet (colon c)
   colons claim.NoClaim = refl
@@ -62,47 +61,47 @@ module _ (s : ClaimState) (b : ℕ) where
 
   behinds : (c : Claim) → Quiet (behind c b)
   behinds c =
-      chosen Quiet (is_blank b) _ _ (λ _. refl)
-      (λ _. chosen Quiet (nat_eq b 10) _ _ (λ _. refl)
-      (λ _. chosen Quiet (nat_eq b 59) _ _ (λ _. refl)
-      (λ _. chosen Quiet (nat_eq b 58) _ _ (λ _. colons c) (λ _. refl))))
+      cond_both (is_blank b) _ _ Quiet (λ _. refl)
+      (λ _. cond_both (nat_eq b 10) _ _ Quiet (λ _. refl)
+      (λ _. cond_both (nat_eq b 59) _ _ Quiet (λ _. refl)
+      (λ _. cond_both (nat_eq b 58) _ _ Quiet (λ _. colons c) (λ _. refl))))
 
   betweens : (x : Bound) → Quiet (between x b)
-  betweens x = chosen Quiet (is_blank b) _ _ (λ _. refl) (λ _. chosen Quiet (nat_eq b 58) _ _ (λ _. refl) (λ _. refl))
+  betweens x = cond_both (is_blank b) _ _ Quiet (λ _. refl) (λ _. cond_both (nat_eq b 58) _ _ Quiet (λ _. refl) (λ _. refl))
 
   after_bounds : (x : Side) (y : Bound) → Quiet (after_bound x y b)
   after_bounds side.Lower y = betweens y
   after_bounds (side.Upper lower id) y = behinds (claim.Shows (showing.Bounds lower id y))
 
   id_digit : (top : ℕ) (x : Owner) (negative : Bool) (n : ℕ) → Quiet (id_digits top x negative n b)
-  id_digit top x negative n = chosen Quiet (is_digit b && nat_le (10 * n + (b - 48)) top) _ _ (λ _. refl) (λ _. refl)
+  id_digit top x negative n = cond_both (is_digit b && nat_le (10 * n + (b - 48)) top) _ _ Quiet (λ _. refl) (λ _. refl)
 
   after_ids : (x : Owner) (id : ℤ) → Quiet (after_id x id b)
   after_ids owner.Unsat id = behinds (claim.Unsat (Some id))
-  after_ids (owner.Lower x) id = chosen Quiet (is_blank b) _ _ (λ _. refl) (λ _. refl)
+  after_ids (owner.Lower x) id = cond_both (is_blank b) _ _ Quiet (λ _. refl) (λ _. refl)
 
   -- only within literals that are shown
   shows_only : (ph : Phase) → asks s b (plan s.limit s.top ph b) ≡ true → (x : Showing) × (ph ≡ phase.Shown x)
   shows_only (phase.Shown x) h = (x, refl)
-  shows_only phase.Start h = absurd (false≢true (sym (chosen Quiet (is_blank b) _ _ (λ _. refl) (λ _. refl)) ∙ h))
-  shows_only phase.Before h = absurd (false≢true (sym (chosen Quiet (is_blank b) _ _ (λ _. refl) (λ _. words)) ∙ h))
+  shows_only phase.Start h = absurd (false≢true (sym (cond_both (is_blank b) _ _ Quiet (λ _. refl) (λ _. refl)) ∙ h))
+  shows_only phase.Before h = absurd (false≢true (sym (cond_both (is_blank b) _ _ Quiet (λ _. refl) (λ _. words)) ∙ h))
   shows_only (phase.Word w k) h = absurd (false≢true (sym (spells (word_of w) k (phase.Word w (k + 1)) (behind_word w)) ∙ h))
   shows_only (phase.Behind c) h = absurd (false≢true (sym (behinds c) ∙ h))
   shows_only (phase.Semicolon c) h =
-      absurd (false≢true (sym (chosen Quiet (is_blank b) _ _ (λ _. refl) (λ _. chosen Quiet (nat_eq b 10) _ _ (λ _. refl) (λ _. refl))) ∙ h))
-  shows_only phase.Bounded h = absurd (false≢true (sym (chosen Quiet (is_blank b) _ _ (λ _. refl) (λ _. refl)) ∙ h))
-  shows_only (phase.BeforeBound x) h = absurd (false≢true (sym (chosen Quiet (is_blank b) _ _ (λ _. refl) (λ _. bounds s.limit x)) ∙ h))
+      absurd (false≢true (sym (cond_both (is_blank b) _ _ Quiet (λ _. refl) (λ _. cond_both (nat_eq b 10) _ _ Quiet (λ _. refl) (λ _. refl))) ∙ h))
+  shows_only phase.Bounded h = absurd (false≢true (sym (cond_both (is_blank b) _ _ Quiet (λ _. refl) (λ _. refl)) ∙ h))
+  shows_only (phase.BeforeBound x) h = absurd (false≢true (sym (cond_both (is_blank b) _ _ Quiet (λ _. refl) (λ _. bounds s.limit x)) ∙ h))
   shows_only (phase.Signed x negative) h = absurd (false≢true (sym (digit s.limit x negative 0) ∙ h))
-  shows_only (phase.Digits x negative n) h = absurd (false≢true (sym (chosen Quiet (is_digit b) _ _ (λ _. digit s.limit x negative n) (λ _. after_bounds x _)) ∙ h))
+  shows_only (phase.Digits x negative n) h = absurd (false≢true (sym (cond_both (is_digit b) _ _ Quiet (λ _. digit s.limit x negative n) (λ _. after_bounds x _)) ∙ h))
   shows_only (phase.Infinity x k) h = absurd (false≢true (sym (spells inf_word k (phase.Infinity x (k + 1)) (behind_bound x Infinite)) ∙ h))
   shows_only (phase.Between x) h = absurd (false≢true (sym (betweens x) ∙ h))
   shows_only (phase.Spaced x) h =
-      absurd (false≢true (sym (chosen Quiet (is_blank b) _ _ (λ _. refl) (λ _. chosen Quiet (nat_eq b 58) _ _ (λ _. refl) (λ _. bounds s.limit (side.Upper x None)))) ∙ h))
+      absurd (false≢true (sym (cond_both (is_blank b) _ _ Quiet (λ _. refl) (λ _. cond_both (nat_eq b 58) _ _ Quiet (λ _. refl) (λ _. bounds s.limit (side.Upper x None)))) ∙ h))
   shows_only (phase.BeforeId x) h =
-      absurd (false≢true (sym (chosen Quiet (is_blank b) _ _ (λ _. refl) (λ _. chosen Quiet (nat_eq b 45) _ _ (λ _. refl) (λ _. id_digit s.top x false 0))) ∙ h))
+      absurd (false≢true (sym (cond_both (is_blank b) _ _ Quiet (λ _. refl) (λ _. cond_both (nat_eq b 45) _ _ Quiet (λ _. refl) (λ _. id_digit s.top x false 0))) ∙ h))
   shows_only (phase.IdSigned x) h = absurd (false≢true (sym (id_digit s.top x true 0) ∙ h))
   shows_only (phase.IdDigits x negative n) h =
-      absurd (false≢true (sym (chosen Quiet (is_digit b) _ _ (λ _. id_digit s.top x negative n) (λ _. chosen Quiet (nat_eq n 0) _ _ (λ _. refl) (λ _. after_ids x _))) ∙ h))
+      absurd (false≢true (sym (cond_both (is_digit b) _ _ Quiet (λ _. id_digit s.top x negative n) (λ _. cond_both (nat_eq n 0) _ _ Quiet (λ _. refl) (λ _. after_ids x _))) ∙ h))
   shows_only phase.Done h = absurd (false≢true h)
 
 -- What is read there shows literals.

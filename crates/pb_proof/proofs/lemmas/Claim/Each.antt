@@ -1,6 +1,5 @@
 -- A machine of claims reads each claim.
 use Rattle.std.proofs.Common.{◌≡◌, ℕ, ◌<◌, Bool, true, List, [], ◌∷◌, ◌++◌, refl, sym, ap, subst, ◌∙◌}
-use Rattle.std.proofs.lemmas.List.{append-nil}
 use Rattle.std.specs.Prelude.{IsTrue, ℤ, Option, Some, None}
 use Rattle.pb_text.specs.Automaton.{Go, Reads}
 use Rattle.pb_text.specs.Classes.{is_blank}
@@ -9,6 +8,7 @@ use Rattle.pb_text.specs.Numbers.{signed}
 use Rattle.pb_text.specs.Spelling.{Letter}
 use Rattle.pb_text.proofs.Languages.{inside, regroup, behind_it}
 use Rattle.pb_text.proofs.Walking.{Walks, longer, reads_behind}
+use Rattle.pb_text.proofs.ByteTests.{blank_digit}
 use Rattle.pb_sums.specs.declared.Literal.{Literal}
 use Rattle.pb_proof.specs.Lines.{none_word, unsat_word, bounds_word, LineEnd, SpellsId, SpellsBound, SpellsShown, Shown, IdShown, SpellsClaim}
 use Rattle.pb_proof.specs.Line.Claim.{word_of, behind_word}
@@ -27,11 +27,10 @@ use Rattle.pb_proof.specs.declared.line.claim.phase.Claim.{Claim}
 use Rattle.pb_proof.specs.declared.line.claim.phase.Claim.TheVariants as claim
 use Rattle.pb_proof.specs.declared.line.claim.phase.Phase.{Phase}
 use Rattle.pb_proof.specs.declared.line.claim.phase.Phase.TheVariants as phase
-use Rattle.pb_proof.proofs.lemmas.Claim.Bytes.{blank-digit}
 use Rattle.pb_proof.proofs.lemmas.Claim.Parts.{Opens, before_opens, spaced_opens, bound_carries, AtId, id_carries}
 use Rattle.pb_proof.proofs.lemmas.Claim.Texts.{Body, line_shown}
 use Rattle.pb_proof.proofs.lemmas.Claim.Walk.{at, Carries, carries_then, Is, leads_carry, word_leads, start_blanks, bounded_blanks, id_blanks, Follows, follows_blanks, behind_blanks_of, between_blanks, may_end, id_steps, id_follows}
-use Rattle.pb_proof.proofs.lemmas.Line.Ends.{TakesBlanks, blanks1_lead, blanks0_lead, behind_blanks, line_reads}
+use Rattle.pb_proof.proofs.lemmas.Line.Ends.{TakesBlanks, blanks1_lead, blanks0_lead, behind_blanks, line_reads, nil_last}
 use Rattle.pb_proof.proofs.lemmas.Literals.Theorems.{literals_reads}
 
 module _ (limit top : ℕ) where
@@ -82,9 +81,6 @@ module _ (limit top : ℕ) where
   start_carries : Carries limit top (Is limit top phase.Start) Blanks1 (Is limit top phase.Before)
   start_carries = leads_carry limit top phase.Start phase.Before Blanks1 (blanks1_lead claim_automaton (here phase.Start) (here phase.Before) (start_blanks limit top))
 
-  without : (P : Language) (q : List Letter) → (P ⋅ Empty) q → P q
-  without P q (a, b, e, i, k) = subst P (sym (e ∙ (ap (λ y. a ++ y) k ∙ append-nil a))) i
-
   -- the parts of a line with literals that are shown
   shown_parts : (x : Showing) (ls : List Literal) (t : List Letter) → (Blanks1 ⋅ (Body limit top x ⋅ (Blanks0 ⋅ SpellsShown ls)) ⋅ LineEnd) t
       → (Blanks1 ⋅ (Body limit top x ⋅ (Blanks0 ⋅ (SpellsShown ls ⋅ LineEnd)))) t
@@ -101,7 +97,7 @@ module _ (limit top : ℕ) where
   showing_reads x None f t h =
       ends_line (claim.Shows x) (Blanks1 ⋅ Body limit top x)
       (carries_then limit top (Is limit top phase.Start) (Is limit top phase.Before) (Follows limit top (phase.Behind (claim.Shows x))) Blanks1 (Body limit top x) start_carries f) t
-      (inside (Blanks1 ⋅ (Body limit top x ⋅ Empty)) (Blanks1 ⋅ Body limit top x) LineEnd t (λ q. behind_it Blanks1 (Body limit top x ⋅ Empty) (Body limit top x) q (without (Body limit top x))) h)
+      (inside (Blanks1 ⋅ (Body limit top x ⋅ Empty)) (Blanks1 ⋅ Body limit top x) LineEnd t (λ q. behind_it Blanks1 (Body limit top x ⋅ Empty) (Body limit top x) q (nil_last (Body limit top x))) h)
   showing_reads x (Some ls) f t h =
       let (a, b, e, k, (c, d, g, i, j)) = shown_parts x ls t h in
       let (mid, w, m) = start_carries (claim_first limit top) a refl k in
@@ -188,7 +184,7 @@ module _ (limit top : ℕ) where
 
   id_blank : (x : Bound) (negative : Bool) (n b : ℕ) → 0 < n → IsTrue (is_blank b)
       → claim_automaton.step (here (phase.IdDigits (owner.Lower x) negative n)) b ≡ Go (here (phase.BeforeBound (side.Upper x (Some (signed negative n)))))
-  id_blank x negative n b z h = id_steps limit top (owner.Lower x) negative n b z (blank-digit b h) ∙ rw h refl
+  id_blank x negative n b z h = id_steps limit top (owner.Lower x) negative n b z (blank_digit b h) ∙ rw h refl
 
   before_upper : (x : Bound) (id : ℤ) (s : ClaimState) → AtId limit top (owner.Lower x) id s → TakesBlanks claim_automaton s (here (phase.BeforeBound (side.Upper x (Some id))))
   before_upper x id s (negative, n, z, e, i) =

@@ -1,16 +1,16 @@
 -- What a machine of claims reads is a claim.
-use Rattle.std.proofs.Common.{◌≡◌, ℕ, ◌+◌, ◌-◌, ◌*◌, ◌<◌, ◌≤◌, Bool, true, false, ◌&&◌, List, [], ◌∷◌, ◌++◌, length, take, refl, sym, ap, subst, arith, inl, inr, ◌∙◌}
-use Rattle.std.proofs.lemmas.Bool.{eqb-true}
-use Rattle.std.proofs.lemmas.Bool.Decides.{nat_tests}
-use Rattle.std.specs.Prelude.{IsTrue, ℤ, Some, None, nat_eq, nat_le, slice_index}
+use Rattle.std.proofs.Common.{◌≡◌, ℕ, ◌+◌, ◌-◌, ◌*◌, ◌<◌, ◌≤◌, Bool, true, false, ◌&&◌, List, [], ◌∷◌, ◌++◌, length, take, refl, sym, ap, subst, inl, inr, ◌∙◌}
+use Rattle.std.proofs.lemmas.Bool.{eqb-true, cond_both, and_parts}
+use Rattle.std.specs.Prelude.{ℤ, Some, None, nat_eq, nat_le, slice_index}
 use Rattle.pb_text.specs.Automaton.{Next, Go, End, Refuse, Reads}
 use Rattle.pb_text.specs.Classes.{is_blank, is_digit}
 use Rattle.pb_text.specs.Languages.{unmarked, digit, Language, ◌⋅◌, Empty, Byte, Bytes, Blanks0, Blanks1}
 use Rattle.pb_text.specs.Numbers.{Digits, Sign, signed}
 use Rattle.pb_text.specs.Spelling.{Letter, plain}
-use Rattle.pb_text.proofs.Languages.{grown, next, none_yet, inside, behind_it, regroup, some-grown, some-one, some-many, many-grown}
+use Rattle.pb_text.proofs.Languages.{grown, next, none_yet, inside, behind_it, regroup}
 use Rattle.pb_text.proofs.Numbers.{digits-grown, digits-one}
 use Rattle.pb_text.proofs.Walking.{Walks, walks_more, ends_walk, On, Keeps, told}
+use Rattle.pb_text.proofs.Letters.{as_unmarked, some_digit, word_grown, word_whole}
 use Rattle.pb_sums.specs.declared.Literal.{Literal}
 use Rattle.pb_proof.specs.Lines.{unsat_word, bounds_word, inf_word, Minus, SpellsId, SpellsBound, IdShown, SpellsClaim}
 use Rattle.pb_proof.specs.Line.Claim.{word_of, behind_word, behind_bound, spell, first_word, digits, begin_bound, colon, behind, between, after_bound, id_digits, after_id, plan, PhaseFits}
@@ -33,14 +33,11 @@ use Rattle.pb_proof.specs.declared.line.claim.phase.Phase.{Phase}
 use Rattle.pb_proof.specs.declared.line.claim.phase.Phase.TheVariants as phase
 use Rattle.pb_proof.specs.declared.line.claim.phase.Move.{Move}
 use Rattle.pb_proof.specs.declared.line.claim.phase.Move.TheVariants.{To}
-use Rattle.pb_proof.proofs.lemmas.Claim.Bytes.{chosen, both, as_unmarked, as_digit}
 use Rattle.pb_proof.proofs.lemmas.Claim.Steps.{goes}
-use Rattle.pb_proof.proofs.lemmas.Claim.Texts.{word_grown, word_whole, Claimed, LowerRead, Lead, IdLead, Colon, BeforeIdRead, id_shown, bounds_body, claim_line, showing_line}
-use Rattle.pb_proof.proofs.lemmas.Line.Ends.{Gapped, Closing, blank_more, blank_closing, semicolon_behind_blanks, line_behind_blanks, line_closing}
+use Rattle.pb_proof.proofs.lemmas.Claim.Texts.{Claimed, LowerRead, Lead, IdLead, Colon, BeforeIdRead, id_shown, bounds_body, claim_line, showing_line}
+use Rattle.pb_proof.proofs.lemmas.Line.Ends.{Gapped, Closing, blank_more, blank_closing, semicolon_behind_blanks, line_behind_blanks, line_closing, gapped, gapped_some, first_blank, further_blank, blanks_begin, blanks_go_on}
 use Rattle.pb_proof.proofs.lemmas.Literals.Theorems.{literals_reads, literals_of_one}
-
-abbrev IsBlank : ℕ → Type 0
-IsBlank b = IsTrue (is_blank b)
+use Rattle.pb_proof.proofs.lemmas.NumberTests.{positive}
 
 -- what the machine of literals has read
 abbrev pub Walked : LiteralsState → Language
@@ -72,9 +69,6 @@ Front s = front s.limit s.top s.literals s.phase
 abbrev pub Told : Conclusion → ClaimState → Language
 Told e after = SpellsClaim after.limit after.top e
 
-positive : (n : ℕ) → nat_eq n 0 ≡ false → 0 < n
-positive n e = grind (arith, nat_tests)
-
 module _ (s : ClaimState) (l : Letter) (p : List Letter) where
   abbrev At : Phase → Type 0
   At q = front s.limit s.top (literals_first true) q (p ++ l ∷ [])
@@ -101,20 +95,13 @@ module _ (s : ClaimState) (l : Letter) (p : List Letter) where
   byte : (b : ℕ) → l.numeral ≡ false → nat_eq l.byte b ≡ true → l ∷ [] ≡ unmarked b ∷ []
   byte b n e = ap (λ x. x ∷ []) (as_unmarked l b n (eqb-true l.byte b e))
 
-  -- blanks begin, and go on
-  blanks : (P : Language) → l.numeral ≡ false → is_blank l.byte ≡ true → P p → (P ⋅ Blanks1) (p ++ l ∷ [])
-  blanks P n e h = next P Blanks1 p l h (some-one IsBlank l.byte l (as_unmarked l l.byte n refl) e)
-
-  more_blanks : (P : Language) → l.numeral ≡ false → is_blank l.byte ≡ true → (P ⋅ Blanks1) p → (P ⋅ Blanks1) (p ++ l ∷ [])
-  more_blanks P n e h = grown P Blanks1 Blanks1 p l (some-grown IsBlank l.byte l (as_unmarked l l.byte n refl) e) h
-
   -- words
   spelled : (P : Language) (w : List ℕ) (j : ℕ) (more whole : Phase)
       → (l.numeral ≡ is_in_number (claim_at s.limit s.top more) more → l.numeral ≡ false) → (l.numeral ≡ is_in_number (claim_at s.limit s.top whole) whole → l.numeral ≡ false)
       → ((P ⋅ Bytes (take (j + 1) w)) (p ++ l ∷ []) → At more) → ((P ⋅ Bytes w) (p ++ l ∷ []) → At whole)
       → j < length w → (P ⋅ Bytes (take j w)) p → After (spell w j l.byte more whole)
-  spelled P w j more whole m n f g i h = chosen After (nat_eq l.byte (slice_index w j)) _ _
-      (λ e. chosen (λ q. After (To q)) (nat_eq (j + 1) (length w)) whole more
+  spelled P w j more whole m n f g i h = cond_both (nat_eq l.byte (slice_index w j)) _ _ After
+      (λ e. cond_both (nat_eq (j + 1) (length w)) whole more (λ q. After (To q))
       (λ k u v. g (behind_it P (Bytes (take (j + 1) w)) (Bytes w) (p ++ l ∷ []) (λ q. word_whole w (j + 1) q (eqb-true (j + 1) (length w) k)) (longer (n v) e)))
       (λ k u v. f (longer (m v) e)))
       (λ _. tt)
@@ -125,13 +112,13 @@ module _ (s : ClaimState) (l : Letter) (p : List Letter) where
   in_word : (w : Word) (j : ℕ) → j < length (word_of w) → (Blanks1 ⋅ Bytes (take j (word_of w))) p → After (spell (word_of w) j l.byte (phase.Word w (j + 1)) (behind_word w))
   in_word word.NoClaim j i h =
       spelled Blanks1 (word_of word.NoClaim) j (phase.Word word.NoClaim (j + 1)) (behind_word word.NoClaim) (λ n. n) (λ n. n) (λ r. r)
-      (none_yet (ClaimOf claim.NoClaim) Blanks0 (p ++ l ∷ []) ([], tt, refl)) i h
+      (gapped (ClaimOf claim.NoClaim) (p ++ l ∷ [])) i h
   in_word word.Unsat j i h =
       spelled Blanks1 (word_of word.Unsat) j (phase.Word word.Unsat (j + 1)) (behind_word word.Unsat) (λ n. n) (λ n. n) (λ r. r)
-      (none_yet (ClaimOf (claim.Unsat None)) Blanks0 (p ++ l ∷ []) ([], tt, refl)) i h
+      (gapped (ClaimOf (claim.Unsat None)) (p ++ l ∷ [])) i h
   in_word word.Sat j i h =
       spelled Blanks1 (word_of word.Sat) j (phase.Word word.Sat (j + 1)) (behind_word word.Sat) (λ n. n) (λ n. n) (λ r. r)
-      (none_yet (ClaimOf (claim.Shows showing.Sat)) Blanks0 (p ++ l ∷ []) ([], tt, refl)) i h
+      (gapped (ClaimOf (claim.Shows showing.Sat)) (p ++ l ∷ [])) i h
   in_word word.Bounds j i h =
       spelled Blanks1 (word_of word.Bounds) j (phase.Word word.Bounds (j + 1)) (behind_word word.Bounds) (λ n. n) (λ n. n) (λ r. r) (λ r. r) i h
 
@@ -140,17 +127,17 @@ module _ (s : ClaimState) (l : Letter) (p : List Letter) where
 
   before_word : Blanks1 p → After (first_word l.byte)
   before_word h =
-      chosen After (nat_eq l.byte 78) _ _ (first word.NoClaim 78 refl h) (λ _.
-      chosen After (nat_eq l.byte 85) _ _ (first word.Unsat 85 refl h) (λ _.
-      chosen After (nat_eq l.byte 83) _ _ (first word.Sat 83 refl h) (λ _.
-      chosen After (nat_eq l.byte 66) _ _ (first word.Bounds 66 refl h) (λ _. tt))))
+      cond_both (nat_eq l.byte 78) _ _ After (first word.NoClaim 78 refl h) (λ _.
+      cond_both (nat_eq l.byte 85) _ _ After (first word.Unsat 85 refl h) (λ _.
+      cond_both (nat_eq l.byte 83) _ _ After (first word.Sat 83 refl h) (λ _.
+      cond_both (nat_eq l.byte 66) _ _ After (first word.Bounds 66 refl h) (λ _. tt))))
 
   -- behind a claim
   in_colon : (c : Claim) → nat_eq l.byte 58 ≡ true → Gapped (ClaimOf c) p → After (colon c)
   in_colon claim.NoClaim e h = tt
   in_colon (claim.Unsat None) e h = λ u n.
       let C : Language = ClaimOf (claim.Unsat None) in
-      none_yet (C ⋅ Blanks0 ⋅ Byte 58) Blanks0 (p ++ l ∷ []) ([], tt, refl) (next (C ⋅ Blanks0) (Byte 58) p l h (byte 58 n e))
+      gapped (C ⋅ Blanks0 ⋅ Byte 58) (p ++ l ∷ []) (next (C ⋅ Blanks0) (Byte 58) p l h (byte 58 n e))
   in_colon (claim.Unsat (Some id)) e h = tt
   in_colon (claim.Shows x) e h = λ u n.
       let C : Language = ClaimOf (claim.Shows x) in
@@ -158,15 +145,15 @@ module _ (s : ClaimState) (l : Letter) (p : List Letter) where
 
   in_behind : (c : Claim) → Gapped (ClaimOf c) p → After (behind c l.byte)
   in_behind c h =
-      chosen After (is_blank l.byte) _ _ (λ e u n. blank_more (ClaimOf c) l p e n h) (λ _.
-      chosen After (nat_eq l.byte 10) _ _ (λ e n. claim_line s.limit s.top c (p ++ l ∷ []) (line_behind_blanks (ClaimOf c) l p (eqb-true l.byte 10 e) n h)) (λ _.
-      chosen After (nat_eq l.byte 59) _ _ (λ e u n. semicolon_behind_blanks (ClaimOf c) l p (eqb-true l.byte 59 e) n h) (λ _.
-      chosen After (nat_eq l.byte 58) _ _ (λ e. in_colon c e h) (λ _. tt))))
+      cond_both (is_blank l.byte) _ _ After (λ e u n. blank_more (ClaimOf c) l p e n h) (λ _.
+      cond_both (nat_eq l.byte 10) _ _ After (λ e n. claim_line s.limit s.top c (p ++ l ∷ []) (line_behind_blanks (ClaimOf c) l p (eqb-true l.byte 10 e) n h)) (λ _.
+      cond_both (nat_eq l.byte 59) _ _ After (λ e u n. semicolon_behind_blanks (ClaimOf c) l p (eqb-true l.byte 59 e) n h) (λ _.
+      cond_both (nat_eq l.byte 58) _ _ After (λ e. in_colon c e h) (λ _. tt))))
 
   in_semicolon : (c : Claim) → Closing (ClaimOf c) p → After (plan s.limit s.top (phase.Semicolon c) l.byte)
   in_semicolon c h =
-      chosen After (is_blank l.byte) _ _ (λ e u n. blank_closing (ClaimOf c) l p e n h) (λ _.
-      chosen After (nat_eq l.byte 10) _ _ (λ e n. claim_line s.limit s.top c (p ++ l ∷ []) (line_closing (ClaimOf c) l p (eqb-true l.byte 10 e) n h)) (λ _. tt))
+      cond_both (is_blank l.byte) _ _ After (λ e u n. blank_closing (ClaimOf c) l p e n h) (λ _.
+      cond_both (nat_eq l.byte 10) _ _ After (λ e n. claim_line s.limit s.top c (p ++ l ∷ []) (line_closing (ClaimOf c) l p (eqb-true l.byte 10 e) n h)) (λ _. tt))
 
   -- bounds
   abbrev Value : ℕ → ℕ
@@ -175,8 +162,8 @@ module _ (s : ClaimState) (l : Letter) (p : List Letter) where
   in_digits : (x : Side) (negative : Bool) (n : ℕ) → (l ≡ digit (l.byte - 48) → l.byte - 48 < 10 → At (phase.Digits x negative (Value n)))
       → After (digits s.limit x negative n l.byte)
   in_digits x negative n h =
-      chosen After (is_digit l.byte && nat_le (Value n) s.limit) _ _
-      (λ e u i. let d : (l ≡ digit (l.byte - 48)) × (l.byte - 48 < 10) = as_digit l i (both (is_digit l.byte) (nat_le (Value n) s.limit) e).0 in h d.0 d.1)
+      cond_both (is_digit l.byte && nat_le (Value n) s.limit) _ _ After
+      (λ e u i. let d : (l ≡ digit (l.byte - 48)) × (l.byte - 48 < 10) = some_digit l i (and_parts (is_digit l.byte) (nat_le (Value n) s.limit) e).0 in h d.0 d.1)
       (λ _. tt)
 
   first_digit : (x : Side) (negative : Bool) → (LeadOf x ⋅ Blanks1 ⋅ Sign negative) p → After (digits s.limit x negative 0 l.byte)
@@ -189,24 +176,24 @@ module _ (s : ClaimState) (l : Letter) (p : List Letter) where
   in_begin : (x : Side) → (LeadOf x ⋅ Blanks1) p → After (begin_bound s.limit x l.byte)
   in_begin x h =
       let B : Language = LeadOf x ⋅ Blanks1 in
-      chosen After (nat_eq l.byte 43) _ _ (λ e u n. next B (Sign false) p l h (inr (byte 43 n e))) (λ _.
-      chosen After (nat_eq l.byte 45) _ _ (λ e u n. next B (Sign true) p l h (byte 45 n e)) (λ _.
-      chosen After (nat_eq l.byte 73) _ _ (λ e u n. next B (Bytes (take 1 inf_word)) p l h (byte 73 n e)) (λ _.
+      cond_both (nat_eq l.byte 43) _ _ After (λ e u n. next B (Sign false) p l h (inr (byte 43 n e))) (λ _.
+      cond_both (nat_eq l.byte 45) _ _ After (λ e u n. next B (Sign true) p l h (byte 45 n e)) (λ _.
+      cond_both (nat_eq l.byte 73) _ _ After (λ e u n. next B (Bytes (take 1 inf_word)) p l h (byte 73 n e)) (λ _.
       first_digit x false (none_yet B (Sign false) p (inl refl) h))))
 
   -- behind the lower bound, and behind either
   in_between : (x : Bound) → Lower x p → After (between x l.byte)
   in_between x h =
-      chosen After (is_blank l.byte) _ _ (λ e u n. blanks (Lower x) n e h) (λ _.
-      chosen After (nat_eq l.byte 58) _ _
-      (λ e u n. none_yet (Lower x ⋅ Blanks0 ⋅ Byte 58) Blanks0 (p ++ l ∷ []) ([], tt, refl)
-      (next (Lower x ⋅ Blanks0) (Byte 58) p l (none_yet (Lower x) Blanks0 p ([], tt, refl) h) (byte 58 n e)))
+      cond_both (is_blank l.byte) _ _ After (λ e u n. blanks_begin (Lower x) l p e n h) (λ _.
+      cond_both (nat_eq l.byte 58) _ _ After
+      (λ e u n. gapped (Lower x ⋅ Blanks0 ⋅ Byte 58) (p ++ l ∷ [])
+      (next (Lower x ⋅ Blanks0) (Byte 58) p l (gapped (Lower x) p h) (byte 58 n e)))
       (λ _. tt))
 
   in_after_bound : (x : Side) (y : Bound) → (LeadOf x ⋅ Blanks1 ⋅ SpellsBound s.limit y) p → After (after_bound x y l.byte)
   in_after_bound side.Lower y h = in_between y h
   in_after_bound (side.Upper x id) y h =
-      in_behind (claim.Shows (showing.Bounds x id y)) (none_yet (ClaimOf (claim.Shows (showing.Bounds x id y))) Blanks0 p ([], tt, refl) (bounds_body s.limit s.top x id y p h))
+      in_behind (claim.Shows (showing.Bounds x id y)) (gapped (ClaimOf (claim.Shows (showing.Bounds x id y))) p (bounds_body s.limit s.top x id y p h))
 
   number_of : (P : Language) (negative : Bool) (n : ℕ) → n ≤ s.limit → (P ⋅ Sign negative ⋅ Digits n) p → (P ⋅ SpellsBound s.limit (Finite (signed negative n))) p
   number_of P negative n i h =
@@ -215,30 +202,30 @@ module _ (s : ClaimState) (l : Letter) (p : List Letter) where
   in_number : (x : Side) (negative : Bool) (n : ℕ) → n ≤ s.limit → (LeadOf x ⋅ Blanks1 ⋅ Sign negative ⋅ Digits n) p
       → After (plan s.limit s.top (phase.Digits x negative n) l.byte)
   in_number x negative n i h =
-      chosen After (is_digit l.byte) _ _ (λ _. next_digit x negative n h) (λ _. in_after_bound x (Finite (signed negative n)) (number_of (LeadOf x ⋅ Blanks1) negative n i h))
+      cond_both (is_digit l.byte) _ _ After (λ _. next_digit x negative n h) (λ _. in_after_bound x (Finite (signed negative n)) (number_of (LeadOf x ⋅ Blanks1) negative n i h))
 
   in_infinity : (x : Side) (j : ℕ) → j < length inf_word → (LeadOf x ⋅ Blanks1 ⋅ Bytes (take j inf_word)) p
       → After (spell inf_word j l.byte (phase.Infinity x (j + 1)) (behind_bound x Infinite))
   in_infinity side.Lower j i h = spelled (LeadOf side.Lower ⋅ Blanks1) inf_word j (phase.Infinity side.Lower (j + 1)) (behind_bound side.Lower Infinite) (λ n. n) (λ n. n) (λ r. r) (λ r. r) i h
   in_infinity (side.Upper x id) j i h =
       spelled (LeadOf (side.Upper x id) ⋅ Blanks1) inf_word j (phase.Infinity (side.Upper x id) (j + 1)) (behind_bound (side.Upper x id) Infinite) (λ n. n) (λ n. n) (λ r. r)
-      (λ r. none_yet (ClaimOf (claim.Shows (showing.Bounds x id Infinite))) Blanks0 (p ++ l ∷ []) ([], tt, refl) (bounds_body s.limit s.top x id Infinite (p ++ l ∷ []) r)) i h
+      (λ r. gapped (ClaimOf (claim.Shows (showing.Bounds x id Infinite))) (p ++ l ∷ []) (bounds_body s.limit s.top x id Infinite (p ++ l ∷ []) r)) i h
 
   -- blanks behind the lower bound
   in_spaced : (x : Bound) → (Lower x ⋅ Blanks1) p → After (plan s.limit s.top (phase.Spaced x) l.byte)
   in_spaced x h =
-      chosen After (is_blank l.byte) _ _ (λ e u n. more_blanks (Lower x) n e h) (λ _.
-      chosen After (nat_eq l.byte 58) _ _
-      (λ e u n. none_yet (Lower x ⋅ Blanks0 ⋅ Byte 58) Blanks0 (p ++ l ∷ []) ([], tt, refl)
-      (next (Lower x ⋅ Blanks0) (Byte 58) p l (behind_it (Lower x) Blanks1 Blanks0 p (some-many IsBlank) h) (byte 58 n e)))
+      cond_both (is_blank l.byte) _ _ After (λ e u n. blanks_go_on (Lower x) l p e n h) (λ _.
+      cond_both (nat_eq l.byte 58) _ _ After
+      (λ e u n. gapped (Lower x ⋅ Blanks0 ⋅ Byte 58) (p ++ l ∷ [])
+      (next (Lower x ⋅ Blanks0) (Byte 58) p l (gapped_some (Lower x) p h) (byte 58 n e)))
       (λ _. in_begin (side.Upper x None) (inside (Lower x) (Lower x ⋅ Empty) Blanks1 p (λ q. none_yet (Lower x) Empty q refl) h)))
 
   -- ids
   in_id_digits : (x : Owner) (negative : Bool) (n : ℕ) → (l ≡ digit (l.byte - 48) → l.byte - 48 < 10 → At (phase.IdDigits x negative (Value n)))
       → After (id_digits s.top x negative n l.byte)
   in_id_digits x negative n h =
-      chosen After (is_digit l.byte && nat_le (Value n) s.top) _ _
-      (λ e u i. let d : (l ≡ digit (l.byte - 48)) × (l.byte - 48 < 10) = as_digit l i (both (is_digit l.byte) (nat_le (Value n) s.top) e).0 in h d.0 d.1)
+      cond_both (is_digit l.byte && nat_le (Value n) s.top) _ _ After
+      (λ e u i. let d : (l ≡ digit (l.byte - 48)) × (l.byte - 48 < 10) = some_digit l i (and_parts (is_digit l.byte) (nat_le (Value n) s.top) e).0 in h d.0 d.1)
       (λ _. tt)
 
   first_id_digit : (x : Owner) (negative : Bool) → (IdRead x ⋅ Minus negative) p → After (id_digits s.top x negative 0 l.byte)
@@ -246,9 +233,9 @@ module _ (s : ClaimState) (l : Letter) (p : List Letter) where
 
   before_id : (x : Owner) → IdRead x p → After (plan s.limit s.top (phase.BeforeId x) l.byte)
   before_id x h =
-      chosen After (is_blank l.byte) _ _
-      (λ e u n. grown (Colon s.limit s.top (IdLead s.limit s.top x)) Blanks0 Blanks0 p l (many-grown IsBlank l.byte l (as_unmarked l l.byte n refl) e) h) (λ _.
-      chosen After (nat_eq l.byte 45) _ _ (λ e u n. next (IdRead x) (Minus true) p l h (byte 45 n e)) (λ _.
+      cond_both (is_blank l.byte) _ _ After
+      (λ e u n. blank_more (Colon s.limit s.top (IdLead s.limit s.top x)) l p e n h) (λ _.
+      cond_both (nat_eq l.byte 45) _ _ After (λ e u n. next (IdRead x) (Minus true) p l h (byte 45 n e)) (λ _.
       first_id_digit x false (none_yet (IdRead x) (Minus false) p refl h)))
 
   id_of : (x : Owner) (negative : Bool) (n : ℕ) → 0 < n → n ≤ s.top → (IdRead x ⋅ Minus negative ⋅ Digits n) p
@@ -260,15 +247,15 @@ module _ (s : ClaimState) (l : Letter) (p : List Letter) where
   in_after_id : (x : Owner) (id : ℤ) → (IdLead s.limit s.top x ⋅ IdShown s.limit s.top (Some id)) p → After (after_id x id l.byte)
   in_after_id owner.Unsat id h =
       in_behind (claim.Unsat (Some id))
-      (none_yet (ClaimOf (claim.Unsat (Some id))) Blanks0 p ([], tt, refl) (regroup Blanks1 (Bytes unsat_word) (IdShown s.limit s.top (Some id)) p h))
-  in_after_id (owner.Lower x) id h = chosen After (is_blank l.byte) _ _ (λ e u n. blanks (LeadOf (side.Upper x (Some id))) n e h) (λ _. tt)
+      (gapped (ClaimOf (claim.Unsat (Some id))) p (regroup Blanks1 (Bytes unsat_word) (IdShown s.limit s.top (Some id)) p h))
+  in_after_id (owner.Lower x) id h = cond_both (is_blank l.byte) _ _ After (λ e u n. blanks_begin (LeadOf (side.Upper x (Some id))) l p e n h) (λ _. tt)
 
   in_id : (x : Owner) (negative : Bool) (n : ℕ) → n ≤ s.top → (IdRead x ⋅ Minus negative ⋅ Digits n) p
       → After (plan s.limit s.top (phase.IdDigits x negative n) l.byte)
   in_id x negative n i h =
-      chosen After (is_digit l.byte) _ _
+      cond_both (is_digit l.byte) _ _ After
       (λ _. in_id_digits x negative n (λ d j. grown (IdRead x ⋅ Minus negative) (Digits n) (Digits (Value n)) p l (digits-grown n (l.byte - 48) l d j) h)) (λ _.
-      chosen After (nat_eq n 0) _ _ (λ _. tt) (λ z. in_after_id x (signed negative n) (id_of x negative n (positive n z) i h)))
+      cond_both (nat_eq n 0) _ _ After (λ _. tt) (λ z. in_after_id x (signed negative n) (id_of x negative n (positive n z) i h)))
 
   -- literals
   in_shown : (x : Showing) → s.phase ≡ phase.Shown x → (Colon s.limit s.top (ClaimOf (claim.Shows x)) ⋅ Walked s.literals) p
@@ -286,14 +273,14 @@ module _ (s : ClaimState) (l : Letter) (p : List Letter) where
 
   sound : (q : Phase) → s.phase ≡ q → PhaseFits s.limit s.top q → front s.limit s.top s.literals q p → After (plan s.limit s.top q l.byte)
   sound phase.Start at f h =
-      chosen After (is_blank l.byte) _ _ (λ e u n. subst (λ x. Blanks1 (x ++ l ∷ [])) (sym h) (some-one IsBlank l.byte l (as_unmarked l l.byte n refl) e)) (λ _. tt)
+      cond_both (is_blank l.byte) _ _ After (λ e u n. first_blank l p e n h) (λ _. tt)
   sound phase.Before at f h =
-      chosen After (is_blank l.byte) _ _ (λ e u n. some-grown IsBlank l.byte l (as_unmarked l l.byte n refl) e p h) (λ _. before_word h)
+      cond_both (is_blank l.byte) _ _ After (λ e u n. further_blank l p e n h) (λ _. before_word h)
   sound (phase.Word w k) at f h = in_word w k f h
   sound (phase.Behind c) at f h = in_behind c h
   sound (phase.Semicolon c) at f h = in_semicolon c h
-  sound phase.Bounded at f h = chosen After (is_blank l.byte) _ _ (λ e u n. blanks (LeadOf side.Lower) n e h) (λ _. tt)
-  sound (phase.BeforeBound x) at f h = chosen After (is_blank l.byte) _ _ (λ e u n. more_blanks (LeadOf x) n e h) (λ _. in_begin x h)
+  sound phase.Bounded at f h = cond_both (is_blank l.byte) _ _ After (λ e u n. blanks_begin (LeadOf side.Lower) l p e n h) (λ _. tt)
+  sound (phase.BeforeBound x) at f h = cond_both (is_blank l.byte) _ _ After (λ e u n. blanks_go_on (LeadOf x) l p e n h) (λ _. in_begin x h)
   sound (phase.Signed x negative) at f h = first_digit x negative h
   sound (phase.Digits x negative n) at f h = in_number x negative n f h
   sound (phase.Infinity x k) at f h = in_infinity x k f h

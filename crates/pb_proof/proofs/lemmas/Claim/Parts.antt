@@ -2,13 +2,14 @@
 use Rattle.std.proofs.Common.{◌≡◌, ℕ, ◌+◌, ◌-◌, ◌*◌, ◌<◌, ◌≤◌, Bool, true, false, cond, List, [], ◌∷◌, ◌++◌, length, drop, refl, sym, ap, subst, arith, inl, inr, ◌∙◌}
 use Rattle.std.proofs.lemmas.Bool.{le-leb}
 use Rattle.std.proofs.lemmas.Bool.Decides.{nat_tests}
-use Rattle.std.specs.Prelude.{IsTrue, ℤ, None, nat_eq}
+use Rattle.std.specs.Prelude.{ℤ, None, nat_eq}
 use Rattle.pb_text.specs.Automaton.{Go}
-use Rattle.pb_text.specs.Classes.{is_blank, is_digit}
+use Rattle.pb_text.specs.Classes.{is_digit}
 use Rattle.pb_text.specs.Languages.{unmarked}
 use Rattle.pb_text.specs.Numbers.{Digits, Number, signed}
 use Rattle.pb_text.specs.Spelling.{Letter, plain}
 use Rattle.pb_text.proofs.Walking.{Walks, Leads}
+use Rattle.pb_text.proofs.ByteTests.{digit_byte, digit_blank}
 use Rattle.pb_proof.specs.Lines.{inf_word, SpellsId, SpellsBound}
 use Rattle.pb_proof.specs.Line.Claim.{behind_bound, digits, after_bound, id_digits, after_id, is_within}
 use Rattle.pb_proof.specs.Line.ClaimState.{ClaimState, claim_automaton, act, is_in_number}
@@ -20,12 +21,8 @@ use Rattle.pb_proof.specs.declared.line.claim.phase.Side.TheVariants as side
 use Rattle.pb_proof.specs.declared.line.claim.phase.Phase.{Phase}
 use Rattle.pb_proof.specs.declared.line.claim.phase.Phase.TheVariants as phase
 use Rattle.pb_proof.specs.declared.line.claim.phase.Move.TheVariants.{To, Stop}
-use Rattle.pb_proof.proofs.lemmas.Claim.Bytes.{digit-byte, digit-blank}
 use Rattle.pb_proof.proofs.lemmas.Claim.Walk.{at, Carries, Is, Follows, number_follows, Spelled, left_walk}
-use Rattle.pb_proof.proofs.lemmas.DigitWalks.{TakesDigits, digits_lead}
-
-abbrev IsBlank : ℕ → Type 0
-IsBlank b = IsTrue (is_blank b)
+use Rattle.pb_text.proofs.DigitWalks.{TakesDigits, digits_lead}
 
 -- digits are no other bytes
 digit-not : (d b : ℕ) → d < 10 → is_digit b ≡ false → nat_eq (48 + d) b ≡ false
@@ -39,12 +36,12 @@ module _ (limit top : ℕ) where
   digits_next : (x : Side) (negative : Bool) (m d : ℕ) → d < 10 → 10 * m + d ≤ limit → digits limit x negative m (48 + d) ≡ To (phase.Digits x negative (10 * m + d))
   digits_next x negative m d h l =
       let e : (48 + d) - 48 ≡ d = omega arith in
-      rw (digit-byte d h, e, le-leb (10 * m + d) limit l) refl
+      rw (digit_byte d h, e, le-leb (10 * m + d) limit l) refl
 
   digits_step : (x : Side) (negative : Bool) (m d : ℕ) → d < 10 → 10 * m + d ≤ limit
       → claim_automaton.step (here (phase.Digits x negative m)) (48 + d) ≡ Go (here (phase.Digits x negative (10 * m + d)))
   digits_step x negative m d h l =
-      ap (λ y. act (here (phase.Digits x negative m)) (48 + d) (cond y (digits limit x negative m (48 + d)) (after_bound x (Finite (signed negative m)) (48 + d)))) (digit-byte d h)
+      ap (λ y. act (here (phase.Digits x negative m)) (48 + d) (cond y (digits limit x negative m (48 + d)) (after_bound x (Finite (signed negative m)) (48 + d)))) (digit_byte d h)
       ∙ ap (λ y. act (here (phase.Digits x negative m)) (48 + d) y) (digits_next x negative m d h l)
 
   digits_first : (x : Side) (negative : Bool) (d : ℕ) → d < 10 → d ≤ limit → digits limit x negative 0 (48 + d) ≡ To (phase.Digits x negative d)
@@ -65,7 +62,7 @@ module _ (limit top : ℕ) where
     plus = refl;
     minus = refl;
     letter = refl;
-    first = λ d h l. rw (digit-blank d h, digit-not d 43 h refl, digit-not d 45 h refl, digit-not d 73 h refl, digits_first x false d h l) refl;
+    first = λ d h l. rw (digit_blank d h, digit-not d 43 h refl, digit-not d 45 h refl, digit-not d 73 h refl, digits_first x false d h l) refl;
   }
 
   pub spaced_opens : (x : Bound) → Opens (side.Upper x None) (here (phase.Spaced x))
@@ -74,7 +71,7 @@ module _ (limit top : ℕ) where
     minus = refl;
     letter = refl;
     first = λ d h l.
-        rw (digit-blank d h, digit-not d 58 h refl, digit-not d 43 h refl, digit-not d 45 h refl, digit-not d 73 h refl, digits_first (side.Upper x None) false d h l) refl;
+        rw (digit_blank d h, digit-not d 58 h refl, digit-not d 43 h refl, digit-not d 45 h refl, digit-not d 73 h refl, digits_first (side.Upper x None) false d h l) refl;
   }
 
   -- the digits behind a first byte
@@ -141,12 +138,12 @@ module _ (limit top : ℕ) where
   id_next : (x : Owner) (negative : Bool) (m d : ℕ) → d < 10 → 10 * m + d ≤ top → id_digits top x negative m (48 + d) ≡ To (phase.IdDigits x negative (10 * m + d))
   id_next x negative m d h l =
       let e : (48 + d) - 48 ≡ d = omega arith in
-      rw (digit-byte d h, e, le-leb (10 * m + d) top l) refl
+      rw (digit_byte d h, e, le-leb (10 * m + d) top l) refl
 
   pub id_step : (x : Owner) (negative : Bool) (m d : ℕ) → d < 10 → 10 * m + d ≤ top
       → claim_automaton.step (here (phase.IdDigits x negative m)) (48 + d) ≡ Go (here (phase.IdDigits x negative (10 * m + d)))
   id_step x negative m d h l =
-      ap (λ y. act (here (phase.IdDigits x negative m)) (48 + d) (cond y (id_digits top x negative m (48 + d)) (cond (nat_eq m 0) Stop (after_id x (signed negative m) (48 + d))))) (digit-byte d h)
+      ap (λ y. act (here (phase.IdDigits x negative m)) (48 + d) (cond y (id_digits top x negative m (48 + d)) (cond (nat_eq m 0) Stop (after_id x (signed negative m) (48 + d))))) (digit_byte d h)
       ∙ ap (λ y. act (here (phase.IdDigits x negative m)) (48 + d) y) (id_next x negative m d h l)
 
   id_first : (x : Owner) (negative : Bool) (d : ℕ) → d < 10 → d ≤ top → id_digits top x negative 0 (48 + d) ≡ To (phase.IdDigits x negative d)
@@ -160,7 +157,7 @@ module _ (limit top : ℕ) where
   id_lead x negative s f n l = digits_lead claim_automaton (λ m. here (phase.IdDigits x negative m)) top (takes_id_digits x negative) s f n l
 
   pub first_id_step : (x : Owner) (d : ℕ) → d < 10 → d ≤ top → claim_automaton.step (here (phase.BeforeId x)) (48 + d) ≡ Go (here (phase.IdDigits x false d))
-  first_id_step x d h l = rw (digit-blank d h, digit-not d 45 h refl, id_first x false d h l) refl
+  first_id_step x d h l = rw (digit_blank d h, digit-not d 45 h refl, id_first x false d h l) refl
 
   pub signed_id_step : (x : Owner) (d : ℕ) → d < 10 → d ≤ top → claim_automaton.step (here (phase.IdSigned x)) (48 + d) ≡ Go (here (phase.IdDigits x true d))
   signed_id_step x d h l = ap (λ y. act (here (phase.IdSigned x)) (48 + d) y) (id_first x true d h l)

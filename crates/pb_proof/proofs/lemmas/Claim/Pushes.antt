@@ -6,24 +6,18 @@ use Rattle.pb_text.specs.Classes.{is_digit}
 use Rattle.pb_text.specs.Limits.{largest, top_of}
 use Rattle.pb_text.specs.declared.limits.Limits.{Limits}
 use Rattle.pb_text.proofs.Residual.{refuses}
+use Rattle.pb_text.proofs.Outcomes.{go_or_refuse, end_or_refuse}
 use Rattle.pb_sums.specs.declared.Literal.{Literal}
 use Rattle.pb_proof.specs.Line.Claim.{plan}
 use Rattle.pb_proof.specs.Line.ClaimState.{ClaimState, claim_automaton, claim_first, giving, act, over, asks, is_in_number, IsClaimInOrder}
 use Rattle.pb_proof.specs.Line.Literals.{LiteralsState, literals_automaton}
-use Rattle.pb_proof.specs.declared.conclusion.Conclusion.{Conclusion}
 use Rattle.pb_proof.specs.declared.line.claim.phase.Showing.{Showing}
 use Rattle.pb_proof.specs.declared.line.claim.phase.Phase.TheVariants as phase
 use Rattle.pb_proof.specs.declared.line.claim.phase.Move.{Move}
 use Rattle.pb_proof.specs.declared.line.claim.phase.Move.TheVariants.{Give}
 use Rattle.pb_proof.proofs.lemmas.Claim.Steps.{goes, give_phase, idle_order}
 use Rattle.pb_proof.proofs.lemmas.Claim.Theorems.{claim_of_one}
-use Rattle.pb_proof.proofs.lemmas.Line.One.{admits}
-
-refuse_go : (s : ClaimState) → ◌≡◌ {A = Next ClaimState Conclusion} (Go s) Refuse → ⊥
-refuse_go s h = cc
-
-refuse_end : (s : ClaimState) (c : Conclusion) → ◌≡◌ {A = Next ClaimState Conclusion} (End c s) Refuse → ⊥
-refuse_end s c h = cc
+use Rattle.pb_text.proofs.OneText.{admits}
 
 module _ (s : ClaimState) (h : IsClaimInOrder s) (b : ℕ) (x : Showing) (planned : plan s.limit s.top s.phase b ≡ Give x) where
   given : (n : Next LiteralsState (List Literal)) → literals_automaton.step s.literals b ≡ n → claim_automaton.step s b ≡ over s x n
@@ -36,8 +30,8 @@ module _ (s : ClaimState) (h : IsClaimInOrder s) (b : ℕ) (x : Showing) (planne
   give_refused e = (given Refuse e, ap (λ q. is_in_number s q && is_digit b) (give_phase s b x planned))
 
   taken : (n : Next LiteralsState (List Literal)) → literals_automaton.step s.literals b ≡ n → Admits literals_automaton s.literals b → over s x n ≡ Refuse → ⊥
-  taken (Go inner) e a i = refuse_go _ i
-  taken (End ls inner) e a i = refuse_end _ _ i
+  taken (Go inner) e a i = go_or_refuse _ i
+  taken (End ls inner) e a i = end_or_refuse _ _ i
   taken Refuse e a i = refuses literals_automaton s.literals s.literals b e a.0 a.1 (a.2, a.3)
 
   pub give_admits : IsTrue (literals_automaton.asks s.literals b) → Admits literals_automaton s.literals b → IsTrue (claim_automaton.asks s b) × Admits claim_automaton s b

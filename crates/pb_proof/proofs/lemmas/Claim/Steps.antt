@@ -1,7 +1,6 @@
 -- What a machine of claims keeps from byte to byte.
 use Rattle.std.proofs.Common.{◌≡◌, ℕ, ◌+◌, ◌-◌, ◌*◌, ◌^◌, ◌<◌, ◌≤◌, Bool, true, false, cond, ◌&&◌, nat_eq, nat_le, length, refl, sym, ap, subst, arith}
-use Rattle.std.proofs.lemmas.Bool.{leb-true, false≢true}
-use Rattle.std.proofs.lemmas.Bool.Decides.{nat_tests}
+use Rattle.std.proofs.lemmas.Bool.{leb-true, false≢true, cond_both, and_parts}
 use Rattle.std.specs.Prelude.{ℤ, Some, None, slice_index, List}
 use Rattle.pb_text.specs.Automaton.{Next, Go, End, Refuse}
 use Rattle.pb_text.specs.Classes.{is_blank, is_digit}
@@ -28,8 +27,8 @@ use Rattle.pb_proof.specs.declared.line.claim.phase.Phase.{Phase}
 use Rattle.pb_proof.specs.declared.line.claim.phase.Phase.TheVariants as phase
 use Rattle.pb_proof.specs.declared.line.claim.phase.Move.{Move}
 use Rattle.pb_proof.specs.declared.line.claim.phase.Move.TheVariants.{To, Finish, Give, Stop}
-use Rattle.pb_proof.proofs.lemmas.Claim.Bytes.{chosen, both}
 use Rattle.pb_proof.proofs.lemmas.Literals.Theorems.{literals_of_one}
+use Rattle.pb_proof.proofs.lemmas.NumberTests.{further}
 
 abbrev N : Type 0
 N = Next ClaimState Conclusion
@@ -52,20 +51,20 @@ module _ (s : ClaimState) (p : Phase) where
   on_cond false x y h k = k
 
   on_digits : (x : Side) (negative : Bool) (n b : ℕ) → On (digits s.limit x negative n b)
-  on_digits x negative n b = chosen On (is_digit b && nat_le (10 * n + (b - 48)) s.limit) _ Stop
-      (λ e. (refl, λ f. leb-true (10 * n + (b - 48)) s.limit (both (is_digit b) (nat_le (10 * n + (b - 48)) s.limit) e).1))
+  on_digits x negative n b = cond_both (is_digit b && nat_le (10 * n + (b - 48)) s.limit) _ Stop On
+      (λ e. (refl, λ f. leb-true (10 * n + (b - 48)) s.limit (and_parts (is_digit b) (nat_le (10 * n + (b - 48)) s.limit) e).1))
       (λ e. tt)
 
   on_id_digits : (x : Owner) (negative : Bool) (n b : ℕ) → On (id_digits s.top x negative n b)
-  on_id_digits x negative n b = chosen On (is_digit b && nat_le (10 * n + (b - 48)) s.top) _ Stop
-      (λ e. (refl, λ f. leb-true (10 * n + (b - 48)) s.top (both (is_digit b) (nat_le (10 * n + (b - 48)) s.top) e).1))
+  on_id_digits x negative n b = cond_both (is_digit b && nat_le (10 * n + (b - 48)) s.top) _ Stop On
+      (λ e. (refl, λ f. leb-true (10 * n + (b - 48)) s.top (and_parts (is_digit b) (nat_le (10 * n + (b - 48)) s.top) e).1))
       (λ e. tt)
 
   -- a byte of a word
   on_spell : (w : List ℕ) (k b : ℕ) (more whole : Phase) → IsNext s p whole → (nat_eq (k + 1) (length w) ≡ false → IsNext s p more) → On (spell w k b more whole)
   on_spell w k b more whole h i =
       on_cond (nat_eq b (slice_index w k)) _ Stop
-      (chosen (λ q. On (To q)) (nat_eq (k + 1) (length w)) whole more (λ e. h) i) tt
+      (cond_both (nat_eq (k + 1) (length w)) whole more (λ q. On (To q)) (λ e. h) i) tt
 
   on_begin : (x : Side) (b : ℕ) → On (begin_bound s.limit x b)
   on_begin x b =
@@ -105,9 +104,6 @@ module _ (s : ClaimState) (p : Phase) where
       (on_cond (nat_eq b 85) (To (phase.Word word.Unsat 1)) _ (refl, λ f. omega arith)
       (on_cond (nat_eq b 83) (To (phase.Word word.Sat 1)) _ (refl, λ f. omega arith)
       (on_cond (nat_eq b 66) (To (phase.Word word.Bounds 1)) Stop (refl, λ f. omega arith) tt)))
-
-further : (k size : ℕ) → k < size → nat_eq (k + 1) size ≡ false → k + 1 < size
-further k size i g = grind (arith, nat_tests)
 
 -- the plan of each phase
 module _ (s : ClaimState) where

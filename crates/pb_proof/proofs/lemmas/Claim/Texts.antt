@@ -1,11 +1,9 @@
 -- The texts of claims, part by part.
-use Rattle.std.proofs.Common.{◌≡◌, ℕ, ◌+◌, ◌<◌, true, false, List, [], ◌∷◌, ◌++◌, length, take, refl, sym, ap, subst, arith, ◌∙◌, add-one}
-use Rattle.std.proofs.Math.Seq.{take-suc}
-use Rattle.std.proofs.lemmas.List.{take_all}
-use Rattle.std.specs.Prelude.{ℤ, Option, Some, None, slice_index}
-use Rattle.pb_text.specs.Languages.{unmarked, Language, ◌⋅◌, Empty, Byte, Bytes, Blanks0, Blanks1}
-use Rattle.pb_text.specs.Spelling.{Letter, plain}
-use Rattle.pb_text.proofs.Languages.{map-append, none_yet, regroup, regroup⁻¹, inside, behind_it}
+use Rattle.std.proofs.Common.{ℕ, true, List, [], ◌∷◌, refl}
+use Rattle.std.specs.Prelude.{ℤ, Option, Some, None}
+use Rattle.pb_text.specs.Languages.{Language, ◌⋅◌, Empty, Byte, Bytes, Blanks0, Blanks1}
+use Rattle.pb_text.specs.Spelling.{Letter}
+use Rattle.pb_text.proofs.Languages.{none_yet, regroup, regroup⁻¹, inside, behind_it}
 use Rattle.pb_sums.specs.Sums.{SpellsLiteral}
 use Rattle.pb_sums.specs.declared.Literal.{Literal}
 use Rattle.pb_proof.specs.Lines.{none_word, unsat_word, sat_word, bounds_word, LineEnd, Listed, SpellsId, SpellsBound, SpellsShown, IdShown, SpellsConclusion, SpellsClaim}
@@ -20,19 +18,6 @@ use Rattle.pb_proof.specs.declared.line.claim.phase.Showing.{Showing}
 use Rattle.pb_proof.specs.declared.line.claim.phase.Showing.TheVariants as showing
 use Rattle.pb_proof.specs.declared.line.claim.phase.Claim.{Claim}
 use Rattle.pb_proof.specs.declared.line.claim.phase.Claim.TheVariants as claim
-use Rattle.pb_proof.proofs.lemmas.Claim.Bytes.{as_unmarked}
-
--- a front of a word, and its next byte
-bytes_grown : (bs : List ℕ) (b : ℕ) (l : Letter) → l.numeral ≡ false → l.byte ≡ b → (q : List Letter) → Bytes bs q → Bytes (bs ++ b ∷ []) (q ++ l ∷ [])
-bytes_grown bs b l m e q h = ap (λ x. x ++ l ∷ []) h ∙ (ap (λ x. plain bs ++ x ∷ []) (as_unmarked l b m e) ∙ map-append unmarked bs b)
-
-pub word_grown : (w : List ℕ) (j : ℕ) (l : Letter) → j < length w → l.numeral ≡ false → l.byte ≡ slice_index w j → (q : List Letter)
-    → Bytes (take j w) q → Bytes (take (j + 1) w) (q ++ l ∷ [])
-word_grown w j l h m e q r =
-    subst (λ x. Bytes x (q ++ l ∷ [])) (sym (take-suc w j 0 h) ∙ ap (λ k. take k w) (sym (add-one j))) (bytes_grown (take j w) (slice_index w j) l m e q r)
-
-pub word_whole : (w : List ℕ) (j : ℕ) (q : List Letter) → j ≡ length w → Bytes (take j w) q → Bytes w q
-word_whole w j q h r = subst (λ x. Bytes x q) (take_all j w (omega arith)) r
 
 -- one part less before the last one
 pub within_last : (B P Q : Language) (R : Language) (p : List Letter) → ((q : List Letter) → P q → (B ⋅ Q) q) → (P ⋅ R) p → (B ⋅ (Q ⋅ R)) p

@@ -32,13 +32,14 @@ use Rattle.pb_proof.proofs.lemmas.Claim.Parts.{before_opens, spaced_opens, infin
 use Rattle.pb_proof.proofs.lemmas.Claim.Steps.{goes, ends, not_done, done_stops, no_number, nothing_spent}
 use Rattle.pb_proof.proofs.lemmas.Claim.Walk.{at, word_left, word_leads, id_steps}
 use Rattle.pb_proof.proofs.lemmas.Literals.Theorems.{literals_of_one}
-use Rattle.pb_proof.proofs.lemmas.Line.One.{IsOfOne, ReadsSome, reads_last, is_state}
+use Rattle.pb_text.proofs.OneText.{IsOfOne, reads_last, is_state}
+use Rattle.pb_text.proofs.Living.{ReadsOn, reads_before}
 
 abbrev last : ClaimState → ClaimState
 last s = claim_last s.limit s.top
 
 abbrev SomeText : ClaimState → Type 0
-SomeText s = ReadsSome claim_automaton IsClaimInOrder last s
+SomeText s = ReadsOn claim_automaton s
 
 module _ (limit top : ℕ) where
   abbrev here : Phase → ClaimState
@@ -49,7 +50,7 @@ module _ (limit top : ℕ) where
   in_front t s new w (u, e, after, r) = (t ++ u, e, after, reads_behind claim_automaton t u s new after e w r)
 
   one_front : (b : ℕ) (p q : Phase) → claim_automaton.step (here p) b ≡ Go (here q) → is_within q ≡ true → SomeText (here q) → SomeText (here p)
-  one_front b p q g i h = in_front (record { byte = b; numeral = claim_automaton.in_number (here q) } ∷ []) (here p) (here q) (here q, g, i, refl, refl) h
+  one_front b p q g i h = reads_before claim_automaton (here p) (here q) b g i h
 
   behind_text : (c : Claim) → SomeText (here (phase.Behind c))
   behind_text c = (unmarked 10 ∷ [], claim_value c, claim_last limit top, (refl, refl))

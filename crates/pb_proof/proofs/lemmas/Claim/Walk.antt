@@ -4,12 +4,14 @@ use Rattle.std.proofs.Math.Seq.{get_or-append_seam}
 use Rattle.std.proofs.lemmas.List.{length-take-le, append-nil}
 use Rattle.std.proofs.lemmas.Bool.Decides.{nat_tests}
 use Rattle.std.specs.Prelude.{IsTrue, Some, None, nat_eq, slice_index}
+use Rattle.std.proofs.lemmas.Bool.{eq-eqb}
 use Rattle.pb_text.specs.Automaton.{Go}
 use Rattle.pb_text.specs.Classes.{is_blank, is_digit}
 use Rattle.pb_text.specs.Languages.{Language, ◌⋅◌, Bytes}
 use Rattle.pb_text.specs.Numbers.{signed}
 use Rattle.pb_text.specs.Spelling.{Letter, plain}
 use Rattle.pb_text.proofs.Walking.{Walks, Leads, walks_then}
+use Rattle.pb_text.proofs.ByteTests.{blank_digit}
 use Rattle.pb_proof.specs.Line.Claim.{word_of, behind_word, behind_bound, spell, digits, colon, behind, between, after_bound, after_id, plan, is_within}
 use Rattle.pb_proof.specs.Line.ClaimState.{ClaimState, claim_automaton, claim_at, claim_last, claim_value, act}
 use Rattle.pb_proof.specs.declared.conclusion.Bound.{Bound}
@@ -27,11 +29,8 @@ use Rattle.pb_proof.specs.declared.line.claim.phase.Phase.{Phase}
 use Rattle.pb_proof.specs.declared.line.claim.phase.Phase.TheVariants as phase
 use Rattle.pb_proof.specs.declared.line.claim.phase.Move.{Move}
 use Rattle.pb_proof.specs.declared.line.claim.phase.Move.TheVariants.{To}
-use Rattle.pb_proof.proofs.lemmas.Claim.Bytes.{blank-digit}
 use Rattle.pb_proof.proofs.lemmas.Line.Ends.{TakesBlanks, MayEnd}
-
-nat-same : (b : ℕ) → nat_eq b b ≡ true
-nat-same b = grind (arith, nat_tests)
+use Rattle.pb_proof.proofs.lemmas.NumberTests.{not_zero}
 
 module _ (limit top : ℕ) where
   abbrev pub at : Phase → ClaimState
@@ -65,12 +64,12 @@ module _ (limit top : ℕ) where
       → spell w (length front) b more whole ≡ To (cond x whole more)
   spell_next w front left b more whole x e f =
       let g : slice_index w (length front) ≡ b = ap (λ y. slice_index y (length front)) e ∙ get_or-append_seam front b left 0 in
-      rw (g, nat-same b, f) refl
+      rw (g, eq-eqb b b refl, f) refl
 
   spelled : (w : List ℕ) (more : ℕ → Phase) (whole : Phase) → Spelled w more whole → (front left : List ℕ) (b : ℕ) → w ≡ front ++ b ∷ left
       → Walks claim_automaton (at (more (length front))) (plain (b ∷ left)) (at whole)
   spelled w more whole h front [] b e =
-      let n : nat_eq (length front + 1) (length w) ≡ true = ap (λ x. nat_eq (length front + 1) (length x)) e ∙ (ap (λ x. nat_eq (length front + 1) x) (length-append front (b ∷ [])) ∙ nat-same (length front + 1)) in (
+      let n : nat_eq (length front + 1) (length w) ≡ true = ap (λ x. nat_eq (length front + 1) (length x)) e ∙ (ap (λ x. nat_eq (length front + 1) x) (length-append front (b ∷ [])) ∙ eq-eqb (length front + 1) (length front + 1) refl) in (
         at whole,
         ap (λ x. act (at (more (length front))) b x) (h.planned (length front) b ∙ spell_next w front [] b (more (length front + 1)) whole true e n),
         h.within_whole,
@@ -142,7 +141,7 @@ module _ (limit top : ℕ) where
   Follows p s = (b : ℕ) → is_digit b ≡ false → claim_automaton.step s b ≡ claim_automaton.step (at p) b
 
   pub follows_blanks : (p q : Phase) (s : ClaimState) → TakesBlanks claim_automaton (at p) (at q) → Follows p s → TakesBlanks claim_automaton s (at q)
-  follows_blanks p q s h f = record { enters = λ b i. f b (blank-digit b i) ∙ h.enters b i; stays = h.stays; begun = h.begun; plain = h.plain }
+  follows_blanks p q s h f = record { enters = λ b i. f b (blank_digit b i) ∙ h.enters b i; stays = h.stays; begun = h.begun; plain = h.plain }
 
   pub behind_blanks_of : (c : Claim) → TakesBlanks claim_automaton (at (phase.Behind c)) (at (phase.Behind c))
   behind_blanks_of c = blanks_behind (phase.Behind c) (phase.Behind c) (λ b h. rw h refl) (λ b h. rw h refl) refl refl
@@ -193,9 +192,6 @@ module _ (limit top : ℕ) where
   number_follows x negative n b e =
       ap (λ y. act (at (phase.Digits x negative n)) b (cond y (digits limit x negative n b) (after_bound x (Finite (signed negative n)) b))) e
       ∙ act_after_bound (phase.Digits x negative n) b x (Finite (signed negative n))
-
-  pub not_zero : (n : ℕ) → 0 < n → nat_eq n 0 ≡ false
-  not_zero n h = grind (arith, nat_tests)
 
   pub id_steps : (x : Owner) (negative : Bool) (n b : ℕ) → 0 < n → is_digit b ≡ false
       → claim_automaton.step (at (phase.IdDigits x negative n)) b ≡ act (at (phase.IdDigits x negative n)) b (after_id x (signed negative n) b)

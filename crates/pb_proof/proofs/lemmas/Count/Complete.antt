@@ -13,7 +13,7 @@ use Rattle.pb_proof.specs.Line.Count.{at, count_automaton, counting, count_last,
 use Rattle.pb_proof.specs.declared.line.byte_kind.NumberByte.TheVariants.{Blank, Digit}
 use Rattle.pb_proof.specs.declared.line.count.phase.CountPhase.{CountPhase}
 use Rattle.pb_proof.specs.declared.line.count.phase.CountPhase.TheVariants.{Start, Gap, Digits, Tail, Closing}
-use Rattle.pb_proof.proofs.lemmas.DigitWalks.{TakesDigits, digits_lead}
+use Rattle.pb_text.proofs.DigitWalks.{TakesDigits, digits_lead}
 use Rattle.pb_proof.proofs.lemmas.Line.ByteKinds.{number_blank, number_digit}
 use Rattle.pb_proof.proofs.lemmas.Line.Ends.{TakesBlanks, Feeds, MayEnd, blanks1_lead, line_reads}
 

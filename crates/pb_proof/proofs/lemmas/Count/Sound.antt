@@ -1,15 +1,16 @@
 -- What a machine of counts has read in each of its states.
-use Rattle.std.proofs.Common.{◌≡◌, ℕ, ◌+◌, ◌*◌, ◌≤◌, Bool, true, false, cond, List, [], ◌∷◌, ◌++◌, refl, sym, subst, ◌∙◌}
-use Rattle.std.proofs.lemmas.Bool.{leb-true}
+use Rattle.std.proofs.Common.{◌≡◌, ℕ, ◌+◌, ◌*◌, ◌≤◌, true, false, List, [], ◌∷◌, ◌++◌, refl, ◌∙◌}
+use Rattle.std.proofs.lemmas.Bool.{leb-true, cond_both}
 use Rattle.std.specs.Prelude.{IsTrue, nat_le, Option, Some, None}
-use Rattle.pb_text.proofs.Languages.{grown, next, some-one, some-grown, some-many, none_yet, behind_it, nil_first}
+use Rattle.pb_text.proofs.Languages.{grown, next, behind_it, nil_first}
 use Rattle.pb_text.proofs.Numbers.{digits-grown, digits-one}
 use Rattle.pb_text.specs.Automaton.{Next}
 use Rattle.pb_text.specs.Classes.{is_blank}
-use Rattle.pb_text.specs.Languages.{Language, ◌⋅◌, Empty, Blanks0, Blanks1}
+use Rattle.pb_text.specs.Languages.{Language, ◌⋅◌, Empty, Blanks1}
 use Rattle.pb_text.specs.Numbers.{Digits as DigitsOf, Count}
 use Rattle.pb_text.specs.Spelling.{Letter}
 use Rattle.pb_text.proofs.Walking.{On, Keeps}
+use Rattle.pb_text.proofs.Letters.{as_digit}
 use Rattle.pb_proof.specs.Lines.{LineEnd, SpellsCount}
 use Rattle.pb_proof.specs.Line.Count.{CountState, count_automaton, act, plan, digits, behind, is_in_number}
 use Rattle.pb_proof.specs.Line.ByteKind.{number_byte}
@@ -17,9 +18,8 @@ use Rattle.pb_proof.specs.declared.line.byte_kind.NumberByte.{NumberByte}
 use Rattle.pb_proof.specs.declared.line.byte_kind.NumberByte.TheVariants.{Blank, Digit, Semicolon, Feed}
 use Rattle.pb_proof.specs.declared.line.count.phase.CountPhase.{CountPhase}
 use Rattle.pb_proof.specs.declared.line.count.phase.CountPhase.TheVariants.{Start, Gap, Digits, Tail, Closing, Done}
-use Rattle.pb_proof.specs.declared.line.count.phase.CountMove.{CountMove}
 use Rattle.pb_proof.specs.declared.line.count.phase.CountMove.TheVariants.{To, Stop}
-use Rattle.pb_proof.proofs.lemmas.Line.ByteKinds.{NumberMeans, number_means, as_digit}
+use Rattle.pb_proof.proofs.lemmas.Line.ByteKinds.{NumberMeans, number_means}
 use Rattle.pb_proof.proofs.lemmas.Line.Ends as ends
 
 module _ (top : ℕ) where
@@ -50,13 +50,9 @@ module _ (limit top : ℕ) where
   whole None q h = nil_first LineEnd q h
   whole (Some n) q h = h
 
-  on_test : (b : Bool) (m : CountMove) (l : Letter) (q : List Letter) → (b ≡ true → OnNext (act top m) l q) → OnNext (act top (cond b m Stop)) l q
-  on_test true m l q h = h refl
-  on_test false m l q h = tt
-
   digits_sound : (n d : ℕ) (l : Letter) (q : List Letter) → (l.numeral ≡ true → (Blanks1 ⋅ DigitsOf (10 * n + d)) q) → OnNext (act top (digits top n d)) l q
   digits_sound n d l q h =
-      on_test (nat_le (10 * n + d) top) (To (Digits (10 * n + d))) l q (λ e _ i. (leb-true (10 * n + d) top e, h i))
+      cond_both (nat_le (10 * n + d) top) (To (Digits (10 * n + d))) Stop (λ m. OnNext (act top m) l q) (λ e _ i. (leb-true (10 * n + d) top e, h i)) (λ _. tt)
 
   behind_sound : (count : Option ℕ) (gap : CountPhase) (k : NumberByte) (l : Letter) (p : List Letter) → is_in_number gap ≡ false → NumberMeans k l.byte
       → ends.Gapped (body top count) p → (IsTrue (is_blank l.byte) → l.numeral ≡ false → front top gap (p ++ l ∷ [])) → OnNext (act top (behind count gap k)) l (p ++ l ∷ [])
@@ -65,29 +61,23 @@ module _ (limit top : ℕ) where
   behind_sound count gap Feed l p i m h f = λ n. whole count (p ++ l ∷ []) (ends.line_behind_blanks (body top count) l p m n h)
   behind_sound count gap _ l p i m h f = tt
 
-  gapped : (P : Language) (p : List Letter) → P p → ends.Gapped P p
-  gapped P p h = none_yet P Blanks0 p ([], tt, refl) h
-
   -- digits that are whole
   counted : (n : ℕ) (p : List Letter) → n ≤ top → (Blanks1 ⋅ DigitsOf n) p → body top (Some n) p
   counted n p l h = behind_it Blanks1 (DigitsOf n) (Count top n) p (λ q k. (l, k)) h
 
-  abbrev IsBlank : ℕ → Type 0
-  IsBlank = λ b. IsTrue (is_blank b)
-
   sound : (ph : CountPhase) (k : NumberByte) (l : Letter) (p : List Letter) → NumberMeans k l.byte → front top ph p → OnNext (act top (plan top ph k)) l (p ++ l ∷ [])
   sound Start k l p m h =
-      behind_sound None Gap k l p refl m (gapped Empty p h)
-      (λ b n. subst (λ x. Blanks1 (x ++ l ∷ [])) (sym h) (some-one IsBlank l.byte l (ends.as_unmarked l l.byte refl n) b))
+      behind_sound None Gap k l p refl m (ends.gapped Empty p h)
+      (λ b n. ends.first_blank l p b n h)
   sound Gap (Digit d) l p m h =
       digits_sound 0 d l (p ++ l ∷ []) (λ n. next Blanks1 (DigitsOf (10 * 0 + d)) p l h (digits-one d l (as_digit l d m.0 n) m.1))
   sound Gap k l p m h =
-      behind_sound None Gap k l p refl m ([], p, refl, refl, some-many IsBlank p h)
-      (λ b n. some-grown IsBlank l.byte l (ends.as_unmarked l l.byte refl n) b p h)
+      behind_sound None Gap k l p refl m (ends.gapped_some Empty p ([], p, refl, refl, h))
+      (λ b n. ends.further_blank l p b n h)
   sound (Digits n) (Digit d) l p m h =
       digits_sound n d l (p ++ l ∷ []) (λ i. grown Blanks1 (DigitsOf n) (DigitsOf (10 * n + d)) p l (digits-grown n d l (as_digit l d m.0 i) m.1) h.1)
   sound (Digits n) k l p m h =
-      behind_sound (Some n) (Tail n) k l p refl m (gapped (body top (Some n)) p (counted n p h.0 h.1))
+      behind_sound (Some n) (Tail n) k l p refl m (ends.gapped (body top (Some n)) p (counted n p h.0 h.1))
       (λ b i. ends.blank_behind (body top (Some n)) l p b i (counted n p h.0 h.1))
   sound (Tail n) k l p m h = behind_sound (Some n) (Tail n) k l p refl m h (λ b i. ends.blank_more (body top (Some n)) l p b i h)
   sound (Closing count) Blank l p m h = λ _ n. ends.blank_closing (body top count) l p m n h

@@ -1,11 +1,12 @@
 -- The laws of the machine of counts.
-use Rattle.std.proofs.Common.{◌≡◌, ℕ, ◌+◌, ◌*◌, ◌^◌, ◌<◌, Bool, true, false, cond, List, [], ◌∷◌, refl, sym, ap, subst, arith, ◌↔◌}
-use Rattle.std.proofs.lemmas.Bool.{leb-true}
+use Rattle.std.proofs.Common.{◌≡◌, ℕ, ◌+◌, ◌*◌, ◌^◌, ◌<◌, true, false, List, [], ◌∷◌, refl, sym, ap, subst, arith, ◌↔◌}
+use Rattle.std.proofs.lemmas.Bool.{leb-true, cond_both}
 use Rattle.std.specs.Prelude.{nat_le, Option, Some, None}
 use Rattle.pb_text.specs.Automaton.{Next, Go, End, Refuse, Reads, IsState}
 use Rattle.pb_text.specs.Languages.{unmarked}
 use Rattle.pb_text.specs.Spelling.{Letter}
 use Rattle.pb_text.proofs.Walking.{told}
+use Rattle.pb_text.proofs.Outcomes.{one_state}
 use Rattle.pb_proof.specs.Lines.{SpellsCount}
 use Rattle.pb_proof.specs.Line.Count.{CountState, at, count_automaton, counting, count_last, act, plan, digits, behind, is_midway, is_done, PhaseFits, MoveFits, IsCountInOrder}
 use Rattle.pb_proof.specs.Line.ByteKind.{number_byte}
@@ -17,18 +18,15 @@ use Rattle.pb_proof.specs.declared.line.count.phase.CountMove.{CountMove}
 use Rattle.pb_proof.specs.declared.line.count.phase.CountMove as move
 use Rattle.pb_proof.proofs.lemmas.Count.Complete.{reads_each}
 use Rattle.pb_proof.proofs.lemmas.Count.Sound.{Front, Whole, keeps_front}
-use Rattle.pb_proof.proofs.lemmas.Line.One.{IsOfOne, ReadsSome, reads_last, is_state}
+use Rattle.pb_text.proofs.OneText.{IsOfOne, reads_last, is_state}
+use Rattle.pb_text.proofs.Living.{ReadsOn}
 
 abbrev N : Type 0
 N = Next CountState (Option ℕ)
 
 -- What the plan leads to is midway, and a count in hand is at most top.
 digits_fit : (top n d : ℕ) → MoveFits top (digits top n d)
-digits_fit top n d = by_test (nat_le (10 * n + d) top) (λ e. (leb-true (10 * n + d) top e, refl))
-  where
-    by_test : (b : Bool) → (b ≡ true → MoveFits top (move.TheVariants.To (Digits (10 * n + d)))) → MoveFits top (cond b (move.TheVariants.To (Digits (10 * n + d))) move.TheVariants.Stop)
-    by_test true h = h refl
-    by_test false h = tt
+digits_fit top n d = cond_both (nat_le (10 * n + d) top) _ _ (MoveFits top) (λ e. (leb-true (10 * n + d) top e, refl)) (λ _. tt)
 
 behind_fits : (top : ℕ) (count : Option ℕ) (gap : CountPhase) (k : NumberByte) → PhaseFits top gap → is_midway gap ≡ true → MoveFits top (behind count gap k)
 behind_fits top count gap Blank f h = (f, h)
@@ -46,9 +44,6 @@ plan_fits top (Closing count) Blank = (tt, refl)
 plan_fits top (Closing count) Feed = tt
 plan_fits _ _ _ = tt
 
-same : (s t : CountState) → ◌≡◌ {A = N} (Go s) (Go t) → s ≡ t
-same s t e = cc
-
 -- A step that goes on keeps what it has begun.
 record Steps (top : ℕ) (next : CountState) : Type 0 where
   same_top : next.top ≡ top
@@ -57,7 +52,7 @@ record Steps (top : ℕ) (next : CountState) : Type 0 where
 
 acted : (top : ℕ) (m : CountMove) (next : CountState) → MoveFits top m → act top m ≡ Go next → Steps top next
 acted top (move.TheVariants.To p) next h e =
-    subst (λ x. Steps top x) (same (at top p) next e) (record { same_top = refl; fits = h.0; midway = h.1 })
+    subst (λ x. Steps top x) (one_state (at top p) next e) (record { same_top = refl; fits = h.0; midway = h.1 })
 acted top (move.TheVariants.End count) next h e = cc
 acted top move.TheVariants.Stop next h e = cc
 
@@ -90,7 +85,7 @@ plain (Digits n) h = h
 plain _ h = refl
 
 -- the line feed ends each state
-some_text : (top : ℕ) (ph : CountPhase) → is_done ph ≡ false → ReadsSome count_automaton IsCountInOrder last (at top ph)
+some_text : (top : ℕ) (ph : CountPhase) → is_done ph ≡ false → ReadsOn count_automaton (at top ph)
 some_text top Start h = (unmarked 10 ∷ [], None, count_last top, (refl, refl))
 some_text top Gap h = (unmarked 10 ∷ [], None, count_last top, (refl, refl))
 some_text top (Digits n) h = (unmarked 10 ∷ [], Some n, count_last top, (refl, refl))

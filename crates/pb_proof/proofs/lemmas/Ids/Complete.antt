@@ -1,7 +1,6 @@
 -- A machine of ids reads each text of its grammar.
 use Rattle.std.proofs.Common.{◌≡◌, ℕ, ◌+◌, ◌*◌, ◌<◌, ◌≤◌, Bool, true, false, cond, List, [], ◌∷◌, ◌++◌, refl, sym, ap, subst, arith, append_assoc, ◌∙◌}
 use Rattle.std.proofs.lemmas.Bool.{le-leb}
-use Rattle.std.proofs.lemmas.Bool.Decides.{nat_tests}
 use Rattle.std.specs.Prelude.{IsTrue, ℤ, nat_eq}
 use Rattle.pb_text.specs.Automaton.{Go, End, Reads}
 use Rattle.pb_text.specs.Classes.{is_blank}
@@ -18,9 +17,10 @@ use Rattle.pb_proof.specs.declared.line.ids.phase.IdsPhase.{IdsPhase}
 use Rattle.pb_proof.specs.declared.line.ids.phase.IdsPhase.TheVariants.{Gap, Between, Minus, Digits, Closing}
 use Rattle.pb_proof.specs.declared.line.ids.phase.IdsMove.{IdsMove}
 use Rattle.pb_proof.specs.declared.line.ids.phase.IdsMove.TheVariants as move
-use Rattle.pb_proof.proofs.lemmas.DigitWalks.{TakesDigits, digits_lead}
+use Rattle.pb_text.proofs.DigitWalks.{TakesDigits, digits_lead}
 use Rattle.pb_proof.proofs.lemmas.Line.ByteKinds.{number_blank, number_digit}
 use Rattle.pb_proof.proofs.lemmas.Line.Ends.{TakesBlanks, MayEnd, blanks1_lead, line_reads, listed_walks}
+use Rattle.pb_proof.proofs.lemmas.NumberTests.{not_zero}
 
 module _ (limit top : ℕ) where
   abbrev S : Type 0
@@ -46,9 +46,6 @@ module _ (limit top : ℕ) where
     pub blank : (b : ℕ) → IsTrue (is_blank b) → ids_automaton.step s b ≡ Go (at ids Between)
     pub semicolon : ids_automaton.step s 59 ≡ Go (at ids Closing)
     pub feed : ids_automaton.step s 10 ≡ End ids last
-
-  not_zero : (n : ℕ) → 0 < n → nat_eq n 0 ≡ false
-  not_zero n h = grind (arith, nat_tests)
 
   whole_id : (ids : List ℤ) (negative : Bool) (n : ℕ) (k : NumberByte) (m : IdsMove) → 0 < n → m ≡ cond (nat_eq n 0) move.Stop (behind (signed negative n) k)
       → act top ids m ≡ act top ids (behind (signed negative n) k)

@@ -1,25 +1,21 @@
 -- A push of a machine of ids does what was planned.
-use Rattle.std.proofs.Common.{◌≡◌, ℕ, ◌<◌, ◌^◌, Bool, true, false, List, sym, ap, ◌∙◌}
+use Rattle.std.proofs.Common.{◌≡◌, ℕ, ◌<◌, ◌^◌, true, List, sym, ap, ◌∙◌}
 use Rattle.std.specs.Prelude.{IsTrue, ℤ}
-use Rattle.pb_text.specs.Automaton.{Next, Go, End, Refuse, Admits, IsState}
-use Rattle.pb_proof.specs.Line.Ids.{IdsState, ids_automaton, ids_at, act, plan, keeps, is_midway, PhaseFits, IsIdsInOrder}
+use Rattle.pb_text.specs.Automaton.{Refuse, Admits, IsState}
+use Rattle.pb_text.proofs.Outcomes.{go_or_refuse, end_or_refuse}
+use Rattle.pb_text.proofs.Booleans.{never}
+use Rattle.pb_proof.specs.Line.Ids.{ids_automaton, ids_at, act, plan, keeps, is_midway, PhaseFits, IsIdsInOrder}
 use Rattle.pb_proof.specs.Line.ByteKind.{number_byte}
 use Rattle.pb_proof.specs.declared.line.byte_kind.NumberByte.{NumberByte}
 use Rattle.pb_proof.specs.declared.line.ids.phase.IdsPhase.{IdsPhase}
 use Rattle.pb_proof.specs.declared.line.ids.phase.IdsMove.{IdsMove}
 use Rattle.pb_proof.specs.declared.line.ids.phase.IdsMove.TheVariants as move
 use Rattle.pb_proof.proofs.lemmas.Ids.Theorems.{ids_of_one, ids_is_state}
-use Rattle.pb_proof.proofs.lemmas.Line.One.{admits}
-
-refuse_go : (s : IdsState) → ◌≡◌ {A = Next IdsState (List ℤ)} (Go s) Refuse → ⊥
-refuse_go s h = cc
-
-refuse_end : (s : IdsState) (e : List ℤ) → ◌≡◌ {A = Next IdsState (List ℤ)} (End e s) Refuse → ⊥
-refuse_end s e h = cc
+use Rattle.pb_text.proofs.OneText.{admits}
 
 kept_acts : (top : ℕ) (ids : List ℤ) (m : IdsMove) → keeps m ≡ true → act top ids m ≡ Refuse → ⊥
-kept_acts top ids (move.Keep p id) h e = refuse_go _ e
-kept_acts top ids (move.EndWith id) h e = refuse_end _ _ e
+kept_acts top ids (move.Keep p id) h e = go_or_refuse _ e
+kept_acts top ids (move.EndWith id) h e = end_or_refuse _ _ e
 kept_acts top ids (move.To p) h e = cc
 kept_acts top ids move.End h e = cc
 kept_acts top ids move.Stop h e = cc
@@ -38,7 +34,4 @@ wants top ids p b k m o f g h =
 
 -- a state on the way through the ids
 pub midway_state : (top : ℕ) (ids : List ℤ) (p : IdsPhase) → top < 2 ^ 63 → 0 < top → PhaseFits top p → is_midway p ≡ true → IsState ids_automaton (ids_at top ids p)
-midway_state top ids p a b f h = ids_is_state (ids_at top ids p) (a, b, f, (λ i. absurd (never (is_midway p) h i)))
-  where
-    never : (x : Bool) → x ≡ true → x ≡ false → ⊥
-    never x e f = cc
+midway_state top ids p a b f h = ids_is_state (ids_at top ids p) (a, b, f, (λ i. never (is_midway p) h i))

@@ -1,17 +1,16 @@
 -- What a machine of ids has read in each of its states.
-use Rattle.std.proofs.Common.{◌≡◌, ℕ, ◌+◌, ◌*◌, ◌<◌, ◌≤◌, Bool, true, false, cond, List, [], ◌∷◌, ◌++◌, length, refl, sym, ap, subst, arith}
-use Rattle.std.proofs.lemmas.Bool.{leb-true}
-use Rattle.std.proofs.lemmas.Bool.Decides.{nat_tests}
+use Rattle.std.proofs.Common.{◌≡◌, ℕ, ◌+◌, ◌*◌, ◌<◌, ◌≤◌, Bool, true, false, List, [], ◌∷◌, ◌++◌, length, refl, sym, ap, subst, arith}
+use Rattle.std.proofs.lemmas.Bool.{leb-true, cond_both}
 use Rattle.std.proofs.lemmas.List.{length-append}
-use Rattle.std.specs.Prelude.{IsTrue, ℤ, nat_le, nat_eq}
-use Rattle.pb_text.proofs.Languages.{grown, next, regroup, some-one, some-grown, some-many, none_yet, behind_it}
+use Rattle.std.specs.Prelude.{ℤ, nat_le, nat_eq}
+use Rattle.pb_text.proofs.Languages.{grown, next, regroup, none_yet, behind_it}
 use Rattle.pb_text.proofs.Numbers.{digits-grown, digits-one}
 use Rattle.pb_text.specs.Automaton.{Next}
-use Rattle.pb_text.specs.Classes.{is_blank}
-use Rattle.pb_text.specs.Languages.{Language, ◌⋅◌, Empty, Blanks0, Blanks1}
+use Rattle.pb_text.specs.Languages.{Language, ◌⋅◌, Empty, Blanks1}
 use Rattle.pb_text.specs.Numbers.{signed, Digits as DigitsOf}
 use Rattle.pb_text.specs.Spelling.{Letter}
 use Rattle.pb_text.proofs.Walking.{On, Keeps}
+use Rattle.pb_text.proofs.Letters.{as_unmarked, as_digit}
 use Rattle.pb_proof.specs.Lines.{Listed, SpellsId, SpellsIds, Minus as Sign}
 use Rattle.pb_proof.specs.Line.Ids.{IdsState, ids_automaton, act, plan, digits, before, behind}
 use Rattle.pb_proof.specs.Line.ByteKind.{number_byte}
@@ -19,10 +18,10 @@ use Rattle.pb_proof.specs.declared.line.byte_kind.NumberByte.{NumberByte}
 use Rattle.pb_proof.specs.declared.line.byte_kind.NumberByte.TheVariants as kind
 use Rattle.pb_proof.specs.declared.line.ids.phase.IdsPhase.{IdsPhase}
 use Rattle.pb_proof.specs.declared.line.ids.phase.IdsPhase.TheVariants.{Start, Gap, Between, Minus, Digits, Closing, Done}
-use Rattle.pb_proof.specs.declared.line.ids.phase.IdsMove.{IdsMove}
 use Rattle.pb_proof.specs.declared.line.ids.phase.IdsMove.TheVariants as move
-use Rattle.pb_proof.proofs.lemmas.Line.ByteKinds.{NumberMeans, number_means, as_digit}
+use Rattle.pb_proof.proofs.lemmas.Line.ByteKinds.{NumberMeans, number_means}
 use Rattle.pb_proof.proofs.lemmas.Line.Ends as ends
+use Rattle.pb_proof.proofs.lemmas.NumberTests.{positive}
 
 module _ (top : ℕ) where
   -- ids, and blanks before a further one
@@ -51,18 +50,10 @@ module _ (limit top : ℕ) where
   abbrev OnNext : Next IdsState (List ℤ) → Letter → Language
   OnNext = On ids_automaton Front (Whole limit)
 
-  on_test : (ids : List ℤ) (b : Bool) (m : IdsMove) (l : Letter) (q : List Letter) → (b ≡ true → OnNext (act top ids m) l q) → OnNext (act top ids (cond b m move.Stop)) l q
-  on_test ids true m l q h = h refl
-  on_test ids false m l q h = tt
-
-  on_nonzero : (ids : List ℤ) (b : Bool) (m : IdsMove) (l : Letter) (q : List Letter) → (b ≡ false → OnNext (act top ids m) l q) → OnNext (act top ids (cond b move.Stop m)) l q
-  on_nonzero ids true m l q h = tt
-  on_nonzero ids false m l q h = h refl
-
   digits_sound : (ids : List ℤ) (negative : Bool) (n d : ℕ) (l : Letter) (q : List Letter)
       → (l.numeral ≡ true → (Before top ids ⋅ Sign negative ⋅ DigitsOf (10 * n + d)) q) → OnNext (act top ids (digits top negative n d)) l q
   digits_sound ids negative n d l q h =
-      on_test ids (nat_le (10 * n + d) top) (move.To (Digits negative (10 * n + d))) l q (λ e _ i. (leb-true (10 * n + d) top e, h i))
+      cond_both (nat_le (10 * n + d) top) (move.To (Digits negative (10 * n + d))) move.Stop (λ m. OnNext (act top ids m) l q) (λ e _ i. (leb-true (10 * n + d) top e, h i)) (λ _. tt)
 
   -- an id is whole
   id_ends : (ids : List ℤ) (negative : Bool) (n : ℕ) (p : List Letter) → 0 < n → n ≤ top → (Before top ids ⋅ Sign negative ⋅ DigitsOf n) p
@@ -77,13 +68,13 @@ module _ (limit top : ℕ) where
 
   behind_sound : (ids : List ℤ) (id : ℤ) (k : NumberByte) (l : Letter) (p : List Letter) → NumberMeans k l.byte → Row top (ids ++ id ∷ []) p → OnNext (act top ids (behind id k)) l (p ++ l ∷ [])
   behind_sound ids id kind.Blank l p m h =
-      λ _ n. (some_ids ids id, next (Row top (ids ++ id ∷ [])) Blanks1 p l h (some-one (λ b. IsTrue (is_blank b)) l.byte l (ends.as_unmarked l l.byte refl n) m))
+      λ _ n. (some_ids ids id, ends.blanks_begin (Row top (ids ++ id ∷ [])) l p m n h)
   behind_sound ids id kind.Semicolon l p m h = λ _ n. (some_ids ids id, ends.semicolon_behind (Row top (ids ++ id ∷ [])) l p m n h)
   behind_sound ids id kind.Feed l p m h = λ n. (some_ids ids id, ends.line_behind (Row top (ids ++ id ∷ [])) l p m n h)
   behind_sound ids id _ l p m h = tt
 
   before_sound : (ids : List ℤ) (k : NumberByte) (l : Letter) (p : List Letter) → NumberMeans k l.byte → Before top ids p → OnNext (act top ids (before top k)) l (p ++ l ∷ [])
-  before_sound ids kind.Minus l p m h = λ _ n. next (Before top ids) (Sign true) p l h (ap (λ x. x ∷ []) (ends.as_unmarked l 45 m n))
+  before_sound ids kind.Minus l p m h = λ _ n. next (Before top ids) (Sign true) p l h (ap (λ x. x ∷ []) (as_unmarked l 45 n m))
   before_sound ids (kind.Digit d) l p m h =
       digits_sound ids false 0 d l (p ++ l ∷ [])
       (λ n. next (Before top ids ⋅ Sign false) (DigitsOf (10 * 0 + d)) p l (none_yet (Before top ids) (Sign false) p refl h) (digits-one d l (as_digit l d m.0 n) m.1))
@@ -93,21 +84,15 @@ module _ (limit top : ℕ) where
   first_before : (ids : List ℤ) (p : List Letter) → ids ≡ [] → Blanks1 p → Before top ids p
   first_before ids p e h = subst (λ y. Before top y p) (sym e) ([], p, refl, refl, h)
 
-  gapped : (ids : List ℤ) (p : List Letter) → Before top ids p → ends.Gapped (Row top ids) p
-  gapped ids p h = behind_it (Row top ids) Blanks1 Blanks0 p (some-many (λ b. IsTrue (is_blank b))) h
-
-  positive : (n : ℕ) → nat_eq n 0 ≡ false → 0 < n
-  positive n e = grind (arith, nat_tests)
-
   sound : (ph : IdsPhase) (ids : List ℤ) (k : NumberByte) (l : Letter) (p : List Letter) → NumberMeans k l.byte → front top ph ids p → OnNext (act top ids (plan top ph k)) l (p ++ l ∷ [])
   sound Start ids kind.Blank l p m h =
-      λ _ n. (h.0, subst (λ x. Blanks1 (x ++ l ∷ [])) (sym h.1) (some-one (λ b. IsTrue (is_blank b)) l.byte l (ends.as_unmarked l l.byte refl n) m))
-  sound Gap ids kind.Blank l p m h = λ _ n. (h.0, some-grown (λ b. IsTrue (is_blank b)) l.byte l (ends.as_unmarked l l.byte refl n) m p h.1)
+      λ _ n. (h.0, ends.first_blank l p m n h.1)
+  sound Gap ids kind.Blank l p m h = λ _ n. (h.0, ends.further_blank l p m n h.1)
   sound Gap ids k l p m h = before_sound ids k l p m (first_before ids p h.0 h.1)
   sound Between ids kind.Blank l p m h =
-      λ _ n. (h.0, grown (Row top ids) Blanks1 Blanks1 p l (some-grown (λ b. IsTrue (is_blank b)) l.byte l (ends.as_unmarked l l.byte refl n) m) h.1)
-  sound Between ids kind.Semicolon l p m h = λ _ n. (h.0, ends.semicolon_behind_blanks (Row top ids) l p m n (gapped ids p h.1))
-  sound Between ids kind.Feed l p m h = λ n. (h.0, ends.line_behind_blanks (Row top ids) l p m n (gapped ids p h.1))
+      λ _ n. (h.0, ends.blanks_go_on (Row top ids) l p m n h.1)
+  sound Between ids kind.Semicolon l p m h = λ _ n. (h.0, ends.semicolon_behind_blanks (Row top ids) l p m n (ends.gapped_some (Row top ids) p h.1))
+  sound Between ids kind.Feed l p m h = λ n. (h.0, ends.line_behind_blanks (Row top ids) l p m n (ends.gapped_some (Row top ids) p h.1))
   sound Between ids k l p m h = before_sound ids k l p m h.1
   sound Minus ids (kind.Digit d) l p m h =
       digits_sound ids true 0 d l (p ++ l ∷ []) (λ n. next (Before top ids ⋅ Sign true) (DigitsOf (10 * 0 + d)) p l h (digits-one d l (as_digit l d m.0 n) m.1))
@@ -115,7 +100,7 @@ module _ (limit top : ℕ) where
       digits_sound ids negative n d l (p ++ l ∷ [])
       (λ i. grown (Before top ids ⋅ Sign negative) (DigitsOf n) (DigitsOf (10 * n + d)) p l (digits-grown n d l (as_digit l d m.0 i) m.1) h.1)
   sound (Digits negative n) ids k l p m h =
-      on_nonzero ids (nat_eq n 0) (behind (signed negative n) k) l (p ++ l ∷ [])
+      cond_both (nat_eq n 0) move.Stop (behind (signed negative n) k) (λ m. OnNext (act top ids m) l (p ++ l ∷ [])) (λ _. tt)
       (λ e. behind_sound ids (signed negative n) k l p m (id_ends ids negative n p (positive n e) h.0 h.1))
   sound Closing ids kind.Blank l p m h = λ _ n. (h.0, ends.blank_closing (Row top ids) l p m n h.1)
   sound Closing ids kind.Feed l p m h = λ n. (h.0, ends.line_closing (Row top ids) l p m n h.1)

@@ -1,7 +1,7 @@
 -- The laws of the machine of ids.
-use Rattle.std.proofs.Common.{◌≡◌, ℕ, zero, suc, ◌+◌, ◌*◌, ◌-◌, ◌^◌, ◌<◌, ◌≤◌, Bool, true, false, cond, List, [], ◌∷◌, ◌++◌, length, refl, sym, ap, subst, arith, ◌↔◌}
+use Rattle.std.proofs.Common.{◌≡◌, ℕ, zero, suc, ◌+◌, ◌*◌, ◌-◌, ◌^◌, ◌<◌, ◌≤◌, Bool, true, false, List, [], ◌∷◌, ◌++◌, length, refl, sym, ap, subst, arith, ◌↔◌}
 use Rattle.std.proofs.Math.Nat.{min-le_left}
-use Rattle.std.proofs.lemmas.Bool.{leb-true, le-leb}
+use Rattle.std.proofs.lemmas.Bool.{leb-true, le-leb, cond_both}
 use Rattle.std.proofs.lemmas.List.{length-append}
 use Rattle.std.specs.Prelude.{ℤ, nat_le, nat_eq}
 use Rattle.pb_text.specs.Automaton.{Next, Go, End, Refuse, Reads, IsState}
@@ -9,6 +9,8 @@ use Rattle.pb_text.specs.Languages.{unmarked, digit}
 use Rattle.pb_text.specs.Numbers.{signed}
 use Rattle.pb_text.specs.Spelling.{Letter}
 use Rattle.pb_text.proofs.Walking.{told}
+use Rattle.pb_text.proofs.Outcomes.{one_state}
+use Rattle.pb_text.proofs.Booleans.{never}
 use Rattle.pb_proof.specs.Lines.{SpellsIds}
 use Rattle.pb_proof.specs.Line.Ids.{IdsState, ids_automaton, ids_at, ids_first, ids_last, act, plan, digits, before, behind, is_midway, is_done, is_in_number, MoveFits, PhaseFits, IsIdsInOrder}
 use Rattle.pb_proof.specs.Line.ByteKind.{number_byte}
@@ -20,18 +22,15 @@ use Rattle.pb_proof.specs.declared.line.ids.phase.IdsMove.{IdsMove}
 use Rattle.pb_proof.specs.declared.line.ids.phase.IdsMove.TheVariants as move
 use Rattle.pb_proof.proofs.lemmas.Ids.Complete.{digits_behind, reads_each}
 use Rattle.pb_proof.proofs.lemmas.Ids.Sound.{Front, Whole, keeps_front}
-use Rattle.pb_proof.proofs.lemmas.Line.One.{IsOfOne, ReadsSome, reads_last, is_state}
+use Rattle.pb_text.proofs.OneText.{IsOfOne, reads_last, is_state}
+use Rattle.pb_text.proofs.Living.{ReadsOn}
 
 abbrev N : Type 0
 N = Next IdsState (List ℤ)
 
 -- What the plan leads to is midway, and an id in hand is at most top.
 digits_fit : (top : ℕ) (negative : Bool) (n d : ℕ) → MoveFits top (digits top negative n d)
-digits_fit top negative n d = by_test (nat_le (10 * n + d) top) (λ e. (leb-true (10 * n + d) top e, refl))
-  where
-    by_test : (b : Bool) → (b ≡ true → MoveFits top (move.To (Digits negative (10 * n + d)))) → MoveFits top (cond b (move.To (Digits negative (10 * n + d))) move.Stop)
-    by_test true h = h refl
-    by_test false h = tt
+digits_fit top negative n d = cond_both (nat_le (10 * n + d) top) _ _ (MoveFits top) (λ e. (leb-true (10 * n + d) top e, refl)) (λ _. tt)
 
 before_fits : (top : ℕ) (k : NumberByte) → MoveFits top (before top k)
 before_fits top kind.Minus = (tt, refl)
@@ -43,10 +42,6 @@ behind_fits top id kind.Blank = (tt, refl)
 behind_fits top id kind.Semicolon = (tt, refl)
 behind_fits top id _ = tt
 
-nonzero_fits : (top : ℕ) (b : Bool) (m : IdsMove) → MoveFits top m → MoveFits top (cond b move.Stop m)
-nonzero_fits top true m h = tt
-nonzero_fits top false m h = h
-
 plan_fits : (top : ℕ) (ph : IdsPhase) (k : NumberByte) → MoveFits top (plan top ph k)
 plan_fits top Start kind.Blank = (tt, refl)
 plan_fits top Gap kind.Blank = (tt, refl)
@@ -57,13 +52,10 @@ plan_fits top Between kind.Feed = tt
 plan_fits top Between k = before_fits top k
 plan_fits top Minus (kind.Digit d) = digits_fit top true 0 d
 plan_fits top (Digits negative n) (kind.Digit d) = digits_fit top negative n d
-plan_fits top (Digits negative n) k = nonzero_fits top (nat_eq n 0) (behind (signed negative n) k) (behind_fits top (signed negative n) k)
+plan_fits top (Digits negative n) k = cond_both (nat_eq n 0) _ _ (MoveFits top) (λ _. tt) (λ _. behind_fits top (signed negative n) k)
 plan_fits top Closing kind.Blank = (tt, refl)
 plan_fits top Closing kind.Feed = tt
 plan_fits _ _ _ = tt
-
-same : (s t : IdsState) → ◌≡◌ {A = N} (Go s) (Go t) → s ≡ t
-same s t e = cc
 
 -- A step that goes on keeps what it has begun.
 record Steps (top : ℕ) (ids : List ℤ) (next : IdsState) : Type 0 where
@@ -74,9 +66,9 @@ record Steps (top : ℕ) (ids : List ℤ) (next : IdsState) : Type 0 where
 
 acted : (top : ℕ) (ids : List ℤ) (m : IdsMove) (next : IdsState) → MoveFits top m → act top ids m ≡ Go next → Steps top ids next
 acted top ids (move.To p) next h e =
-    subst (λ x. Steps top ids x) (same (ids_at top ids p) next e) (record { same_top = refl; fits = h.0; midway = h.1; grows = omega arith })
+    subst (λ x. Steps top ids x) (one_state (ids_at top ids p) next e) (record { same_top = refl; fits = h.0; midway = h.1; grows = omega arith })
 acted top ids (move.Keep p id) next h e =
-    subst (λ x. Steps top ids x) (same (ids_at top (ids ++ id ∷ []) p) next e)
+    subst (λ x. Steps top ids x) (one_state (ids_at top (ids ++ id ∷ []) p) next e)
     (record { same_top = refl; fits = h.0; midway = h.1; grows = omega (arith, length-append ids (id ∷ [])) })
 acted top ids move.End next h e = cc
 acted top ids (move.EndWith id) next h e = cc
@@ -107,21 +99,18 @@ plain : (ph : IdsPhase) → is_midway ph ≡ false → is_in_number ph ≡ false
 plain (Digits negative n) h = h
 plain _ h = refl
 
-never : (x : Bool) → x ≡ true → x ≡ false → ⊥
-never x e f = cc
-
 in_order : (s next : IdsState) (b : ℕ) → IsIdsInOrder s → ids_automaton.step s b ≡ Go next → IsIdsInOrder next
 in_order s next b h e =
     let g : Steps s.top s.ids next = goes s next b e in (
       subst (λ x. x < 2 ^ 63) (sym g.same_top) h.0,
       subst (λ x. 0 < x) (sym g.same_top) h.1,
       subst (λ x. PhaseFits x next.phase) (sym g.same_top) g.fits,
-      (λ i. absurd (never (is_midway next.phase) g.midway i)),
+      (λ i. never (is_midway next.phase) g.midway i),
     )
 
 module _ (top : ℕ) (some : 0 < top) (ids : List ℤ) where
   abbrev Some : IdsPhase → Type 0
-  Some p = ReadsSome ids_automaton IsIdsInOrder last (ids_at top ids p)
+  Some p = ReadsOn ids_automaton (ids_at top ids p)
 
   -- a first digit that is 1
   one_fits : (negative : Bool) → act top ids (digits top negative 0 1) ≡ Go (ids_at top ids (Digits negative 1))

@@ -1,22 +1,23 @@
 -- Where the machines of ids, literals and linear texts ask.
-use Rattle.std.proofs.Common.{◌≡◌, ℕ, ◌+◌, ◌-◌, ◌*◌, ◌<◌, Bool, true, false, cond, ◌||◌, List, [], ◌∷◌, ◌++◌, map, refl, sym, ap, subst, ◌∙◌, inl, arith}
-use Rattle.std.proofs.lemmas.Bool.{false≢true}
-use Rattle.std.proofs.lemmas.Bool.Decides.{nat_tests}
+use Rattle.std.proofs.Common.{◌≡◌, ℕ, ◌+◌, ◌-◌, ◌*◌, ◌<◌, Bool, true, false, cond, ◌||◌, List, [], ◌∷◌, ◌++◌, map, refl, sym, ap, subst, ◌∙◌, inl}
+use Rattle.std.proofs.lemmas.Bool.{false≢true, cond_both}
 use Rattle.std.specs.Prelude.{IsTrue, ℤ, nat_eq, nat_le}
+use Rattle.std.proofs.Math.Bool.{or-false}
 use Rattle.pb_text.specs.Classes.{is_blank, is_digit, is_letter, is_name_byte}
 use Rattle.pb_text.specs.Languages.{digit, Language, ◌⋅◌, Bytes, Each}
 use Rattle.pb_text.specs.Numbers.{Digits as DigitsOf}
 use Rattle.pb_text.specs.Spelling.{Letter, bytes}
-use Rattle.pb_text.proofs.Languages.{bytes-plain}
-use Rattle.pb_text.proofs.Lists.{bytes-append}
+use Rattle.pb_text.proofs.Languages.{bytes-plain, bytes-append}
 use Rattle.pb_text.proofs.Walking.{Walks, fronts}
-use Rattle.pb_sums.specs.Asking.{EndsIn, IsNameFront, AsksLiteral}
+use Rattle.pb_text.proofs.ByteTests.{digit_byte, blank_digit, letter_name}
+use Rattle.pb_sums.specs.Asking.{EndsIn, AsksLiteral}
 use Rattle.pb_sums.specs.State.{SumState, sums}
 use Rattle.pb_sums.specs.Sums.{literal_bytes}
 use Rattle.pb_sums.specs.declared.Literal.{Literal}
 use Rattle.pb_sums.specs.declared.Part as part
 use Rattle.pb_sums.specs.declared.Spaces.TheVariants.{Blank as BlankSpaces}
-use Rattle.pb_sums.proofs.Asked.{ends_nothing, ends_behind, asks_behind, at_name, sums_asked, first_asks_nothing}
+use Rattle.pb_sums.proofs.Asked.{ends_nothing, ends_behind, asks_behind, at_name, sums_asked, first_asks_nothing, first_further}
+use Rattle.pb_sums.proofs.LiteralFronts.{IsFirst}
 use Rattle.pb_proof.specs.Asking.{EndsNumber}
 use Rattle.pb_proof.specs.Line.Rup.{RupState, rup_automaton, rup_first, rup_asks, rup_plan}
 use Rattle.pb_proof.specs.Line.Ids.{IdsState, ids_automaton, ids_first, plan, digits, before, keeps}
@@ -33,10 +34,8 @@ use Rattle.pb_proof.specs.declared.line.byte_kind.NumberByte.{NumberByte}
 use Rattle.pb_proof.specs.declared.line.byte_kind.NumberByte.TheVariants as number
 use Rattle.pb_proof.specs.declared.line.byte_kind.NameByte.{NameByte}
 use Rattle.pb_proof.specs.declared.line.byte_kind.NameByte.TheVariants as name
-use Rattle.pb_proof.proofs.lemmas.Choices.{chosen}
 use Rattle.pb_proof.proofs.lemmas.Rup.Reads as reads
 use Rattle.pb_proof.proofs.lemmas.Ids.Sound as ids
-use Rattle.pb_proof.proofs.lemmas.Literals.Names.{IsFirst}
 use Rattle.pb_proof.proofs.lemmas.Literals.Sound as sound
 use Rattle.pb_proof.proofs.lemmas.Line.ByteKinds.{NameMeans, name_means}
 
@@ -45,11 +44,8 @@ pub joined_end : (a c t : List Letter) (end : List ℕ) → t ≡ a ++ c → End
 joined_end a c t end e h =
     subst (λ (x : List ℕ). EndsIn x end) (sym (ap bytes e ∙ bytes-append a c)) (ends_behind (bytes a) (bytes c) end h)
 
-digit_is : (d : ℕ) → d < 10 → is_digit (48 + d) ≡ true
-digit_is d h = grind (arith, nat_tests)
-
 digits_last : (d : ℕ) (ds : List ℕ) → Each (λ e. e < 10) (d ∷ ds) → (c : ℕ) × EndsIn (bytes (map digit (d ∷ ds))) (c ∷ []) × IsTrue (is_digit c)
-digits_last d [] h = (48 + d, ([], refl), digit_is d h.0)
+digits_last d [] h = (48 + d, ([], refl), digit_byte d h.0)
 digits_last d (e ∷ ds) h =
     let (c, f, k) = digits_last e ds h.1 in (c, ends_behind ((48 + d) ∷ []) (bytes (map digit (e ∷ ds))) (c ∷ []) f, k)
 
@@ -72,11 +68,9 @@ literal_end P negated bs t (a, c, e, h, k) =
     joined_end a c t bs e (subst (λ (x : List ℕ). EndsIn x bs) (sym (ap bytes k ∙ bytes-plain (literal_bytes negated bs))) (name_ends negated bs))
 
 -- ---- ids
-not_digit : (b : ℕ) → is_blank b ≡ true → is_digit b ≡ false
-not_digit b e = grind (arith, nat_tests)
 
 ids_quiet : (top : ℕ) (negative : Bool) (n d : ℕ) → keeps (digits top negative n d) ≡ false
-ids_quiet top negative n d = chosen (λ m. keeps m ≡ false) (nat_le (10 * n + d) top) _ _ (λ _. refl) (λ _. refl)
+ids_quiet top negative n d = cond_both (nat_le (10 * n + d) top) _ _ (λ m. keeps m ≡ false) (λ _. refl) (λ _. refl)
 
 before_quiet : (top : ℕ) (k : NumberByte) → keeps (before top k) ≡ false
 before_quiet top number.Minus = refl
@@ -87,8 +81,8 @@ module _ (limit : ℕ) where
   asks_dark : (top : ℕ) (negative : Bool) (n b : ℕ) → keeps (plan top (Digits negative n) (number_byte b)) ≡ true → is_digit b ≡ false
   asks_dark top negative n b =
       let P : NumberByte → Type 0 = λ k. keeps (plan top (Digits negative n) k) ≡ true → is_digit b ≡ false in
-      chosen P (is_blank b) _ _ (λ e h. not_digit b e)
-      (λ _. chosen P (is_digit b) _ _ (λ _ h. absurd (false≢true (sym (ids_quiet top negative n (b - 48)) ∙ h))) (λ e. dark e (nat_eq b 45) (nat_eq b 59) (nat_eq b 10)))
+      cond_both (is_blank b) _ _ P (λ e h. blank_digit b e)
+      (λ _. cond_both (is_digit b) _ _ P (λ _ h. absurd (false≢true (sym (ids_quiet top negative n (b - 48)) ∙ h))) (λ e. dark e (nat_eq b 45) (nat_eq b 59) (nat_eq b 10)))
     where
       dark : is_digit b ≡ false → (x y z : Bool)
           → keeps (plan top (Digits negative n) (cond x number.Minus (cond y number.Semicolon (cond z number.Feed number.Other)))) ≡ true → is_digit b ≡ false
@@ -134,14 +128,6 @@ module _ (limit : ℕ) where
 letter_begins : (text : List ℕ) (b : ℕ) → IsTrue (is_letter b) → AsksLiteral text b
 letter_begins text b h = inl ([], ends_nothing text, (h, tt))
 
-letter_name : (b : ℕ) → IsTrue (is_letter b) → IsTrue (is_name_byte b)
-letter_name b e = rw e refl
-
-first_front : (bs : List ℕ) (b : ℕ) → IsFirst bs → IsTrue (is_name_byte b) → IsNameFront (bs ++ b ∷ [])
-first_front [] b h k = absurd h
-first_front (x ∷ []) b h k = (h, (k, tt))
-first_front (x ∷ y ∷ bs) b h k = absurd h
-
 module _ (b : ℕ) (text : List ℕ) where
   behind_quiet : (k : NameByte) → adds (literals.behind k) ≡ false
   behind_quiet name.Blank = refl
@@ -159,19 +145,11 @@ module _ (b : ℕ) (text : List ℕ) where
   begins_at name.Other m h = absurd (false≢true h)
 
   start_at : (joined : Bool) (k : NameByte) → NameMeans k b → (adds (literals.plan joined at.Start k) || false) ≡ true → AsksLiteral text b
-  start_at true k m h = begins_at k m (or_false (adds (literals.before k)) h)
-    where
-      or_false : (x : Bool) → (x || false) ≡ true → x ≡ true
-      or_false true e = refl
-      or_false false e = e
+  start_at true k m h = begins_at k m (sym (or-false (adds (literals.before k))) ∙ h)
   start_at false k m h = absurd (false≢true (sym (ap (λ x. x || false) (behind_quiet k)) ∙ h))
 
   gap_at : (joined : Bool) (k : NameByte) → NameMeans k b → (adds (literals.plan joined at.Gap k) || false) ≡ true → AsksLiteral text b
-  gap_at joined k m h = begins_at k m (or_false (adds (literals.before k)) h)
-    where
-      or_false : (x : Bool) → (x || false) ≡ true → x ≡ true
-      or_false true e = refl
-      or_false false e = e
+  gap_at joined k m h = begins_at k m (sym (or-false (adds (literals.before k))) ∙ h)
 
   negation_at : (joined : Bool) (k : NameByte) → NameMeans k b → (adds (literals.plan joined at.Negation k) || false) ≡ true → AsksLiteral text b
   negation_at joined (name.Letter c) m h = letter_begins text b (subst (λ (x : ℕ). IsTrue (is_letter x)) (sym m.0) m.1)
@@ -183,8 +161,8 @@ module _ (b : ℕ) (text : List ℕ) where
   negation_at joined name.Other m h = absurd (false≢true h)
 
   first_at : (joined negated : Bool) (bs : List ℕ) → EndsIn text bs → IsFirst bs → (k : NameByte) → NameMeans k b → (adds (literals.plan joined (at.First negated) k) || false) ≡ true → AsksLiteral text b
-  first_at joined negated bs e f (name.Letter c) m h = inl (bs, e, first_front bs b f (letter_name b (subst (λ (x : ℕ). IsTrue (is_letter x)) (sym m.0) m.1)))
-  first_at joined negated bs e f (name.Inner c) m h = inl (bs, e, first_front bs b f (subst (λ (x : ℕ). IsTrue (is_name_byte x)) (sym m.0) m.1))
+  first_at joined negated bs e f (name.Letter c) m h = inl (bs, e, first_further bs b f (letter_name b (subst (λ (x : ℕ). IsTrue (is_letter x)) (sym m.0) m.1)))
+  first_at joined negated bs e f (name.Inner c) m h = inl (bs, e, first_further bs b f (subst (λ (x : ℕ). IsTrue (is_name_byte x)) (sym m.0) m.1))
   first_at joined negated bs e f name.Tilde m h = absurd (false≢true h)
   first_at joined negated bs e f name.Blank m h = absurd (false≢true h)
   first_at joined negated bs e f name.Semicolon m h = absurd (false≢true h)
@@ -218,16 +196,16 @@ literals_asked joined t s b w h =
 -- ---- linear texts
 module _ (limit top : ℕ) where
   rup_at : (s : RupState) (ph : RupPhase) (t : List Letter) (b : ℕ) → reads.front limit top s ph t → rup_asks s b (rup_plan ph b) ≡ true → AsksLiteral (bytes t) b
-  rup_at s rup.Start t b h = chosen (λ m. rup_asks s b m ≡ true → AsksLiteral (bytes t) b) (is_blank b) _ _ (λ _ k. absurd (false≢true k)) (λ _ k. absurd (false≢true k))
+  rup_at s rup.Start t b h = cond_both (is_blank b) _ _ (λ m. rup_asks s b m ≡ true → AsksLiteral (bytes t) b) (λ _ k. absurd (false≢true k)) (λ _ k. absurd (false≢true k))
   rup_at s rup.Gap t b (h, inner, linear) =
-      chosen (λ m. rup_asks s b m ≡ true → AsksLiteral (bytes t) b) (is_blank b) _ _ (λ _ k. absurd (false≢true k))
+      cond_both (is_blank b) _ _ (λ m. rup_asks s b m ≡ true → AsksLiteral (bytes t) b) (λ _ k. absurd (false≢true k))
       (λ _ k. absurd (false≢true (sym (ap (λ (x : SumState). sums.asks x b) inner ∙ first_asks_nothing BlankSpaces part.TheVariants.AtLeast limit b) ∙ k)))
   rup_at s rup.Inside t b (linear, (a, c, e, h, w)) = λ k.
       subst (λ (x : List ℕ). AsksLiteral x b) (sym (ap bytes e ∙ bytes-append a c))
       (asks_behind (bytes a) (bytes c) b (sums_asked BlankSpaces part.TheVariants.AtLeast limit c s.sums b w k))
   rup_at s rup.Tail t b h =
-      chosen (λ m. rup_asks s b m ≡ true → AsksLiteral (bytes t) b) (is_blank b) _ _ (λ _ k. absurd (false≢true k))
-      (λ _. chosen (λ m. rup_asks s b m ≡ true → AsksLiteral (bytes t) b) (nat_eq b 10) _ _ (λ _ k. absurd (false≢true k)) (λ _ k. absurd (false≢true k)))
+      cond_both (is_blank b) _ _ (λ m. rup_asks s b m ≡ true → AsksLiteral (bytes t) b) (λ _ k. absurd (false≢true k))
+      (λ _. cond_both (nat_eq b 10) _ _ (λ m. rup_asks s b m ≡ true → AsksLiteral (bytes t) b) (λ _ k. absurd (false≢true k)) (λ _ k. absurd (false≢true k)))
   rup_at s rup.Done t b h = absurd h
 
   pub rup_asked : (t : List Letter) (s : RupState) (b : ℕ) → Walks rup_automaton (rup_first limit) t s → rup_automaton.asks s b ≡ true → AsksLiteral (bytes t) b

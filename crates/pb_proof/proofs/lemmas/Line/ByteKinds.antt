@@ -1,11 +1,10 @@
 -- What the mark of a byte says of the byte, and the other way round.
-use Rattle.std.proofs.Common.{◌≡◌, ℕ, ◌+◌, ◌-◌, ◌<◌, ◌≤◌, Bool, true, false, cond, refl, sym, ap, arith, ◌⊎◌, inl, inr}
-use Rattle.std.proofs.lemmas.Bool.{eqb-true}
+use Rattle.std.proofs.Common.{◌≡◌, ℕ, ◌+◌, ◌-◌, ◌<◌, ◌≤◌, Bool, true, false, refl, ap, arith, ◌⊎◌, inl, inr}
+use Rattle.std.proofs.lemmas.Bool.{eqb-true, cond_both}
 use Rattle.std.proofs.lemmas.Bool.Decides.{nat_tests}
 use Rattle.std.specs.Prelude.{IsTrue, nat_eq}
 use Rattle.pb_text.specs.Classes.{is_blank, is_digit, is_letter, is_name_byte}
-use Rattle.pb_text.specs.Languages.{digit}
-use Rattle.pb_text.specs.Spelling.{Letter}
+use Rattle.pb_text.proofs.ByteTests.{digit_byte, digit_blank, digit_of, name_high, letter_name}
 use Rattle.pb_proof.specs.Line.ByteKind.{number_byte, name_byte}
 use Rattle.pb_proof.specs.declared.line.byte_kind.NumberByte.{NumberByte}
 use Rattle.pb_proof.specs.declared.line.byte_kind.NumberByte as number
@@ -29,41 +28,32 @@ NameMeans name.TheVariants.Semicolon b = b ≡ 59
 NameMeans name.TheVariants.Feed b = b ≡ 10
 NameMeans name.TheVariants.Other b = Unit {0}
 
-chosen : {A : Type 0} (P : A → Type 0) (b : Bool) (x y : A) → (b ≡ true → P x) → (b ≡ false → P y) → P (cond b x y)
-chosen P true x y f g = f refl
-chosen P false x y f g = g refl
-
-digit-of : (b : ℕ) → is_digit b ≡ true → (b ≡ 48 + (b - 48)) × (b - 48 < 10)
-digit-of b e = grind (arith, nat_tests)
-
 pub number_means : (b : ℕ) → NumberMeans (number_byte b) b
 number_means b =
     let P : NumberByte → Type 0 = λ k. NumberMeans k b in
-    chosen P (is_blank b) _ _ (λ e. e) (λ _.
-    chosen P (is_digit b) _ _ (λ e. digit-of b e) (λ _.
-    chosen P (nat_eq b 45) _ _ (λ e. eqb-true b 45 e) (λ _.
-    chosen P (nat_eq b 59) _ _ (λ e. eqb-true b 59 e) (λ _.
-    chosen P (nat_eq b 10) _ _ (λ e. eqb-true b 10 e) (λ _. tt)))))
+    cond_both (is_blank b) _ _ P (λ e. e) (λ _.
+    cond_both (is_digit b) _ _ P (λ e. digit_of b e) (λ _.
+    cond_both (nat_eq b 45) _ _ P (λ e. eqb-true b 45 e) (λ _.
+    cond_both (nat_eq b 59) _ _ P (λ e. eqb-true b 59 e) (λ _.
+    cond_both (nat_eq b 10) _ _ P (λ e. eqb-true b 10 e) (λ _. tt)))))
 
 pub name_means : (b : ℕ) → NameMeans (name_byte b) b
 name_means b =
     let P : NameByte → Type 0 = λ k. NameMeans k b in
-    chosen P (is_blank b) _ _ (λ e. e) (λ _.
-    chosen P (is_letter b) _ _ (λ e. (refl, e)) (λ _.
-    chosen P (is_name_byte b) _ _ (λ e. (refl, e)) (λ _.
-    chosen P (nat_eq b 126) _ _ (λ e. eqb-true b 126 e) (λ _.
-    chosen P (nat_eq b 59) _ _ (λ e. eqb-true b 59 e) (λ _.
-    chosen P (nat_eq b 10) _ _ (λ e. eqb-true b 10 e) (λ _. tt))))))
+    cond_both (is_blank b) _ _ P (λ e. e) (λ _.
+    cond_both (is_letter b) _ _ P (λ e. (refl, e)) (λ _.
+    cond_both (is_name_byte b) _ _ P (λ e. (refl, e)) (λ _.
+    cond_both (nat_eq b 126) _ _ P (λ e. eqb-true b 126 e) (λ _.
+    cond_both (nat_eq b 59) _ _ P (λ e. eqb-true b 59 e) (λ _.
+    cond_both (nat_eq b 10) _ _ P (λ e. eqb-true b 10 e) (λ _. tt))))))
 
 pub number_blank : (b : ℕ) → IsTrue (is_blank b) → number_byte b ≡ number.TheVariants.Blank
 number_blank b e = rw e refl
 
 pub number_digit : (d : ℕ) → d < 10 → number_byte (48 + d) ≡ number.TheVariants.Digit d
 number_digit d h =
-    let e : is_digit (48 + d) ≡ true = grind (arith, nat_tests) in
-    let f : is_blank (48 + d) ≡ false = grind (arith, nat_tests) in
     let g : (48 + d) - 48 ≡ d = omega arith in
-    rw (f, e) (ap number.TheVariants.Digit g)
+    rw (digit_blank d h, digit_byte d h) (ap number.TheVariants.Digit g)
 
 pub number_of_digit : (b : ℕ) → IsTrue (is_digit b) → number_byte b ≡ number.TheVariants.Digit (b - 48)
 number_of_digit b e =
@@ -76,22 +66,12 @@ name_blank b e = rw e refl
 low : (b : ℕ) → 33 ≤ b → is_blank b ≡ false
 low b h = grind (arith, nat_tests)
 
-high : (b : ℕ) → is_name_byte b ≡ true → 33 ≤ b
-high b h = grind (arith, nat_tests)
-
-pub letter_is_name_byte : (b : ℕ) → IsTrue (is_letter b) → IsTrue (is_name_byte b)
-letter_is_name_byte b e = rw e refl
-
 pub name_letter : (b : ℕ) → IsTrue (is_letter b) → name_byte b ≡ name.TheVariants.Letter b
-name_letter b e = rw (low b (high b (letter_is_name_byte b e)), e) refl
+name_letter b e = rw (low b (name_high b (letter_name b e)), e) refl
 
 pub name_inner : (b : ℕ) → IsTrue (is_name_byte b) → (name_byte b ≡ name.TheVariants.Letter b) ⊎ (name_byte b ≡ name.TheVariants.Inner b)
 name_inner b e = go (is_letter b) refl
   where
     go : (x : Bool) → is_letter b ≡ x → (name_byte b ≡ name.TheVariants.Letter b) ⊎ (name_byte b ≡ name.TheVariants.Inner b)
     go true f = inl (name_letter b f)
-    go false f = inr (rw (low b (high b e), e, f) refl)
-
--- a letter that is a digit of a number
-pub as_digit : (l : Letter) (d : ℕ) → l.byte ≡ 48 + d → l.numeral ≡ true → l ≡ digit d
-as_digit l d e f = rw (sym e, sym f) refl
+    go false f = inr (rw (low b (name_high b e), e, f) refl)

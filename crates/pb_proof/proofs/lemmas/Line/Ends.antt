@@ -2,17 +2,14 @@
 use Rattle.std.proofs.Common.{◌≡◌, ℕ, true, false, List, [], ◌∷◌, ◌++◌, refl, ap, subst, inl, inr, sym, ◌∙◌, append_assoc}
 use Rattle.std.proofs.lemmas.List.{append-nil}
 use Rattle.std.specs.Prelude.{IsTrue}
-use Rattle.pb_text.proofs.Languages.{grown, next, none_yet, regroup, regroup3, behind_it, many-grown}
+use Rattle.pb_text.proofs.Languages.{grown, next, none_yet, regroup, regroup3, behind_it, many-grown, some-one, some-grown, some-many}
 use Rattle.pb_text.specs.Automaton.{Automaton, Go, End, Reads}
 use Rattle.pb_text.specs.Classes.{is_blank}
 use Rattle.pb_text.specs.Languages.{unmarked, Language, ◌⋅◌, Empty, Byte, Bytes, Each, Blanks0, Blanks1}
 use Rattle.pb_text.specs.Spelling.{Letter}
 use Rattle.pb_text.proofs.Walking.{Walks, Leads, walks_then, reads_behind, longer}
+use Rattle.pb_text.proofs.Letters.{as_unmarked}
 use Rattle.pb_proof.specs.Lines.{Feed, LineEnd, Listed}
-
--- a letter that is no digit of a number
-pub as_unmarked : (l : Letter) (b : ℕ) → l.byte ≡ b → l.numeral ≡ false → l ≡ unmarked b
-as_unmarked l b e f = rw (sym e, sym f) refl
 
 module _ {S E : Type 0} (m : Automaton S E) where
   -- A blank leads from the one state to the other, and from there no further.
@@ -85,9 +82,41 @@ Gapped P = P ⋅ Blanks0
 abbrev pub Closing : Language → Language
 Closing P = P ⋅ (Blanks0 ⋅ Byte 59 ⋅ Blanks0)
 
+-- a line feed alone
+pub fed : Feed (unmarked 10 ∷ [])
+fed = ([], unmarked 10 ∷ [], refl, ([], tt, refl), refl)
+
+pub ended : LineEnd (unmarked 10 ∷ [])
+ended = inl fed
+
+-- nothing behind a text
+pub nil_last : (P : Language) (p : List Letter) → (P ⋅ Empty) p → P p
+nil_last P p (a, b, e, h, k) = subst P (sym (e ∙ (ap (λ x. a ++ x) k ∙ append-nil a))) h
+
+-- no blank yet, and some of them
+pub gapped : (P : Language) (p : List Letter) → P p → Gapped P p
+gapped P p h = none_yet P Blanks0 p ([], tt, refl) h
+
+pub gapped_some : (P : Language) (p : List Letter) → (P ⋅ Blanks1) p → Gapped P p
+gapped_some P p h = behind_it P Blanks1 Blanks0 p (some-many (λ b. IsTrue (is_blank b))) h
+
+-- the first blank, and a further one
+module _ (l : Letter) (p : List Letter) where
+  pub first_blank : IsTrue (is_blank l.byte) → l.numeral ≡ false → p ≡ [] → Blanks1 (p ++ l ∷ [])
+  first_blank h n e = subst (λ x. Blanks1 (x ++ l ∷ [])) (sym e) (some-one (λ b. IsTrue (is_blank b)) l.byte l (as_unmarked l l.byte n refl) h)
+
+  pub further_blank : IsTrue (is_blank l.byte) → l.numeral ≡ false → Blanks1 p → Blanks1 (p ++ l ∷ [])
+  further_blank h n k = some-grown (λ b. IsTrue (is_blank b)) l.byte l (as_unmarked l l.byte n refl) h p k
+
 module _ (P : Language) (l : Letter) (p : List Letter) where
+  pub blanks_begin : IsTrue (is_blank l.byte) → l.numeral ≡ false → P p → (P ⋅ Blanks1) (p ++ l ∷ [])
+  blanks_begin h n k = next P Blanks1 p l k (first_blank l [] h n refl)
+
+  pub blanks_go_on : IsTrue (is_blank l.byte) → l.numeral ≡ false → (P ⋅ Blanks1) p → (P ⋅ Blanks1) (p ++ l ∷ [])
+  blanks_go_on h n k = grown P Blanks1 Blanks1 p l (λ q i. further_blank l q h n i) k
+
   blank0 : IsTrue (is_blank l.byte) → l.numeral ≡ false → (q : List Letter) → Blanks0 q → Blanks0 (q ++ l ∷ [])
-  blank0 h n q k = many-grown (λ b. IsTrue (is_blank b)) l.byte l (as_unmarked l l.byte refl n) h q k
+  blank0 h n q k = many-grown (λ b. IsTrue (is_blank b)) l.byte l (as_unmarked l l.byte n refl) h q k
 
   pub blank_behind : IsTrue (is_blank l.byte) → l.numeral ≡ false → P p → Gapped P (p ++ l ∷ [])
   blank_behind h n k = next P Blanks0 p l k (blank0 h n [] ([], tt, refl))
@@ -97,14 +126,14 @@ module _ (P : Language) (l : Letter) (p : List Letter) where
 
   semicolon : l.byte ≡ 59 → l.numeral ≡ false → (q : List Letter) → Blanks0 q → (Blanks0 ⋅ Byte 59 ⋅ Blanks0) (q ++ l ∷ [])
   semicolon h n q k =
-      none_yet (Blanks0 ⋅ Byte 59) Blanks0 (q ++ l ∷ []) ([], tt, refl)
-      (next Blanks0 (Byte 59) q l k (ap (λ x. x ∷ []) (as_unmarked l 59 h n)))
+      gapped (Blanks0 ⋅ Byte 59) (q ++ l ∷ [])
+      (next Blanks0 (Byte 59) q l k (ap (λ x. x ∷ []) (as_unmarked l 59 n h)))
 
   pub semicolon_behind_blanks : l.byte ≡ 59 → l.numeral ≡ false → Gapped P p → Closing P (p ++ l ∷ [])
   semicolon_behind_blanks h n k = grown P Blanks0 (Blanks0 ⋅ Byte 59 ⋅ Blanks0) p l (semicolon h n) k
 
   pub semicolon_behind : l.byte ≡ 59 → l.numeral ≡ false → P p → Closing P (p ++ l ∷ [])
-  semicolon_behind h n k = semicolon_behind_blanks h n (none_yet P Blanks0 p ([], tt, refl) k)
+  semicolon_behind h n k = semicolon_behind_blanks h n (gapped P p k)
 
   pub blank_closing : IsTrue (is_blank l.byte) → l.numeral ≡ false → Closing P p → Closing P (p ++ l ∷ [])
   blank_closing h n k =
@@ -112,7 +141,7 @@ module _ (P : Language) (l : Letter) (p : List Letter) where
       (λ q i. grown (Blanks0 ⋅ Byte 59) Blanks0 Blanks0 q l (blank0 h n) i) k
 
   feed : l.byte ≡ 10 → l.numeral ≡ false → (q : List Letter) → Blanks0 q → Feed (q ++ l ∷ [])
-  feed h n q k = next Blanks0 (Byte 10) q l k (ap (λ x. x ∷ []) (as_unmarked l 10 h n))
+  feed h n q k = next Blanks0 (Byte 10) q l k (ap (λ x. x ∷ []) (as_unmarked l 10 n h))
 
   pub feed_behind_blanks : l.byte ≡ 10 → l.numeral ≡ false → Gapped P p → (P ⋅ Feed) (p ++ l ∷ [])
   feed_behind_blanks h n k = grown P Blanks0 Feed p l (feed h n) k
@@ -121,7 +150,7 @@ module _ (P : Language) (l : Letter) (p : List Letter) where
   line_behind_blanks h n k = behind_it P Feed LineEnd (p ++ l ∷ []) (λ q i. inl i) (feed_behind_blanks h n k)
 
   pub line_behind : l.byte ≡ 10 → l.numeral ≡ false → P p → (P ⋅ LineEnd) (p ++ l ∷ [])
-  line_behind h n k = line_behind_blanks h n (none_yet P Blanks0 p ([], tt, refl) k)
+  line_behind h n k = line_behind_blanks h n (gapped P p k)
 
   pub line_closing : l.byte ≡ 10 → l.numeral ≡ false → Closing P p → (P ⋅ LineEnd) (p ++ l ∷ [])
   line_closing h n k =

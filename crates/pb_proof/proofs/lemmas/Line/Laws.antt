@@ -27,7 +27,7 @@ use Rattle.pb_proof.proofs.lemmas.Pol.States.{of_one}
 use Rattle.pb_proof.proofs.lemmas.Literals.Theorems.{literals_of_one, literals_reads, literals_is_state}
 use Rattle.pb_proof.proofs.lemmas.Ids.Theorems.{ids_of_one, ids_reads, ids_is_state}
 use Rattle.pb_proof.proofs.lemmas.Claim.Theorems.{claim_of_one, claim_reads, claim_is_state}
-use Rattle.pb_proof.proofs.lemmas.Living.{BeginsAtOnce}
+use Rattle.pb_text.proofs.Living.{BeginsAtOnce}
 
 pub count_carries : Carries count_automaton line_automaton line.TheVariants.Count statement.TheVariants.F
 count_carries = record { step = λ s b. refl; done = λ s. refl; begun = λ s. refl; in_number = λ s. refl; asks = λ s b. refl; kept = λ s. refl; spent = λ s. refl }

@@ -1,17 +1,17 @@
 -- The canonical text of a statement that meets the rules spells it.
-use Rattle.std.proofs.Common.{ℕ, suc, ◌<◌, ◌≤◌, ◌^◌, List, [], ◌∷◌, ◌++◌, refl, arith, inl, true, false, Option, Some, None, All}
-use Rattle.std.specs.Prelude.{ℤ, pos, negsuc, nat_abs, decimal}
+use Rattle.std.proofs.Common.{ℕ, suc, ◌<◌, ◌≤◌, ◌^◌, List, [], ◌∷◌, ◌++◌, refl, arith, true, false, Option, Some, None, All}
+use Rattle.std.specs.Prelude.{ℤ, pos, negsuc, decimal}
 use Rattle.std.proofs.lemmas.Int.{ints}
 use Rattle.std.proofs.lemmas.List.Elements.{All-head, All-tail}
 use Rattle.pb_text.specs.Languages.{Language, ◌⋅◌, Byte, Bytes, Blanks0, Blanks1}
-use Rattle.pb_text.specs.Numbers.{Number, Count}
+use Rattle.pb_text.specs.Numbers.{Count}
 use Rattle.pb_text.specs.Spelling.{Letter, plain, digits_of}
 use Rattle.pb_text.proofs.Numbers.{decimal-digits}
 use Rattle.pb_sums.specs.Canonical.{space, degree_text, literal_text, linear_text}
 use Rattle.pb_sums.specs.Sums.{IsName, SpellsLiteral, SpellsLinear}
 use Rattle.pb_sums.specs.declared.values.Literal.{Literal}
 use Rattle.pb_sums.specs.declared.grammar.Spaces.TheVariants.{Blank}
-use Rattle.pb_sums.proofs.CanonicalLaws.{linear-spelled}
+use Rattle.pb_sums.proofs.CanonicalLaws.{linear-spelled, degree}
 use Rattle.pb_proof.specs.Lines.{pseudo_word, proof_word, version_word, two_word, f_word, pol_word, rup_word, soli_word, solx_word, del_word, id_word, output_word, conclusion_word, end_word, none_word, unsat_word, sat_word, bounds_word, Feed, LineEnd, Listed, SpellsId, Factor, SpellsBound, SpellsShown, Shown, IdShown, SpellsWord, SpellsConclusion, SpellsCount, SpellsWords, SpellsRup, SpellsLiterals, SpellsIds, SpellsClaim, SpellsStatement}
 use Rattle.pb_proof.specs.Values.{IfGiven, IsId, IsFactor, AreLiterals, IsBound, IsWord, IsConclusion, IsStatementValue}
 use Rattle.pb_proof.specs.declared.word.PolWord.{PolWord}
@@ -23,6 +23,7 @@ use Rattle.pb_proof.specs.declared.conclusion.Conclusion.TheVariants.{NoClaim, U
 use Rattle.pb_proof.specs.declared.statement.Statement.{Statement}
 use Rattle.pb_proof.specs.declared.statement.Statement.TheVariants.{Header, F, Pol, Rup, Soli, Solx, Delete, Output, Conclude, End}
 use Rattle.pb_proof.proofs.lemmas.Line.Texts.{one, feed, word_text, listed_text, bound_text, id_shown_text, list_text, shown_text, claim_text, count_text, line_text}
+use Rattle.pb_proof.proofs.lemmas.Line.Ends.{fed, ended}
 
 -- one text and then another
 both : (P Q : Language) (a b : List Letter) → P a → Q b → (P ⋅ Q) (a ++ b)
@@ -33,12 +34,6 @@ space1 = (32, [], refl, tt, refl)
 
 space0 : Blanks0 space
 space0 = (32 ∷ [], (refl, tt), refl)
-
-feed_spelled : Feed feed
-feed_spelled = ([], feed, refl, ([], tt, refl), refl)
-
-ended : LineEnd feed
-ended = inl feed_spelled
 
 literal_spelled : (l : Literal) → IsName l.name → SpellsLiteral l (literal_text l)
 literal_spelled l h = (h, refl)
@@ -74,12 +69,8 @@ module _ (limit : ℕ) (small : limit < 2 ^ 127) where
   factor_spelled (pos n) h = (n, omega (arith, ints, h.0), omega (arith, ints, h.1), refl, decimal-digits n (omega (arith, ints, h.1)))
   factor_spelled (negsuc n) h = absurd (omega (arith, ints, h.0))
 
-  number_spelled : (z : ℤ) → nat_abs z ≤ limit → Number limit z (degree_text z)
-  number_spelled (pos n) h = (false, n, h, refl, ([], digits_of (decimal n), refl, inl refl, decimal-digits n (omega arith)))
-  number_spelled (negsuc n) h = (true, suc n, h, refl, (one 45, digits_of (decimal (suc n)), refl, refl, decimal-digits (suc n) (omega arith)))
-
   bound_spelled : (b : Bound) → IsBound limit b → SpellsBound limit b (bound_text b)
-  bound_spelled (Finite z) h = number_spelled z h
+  bound_spelled (Finite z) h = degree limit (omega arith) z h
   bound_spelled Infinite h = refl
 
   module _ (top : ℕ) (low : top < 2 ^ 63) where
@@ -131,14 +122,14 @@ module _ (limit : ℕ) (small : limit < 2 ^ 127) where
         (both (A ⋅ Bytes proof_word ⋅ Blanks1 ⋅ Bytes version_word) Blanks1 (a ++ plain proof_word ++ space ++ plain version_word) space
         (both (A ⋅ Bytes proof_word ⋅ Blanks1) (Bytes version_word) (a ++ plain proof_word ++ space) (plain version_word)
         (both (A ⋅ Bytes proof_word) Blanks1 (a ++ plain proof_word) space
-        (both A (Bytes proof_word) a (plain proof_word) (both (Bytes pseudo_word) Blanks1 (plain pseudo_word) space refl space1) refl) space1) refl) space1) refl) feed_spelled
+        (both A (Bytes proof_word) a (plain proof_word) (both (Bytes pseudo_word) Blanks1 (plain pseudo_word) space refl space1) refl) space1) refl) space1) refl) fed
     line_spelled (F count) h = both (Bytes f_word) (SpellsCount limit top count) (plain f_word) (count_text count) refl (f_spelled count h)
     line_spelled (Pol ws) h =
         both (Bytes pol_word) (SpellsWords limit top ws) (plain pol_word) (listed_text word_text ws ++ feed) refl
         (h.0, both (Listed (SpellsWord limit top) ws) LineEnd (listed_text word_text ws) feed (listed_spelled (SpellsWord limit top) word_text (IsWord limit top) word_spelled ws h.1) ended)
     line_spelled (Rup c) h =
         both (Bytes rup_word) (SpellsRup limit top c) (plain rup_word) (space ++ linear_text c ++ feed) refl
-        (h.0, both (Blanks1 ⋅ SpellsLinear Blank limit c) Feed (space ++ linear_text c) feed (both Blanks1 (SpellsLinear Blank limit c) space (linear_text c) space1 (linear-spelled limit (omega arith) Blank c h.1)) feed_spelled)
+        (h.0, both (Blanks1 ⋅ SpellsLinear Blank limit c) Feed (space ++ linear_text c) feed (both Blanks1 (SpellsLinear Blank limit c) space (linear_text c) space1 (linear-spelled limit (omega arith) Blank c h.1)) fed)
     line_spelled (Soli ls) h =
         both (Bytes soli_word) (SpellsLiterals limit top ls) (plain soli_word) (listed_text literal_text ls ++ feed) refl
         (both (Listed SpellsLiteral ls) LineEnd (listed_text literal_text ls) feed (literals_spelled ls h) ended)

@@ -1,14 +1,14 @@
 -- The letters of canonical text.
-use Rattle.std.proofs.Common.{◌≡◌, ℕ, suc, List, [], ◌∷◌, ◌++◌, refl, ap, ap₂, sym, ◌∙◌, append_assoc, Option, Some, None}
+use Rattle.std.proofs.Common.{◌≡◌, ℕ, List, [], ◌∷◌, ◌++◌, refl, ap, ap₂, sym, ◌∙◌, append_assoc, Option, Some, None}
 use Rattle.std.specs.Fmt.{signed_decimal}
-use Rattle.std.specs.Prelude.{ℤ, pos, negsuc, decimal}
+use Rattle.std.specs.Prelude.{ℤ, decimal}
 use Rattle.pb_text.specs.Languages.{unmarked}
 use Rattle.pb_text.specs.Spelling.{Letter, plain, digits_of, bytes}
 use Rattle.pb_text.proofs.Languages.{bytes-append, bytes-plain, bytes-digits}
 use Rattle.pb_sums.specs.Canonical.{space, degree_text, literal_text, linear_text, linear_bytes}
 use Rattle.pb_sums.specs.Sums.{literal_bytes}
 use Rattle.pb_sums.specs.declared.values.Literal.{Literal}
-use Rattle.pb_sums.proofs.CanonicalLaws.{bytes-linear}
+use Rattle.pb_sums.proofs.CanonicalLaws.{bytes-linear, bytes-degree}
 use Rattle.pb_proof.specs.Lines.{pseudo_word, proof_word, version_word, two_word, f_word, pol_word, rup_word, soli_word, solx_word, del_word, id_word, output_word, conclusion_word, end_word, none_word, unsat_word, sat_word, bounds_word, inf_word}
 use Rattle.pb_proof.specs.Canonical.{literal_line, word_bytes, listed_bytes, bound_bytes, id_shown_bytes, shown_bytes, claim_bytes, statement_bytes}
 use Rattle.pb_proof.specs.declared.word.PolWord.{PolWord}
@@ -89,10 +89,6 @@ line_bytes s = statement_bytes s ++ (10 ∷ [])
 -- The bytes of a text in parts.
 join : (a b : List Letter) (x y : List ℕ) → bytes a ≡ x → bytes b ≡ y → bytes (a ++ b) ≡ x ++ y
 join a b x y h k = bytes-append a b ∙ ap₂ (λ (p q : List ℕ). p ++ q) h k
-
-bytes-degree : (z : ℤ) → bytes (degree_text z) ≡ signed_decimal z
-bytes-degree (pos n) = bytes-digits (decimal n)
-bytes-degree (negsuc n) = ap (λ x. 45 ∷ x) (bytes-digits (decimal (suc n)))
 
 bytes-literal : (l : Literal) → bytes (literal_text l) ≡ literal_line l
 bytes-literal l = bytes-plain (literal_bytes l.negated l.name)

@@ -1,33 +1,30 @@
 -- A push of a machine of literals does what was planned.
-use Rattle.std.proofs.Common.{◌≡◌, ℕ, ◌+◌, ◌-◌, ◌^◌, ◌<◌, min, take, get_or, Bool, true, false, ◌||◌, List, [], length, sym, ap, arith, ◌∙◌}
+use Rattle.std.proofs.Common.{◌≡◌, ℕ, ◌+◌, ◌-◌, ◌^◌, ◌<◌, min, take, get_or, Bool, true, ◌||◌, List, [], length, sym, ap, ◌∙◌}
 use Rattle.std.proofs.lemmas.List.{take_more}
 use Rattle.std.specs.Prelude.{IsTrue}
-use Rattle.pb_text.specs.Automaton.{Next, Go, End, Refuse, Admits, IsState}
+use Rattle.pb_text.specs.Automaton.{Go, Refuse, Admits, IsState}
+use Rattle.pb_text.proofs.Outcomes.{go_or_refuse, end_or_refuse}
+use Rattle.pb_text.proofs.Booleans.{never}
 use Rattle.pb_sums.specs.declared.Literal.{Literal}
-use Rattle.pb_proof.specs.Line.Literals.{LiteralsState, literals_automaton, literals_at, flushed, act, plan, adds, is_more, is_midway, units, IsLiteralsInOrder}
+use Rattle.pb_sums.proofs.Counts.{counted}
+use Rattle.pb_proof.specs.Line.Literals.{literals_automaton, literals_at, flushed, act, plan, adds, is_more, is_midway, units, IsLiteralsInOrder}
 use Rattle.pb_proof.specs.Line.ByteKind.{name_byte}
 use Rattle.pb_proof.specs.declared.line.byte_kind.NameByte.{NameByte}
 use Rattle.pb_proof.specs.declared.line.literals.phase.LiteralsPhase.{LiteralsPhase}
 use Rattle.pb_proof.specs.declared.line.literals.phase.LiteralsMove.{LiteralsMove}
 use Rattle.pb_proof.specs.declared.line.literals.phase.LiteralsMove.TheVariants as move
 use Rattle.pb_proof.proofs.lemmas.Literals.Theorems.{literals_of_one, literals_is_state, units_append}
-use Rattle.pb_proof.proofs.lemmas.Line.One.{admits}
+use Rattle.pb_text.proofs.OneText.{admits}
 
 abbrev IsTaken : LiteralsMove → Type 0
 IsTaken move.Stop = ⊥
 IsTaken _ = Unit {0}
 
-refuse_go : (s : LiteralsState) → ◌≡◌ {A = Next LiteralsState (List Literal)} (Go s) Refuse → ⊥
-refuse_go s h = cc
-
-refuse_end : (s : LiteralsState) (e : List Literal) → ◌≡◌ {A = Next LiteralsState (List Literal)} (End e s) Refuse → ⊥
-refuse_end s e h = cc
-
 taken_acts : (joined : Bool) (ms ls : List Literal) (name : List ℕ) (m : LiteralsMove) → IsTaken m → act joined ms ls name m ≡ Refuse → ⊥
-taken_acts joined ms ls name (move.To q) h e = refuse_go _ e
-taken_acts joined ms ls name (move.Begin q b) h e = refuse_go _ e
-taken_acts joined ms ls name (move.Add q b) h e = refuse_go _ e
-taken_acts joined ms ls name move.End h e = refuse_end _ _ e
+taken_acts joined ms ls name (move.To q) h e = go_or_refuse _ e
+taken_acts joined ms ls name (move.Begin q b) h e = go_or_refuse _ e
+taken_acts joined ms ls name (move.Add q b) h e = go_or_refuse _ e
+taken_acts joined ms ls name move.End h e = end_or_refuse _ _ e
 taken_acts joined ms ls name move.Stop h e = h
 
 module _ (joined : Bool) (ls : List Literal) (name : List ℕ) (p : LiteralsPhase) (b : ℕ) (k : NameByte) where
@@ -57,10 +54,7 @@ same_state joined ls ms m n p q e f g = cc
 
 -- a state on the way through the literals
 pub midway_state : (joined : Bool) (ls : List Literal) (name : List ℕ) (q : LiteralsPhase) → is_midway q ≡ true → IsState literals_automaton (literals_at joined ls name q)
-midway_state joined ls name q h = literals_is_state (literals_at joined ls name q) (λ i. absurd (never (is_midway q) h i))
-  where
-    never : (x : Bool) → x ≡ true → x ≡ false → ⊥
-    never x e f = cc
+midway_state joined ls name q h = literals_is_state (literals_at joined ls name q) (λ i. never (is_midway q) h i)
 
 -- a count that stays at its largest
 pub count_more : (ls : List Literal) (i : ℕ) (d : Literal) (c m r : ℕ) → i < length ls → c ≡ min (units (take i ls)) (2 ^ 64 - 1) → m ≡ min (length (get_or ls i d).name + 1) (2 ^ 64 - 1)
@@ -68,6 +62,3 @@ pub count_more : (ls : List Literal) (i : ℕ) (d : Literal) (c m r : ℕ) → i
 count_more ls i d c m r h e f g =
     counted (units (take i ls)) (length (get_or ls i d).name) c m r e f g
     ∙ ap (λ n. min n (2 ^ 64 - 1)) (sym (ap units (take_more ls i d h) ∙ units_append (take i ls) (get_or ls i d)))
-  where
-    counted : (u n c m r : ℕ) → c ≡ min u (2 ^ 64 - 1) → m ≡ min (n + 1) (2 ^ 64 - 1) → r ≡ min (c + m) (2 ^ 64 - 1) → r ≡ min (u + (1 + n)) (2 ^ 64 - 1)
-    counted u n c m r e f g = omega arith

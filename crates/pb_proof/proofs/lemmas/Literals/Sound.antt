@@ -1,14 +1,17 @@
 -- What a machine of literals has read in each of its states.
 use Rattle.std.proofs.Common.{◌≡◌, ℕ, Bool, true, false, cond, List, [], ◌∷◌, ◌++◌, refl, sym, ap, subst, ◌∙◌}
 use Rattle.std.specs.Prelude.{IsTrue}
-use Rattle.pb_text.proofs.Languages.{grown, next, regroup3, some-one, some-grown, some-many, none_yet, behind_it, nil_first}
+use Rattle.pb_text.proofs.Languages.{grown, next, regroup3, none_yet, behind_it, nil_first}
 use Rattle.pb_text.specs.Automaton.{Next}
 use Rattle.pb_text.specs.Classes.{is_blank}
 use Rattle.pb_text.specs.Languages.{unmarked, Language, ◌⋅◌, Empty, Byte, Blanks0, Blanks1}
 use Rattle.pb_text.specs.Spelling.{Letter}
 use Rattle.pb_text.proofs.Walking.{On, Keeps}
+use Rattle.pb_text.proofs.Letters.{as_unmarked}
+use Rattle.pb_text.proofs.ByteTests.{letter_name}
 use Rattle.pb_sums.specs.Sums.{SpellsLiteral}
 use Rattle.pb_sums.specs.declared.Literal.{Literal}
+use Rattle.pb_sums.proofs.LiteralFronts.{FirstOf, LiteralOf}
 use Rattle.pb_proof.specs.Lines.{LineEnd, Listed}
 use Rattle.pb_proof.specs.Line.Literals.{LiteralsState, SpellsJoined, literals_automaton, literal, flushed, act, plan, behind, before}
 use Rattle.pb_proof.specs.Line.ByteKind.{name_byte}
@@ -16,8 +19,8 @@ use Rattle.pb_proof.specs.declared.line.byte_kind.NameByte.{NameByte}
 use Rattle.pb_proof.specs.declared.line.byte_kind.NameByte.TheVariants as kind
 use Rattle.pb_proof.specs.declared.line.literals.phase.LiteralsPhase.{LiteralsPhase}
 use Rattle.pb_proof.specs.declared.line.literals.phase.LiteralsPhase.TheVariants.{Start, Gap, Negation, First, More, Closing, Done}
-use Rattle.pb_proof.proofs.lemmas.Line.ByteKinds.{NameMeans, name_means, letter_is_name_byte}
-use Rattle.pb_proof.proofs.lemmas.Literals.Names.{FirstOf, LiteralOf, first_grown, more_grown}
+use Rattle.pb_proof.proofs.lemmas.Line.ByteKinds.{NameMeans, name_means}
+use Rattle.pb_proof.proofs.lemmas.Literals.Names.{first_grown, more_grown}
 use Rattle.pb_proof.proofs.lemmas.Line.Ends as ends
 
 -- what stands before the end of the line
@@ -47,7 +50,7 @@ row_append true (x ∷ ls) l p h =
 
 before_of : (joined : Bool) (ls : List Literal) (p : List Letter) → (Row joined ls ⋅ Blanks1) p → Before joined ls p
 before_of false ls p h = h
-before_of true [] p h = nil_first Blanks0 p (behind_it Empty Blanks1 Blanks0 p (some-many (λ b. IsTrue (is_blank b))) h)
+before_of true [] p h = nil_first Blanks0 p (ends.gapped_some Empty p h)
 before_of true (l ∷ ls) p h = h
 
 whole : (joined : Bool) (ls : List Literal) (q : List Letter) → (Row joined ls ⋅ LineEnd) q → SpellsJoined joined ls q
@@ -83,22 +86,10 @@ module _ (joined : Bool) where
 
   before_sound : (ls : List Literal) (name : List ℕ) (k : NameByte) (l : Letter) (p : List Letter) → NameMeans k l.byte → Before joined ls p → ends.Gapped (Row joined ls) p
       → (IsTrue (is_blank l.byte) → l.numeral ≡ false → (Row joined ls ⋅ Blanks1) (p ++ l ∷ [])) → OnNext (act joined ls ls name (before k)) l (p ++ l ∷ [])
-  before_sound ls name kind.Tilde l p m b h f = λ _ n. next (Before joined ls) (Byte 126) p l b (ap (λ x. x ∷ []) (ends.as_unmarked l 126 m n))
+  before_sound ls name kind.Tilde l p m b h f = λ _ n. next (Before joined ls) (Byte 126) p l b (ap (λ x. x ∷ []) (as_unmarked l 126 n m))
   before_sound ls name (kind.Letter c) l p m b h f =
-      λ _ n. next (Before joined ls) (FirstOf false (c ∷ [])) p l b (m.1, ap (λ x. x ∷ []) (ends.as_unmarked l c m.0 n))
+      λ _ n. next (Before joined ls) (FirstOf false (c ∷ [])) p l b (m.1, ap (λ x. x ∷ []) (as_unmarked l c n m.0))
   before_sound ls name k l p m b h f = behind_sound ls ls name k l p m h f
-
-  gapped : (ls : List Literal) (p : List Letter) → Row joined ls p → ends.Gapped (Row joined ls) p
-  gapped ls p h = none_yet (Row joined ls) Blanks0 p ([], tt, refl) h
-
-  gap_more : (ls : List Literal) (p : List Letter) → (Row joined ls ⋅ Blanks1) p → ends.Gapped (Row joined ls) p
-  gap_more ls p h = behind_it (Row joined ls) Blanks1 Blanks0 p (some-many (λ b. IsTrue (is_blank b))) h
-
-  blank_next : (ls : List Literal) (l : Letter) (p : List Letter) → Row joined ls p → IsTrue (is_blank l.byte) → l.numeral ≡ false → (Row joined ls ⋅ Blanks1) (p ++ l ∷ [])
-  blank_next ls l p h b n = next (Row joined ls) Blanks1 p l h (some-one (λ b. IsTrue (is_blank b)) l.byte l (ends.as_unmarked l l.byte refl n) b)
-
-  blank_grown : (ls : List Literal) (l : Letter) (p : List Letter) → (Row joined ls ⋅ Blanks1) p → IsTrue (is_blank l.byte) → l.numeral ≡ false → (Row joined ls ⋅ Blanks1) (p ++ l ∷ [])
-  blank_grown ls l p h b n = grown (Row joined ls) Blanks1 Blanks1 p l (some-grown (λ b. IsTrue (is_blank b)) l.byte l (ends.as_unmarked l l.byte refl n) b) h
 
   start_row : (ls : List Literal) (p : List Letter) → ls ≡ [] → Empty p → Row joined ls p
   start_row ls p e h = subst (λ y. Row joined y p) (sym e) (row_empty joined p h)
@@ -106,30 +97,30 @@ module _ (joined : Bool) where
 start_sound : (joined : Bool) (ls : List Literal) (name : List ℕ) (k : NameByte) (l : Letter) (p : List Letter) → NameMeans k l.byte → ls ≡ [] → Empty p
     → OnNext (act joined ls ls name (cond joined (before k) (behind k))) l (p ++ l ∷ [])
 start_sound true ls name k l p m e h =
-    before_sound true ls name k l p m (subst (λ y. Before true y p) (sym e) ([], tt, h)) (gapped true ls p (start_row true ls p e h))
-    (blank_next true ls l p (start_row true ls p e h))
+    before_sound true ls name k l p m (subst (λ y. Before true y p) (sym e) ([], tt, h)) (ends.gapped (Row true ls) p (start_row true ls p e h))
+    (λ b n. ends.blanks_begin (Row true ls) l p b n (start_row true ls p e h))
 start_sound false ls name k l p m e h =
-    behind_sound false ls ls name k l p m (gapped false ls p (start_row false ls p e h)) (blank_next false ls l p (start_row false ls p e h))
+    behind_sound false ls ls name k l p m (ends.gapped (Row false ls) p (start_row false ls p e h)) (λ b n. ends.blanks_begin (Row false ls) l p b n (start_row false ls p e h))
 
 module _ (joined : Bool) where
   sound : (ph : LiteralsPhase) (ls : List Literal) (name : List ℕ) (k : NameByte) (l : Letter) (p : List Letter) → NameMeans k l.byte → front joined ph ls name p
       → OnNext (act joined (flushed ph ls name) ls name (plan joined ph k)) l (p ++ l ∷ [])
   sound Start ls name k l p m h = start_sound joined ls name k l p m h.0 h.1
   sound Gap ls name k l p m h =
-      before_sound joined ls name k l p m (before_of joined ls p h) (gap_more joined ls p h) (blank_grown joined ls l p h)
+      before_sound joined ls name k l p m (before_of joined ls p h) (ends.gapped_some (Row joined ls) p h) (λ b n. ends.blanks_go_on (Row joined ls) l p b n h)
   sound Negation ls name (kind.Letter c) l p m h =
       λ _ n. grown (Before joined ls) (Byte 126) (FirstOf true (c ∷ [])) p l
-      (λ q r. (m.1, ap (λ x. x ++ l ∷ []) r ∙ ap (λ y. unmarked 126 ∷ y ∷ []) (ends.as_unmarked l c m.0 n))) h
+      (λ q r. (m.1, ap (λ x. x ++ l ∷ []) r ∙ ap (λ y. unmarked 126 ∷ y ∷ []) (as_unmarked l c n m.0))) h
   sound (First negated) ls name (kind.Letter c) l p m h =
-      λ _ n. first_grown (Before joined ls) negated name c l p (ends.as_unmarked l c m.0 n) (letter_is_name_byte c m.1) h
-  sound (First negated) ls name (kind.Inner c) l p m h = λ _ n. first_grown (Before joined ls) negated name c l p (ends.as_unmarked l c m.0 n) m.1 h
+      λ _ n. first_grown (Before joined ls) negated name c l p (as_unmarked l c n m.0) (letter_name c m.1) h
+  sound (First negated) ls name (kind.Inner c) l p m h = λ _ n. first_grown (Before joined ls) negated name c l p (as_unmarked l c n m.0) m.1 h
   sound (More negated) ls name (kind.Letter c) l p m h =
-      λ _ n. more_grown (Before joined ls) negated name c l p (ends.as_unmarked l c m.0 n) (letter_is_name_byte c m.1) h
-  sound (More negated) ls name (kind.Inner c) l p m h = λ _ n. more_grown (Before joined ls) negated name c l p (ends.as_unmarked l c m.0 n) m.1 h
+      λ _ n. more_grown (Before joined ls) negated name c l p (as_unmarked l c n m.0) (letter_name c m.1) h
+  sound (More negated) ls name (kind.Inner c) l p m h = λ _ n. more_grown (Before joined ls) negated name c l p (as_unmarked l c n m.0) m.1 h
   sound (More negated) ls name k l p m h =
       let ms : List Literal = ls ++ literal negated name ∷ [] in
       let r : Row joined ms p = row_append joined ls (literal negated name) p h in
-      behind_sound joined ms ls name k l p m (gapped joined ms p r) (blank_next joined ms l p r)
+      behind_sound joined ms ls name k l p m (ends.gapped (Row joined ms) p r) (λ b n. ends.blanks_begin (Row joined ms) l p b n r)
   sound Closing ls name kind.Blank l p m h = λ _ n. ends.blank_closing (Row joined ls) l p m n h
   sound Closing ls name kind.Feed l p m h = λ n. whole joined ls (p ++ l ∷ []) (ends.line_closing (Row joined ls) l p m n h)
   sound _ ls name k l p m h = tt

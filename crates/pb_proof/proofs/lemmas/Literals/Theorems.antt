@@ -1,12 +1,15 @@
 -- The laws of the machine of literals.
-use Rattle.std.proofs.Common.{◌≡◌, ℕ, ◌+◌, ◌-◌, ◌^◌, ◌≤◌, min, Bool, true, false, cond, List, [], ◌∷◌, ◌++◌, length, refl, sym, ap, subst, arith, ◌↔◌}
+use Rattle.std.proofs.Common.{◌≡◌, ℕ, ◌+◌, ◌-◌, ◌^◌, ◌≤◌, Bool, true, false, cond, List, [], ◌∷◌, ◌++◌, length, refl, sym, ap, subst, arith, ◌↔◌}
 use Rattle.std.proofs.Math.Nat.{min-le_left}
 use Rattle.std.proofs.lemmas.List.{length-append}
 use Rattle.pb_text.specs.Automaton.{Next, Go, End, Refuse, Reads, IsState}
 use Rattle.pb_text.specs.Languages.{unmarked}
 use Rattle.pb_text.specs.Spelling.{Letter}
 use Rattle.pb_text.proofs.Walking.{told}
+use Rattle.pb_text.proofs.Outcomes.{one_state}
+use Rattle.pb_text.proofs.Booleans.{never}
 use Rattle.pb_sums.specs.declared.Literal.{Literal}
+use Rattle.pb_sums.proofs.Counts.{to-grows, begin-grows, add-grows}
 use Rattle.pb_proof.specs.Line.Literals.{LiteralsState, SpellsJoined, literals_automaton, literals_at, literals_first, literals_last, literal, flushed, act, plan, behind, before, is_midway, is_begun, is_done, units, in_hand, ready, all_units, IsLiteralsInOrder}
 use Rattle.pb_proof.specs.Line.ByteKind.{name_byte}
 use Rattle.pb_proof.specs.declared.line.byte_kind.NameByte.{NameByte}
@@ -17,7 +20,8 @@ use Rattle.pb_proof.specs.declared.line.literals.phase.LiteralsMove.{LiteralsMov
 use Rattle.pb_proof.specs.declared.line.literals.phase.LiteralsMove as move
 use Rattle.pb_proof.proofs.lemmas.Literals.Complete.{reads_each}
 use Rattle.pb_proof.proofs.lemmas.Literals.Sound.{Front, Whole, keeps_front}
-use Rattle.pb_proof.proofs.lemmas.Line.One.{IsOfOne, ReadsSome, reads_last, is_state}
+use Rattle.pb_text.proofs.OneText.{IsOfOne, reads_last, is_state}
+use Rattle.pb_text.proofs.Living.{ReadsOn}
 
 abbrev N : Type 0
 N = Next LiteralsState (List Literal)
@@ -59,9 +63,6 @@ midway_begun : (joined : Bool) (ph : LiteralsPhase) → is_midway ph ≡ true �
 midway_begun joined Start h = cc
 midway_begun joined _ h = h
 
-same : (s t : LiteralsState) → ◌≡◌ {A = N} (Go s) (Go t) → s ≡ t
-same s t e = cc
-
 -- what is kept grows by one unit a byte at most
 pub units_append : (ls : List Literal) (l : Literal) → units (ls ++ l ∷ []) ≡ units ls + (1 + length l.name)
 units_append [] l = omega arith
@@ -96,36 +97,27 @@ module _ (joined : Bool) (ls : List Literal) (name : List ℕ) (ph : LiteralsPha
   to_steps q m h = record {
     midway = m;
     joined = refl;
-    grows = grown (units (flushed ph ls name)) (units ls) (in_hand ph) (length name) (ready joined ph) (in_hand q) (ready joined q) (flushed_units ph ls name) h (ready_one joined q);
+    grows = to-grows (units (flushed ph ls name)) (units ls) (in_hand ph) (length name) (ready joined ph) (in_hand q) (ready joined q) (flushed_units ph ls name) h (ready_one joined q);
   }
-    where
-      grown : (u x h l r ih ir : ℕ) → u ≤ x + h + l → ih ≡ 0 → ir ≤ 1 → u + ih + 0 + ir ≤ x + h + l + r + 1
-      grown u x h l r ih ir a b c = omega arith
 
   begin_steps : (q : LiteralsPhase) (b : ℕ) → is_midway q ≡ true → in_hand q + ready joined q ≡ 1 → ready joined ph ≡ 1 → Steps here (literals_at joined ls (b ∷ []) q)
   begin_steps q b m h r = record {
     midway = m;
     joined = refl;
-    grows = grown (units ls) (in_hand ph) (length name) (ready joined ph) (in_hand q) (ready joined q) h r;
+    grows = begin-grows (units ls) (in_hand ph) (length name) (ready joined ph) (in_hand q) (ready joined q) h r;
   }
-    where
-      grown : (x h l r ih ir : ℕ) → ih + ir ≡ 1 → r ≡ 1 → x + ih + 1 + ir ≤ x + h + l + r + 1
-      grown x h l r ih ir a b = omega arith
 
   add_steps : (q : LiteralsPhase) (b : ℕ) → is_midway q ≡ true → in_hand q + ready joined q ≡ 1 → in_hand ph ≡ 1 → Steps here (literals_at joined ls (name ++ b ∷ []) q)
   add_steps q b m h r = record {
     midway = m;
     joined = refl;
-    grows = grown (units ls) (in_hand ph) (length name) (ready joined ph) (in_hand q) (ready joined q) (length (name ++ b ∷ [])) h r (length-append name (b ∷ []));
+    grows = add-grows (units ls) (in_hand ph) (length name) (ready joined ph) (in_hand q) (ready joined q) (length (name ++ b ∷ [])) h r (length-append name (b ∷ []));
   }
-    where
-      grown : (x h l r ih ir m : ℕ) → ih + ir ≡ 1 → h ≡ 1 → m ≡ l + 1 → x + ih + m + ir ≤ x + h + l + r + 1
-      grown x h l r ih ir m a b c = omega arith
 
   acted : (m : LiteralsMove) (next : LiteralsState) → IsSane joined ph m → act joined (flushed ph ls name) ls name m ≡ Go next → Steps here next
-  acted (move.TheVariants.To q) next h e = subst (λ x. Steps here x) (same _ next e) (to_steps q h.0 h.1)
-  acted (move.TheVariants.Begin q b) next h e = subst (λ x. Steps here x) (same _ next e) (begin_steps q b h.0 h.1 h.2)
-  acted (move.TheVariants.Add q b) next h e = subst (λ x. Steps here x) (same _ next e) (add_steps q b h.0 h.1 h.2)
+  acted (move.TheVariants.To q) next h e = subst (λ x. Steps here x) (one_state _ next e) (to_steps q h.0 h.1)
+  acted (move.TheVariants.Begin q b) next h e = subst (λ x. Steps here x) (one_state _ next e) (begin_steps q b h.0 h.1 h.2)
+  acted (move.TheVariants.Add q b) next h e = subst (λ x. Steps here x) (one_state _ next e) (add_steps q b h.0 h.1 h.2)
   acted move.TheVariants.End next h e = cc
   acted move.TheVariants.Stop next h e = cc
 
@@ -151,11 +143,8 @@ stops : (joined : Bool) (ph : LiteralsPhase) (ls : List Literal) (name : List �
 stops joined Done ls name k h = refl
 stops joined _ ls name k h = cc
 
-never : (x : Bool) → x ≡ true → x ≡ false → ⊥
-never x e f = cc
-
 -- a further byte or two of a name, and the line feed
-some_text : (joined : Bool) (ph : LiteralsPhase) (ls : List Literal) (name : List ℕ) → is_done ph ≡ false → ReadsSome literals_automaton IsLiteralsInOrder last (literals_at joined ls name ph)
+some_text : (joined : Bool) (ph : LiteralsPhase) (ls : List Literal) (name : List ℕ) → is_done ph ≡ false → ReadsOn literals_automaton (literals_at joined ls name ph)
 some_text true Start ls name h = (unmarked 10 ∷ [], ls, literals_last true, (refl, refl))
 some_text false Start ls name h = (unmarked 10 ∷ [], ls, literals_last false, (refl, refl))
 some_text joined Gap ls name h = (unmarked 10 ∷ [], ls, literals_last joined, (refl, refl))
@@ -177,7 +166,7 @@ some_text joined Done ls name h = cc
 
 pub literals_of_one : IsOfOne literals_automaton IsLiteralsInOrder last
 literals_of_one = record {
-  keeps = λ s next b g e i. absurd (never (is_midway next.phase) (goes s next b e).midway i);
+  keeps = λ s next b g e i. never (is_midway next.phase) (goes s next b e).midway i;
   begins = λ s next b e. midway_begun next.joined next.phase (goes s next b e).midway;
   owes = λ s h. owes s.joined s.phase h;
   leads = λ s next b e. ap literals_last (goes s next b e).joined;
@@ -187,11 +176,8 @@ literals_of_one = record {
   goes_on = λ s g h. some_text s.joined s.phase s.literals s.name h;
   plain = λ s h. refl;
   grows = λ s next b e. (goes s next b e).grows;
-  bounds = λ s. within (all_units s) (ready s.joined s.phase);
+  bounds = λ s. omega (arith, min-le_left (all_units s) (2 ^ 64 - 1));
 }
-  where
-    within : (n r : ℕ) → min n (2 ^ 64 - 1) ≤ n + r
-    within n r = omega (arith, min-le_left n (2 ^ 64 - 1))
 
 -- Behind the line the machine has ended.
 pub literals_ends : (s after : LiteralsState) (text : List Letter) (e : List Literal) → Reads literals_automaton s text e after → after ≡ literals_last s.joined

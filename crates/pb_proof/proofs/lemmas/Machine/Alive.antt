@@ -1,5 +1,5 @@
 -- Each state that a machine of proofs can be in has texts before it.
-use Rattle.std.proofs.Common.{◌≡◌, ℕ, ◌+◌, ◌<◌, Bool, true, false, List, [], ◌∷◌, ◌++◌, length, take, drop, refl, sym, subst, ◌∙◌, arith, append_assoc, length-append, Some, None, inl, ◌^◌, suc}
+use Rattle.std.proofs.Common.{◌≡◌, ℕ, ◌+◌, ◌<◌, Bool, true, false, List, [], ◌∷◌, ◌++◌, length, take, drop, refl, sym, subst, ◌∙◌, arith, append_assoc, length-append, Some, None, ◌^◌, suc}
 use Rattle.std.proofs.Math.Seq.{split_at}
 use Rattle.std.proofs.lemmas.List.{length-take-le}
 use Rattle.std.proofs.lemmas.Bool.{eqb-true}
@@ -8,8 +8,8 @@ use Rattle.pb_text.specs.Automaton.{Accepts, IsState}
 use Rattle.pb_text.specs.Languages.{unmarked, Blanks1, Byte}
 use Rattle.pb_text.specs.Spelling.{Letter, Item, plain}
 use Rattle.pb_proof.specs.Line.Machine.{line_automaton, line_first}
-use Rattle.pb_proof.specs.Lines.{Feed, LineEnd, none_word, conclusion_word, f_word}
-use Rattle.pb_proof.specs.Machine.Transition.{words_of, behind, meets}
+use Rattle.pb_proof.specs.Lines.{none_word, conclusion_word, f_word}
+use Rattle.pb_proof.specs.Machine.Transition.{words_of, behind}
 use Rattle.pb_proof.specs.Order.{IsOrdered}
 use Rattle.pb_proof.specs.Machine.State.{ProofState, proofs, at, idle, giving, stage_behind, act, PhaseFits, HasGaps, Holds, IsInOrder}
 use Rattle.pb_proof.specs.declared.conclusion.Conclusion.TheVariants.{NoClaim}
@@ -25,11 +25,12 @@ use Rattle.pb_proof.specs.declared.machine.phase.Phase.TheVariants as phase
 use Rattle.pb_proof.specs.declared.statement.Statement.{Statement}
 use Rattle.pb_proof.specs.declared.statement.Statement as statement
 use Rattle.pb_proof.proofs.lemmas.Line.Laws.{line_begins, line_fresh, line_first_state}
-use Rattle.pb_proof.proofs.lemmas.Living.{IsAlive, before, final, accepted, ReadsOn, reads_on}
-use Rattle.pb_proof.proofs.lemmas.Machine.Complete.{spelt, header_end, output_end, step_on, step_last, given_reads, meets_self}
+use Rattle.pb_text.proofs.Living.{IsAlive, before, final, accepted, ReadsOn, reads_on}
+use Rattle.pb_proof.proofs.lemmas.Machine.Complete.{spelt, header_end, output_end, step_on, step_last, given_reads, meets_any}
 use Rattle.pb_proof.proofs.lemmas.Machine.Exact.{no_gap}
 use Rattle.pb_proof.proofs.lemmas.Machine.Orders.{ordered_each}
 use Rattle.pb_proof.proofs.lemmas.Spaced.{Spaced, One, chooses, KeywordWords, keyword_only}
+use Rattle.pb_proof.proofs.lemmas.Line.Ends.{fed, ended}
 
 -- words as they are written
 one_plain : (c : ℕ) → One c (unmarked c ∷ [])
@@ -45,12 +46,6 @@ plain_spaced (c ∷ w) = (unmarked c ∷ [], plain w, refl, one_plain c, plain_s
 
 written : (f : Keyword) → KeywordWords f (plain (words_of f))
 written f = keyword_only f (plain (words_of f)) (plain_spaced (words_of f))
-
-fed : Feed (unmarked 10 ∷ [])
-fed = ([], unmarked 10 ∷ [], refl, ([], tt, refl), refl)
-
-ended : LineEnd (unmarked 10 ∷ [])
-ended = inl fed
 
 abbrev item : List Letter → Statement → Item Statement
 item text e = record { gap = []; text = text; event = e }
@@ -147,14 +142,6 @@ module _ (limit top : ℕ) where
     behind_alive keyword.Output k c e = before proofs (spelt limit top keyword.Output k) (output_end limit top true) c e refl (output_end_alive true)
     behind_alive keyword.Conclusion k c e = before proofs (spelt limit top keyword.Conclusion k) (giving limit top kind.Conclusion (line_first limit top kind.Conclusion)) c e refl (first_alive kind.Conclusion)
     behind_alive keyword.End k c e = final proofs (spelt limit top keyword.End k) (idle limit top Complete) c statement.TheVariants.End e [] refl
-
-    -- a byte of the words meets itself, and a space is a blank
-    meets_any : (c : ℕ) → meets c c ≡ true
-    meets_any c = by_test (nat_eq c 32) refl
-      where
-        by_test : (x : Bool) → nat_eq c 32 ≡ x → meets c c ≡ true
-        by_test true e = let is : c ≡ 32 = eqb-true c 32 e in subst (λ b. meets b b ≡ true) (sym is) refl
-        by_test false e = meets_self c e
 
     spelling_on : (f : Keyword) (before_it left : List ℕ) (c : ℕ) → words_of f ≡ before_it ++ c ∷ left → IsAlive proofs (spelt limit top f (length before_it))
     spelling_on f before_it [] c e = behind_alive f (length before_it) c (step_last limit top f before_it c c e (meets_any c))

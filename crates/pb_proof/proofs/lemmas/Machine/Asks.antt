@@ -6,8 +6,9 @@ use Rattle.pb_text.specs.Asking.{AsksOnly}
 use Rattle.pb_text.specs.Automaton.{Next, Go, End, Refuse, Reads, MayAsk}
 use Rattle.pb_text.specs.Spelling.{Letter, bytes}
 use Rattle.pb_text.proofs.Asked as asked
-use Rattle.pb_text.proofs.Lists.{bytes-append}
+use Rattle.pb_text.proofs.Languages.{bytes-append}
 use Rattle.pb_text.proofs.Walking.{Walks, reads_behind, fronts}
+use Rattle.pb_text.proofs.Booleans.{never}
 use Rattle.pb_proof.specs.Asking.{AsksBehind, FirstWord, Asks}
 use Rattle.pb_proof.specs.Line.ClaimState.{claim_first}
 use Rattle.pb_proof.specs.Line.Count.{counting}
@@ -33,7 +34,6 @@ use Rattle.pb_proof.specs.declared.machine.phase.Stage.TheVariants.{Opening}
 use Rattle.pb_proof.specs.declared.statement.Statement.{Statement}
 use Rattle.pb_proof.specs.declared.statement.Statement.TheVariants as statement
 use Rattle.pb_proof.proofs.lemmas.Carried.{walks_out, reads_out}
-use Rattle.pb_proof.proofs.lemmas.Choices.{never}
 use Rattle.pb_proof.proofs.lemmas.Claim.Asks.{claim_asked}
 use Rattle.pb_proof.proofs.lemmas.Line.Laws.{count_carries, pol_carries, rup_carries, soli_carries, solx_carries, delete_carries, conclusion_carries, line_begins, line_only}
 use Rattle.pb_proof.proofs.lemmas.Line.Asks.{ids_asked, literals_asked, rup_asked}

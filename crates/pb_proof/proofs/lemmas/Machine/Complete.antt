@@ -1,5 +1,5 @@
 -- The machine of proofs reads each statement from its stage on.
-use Rattle.std.proofs.lemmas.Bool.{eqb-true}
+use Rattle.std.proofs.lemmas.Bool.{eqb-true, and_parts, false_from_ne_true, eq-eqb, not-true}
 use Rattle.std.proofs.Common.{◌≡◌, ℕ, ◌+◌, ◌-◌, Bool, true, false, cond, not, ◌&&◌, ◌||◌, List, [], ◌∷◌, ◌++◌, length, refl, sym, ap, ap₂, subst, ◌∙◌, arith, append_assoc, length-append}
 use Rattle.std.proofs.Math.Seq.{get_or-append_seam}
 use Rattle.std.proofs.lemmas.Bool.Decides.{nat_tests}
@@ -10,6 +10,7 @@ use Rattle.pb_text.specs.Classes.{is_blank}
 use Rattle.pb_text.specs.Languages.{unmarked, Language, ◌⋅◌, Byte, Each, Blanks1}
 use Rattle.pb_text.specs.Spelling.{Letter, plain}
 use Rattle.pb_text.proofs.Walking.{Walks, walks_then, walks_more, ends_walk, reads_behind, same_first, longer}
+use Rattle.pb_text.proofs.Booleans.{never}
 use Rattle.pb_proof.specs.Line.Machine.{line_automaton, line_first, SpellsRest}
 use Rattle.pb_proof.specs.Lines.{Feed, LineEnd, SpellsStatement}
 use Rattle.pb_proof.specs.Machine.Transition.{words_of, sol_word, behind, meets, spell, plan}
@@ -26,7 +27,6 @@ use Rattle.pb_proof.specs.declared.machine.phase.Move.{Move}
 use Rattle.pb_proof.specs.declared.machine.phase.Move.TheVariants as move
 use Rattle.pb_proof.specs.declared.statement.Statement.{Statement}
 use Rattle.pb_proof.specs.declared.statement.Statement as statement
-use Rattle.pb_proof.proofs.lemmas.Choices.{never, both, fails}
 use Rattle.pb_proof.proofs.lemmas.Line.Laws.{line_each, line_fresh}
 use Rattle.pb_proof.proofs.lemmas.Line.Ends.{Feeds, feed_reads, MayEnd, line_reads}
 use Rattle.pb_proof.proofs.lemmas.Machine.Sound.{stage_keyword, Before}
@@ -54,14 +54,10 @@ words_laid keyword.End = refl
 
 laid_later : (front more : List ℕ) → is_laid (front ++ more) ≡ true → is_laid more ≡ true
 laid_later [] more h = h
-laid_later (c ∷ front) more h = laid_later front more (both (not (nat_eq c 32) || dark_first (front ++ more)) (is_laid (front ++ more)) h).1
+laid_later (c ∷ front) more h = laid_later front more (and_parts (not (nat_eq c 32) || dark_first (front ++ more)) (is_laid (front ++ more)) h).1
 
 laid_dark : (x : ℕ) (more : List ℕ) → is_laid (32 ∷ x ∷ more) ≡ true → is_blank x ≡ false
-laid_dark x more h = is_not (is_blank x) (both (not (is_blank x)) (is_laid (x ∷ more)) h).0
-  where
-    is_not : (b : Bool) → not b ≡ true → b ≡ false
-    is_not true e = sym e
-    is_not false e = refl
+laid_dark x more h = not-true (is_blank x) (and_parts (not (is_blank x)) (is_laid (x ∷ more)) h).0
 
 -- a blank meets no byte that is none
 dark_blank : (x b : ℕ) → is_blank x ≡ false → is_blank b ≡ true → meets x b ≡ false
@@ -69,14 +65,20 @@ dark_blank x b d h = by_test (nat_eq x 32) refl
   where
     by_test : (t : Bool) → nat_eq x 32 ≡ t → cond t (is_blank b) (nat_eq b x) ≡ false
     by_test true e = absurd (never (is_blank x) (subst (λ y. is_blank y ≡ true) (sym (eqb-true x 32 e)) refl) d)
-    by_test false e = fails (nat_eq b x) (λ k. never (is_blank b) h (subst (λ y. is_blank y ≡ false) (sym (eqb-true b x k)) d))
+    by_test false e = false_from_ne_true (nat_eq b x) (λ k. never (is_blank b) h (subst (λ y. is_blank y ≡ false) (sym (eqb-true b x k)) d))
 
 -- a byte of the words meets itself
-nat-same : (b : ℕ) → nat_eq b b ≡ true
-nat-same b = grind (arith, nat_tests)
 
-pub meets_self : (c : ℕ) → nat_eq c 32 ≡ false → meets c c ≡ true
-meets_self c e = rw (e, nat-same c) refl
+meets_self : (c : ℕ) → nat_eq c 32 ≡ false → meets c c ≡ true
+meets_self c e = rw (e, eq-eqb c c refl) refl
+
+-- and a space does too
+pub meets_any : (c : ℕ) → meets c c ≡ true
+meets_any c = by_test (nat_eq c 32) refl
+  where
+    by_test : (x : Bool) → nat_eq c 32 ≡ x → meets c c ≡ true
+    by_test true e = let is : c ≡ 32 = eqb-true c 32 e in subst (λ b. meets b b ≡ true) (sym is) refl
+    by_test false e = meets_self c e
 
 meets_blank : (c b : ℕ) → nat_eq c 32 ≡ true → is_blank b ≡ true → meets c b ≡ true
 meets_blank c b e h = rw (e, h) refl
@@ -105,7 +107,7 @@ module _ (limit top : ℕ) where
   pub last_left : (f : Keyword) (front : List ℕ) (c : ℕ) → words_of f ≡ front ++ c ∷ [] → nat_eq (length front + 1) (length (words_of f)) ≡ true
   last_left f front c e =
       let m : length (words_of f) ≡ length front + 1 = ap length e ∙ length-append front (c ∷ []) in
-      rw m (nat-same (length front + 1))
+      rw m (eq-eqb (length front + 1) (length front + 1) refl)
 
   pub step_on : (f : Keyword) (front left : List ℕ) (c d b : ℕ) → words_of f ≡ front ++ c ∷ d ∷ left → meets c b ≡ true → proofs.step (spelt f (length front)) b ≡ Go (spelt f (length front + 1))
   step_on f front left c d b e m = ap (act (spelt f (length front)) b) (spell_next f front (d ∷ left) c b false _ e m (more_left f front left c d e))
@@ -188,7 +190,7 @@ module _ (limit top : ℕ) where
 
   -- The last byte of the words is no space.
   last_dark : (f : Keyword) (init : List ℕ) (c : ℕ) → words_of f ≡ init ++ c ∷ [] → nat_eq c 32 ≡ false
-  last_dark f init c e = by_or_dark (both (not (nat_eq c 32) || false) true (laid_later init (c ∷ []) (subst (λ x. is_laid x ≡ true) e (words_laid f)))).0
+  last_dark f init c e = by_or_dark (and_parts (not (nat_eq c 32) || false) true (laid_later init (c ∷ []) (subst (λ x. is_laid x ≡ true) e (words_laid f)))).0
     where
       by_or_dark : (not (nat_eq c 32) || false) ≡ true → nat_eq c 32 ≡ false
       by_or_dark h = at_test (nat_eq c 32) h

@@ -9,6 +9,7 @@ use Rattle.pb_proof.specs.Lines.{SpellsStatement}
 use Rattle.pb_proof.specs.Machine.Transition.{plan}
 use Rattle.pb_proof.specs.Order.{stage_of, stage_after, GapAt, IsOrdered}
 use Rattle.pb_text.proofs.Deterministic.{one_spelling}
+use Rattle.pb_text.proofs.Booleans.{never}
 use Rattle.pb_proof.specs.Formats.{OneProof}
 use Rattle.pb_proof.specs.Proofs.{IsGap, IsStep, statements_of, AreSpelled, BeginsAtOnce, IsProof}
 use Rattle.pb_proof.specs.Machine.State.{ProofState, proofs, begin, act, is_done}
@@ -20,7 +21,6 @@ use Rattle.pb_proof.specs.declared.machine.phase.Phase.{Phase}
 use Rattle.pb_proof.specs.declared.machine.phase.Phase.TheVariants as phase
 use Rattle.pb_proof.specs.declared.statement.Statement.{Statement}
 use Rattle.pb_proof.specs.declared.statement.Statement.TheVariants.{Header, F, Pol, Rup, Soli, Solx, Delete, Output, Conclude, End}
-use Rattle.pb_proof.proofs.lemmas.Choices.{never}
 use Rattle.pb_proof.proofs.lemmas.Machine.Orders.{ordered_only, ordered_each}
 
 -- statements in order

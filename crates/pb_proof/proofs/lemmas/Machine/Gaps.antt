@@ -1,14 +1,17 @@
 -- What stands between two statements.
-use Rattle.std.proofs.lemmas.Bool.{eqb-true}
+use Rattle.std.proofs.lemmas.Bool.{eqb-true, cond_both}
 use Rattle.std.proofs.Common.{◌≡◌, ℕ, Bool, true, false, cond, not, ◌&&◌, ◌||◌, List, [], ◌∷◌, ◌++◌, length, refl, sym, ap, ap₂, subst, ◌∙◌, append_assoc, arith, length-append, ◌+◌}
 use Rattle.std.proofs.lemmas.List.{append-nil}
 use Rattle.std.proofs.Math.Seq.{get_or-append_seam, take-append_seam}
 use Rattle.std.specs.Prelude.{IsTrue, nat_eq, slice_index}
+use Rattle.std.proofs.Math.Bool.{or-true}
 use Rattle.pb_text.specs.Automaton.{Next, Go, End, Refuse, Skips, Reads}
 use Rattle.pb_text.specs.Blank.{IsBlank, in_comment, passes}
 use Rattle.pb_text.specs.Classes.{is_white}
 use Rattle.pb_text.specs.Spelling.{Letter}
 use Rattle.pb_text.proofs.Blanks.{in_comment-snoc, IsBlank-snoc}
+use Rattle.pb_text.proofs.Booleans.{never}
+use Rattle.pb_text.proofs.ByteTests.{white_each}
 use Rattle.pb_proof.specs.Machine.Transition.{enter, between, pass, spell, meets, words_of, behind, step_keyword}
 use Rattle.pb_proof.specs.Proofs.{IsGap}
 use Rattle.pb_proof.specs.Machine.State.{ProofState, proofs, at, idle, act, is_within, HasGaps}
@@ -20,7 +23,6 @@ use Rattle.pb_proof.specs.declared.machine.phase.Phase.TheVariants as phase
 use Rattle.pb_proof.specs.declared.machine.phase.Move.{Move}
 use Rattle.pb_proof.specs.declared.machine.phase.Move.TheVariants as move
 use Rattle.pb_proof.specs.declared.statement.Statement.{Statement}
-use Rattle.pb_proof.proofs.lemmas.Choices.{never, chosen, white_each}
 
 passing : (s : Stage) (b : ℕ) → HasGaps s → between s b ≡ pass s b
 passing Opening b h = absurd h
@@ -46,8 +48,8 @@ behind_inside keyword.Conclusion = tt
 behind_inside keyword.End = tt
 
 pub spell_inside : (f : Keyword) (k b : ℕ) (other : Move) → Inside other → Inside (spell f k b other)
-spell_inside f k b other h = chosen Inside (meets (slice_index (words_of f) k) b) _ _
-    (λ _. chosen Inside (nat_eq (k + 1) (length (words_of f))) _ _ (λ _. behind_inside f) (λ _. refl)) (λ _. h)
+spell_inside f k b other h = cond_both (meets (slice_index (words_of f) k) b) _ _ Inside
+    (λ _. cond_both (nat_eq (k + 1) (length (words_of f))) _ _ Inside (λ _. behind_inside f) (λ _. refl)) (λ _. h)
 
 pub enter_inside : (s : Stage) (b : ℕ) → Inside (enter s b)
 enter_inside Opening b = spell_inside keyword.Header 0 b move.Stop tt
@@ -95,18 +97,14 @@ module _ (limit top : ℕ) (s : Stage) (gaps : HasGaps s) where
   gap_byte : (commented : Bool) (b : ℕ) → InGap (Leads b commented) (proofs.step (gap_state commented) b)
   gap_byte true b = by_feed (nat_eq b 10) refl
     where
-      or_true : (x : Bool) → (x || true) ≡ true
-      or_true true = refl
-      or_true false = refl
-
       by_feed : (x : Bool) → nat_eq b 10 ≡ x → InGap (Leads b true) (act (gap_state true) b (move.To (cond x (phase.Between s) (phase.Comment s))))
-      by_feed true e = λ o. (or_true (is_white b || nat_eq b 42), ap gap_state (sym (ap (λ y. not y && (nat_eq b 42 || true)) e)))
-      by_feed false e = λ o. (or_true (is_white b || nat_eq b 42), ap gap_state (sym (ap (λ y. not y && (nat_eq b 42 || true)) e ∙ or_true (nat_eq b 42))))
+      by_feed true e = λ o. (or-true (is_white b || nat_eq b 42), ap gap_state (sym (ap (λ y. not y && (nat_eq b 42 || true)) e)))
+      by_feed false e = λ o. (or-true (is_white b || nat_eq b 42), ap gap_state (sym (ap (λ y. not y && (nat_eq b 42 || true)) e ∙ or-true (nat_eq b 42))))
   gap_byte false b =
       subst (λ m. InGap (Leads b false) (act (gap_state false) b m)) (sym (passing s b gaps))
-      (chosen Q (is_white b) _ _
+      (cond_both (is_white b) _ _ Q
       (λ e o. (ap (λ x. x || nat_eq b 42 || false) e, ap gap_state (sym (white_mode b e))))
-      (λ f. chosen Q (nat_eq b 42) _ _
+      (λ f. cond_both (nat_eq b 42) _ _ Q
       (λ e o. (ap₂ (λ x y. x || y || false) f e, ap gap_state (sym (star_mode b e))))
       (λ _. entered (Leads b false) b (enter s b) (enter_inside s b))))
     where
@@ -136,13 +134,9 @@ module _ (limit top : ℕ) (s : Stage) (gaps : HasGaps s) where
   gap_step : (commented : Bool) (b : ℕ) → passed b commented ≡ true → proofs.step (gap_state commented) b ≡ Go (gap_state (next_mode b commented))
   gap_step true b h = by_feed (nat_eq b 10) refl
     where
-      or_true : (x : Bool) → (x || true) ≡ true
-      or_true true = refl
-      or_true false = refl
-
       by_feed : (x : Bool) → nat_eq b 10 ≡ x → act (gap_state true) b (move.To (cond x (phase.Between s) (phase.Comment s))) ≡ Go (gap_state (next_mode b true))
       by_feed true e = ap (λ y. Go (gap_state y)) (sym (ap (λ y. not y && (nat_eq b 42 || true)) e))
-      by_feed false e = ap (λ y. Go (gap_state y)) (sym (ap (λ y. not y && (nat_eq b 42 || true)) e ∙ or_true (nat_eq b 42)))
+      by_feed false e = ap (λ y. Go (gap_state y)) (sym (ap (λ y. not y && (nat_eq b 42 || true)) e ∙ or-true (nat_eq b 42)))
   gap_step false b h =
       ap (act (gap_state false) b) (passing s b gaps)
       ∙ by_white (is_white b) refl

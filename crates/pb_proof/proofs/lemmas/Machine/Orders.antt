@@ -2,6 +2,8 @@
 use Rattle.std.proofs.Common.{◌≡◌, ℕ, true, false, List, [], ◌∷◌, refl, sym, ap, subst, ◌∙◌}
 use Rattle.pb_text.specs.Automaton.{Next, Go, End, Refuse, Skips, Reads, Accepts}
 use Rattle.pb_text.specs.Spelling.{Item, Letter}
+use Rattle.pb_text.proofs.Booleans.{never}
+use Rattle.pb_text.proofs.Outcomes.{refuse_or_go, refuse_or_end}
 use Rattle.pb_proof.specs.Machine.Transition.{enter}
 use Rattle.pb_proof.specs.Order.{stage_of, stage_after, GapAt, IsOrdered}
 use Rattle.pb_proof.specs.Machine.State.{ProofState, proofs, idle, act, is_complete}
@@ -11,16 +13,9 @@ use Rattle.pb_proof.specs.declared.machine.phase.Move.{Move}
 use Rattle.pb_proof.specs.declared.machine.phase.Move.TheVariants as move
 use Rattle.pb_proof.specs.declared.statement.Statement.{Statement}
 use Rattle.pb_proof.specs.declared.statement.Statement as statement
-use Rattle.pb_proof.proofs.lemmas.Choices.{never}
 use Rattle.pb_proof.proofs.lemmas.Machine.Complete.{statement_each}
 use Rattle.pb_proof.proofs.lemmas.Machine.Gaps.{Inside, enter_inside, gap_before, gap_skips}
 use Rattle.pb_proof.proofs.lemmas.Machine.Sound.{statement_only}
-
-refuse-go : (s : ProofState) → ◌≡◌ {A = Next ProofState Statement} Refuse (Go s) → ⊥
-refuse-go s h = cc
-
-refuse-end : (e : Statement) (s : ProofState) → ◌≡◌ {A = Next ProofState Statement} Refuse (End e s) → ⊥
-refuse-end e s h = cc
 
 complete : (at : Stage) → is_complete at ≡ true → at ≡ Complete
 complete Complete h = refl
@@ -52,9 +47,9 @@ module _ (limit top : ℕ) where
 
   complete_reads : (gap : List ℕ) (mid after : ProofState) (t : List Letter) (e : Statement) → Skips proofs (idle limit top Complete) gap mid → Reads proofs mid t e after → ⊥
   complete_reads [] mid after [] e h r = r
-  complete_reads [] mid after (l ∷ []) e h (g, n) = refuse-end e after (sym (ap (λ s. proofs.step s l.byte) h) ∙ g)
-  complete_reads [] mid after (l ∷ k ∷ t) e h (next, g, i, n, r) = refuse-go next (sym (ap (λ s. proofs.step s l.byte) h) ∙ g)
-  complete_reads (b ∷ gap) mid after t e (next, g, o, h) r = refuse-go next g
+  complete_reads [] mid after (l ∷ []) e h (g, n) = refuse_or_end e after (sym (ap (λ s. proofs.step s l.byte) h) ∙ g)
+  complete_reads [] mid after (l ∷ k ∷ t) e h (next, g, i, n, r) = refuse_or_go next (sym (ap (λ s. proofs.step s l.byte) h) ∙ g)
+  complete_reads (b ∷ gap) mid after t e (next, g, o, h) r = refuse_or_go next g
 
   gap_at : (at : Stage) (gap : List ℕ) (mid after : ProofState) (t : List Letter) (e : Statement) → Skips proofs (idle limit top at) gap mid → Reads proofs mid t e after
       → GapAt at gap × (mid ≡ idle limit top at)

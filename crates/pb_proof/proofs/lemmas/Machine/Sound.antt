@@ -1,16 +1,17 @@
 -- What a machine of proofs reads from a stage on is a statement of that stage.
 use Rattle.std.proofs.Common.{◌≡◌, ℕ, ◌+◌, ◌-◌, ◌<◌, Bool, true, false, ◌&&◌, List, [], ◌∷◌, ◌++◌, length, take, refl, sym, ap, subst, ◌∙◌, arith, add-one, Some, None}
 use Rattle.std.proofs.Math.Seq.{take-suc}
-use Rattle.std.proofs.lemmas.Bool.{eqb-true}
-use Rattle.std.proofs.lemmas.Bool.Decides.{nat_tests}
+use Rattle.std.proofs.lemmas.Bool.{eqb-true, cond_both, and_parts}
 use Rattle.std.proofs.lemmas.List.{take_all}
 use Rattle.std.specs.Prelude.{nat_eq, slice_index}
 use Rattle.pb_text.specs.Automaton.{Next, Go, End, Refuse, Reads}
 use Rattle.pb_text.specs.Classes.{is_blank, is_white}
-use Rattle.pb_text.specs.Languages.{Language, ◌⋅◌, Bytes, Blanks0}
+use Rattle.pb_text.specs.Languages.{Language, ◌⋅◌, Bytes}
 use Rattle.pb_text.specs.Spelling.{Letter, plain}
 use Rattle.pb_text.proofs.Languages.{grown, none_yet}
 use Rattle.pb_text.proofs.Walking.{Walks, walks_more, ends_walk, On, Keeps, told}
+use Rattle.pb_text.proofs.Booleans.{never}
+use Rattle.pb_text.proofs.Letters.{as_unmarked}
 use Rattle.pb_proof.specs.Line.Machine.{line_automaton, line_first, SpellsRest}
 use Rattle.pb_proof.specs.Lines.{f_word, pol_word, rup_word, soli_word, solx_word, conclusion_word, SpellsStatement}
 use Rattle.pb_proof.specs.Machine.Transition.{words_of, sol_word, behind, meets, spell, step_keyword, enter, pass, between, plan}
@@ -29,10 +30,10 @@ use Rattle.pb_proof.specs.declared.machine.phase.Move.{Move}
 use Rattle.pb_proof.specs.declared.machine.phase.Move.TheVariants as move
 use Rattle.pb_proof.specs.declared.statement.Statement.{Statement}
 use Rattle.pb_proof.specs.declared.statement.Statement as statement
-use Rattle.pb_proof.proofs.lemmas.Choices.{never, chosen, both}
 use Rattle.pb_proof.proofs.lemmas.Line.Laws.{line_only, line_begins, line_fresh}
-use Rattle.pb_proof.proofs.lemmas.Line.Ends.{as_unmarked, Gapped, Closing as Closed, blank_more, semicolon_behind_blanks, blank_closing, line_behind_blanks, line_closing, feed_behind_blanks}
-use Rattle.pb_proof.proofs.lemmas.Spaced.{Spaced, one_met, spaced_more, spaced_blank, KeywordWords, keyword_only}
+use Rattle.pb_proof.proofs.lemmas.Line.Ends.{Gapped, Closing as Closed, blank_more, semicolon_behind_blanks, blank_closing, line_behind_blanks, line_closing, feed_behind_blanks, gapped}
+use Rattle.pb_proof.proofs.lemmas.Spaced.{Spaced, one_met, spaced_more, spaced_blank, KeywordWords, keyword_only, some_byte}
+use Rattle.pb_proof.proofs.lemmas.NumberTests.{further}
 
 -- the stage of the words that a statement begins with, and of what stands behind them
 abbrev pub stage_keyword : Keyword → Stage
@@ -72,9 +73,6 @@ word_blank w k l p some h e b n s =
     ap (λ i. take i w) (sym j ∙ add-one (k - 1)) ∙ (take-suc w (k - 1) 0 (omega arith) ∙ ap (λ x. take (k - 1) w ++ x ∷ []) (eqb-true (slice_index w (k - 1)) 32 e)) in
     subst (λ x. Spaced x (p ++ l ∷ [])) (sym same)
     (spaced_blank (take (k - 1) w) p l b n (subst (λ x. Spaced x p) same s))
-
-further : (k size : ℕ) → k < size → nat_eq (k + 1) size ≡ false → k + 1 < size
-further k size h e = grind (arith, nat_tests)
 
 module _ (limit top : ℕ) (here : Stage) where
   -- What has been read, by phase.
@@ -148,21 +146,21 @@ module _ (limit top : ℕ) (here : Stage) where
 
     -- all words have been read
     whole : s.line ≡ None → (f : Keyword) → stage_keyword f ≡ here → (l.numeral ≡ false → KeywordWords f (p ++ l ∷ [])) → After (behind f)
-    whole o keyword.Header at h = λ w n. (k, (at, none_yet (KeywordWords keyword.Header) Blanks0 (p ++ l ∷ []) ([], tt, refl) (h (plain_letter o n)), o))
+    whole o keyword.Header at h = λ w n. (k, (at, gapped (KeywordWords keyword.Header) (p ++ l ∷ []) (h (plain_letter o n)), o))
     whole o keyword.Formula at h = begins kind.Count at h
     whole o keyword.Pol at h = begins kind.Pol at h
     whole o keyword.Rup at h = begins kind.Rup at h
     whole o keyword.Solution at h = λ w n. (k, (at, h (plain_letter o n), o))
     whole o keyword.Delete at h = begins kind.Delete at h
-    whole o keyword.Output at h = λ w n. (k, (at, none_yet (KeywordWords keyword.Output) Blanks0 (p ++ l ∷ []) ([], tt, refl) (h (plain_letter o n)), o))
+    whole o keyword.Output at h = λ w n. (k, (at, gapped (KeywordWords keyword.Output) (p ++ l ∷ []) (h (plain_letter o n)), o))
     whole o keyword.Conclusion at h = begins kind.Conclusion at h
     whole o keyword.End at h = λ n. (at, h n, same_idle s.limit s.top Complete Complete k.0 k.1 refl)
 
     -- the next byte of the words
     spells : s.line ≡ None → (f : Keyword) → stage_keyword f ≡ here → (j : ℕ) → j < length (words_of f) → Spaced (take j (words_of f)) p → (other : Move) → After other
         → After (spell f j l.byte other)
-    spells o f at j h q other else = chosen After (meets (slice_index (words_of f) j) l.byte) _ _
-        (λ e. chosen After (nat_eq (j + 1) (length (words_of f))) _ _
+    spells o f at j h q other else = cond_both (meets (slice_index (words_of f) j) l.byte) _ _ After
+        (λ e. cond_both (nat_eq (j + 1) (length (words_of f))) _ _ After
         (λ g. whole o f at (λ n. keyword_only f (p ++ l ∷ [])
         (subst (λ x. Spaced x (p ++ l ∷ [])) (take_all (j + 1) (words_of f) (omega (arith, eqb-true (j + 1) (length (words_of f)) g))) (word_further (words_of f) j l p h e n q))))
         (λ g w n. (k, (at, omega arith, further j (length (words_of f)) h g, word_further (words_of f) j l p h e (plain_letter o n) q, o))))
@@ -171,28 +169,17 @@ module _ (limit top : ℕ) (here : Stage) where
     spelling : (f : Keyword) (j : ℕ) → stage_keyword f ≡ here → 0 < j → j < length (words_of f) → Spaced (take j (words_of f)) p → s.line ≡ None
         → After (plan (phase.Spelling f j) l.byte)
     spelling f j at some h q o = spells o f at j h q _
-        (chosen After (is_blank l.byte && nat_eq (slice_index (words_of f) (j - 1)) 32) _ _
+        (cond_both (is_blank l.byte && nat_eq (slice_index (words_of f) (j - 1)) 32) _ _ After
         (λ e w n.
-        let g = both (is_blank l.byte) (nat_eq (slice_index (words_of f) (j - 1)) 32) e in
+        let g = and_parts (is_blank l.byte) (nat_eq (slice_index (words_of f) (j - 1)) 32) e in
         (k, (at, some, h, word_blank (words_of f) j l p some h g.1 g.0 (plain_letter o n) q, o)))
         (λ _. tt))
 
     first : s.line ≡ None → p ≡ [] → (f : Keyword) → stage_keyword f ≡ here → After (spell f 0 l.byte move.Stop)
     first o e f at = spells o f at 0 (some_byte f) e move.Stop tt
-      where
-        some_byte : (g : Keyword) → 0 < length (words_of g)
-        some_byte keyword.Header = omega arith
-        some_byte keyword.Formula = omega arith
-        some_byte keyword.Pol = omega arith
-        some_byte keyword.Rup = omega arith
-        some_byte keyword.Solution = omega arith
-        some_byte keyword.Delete = omega arith
-        some_byte keyword.Output = omega arith
-        some_byte keyword.Conclusion = omega arith
-        some_byte keyword.End = omega arith
 
     step_stage : (b : ℕ) → stage_keyword (step_keyword b) ≡ Steps
-    step_stage b = chosen P (nat_eq b 112) _ _ (λ _. refl) (λ _. chosen P (nat_eq b 114) _ _ (λ _. refl) (λ _. chosen P (nat_eq b 115) _ _ (λ _. refl) (λ _. chosen P (nat_eq b 100) _ _ (λ _. refl) (λ _. refl))))
+    step_stage b = cond_both (nat_eq b 112) _ _ P (λ _. refl) (λ _. cond_both (nat_eq b 114) _ _ P (λ _. refl) (λ _. cond_both (nat_eq b 115) _ _ P (λ _. refl) (λ _. cond_both (nat_eq b 100) _ _ P (λ _. refl) (λ _. refl))))
       where
         P : Keyword → Type 0
         P f = stage_keyword f ≡ Steps
@@ -206,9 +193,9 @@ module _ (limit top : ℕ) (here : Stage) where
     enters Complete at e o = tt
 
     passes : (at : Stage) → at ≡ here → p ≡ [] → s.line ≡ None → After (pass at l.byte)
-    passes at same e o = chosen After (is_white l.byte) _ _
+    passes at same e o = cond_both (is_white l.byte) _ _ After
         (λ _ w. never false w refl)
-        (λ _. chosen After (nat_eq l.byte 42) _ _ (λ _ w. never false w refl) (λ _. enters at same e o))
+        (λ _. cond_both (nat_eq l.byte 42) _ _ After (λ _ w. never false w refl) (λ _. enters at same e o))
 
     between_two : (at : Stage) → at ≡ here → p ≡ [] → s.line ≡ None → After (between at l.byte)
     between_two Opening at e o = enters Opening at e o
@@ -220,33 +207,33 @@ module _ (limit top : ℕ) (here : Stage) where
 
     -- `i` or `x` behind `sol`
     logged : Steps ≡ here → Bytes sol_word p → After (plan phase.Solution l.byte)
-    logged at e = chosen After (nat_eq l.byte 105) _ _
-        (λ h. begins kind.Soli at (λ n. ap (λ x. x ++ l ∷ []) e ∙ ap (λ x. plain sol_word ++ x ∷ []) (as_unmarked l 105 (eqb-true l.byte 105 h) n)))
-        (λ _. chosen After (nat_eq l.byte 120) _ _
-        (λ h. begins kind.Solx at (λ n. ap (λ x. x ++ l ∷ []) e ∙ ap (λ x. plain sol_word ++ x ∷ []) (as_unmarked l 120 (eqb-true l.byte 120 h) n)))
+    logged at e = cond_both (nat_eq l.byte 105) _ _ After
+        (λ h. begins kind.Soli at (λ n. ap (λ x. x ++ l ∷ []) e ∙ ap (λ x. plain sol_word ++ x ∷ []) (as_unmarked l 105 n (eqb-true l.byte 105 h))))
+        (λ _. cond_both (nat_eq l.byte 120) _ _ After
+        (λ h. begins kind.Solx at (λ n. ap (λ x. x ++ l ∷ []) e ∙ ap (λ x. plain sol_word ++ x ∷ []) (as_unmarked l 120 n (eqb-true l.byte 120 h))))
         (λ _. tt))
 
     header_ends : Opening ≡ here → Gapped (KeywordWords keyword.Header) p → s.line ≡ None → After (plan phase.HeaderEnd l.byte)
-    header_ends at h o = chosen After (is_blank l.byte) _ _
+    header_ends at h o = cond_both (is_blank l.byte) _ _ After
         (λ e w n. (k, (at, blank_more (KeywordWords keyword.Header) l p e (plain_letter o n) h, o)))
-        (λ _. chosen After (nat_eq l.byte 10) _ _
+        (λ _. cond_both (nat_eq l.byte 10) _ _ After
         (λ e n. (at, feed_behind_blanks (KeywordWords keyword.Header) l p (eqb-true l.byte 10 e) n h, same_idle s.limit s.top Formula Formula k.0 k.1 refl))
         (λ _. tt))
 
     output_ends : (may : Bool) → front_of s (phase.OutputEnd may) p → After (plan (phase.OutputEnd may) l.byte)
-    output_ends true (at, h, o) = chosen After (is_blank l.byte) _ _
+    output_ends true (at, h, o) = cond_both (is_blank l.byte) _ _ After
         (λ e w n. (k, (at, blank_more (KeywordWords keyword.Output) l p e (plain_letter o n) h, o)))
-        (λ _. chosen After (nat_eq l.byte 10) _ _
+        (λ _. cond_both (nat_eq l.byte 10) _ _ After
         (λ e n. (at, line_behind_blanks (KeywordWords keyword.Output) l p (eqb-true l.byte 10 e) n h, same_idle s.limit s.top Claim Claim k.0 k.1 refl))
-        (λ _. chosen After (nat_eq l.byte 59 && true) _ _
-        (λ e w n. (k, (at, semicolon_behind_blanks (KeywordWords keyword.Output) l p (eqb-true l.byte 59 (both (nat_eq l.byte 59) true e).0) (plain_letter o n) h, o)))
+        (λ _. cond_both (nat_eq l.byte 59 && true) _ _ After
+        (λ e w n. (k, (at, semicolon_behind_blanks (KeywordWords keyword.Output) l p (eqb-true l.byte 59 (and_parts (nat_eq l.byte 59) true e).0) (plain_letter o n) h, o)))
         (λ _. tt)))
-    output_ends false (at, h, o) = chosen After (is_blank l.byte) _ _
+    output_ends false (at, h, o) = cond_both (is_blank l.byte) _ _ After
         (λ e w n. (k, (at, blank_closing (KeywordWords keyword.Output) l p e (plain_letter o n) h, o)))
-        (λ _. chosen After (nat_eq l.byte 10) _ _
+        (λ _. cond_both (nat_eq l.byte 10) _ _ After
         (λ e n. (at, line_closing (KeywordWords keyword.Output) l p (eqb-true l.byte 10 e) n h, same_idle s.limit s.top Claim Claim k.0 k.1 refl))
-        (λ _. chosen After (nat_eq l.byte 59 && false) _ _
-        (λ e. never false (both (nat_eq l.byte 59) false e).1 refl)
+        (λ _. cond_both (nat_eq l.byte 59 && false) _ _ After
+        (λ e. never false (and_parts (nat_eq l.byte 59) false e).1 refl)
         (λ _. tt)))
 
     -- what the machine behind the words does

@@ -1,10 +1,12 @@
 -- What holds of each state that a machine of proofs can be in.
 use Rattle.std.proofs.Common.{◌≡◌, ℕ, ◌+◌, ◌-◌, ◌<◌, ◌≤◌, true, false, ◌&&◌, length, refl, sym, ap, subst, ◌∙◌, arith, Option, Some, None}
-use Rattle.std.proofs.lemmas.Bool.Decides.{nat_tests}
 use Rattle.std.specs.Prelude.{IsTrue, nat_eq, slice_index}
+use Rattle.std.proofs.lemmas.Bool.{cond_both}
+use Rattle.std.proofs.lemmas.Option.{same_Some}
 use Rattle.pb_text.specs.Automaton.{Next, Go, End, Refuse, Admits, IsState}
 use Rattle.pb_text.specs.Classes.{is_blank, is_white}
 use Rattle.pb_text.proofs.Residual.{refuses}
+use Rattle.pb_text.proofs.Booleans.{never}
 use Rattle.pb_proof.specs.Line.Machine.{line_automaton, line_first}
 use Rattle.pb_proof.specs.Machine.Transition.{words_of, behind, meets, spell, step_keyword, enter, pass, between, plan}
 use Rattle.pb_proof.specs.Machine.State.{ProofState, proofs, at, idle, giving, stage_behind, over, step_line, act, asked, asks, is_within, is_done, is_complete, HasGaps, PhaseFits, Holds, IsInOrder}
@@ -19,11 +21,12 @@ use Rattle.pb_proof.specs.declared.machine.phase.Phase.TheVariants as phase
 use Rattle.pb_proof.specs.declared.machine.phase.Move.{Move}
 use Rattle.pb_proof.specs.declared.machine.phase.Move.TheVariants as move
 use Rattle.pb_proof.specs.declared.statement.Statement.{Statement}
-use Rattle.pb_proof.proofs.lemmas.Choices.{never, chosen}
 use Rattle.pb_proof.proofs.lemmas.Line.Laws.{line_begins, line_fresh, line_first_state}
-use Rattle.pb_proof.proofs.lemmas.Living.{admits_before, admits_final, admitted_on}
+use Rattle.pb_text.proofs.Living.{admits_before, admits_final, admitted_on}
 use Rattle.pb_proof.proofs.lemmas.Machine.Alive.{live, reading_alive, stage_accepts, example}
 use Rattle.pb_proof.proofs.lemmas.Machine.Exact.{closes}
+use Rattle.pb_proof.proofs.lemmas.NumberTests.{further}
+use Rattle.pb_proof.proofs.lemmas.Spaced.{some_byte}
 
 -- no machine stands behind the words
 abbrev pub IsPlain : Phase → Type 0
@@ -57,26 +60,12 @@ on_behind p o keyword.Output = within_on p (phase.OutputEnd true) o refl refl tt
 on_behind p o keyword.Conclusion = o
 on_behind p o keyword.End = o
 
-further : (k size : ℕ) → k < size → nat_eq (k + 1) size ≡ false → k + 1 < size
-further k size h e = grind (arith, nat_tests)
-
 on_spell : (p : Phase) → IsPlain p → (f : Keyword) (k b : ℕ) (other : Move) → k < length (words_of f) → OnMove p other → OnMove p (spell f k b other)
-on_spell p o f k b other h i = chosen (OnMove p) (meets (slice_index (words_of f) k) b) _ _
-    (λ _. chosen (OnMove p) (nat_eq (k + 1) (length (words_of f))) _ _
+on_spell p o f k b other h i = cond_both (meets (slice_index (words_of f) k) b) _ _ (OnMove p)
+    (λ _. cond_both (nat_eq (k + 1) (length (words_of f))) _ _ (OnMove p)
     (λ _. on_behind p o f)
     (λ e. within_on p (phase.Spelling f (k + 1)) o refl refl (omega arith, further k (length (words_of f)) h e) tt))
     (λ _. i)
-
-some_byte : (f : Keyword) → 0 < length (words_of f)
-some_byte keyword.Header = omega arith
-some_byte keyword.Formula = omega arith
-some_byte keyword.Pol = omega arith
-some_byte keyword.Rup = omega arith
-some_byte keyword.Solution = omega arith
-some_byte keyword.Delete = omega arith
-some_byte keyword.Output = omega arith
-some_byte keyword.Conclusion = omega arith
-some_byte keyword.End = omega arith
 
 on_enter : (p : Phase) → IsPlain p → (s : Stage) (b : ℕ) → OnMove p (enter s b)
 on_enter p o Opening b = on_spell p o keyword.Header 0 b move.Stop (some_byte keyword.Header) o
@@ -95,9 +84,9 @@ gaps_incomplete Claim h = refl
 gaps_incomplete Closing h = refl
 
 on_pass : (s : Stage) (b : ℕ) → HasGaps s → OnMove (phase.Between s) (pass s b)
-on_pass s b h = chosen (OnMove (phase.Between s)) (is_white b) _ _
+on_pass s b h = cond_both (is_white b) _ _ (OnMove (phase.Between s))
     (λ _. (tt, record { owes = gaps_incomplete s h; stays = λ w. w; fits = tt; plain = tt }))
-    (λ _. chosen (OnMove (phase.Between s)) (nat_eq b 42) _ _
+    (λ _. cond_both (nat_eq b 42) _ _ (OnMove (phase.Between s))
     (λ _. (tt, record { owes = refl; stays = λ w. w; fits = h; plain = tt }))
     (λ _. on_enter (phase.Between s) tt s b))
 
@@ -112,20 +101,20 @@ on_between Closing b = on_pass Closing b tt
 -- the plan of each phase
 pub on_plan : (p : Phase) (b : ℕ) → PhaseFits p → OnMove p (plan p b)
 on_plan (phase.Between s) b h = on_between s b
-on_plan (phase.Comment s) b h = chosen (λ q. OnMove (phase.Comment s) (move.To q)) (nat_eq b 10) (phase.Between s) (phase.Comment s)
+on_plan (phase.Comment s) b h = cond_both (nat_eq b 10) (phase.Between s) (phase.Comment s) (λ q. OnMove (phase.Comment s) (move.To q))
     (λ _. (tt, record { owes = gaps_incomplete s h; stays = λ w. w; fits = tt; plain = tt }))
     (λ _. (tt, record { owes = refl; stays = λ w. w; fits = h; plain = tt }))
 on_plan (phase.Spelling f k) b h = on_spell (phase.Spelling f k) tt f k b _ h.1
-    (chosen (OnMove (phase.Spelling f k)) (is_blank b && nat_eq (slice_index (words_of f) (k - 1)) 32) _ _
+    (cond_both (is_blank b && nat_eq (slice_index (words_of f) (k - 1)) 32) _ _ (OnMove (phase.Spelling f k))
     (λ _. within_on (phase.Spelling f k) (phase.Spelling f k) tt refl refl h tt) (λ _. tt))
-on_plan phase.Solution b h = chosen (OnMove phase.Solution) (nat_eq b 105) _ _ (λ _. tt) (λ _. chosen (OnMove phase.Solution) (nat_eq b 120) _ _ (λ _. tt) (λ _. tt))
-on_plan phase.HeaderEnd b h = chosen (OnMove phase.HeaderEnd) (is_blank b) _ _
+on_plan phase.Solution b h = cond_both (nat_eq b 105) _ _ (OnMove phase.Solution) (λ _. tt) (λ _. cond_both (nat_eq b 120) _ _ (OnMove phase.Solution) (λ _. tt) (λ _. tt))
+on_plan phase.HeaderEnd b h = cond_both (is_blank b) _ _ (OnMove phase.HeaderEnd)
     (λ _. within_on phase.HeaderEnd phase.HeaderEnd tt refl refl tt tt)
-    (λ _. chosen (OnMove phase.HeaderEnd) (nat_eq b 10) _ _ (λ _. tt) (λ _. tt))
-on_plan (phase.OutputEnd may) b h = chosen (OnMove (phase.OutputEnd may)) (is_blank b) _ _
+    (λ _. cond_both (nat_eq b 10) _ _ (OnMove phase.HeaderEnd) (λ _. tt) (λ _. tt))
+on_plan (phase.OutputEnd may) b h = cond_both (is_blank b) _ _ (OnMove (phase.OutputEnd may))
     (λ _. within_on (phase.OutputEnd may) (phase.OutputEnd may) tt refl refl tt tt)
-    (λ _. chosen (OnMove (phase.OutputEnd may)) (nat_eq b 10) _ _ (λ _. tt)
-    (λ _. chosen (OnMove (phase.OutputEnd may)) (nat_eq b 59 && may) _ _
+    (λ _. cond_both (nat_eq b 10) _ _ (OnMove (phase.OutputEnd may)) (λ _. tt)
+    (λ _. cond_both (nat_eq b 59 && may) _ _ (OnMove (phase.OutputEnd may))
     (λ _. within_on (phase.OutputEnd may) (phase.OutputEnd false) tt refl refl tt tt) (λ _. tt)))
 on_plan (phase.Inside r) b h = refl
 
@@ -249,7 +238,7 @@ module _ (s : ProofState) (h : IsInOrder s) (b : ℕ) where
     pub give_order : (i line : LineMachine) → s.line ≡ Some i → line_automaton.step i b ≡ Go line → IsState line_automaton line → IsInOrder (giving s.limit s.top r line)
     give_order i line e g state =
         let (j, f, d, old) = given in
-        let same : i ≡ j = (let z : i ≡ j = some_same i j (sym e ∙ f) in z) in
+        let same : i ≡ j = same_Some i j (sym e ∙ f) in
         record {
           limit = h.limit;
           top = h.top;
@@ -257,9 +246,6 @@ module _ (s : ProofState) (h : IsInOrder s) (b : ℕ) where
           fits = tt;
           holds = (line, refl, old.owes b line (ap (λ x. line_automaton.step x b) (sym same) ∙ g), state);
         }
-      where
-        some_same : (x y : LineMachine) → ◌≡◌ {A = Option LineMachine} (Some x) (Some y) → x ≡ y
-        some_same x y e = cc
 
     stepped : (i : LineMachine) → s.line ≡ Some i → (n : Next LineMachine Statement) → line_automaton.step i b ≡ n → proofs.step s b ≡ over s r n
     stepped i e n g = ap (act s b) planned ∙ (ap (λ x. over s r (step_line x b)) e ∙ ap (over s r) g)
@@ -275,8 +261,5 @@ module _ (s : ProofState) (h : IsInOrder s) (b : ℕ) where
     give_admits i e asking a =
         let (j, f, d, old) = given in (
           subst (λ m. IsTrue (asks s b m)) (sym planned) (subst (λ x. IsTrue (asked false (λ y. line_automaton.asks y b) x)) (sym e) asking),
-          by_step i e (subst (IsState line_automaton) (some_one j i (sym f ∙ e)) old) (line_automaton.step i b) refl a,
+          by_step i e (subst (IsState line_automaton) (same_Some j i (sym f ∙ e)) old) (line_automaton.step i b) refl a,
         )
-      where
-        some_one : (x y : LineMachine) → ◌≡◌ {A = Option LineMachine} (Some x) (Some y) → x ≡ y
-        some_one x y e = cc

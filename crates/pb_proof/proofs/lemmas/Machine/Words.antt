@@ -1,13 +1,12 @@
 -- The words of a statement, taken at once.
-use Rattle.std.proofs.Common.{◌≡◌, ℕ, suc, ◌+◌, ◌<◌, Bool, true, false, List, [], ◌∷◌, ◌++◌, take, drop, get_or, length, refl, sym, ap, ap₂, subst, arith, ◌∙◌, ◌==◌, ◌-◌, append_assoc, length-append, length-drop, Option, None}
+use Rattle.std.proofs.Common.{◌≡◌, ℕ, suc, ◌+◌, ◌<◌, false, List, [], ◌∷◌, ◌++◌, take, drop, get_or, length, refl, sym, ap, ap₂, subst, arith, ◌∙◌, ◌==◌, ◌-◌, append_assoc, length-append, length-drop, Option, None}
 use Rattle.std.proofs.Math.Seq.{drop-cons, take-length}
-use Rattle.std.proofs.lemmas.Bool.{eqb-true}
 use Rattle.std.proofs.lemmas.List.{take-append-drop, length-take-le}
 use Rattle.std.specs.Cmp.Lexicographic.{pointwise, bytes_decides}
-use Rattle.std.specs.Prelude.{nat_eq}
 use Rattle.pb_text.specs.Automaton.{Go, IsState, Runs}
+use Rattle.pb_text.proofs.Booleans.{never}
 use Rattle.pb_proof.specs.Line.Machine.{line_first}
-use Rattle.pb_proof.specs.Machine.Transition.{words_of, behind, meets}
+use Rattle.pb_proof.specs.Machine.Transition.{words_of, behind}
 use Rattle.pb_proof.specs.Machine.State.{ProofState, proofs, at, giving, act, PhaseFits, Holds, IsInOrder}
 use Rattle.pb_proof.specs.Machine.Words.{IsRest, LacksRest}
 use Rattle.pb_proof.specs.declared.machine.phase.Keyword.{Keyword}
@@ -16,17 +15,8 @@ use Rattle.pb_proof.specs.declared.machine.phase.Phase.{Phase}
 use Rattle.pb_proof.specs.declared.machine.phase.Phase.TheVariants as phase
 use Rattle.pb_proof.specs.declared.machine.phase.Move.TheVariants as move
 use Rattle.pb_proof.specs.declared.line.LineMachine.{LineMachine}
-use Rattle.pb_proof.proofs.lemmas.Choices.{never}
-use Rattle.pb_proof.proofs.lemmas.Machine.Complete.{meets_self, spelt, step_on, step_last}
+use Rattle.pb_proof.proofs.lemmas.Machine.Complete.{meets_any, spelt, step_on, step_last}
 use Rattle.pb_proof.proofs.lemmas.Machine.States.{OnMove, on_behind, plain_holds, at_order, begin_order, is_state}
-
--- a byte of the words meets itself, a space too
-meets_each : (c : ℕ) → meets c c ≡ true
-meets_each c = go (nat_eq c 32) refl
-  where
-    go : (x : Bool) → nat_eq c 32 ≡ x → meets c c ≡ true
-    go true e = let f : c ≡ 32 = eqb-true c 32 e in rw f refl
-    go false e = meets_self c e
 
 -- the rest of a slice
 pub rest_is : (f : Keyword) (k : ℕ) (words : List ℕ) → words ≡ words_of f → take (length words - k) (drop k words) ≡ drop k (words_of f)
@@ -59,13 +49,13 @@ module _ (s : ProofState) (h : IsInOrder s) where
   -- the bytes that are left, from the first of them on
   left_run : (f : Keyword) (next : ProofState) → IsState proofs next → ((k b : ℕ) → act (spelling f k) b (behind f) ≡ Go next)
       → (left front : List ℕ) (c : ℕ) → words_of f ≡ front ++ c ∷ left → Runs proofs (spelling f (length front)) (c ∷ left) next
-  left_run f next state acts [] front c e = (next, step_last s.limit s.top f front c c e (meets_each c) ∙ acts (length front) c, state, refl)
+  left_run f next state acts [] front c e = (next, step_last s.limit s.top f front c c e (meets_any c) ∙ acts (length front) c, state, refl)
   left_run f next state acts (d ∷ left) front c e =
       let more : length (words_of f) ≡ length front + (2 + length left) = ap length e ∙ (length-append front (c ∷ d ∷ left) ∙ omega arith) in
       let grown : length (front ++ c ∷ []) ≡ length front + 1 = length-append front (c ∷ []) in
       let rest = left_run f next state acts left (front ++ c ∷ []) d (e ∙ sym (append_assoc front (c ∷ []) (d ∷ left))) in (
         spelling f (length front + 1),
-        step_on s.limit s.top f front left c d c e (meets_each c),
+        step_on s.limit s.top f front left c d c e (meets_any c),
         spelling_state f (length front + 1) (omega arith) (omega arith),
         subst (λ (k : ℕ). Runs proofs (spelling f k) (d ∷ left) next) grown rest,
       )

@@ -1,14 +1,15 @@
 -- Where the machine of postfix words asks.
-use Rattle.std.proofs.Common.{◌≡◌, ℕ, ◌+◌, ◌*◌, Bool, true, false, cond, ◌&&◌, List, [], ◌∷◌, ◌++◌, refl, ap, subst, ◌∙◌, inl, inr, arith, Some, None}
-use Rattle.std.proofs.lemmas.Bool.{false≢true}
+use Rattle.std.proofs.Common.{◌≡◌, ℕ, ◌+◌, ◌*◌, Bool, true, false, cond, ◌&&◌, List, [], ◌∷◌, refl, ap, subst, ◌∙◌, inl, inr, arith, Some, None}
+use Rattle.std.proofs.lemmas.Bool.{false≢true, cond_both, and_parts}
 use Rattle.std.proofs.lemmas.Bool.Decides.{nat_tests}
 use Rattle.std.specs.Prelude.{IsTrue, nat_eq, nat_le}
 use Rattle.pb_text.specs.Classes.{is_blank, is_digit, is_letter, is_name_byte}
 use Rattle.pb_text.specs.Languages.{Language, ◌⋅◌, Blanks1}
 use Rattle.pb_text.specs.Spelling.{Letter, bytes}
 use Rattle.pb_text.proofs.Walking.{Walks, fronts}
-use Rattle.pb_sums.specs.Asking.{EndsIn, IsNameFront}
-use Rattle.pb_sums.proofs.Asked.{ends_nothing, at_name, name_further}
+use Rattle.pb_sums.specs.Asking.{EndsIn}
+use Rattle.pb_sums.proofs.Asked.{ends_nothing, at_name, name_further, first_further}
+use Rattle.pb_sums.proofs.LiteralFronts.{FirstOf, LiteralOf}
 use Rattle.pb_proof.specs.Asking.{AsksWord}
 use Rattle.pb_proof.specs.Line.Pol.{plan, read, next, next_word, next_large, star, late, blank, semicolon, feed, close, number, signed, role_of, bound, kind_of, is_letter_kind, is_name_kind, may_be_name, counted, adds, wants, Closing}
 use Rattle.pb_proof.specs.Line.PolState.{PolState, pol_automaton, pol_first}
@@ -24,19 +25,13 @@ use Rattle.pb_proof.specs.declared.line.pol.phase.Change.{Change}
 use Rattle.pb_proof.specs.declared.line.pol.phase.Change.TheVariants as change
 use Rattle.pb_proof.specs.declared.line.pol.phase.Move.{Move}
 use Rattle.pb_proof.specs.declared.line.pol.phase.Move.TheVariants as move
-use Rattle.pb_proof.proofs.lemmas.Choices.{chosen, both}
 use Rattle.pb_proof.proofs.lemmas.Line.Asks.{number_end, literal_end}
-use Rattle.pb_proof.proofs.lemmas.Pol.Fronts.{IsFirst, FirstOf, LiteralOf, Settled, Before, front, Front, Whole}
+use Rattle.pb_proof.proofs.lemmas.Pol.Fronts.{Settled, Before, front, Front, Whole}
 use Rattle.pb_proof.proofs.lemmas.Pol.Kinds.{Says, kind_says, letter_kind, name_kind}
 use Rattle.pb_proof.proofs.lemmas.Pol.Sound as sound
 
 blank_dark : (b : ℕ) → is_blank b ≡ true → (is_digit b ≡ false) × (is_name_byte b ≡ false)
 blank_dark b e = (grind (arith, nat_tests), grind (arith, nat_tests))
-
-first_front : (bs : List ℕ) (b : ℕ) → IsFirst bs → IsTrue (is_name_byte b) → IsNameFront (bs ++ b ∷ [])
-first_front [] b h k = absurd h
-first_front (x ∷ []) b h k = (h, (k, tt))
-first_front (x ∷ y ∷ bs) b h k = absurd h
 
 -- what the end of a word does, and whether it may end
 abbrev change_of : Closing → Change
@@ -56,10 +51,10 @@ module _ (limit top depth b : ℕ) (t : List Letter) where
   letter_begins h = inl (inl ([], ends_nothing (bytes t), (h, tt)))
 
   signed_quiet : (n d : ℕ) → Then (signed top n d)
-  signed_quiet n d = chosen Then (nat_le (10 * n + d) top) _ _ (λ _ h. absurd (false≢true h)) (λ _ h. absurd (false≢true h))
+  signed_quiet n d = cond_both (nat_le (10 * n + d) top) _ _ Then (λ _ h. absurd (false≢true h)) (λ _ h. absurd (false≢true h))
 
   number_quiet : (n d : ℕ) → Then (number limit top depth n d)
-  number_quiet n d = chosen Then (nat_le (10 * n + d) (bound limit top depth)) _ _ (λ _ h. absurd (false≢true h)) (λ _ h. absurd (false≢true h))
+  number_quiet n d = cond_both (nat_le (10 * n + d) (bound limit top depth)) _ _ Then (λ _ h. absurd (false≢true h)) (λ _ h. absurd (false≢true h))
 
   -- a word that ends here, at a byte that is no byte of a word
   closes : (ws : List PolWord) (name : List ℕ) (ph : Phase) → front limit top ph ws depth name t → is_digit b ≡ false → is_name_byte b ≡ false
@@ -94,11 +89,11 @@ module _ (limit top depth b : ℕ) (t : List Letter) where
 
     semicolons : (y : Closing) → x ≡ y → Then (semicolon depth y)
     semicolons None e = λ h. absurd (false≢true h)
-    semicolons (Some (c, g)) e = chosen Then (nat_eq (counted c depth) 1) _ _ (λ _ h. ends c g e h) (λ _ h. absurd (false≢true h))
+    semicolons (Some (c, g)) e = cond_both (nat_eq (counted c depth) 1) _ _ Then (λ _ h. ends c g e h) (λ _ h. absurd (false≢true h))
 
     feeds : (y : Closing) → x ≡ y → Then (feed depth y)
     feeds None e = λ h. absurd (false≢true h)
-    feeds (Some (c, g)) e = chosen Then (nat_eq (counted c depth) 1) _ _ (λ _ h. ends c g e h) (λ _ h. absurd (false≢true h))
+    feeds (Some (c, g)) e = cond_both (nat_eq (counted c depth) 1) _ _ Then (λ _ h. ends c g e h) (λ _ h. absurd (false≢true h))
 
   -- the first byte of a word
   star_quiet : (h : Held) → Then (star h)
@@ -108,7 +103,7 @@ module _ (limit top depth b : ℕ) (t : List Letter) where
   star_quiet held.Name = λ k. absurd (false≢true k)
 
   letters : (h : Held) (k : Kind) → Says k b → Then (cond (is_letter_kind k) (move.Begin (phase.Lone (role_of depth h k))) move.Stop)
-  letters h k e = chosen Then (is_letter_kind k) _ _ (λ i _. letter_begins (letter_kind k b e i)) (λ _ j. absurd (false≢true j))
+  letters h k e = cond_both (is_letter_kind k) _ _ Then (λ i _. letter_begins (letter_kind k b e i)) (λ _ j. absurd (false≢true j))
 
   words_next : (h : Held) (k : Kind) → Says k b → Then (next_word limit top depth h k)
   words_next h (kind.Digit d) e = number_quiet 0 d
@@ -131,21 +126,21 @@ module _ (limit top depth b : ℕ) (t : List Letter) where
 
   -- a byte more of a name
   more_of : (P : Language) (negated : Bool) (name : List ℕ) → (P ⋅ FirstOf negated name) t → IsTrue (is_name_byte b) → AsksWord (bytes t) b
-  more_of P negated name (x, y, z, u, (v, w)) k = inl (inl (name, literal_end P negated name t (x, y, z, u, w), first_front name b v k))
+  more_of P negated name (x, y, z, u, (v, w)) k = inl (inl (name, literal_end P negated name t (x, y, z, u, w), first_further name b v k))
 
   reads : (ws : List PolWord) (name : List ℕ) (ph : Phase) → front limit top ph ws depth name t → (k : Kind) → Says k b → Then (read limit top depth ph k)
   reads ws name (phase.Gap h) f k e = gap_next h k e
   reads ws name phase.Minus f (kind.Digit d) e = signed_quiet 0 d
   reads ws name (phase.Signed n) f (kind.Digit d) e = signed_quiet n d
   reads ws name (phase.Number n) f (kind.Digit d) e = number_quiet n d
-  reads ws name phase.Tilde f k e = chosen Then (is_letter_kind k) _ _ (λ i _. letter_begins (letter_kind k b e i)) (λ _ j. absurd (false≢true j))
+  reads ws name phase.Tilde f k e = cond_both (is_letter_kind k) _ _ Then (λ i _. letter_begins (letter_kind k b e i)) (λ _ j. absurd (false≢true j))
   reads ws name phase.First f k e =
-      chosen Then (is_name_kind k) _ _ (λ i _. more_of (Settled limit top ws depth ⋅ Blanks1) true name f (name_kind k b e i)) (λ _ j. absurd (false≢true j))
+      cond_both (is_name_kind k) _ _ Then (λ i _. more_of (Settled limit top ws depth ⋅ Blanks1) true name f (name_kind k b e i)) (λ _ j. absurd (false≢true j))
   reads ws name (phase.Lone r) f k e =
-      chosen Then (may_be_name r && is_name_kind k) _ _
-      (λ i _. more_of (Before limit top r ws depth ⋅ Blanks1) false name f.1 (name_kind k b e (both (may_be_name r) (is_name_kind k) i).1)) (λ _ j. absurd (false≢true j))
+      cond_both (may_be_name r && is_name_kind k) _ _ Then
+      (λ i _. more_of (Before limit top r ws depth ⋅ Blanks1) false name f.1 (name_kind k b e (and_parts (may_be_name r) (is_name_kind k) i).1)) (λ _ j. absurd (false≢true j))
   reads ws name (phase.Name negated) f k e =
-      chosen Then (is_name_kind k) _ _ (λ i _. further f (name_kind k b e i)) (λ _ j. absurd (false≢true j))
+      cond_both (is_name_kind k) _ _ Then (λ i _. further f (name_kind k b e i)) (λ _ j. absurd (false≢true j))
     where
       further : (Settled limit top ws depth ⋅ Blanks1 ⋅ LiteralOf negated name) t → IsTrue (is_name_byte b) → AsksWord (bytes t) b
       further (x, y, z, u, (v, w)) i =

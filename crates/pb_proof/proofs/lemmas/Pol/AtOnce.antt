@@ -1,9 +1,9 @@
 -- Postfix words that are taken at once, and the run that they are.
-use Rattle.std.proofs.Common.{◌≡◌, ℕ, zero, suc, ◌+◌, ◌-◌, ◌*◌, ◌<◌, ◌≤◌, Bool, true, false, ◌&&◌, List, [], ◌∷◌, ◌++◌, pos, take, get_or, length, refl, sym, ap, subst, arith, ◌∙◌, Option, Some}
-use Rattle.std.proofs.Math.Nat.{le-max_right}
-use Rattle.std.proofs.lemmas.Bool.{eqb-true, le-leb}
+use Rattle.std.proofs.Common.{◌≡◌, ℕ, suc, ◌+◌, ◌-◌, ◌*◌, ◌<◌, ◌≤◌, Bool, true, false, ◌&&◌, List, [], ◌∷◌, ◌++◌, pos, take, get_or, length, refl, sym, ap, subst, arith, ◌∙◌, Option, Some}
+use Rattle.std.proofs.lemmas.Bool.{eqb-true, le-leb, and_parts}
 use Rattle.std.specs.Option.{is_some}
 use Rattle.std.specs.Prelude.{IsTrue, nat_eq, nat_le, cond}
+use Rattle.std.proofs.lemmas.Option.{same_Some}
 use Rattle.pb_text.specs.Automaton.{Go, IsState, Runs}
 use Rattle.pb_text.specs.Classes.{is_digit}
 use Rattle.pb_text.specs.Digits.{value_from}
@@ -26,23 +26,17 @@ use Rattle.pb_proof.specs.declared.line.pol.phase.Role.TheVariants as role
 use Rattle.pb_proof.specs.declared.line.pol.phase.Change.{Change}
 use Rattle.pb_proof.specs.declared.line.pol.phase.Change.TheVariants as change
 use Rattle.pb_proof.specs.declared.line.pol.phase.Move.TheVariants as move
-use Rattle.pb_proof.proofs.lemmas.Choices.{both, fails}
 use Rattle.pb_proof.proofs.lemmas.Pol.Covers.{state}
 use Rattle.pb_proof.proofs.lemmas.Pol.Pushes.{moved, midway_state}
-
-id_within : (limit top d v : ℕ) → v ≤ top → v ≤ bound limit top d
-id_within limit top zero v h = h
-id_within limit top (suc d) v h = omega (arith, le-max_right limit top)
-
-same_change : (c k : Change) → ◌≡◌ {A = Option Change} (Some c) (Some k) → c ≡ k
-same_change c k e = cc
+use Rattle.pb_proof.proofs.lemmas.Pol.Fronts.{bound_of_id}
+use Rattle.pb_proof.proofs.lemmas.NumberTests.{not_zero}
 
 -- the outcomes of a test of a byte, alone and with another test
 by_byte : (P : ℕ → Change → Type 0) (b n : ℕ) (c k : Change) (rest : Option Change) → P n k → (Some c ≡ rest → P b c) → Some c ≡ cond (nat_eq b n) (Some k) rest → P b c
 by_byte P b n c k rest met other = go (nat_eq b n) refl
   where
     go : (x : Bool) → nat_eq b n ≡ x → Some c ≡ cond x (Some k) rest → P b c
-    go true f e = rw (eqb-true b n f, same_change c k e) met
+    go true f e = rw (eqb-true b n f, same_Some c k e) met
     go false f e = other e
 
 by_test : (P : ℕ → Change → Type 0) (b n : ℕ) (t : Bool) (c k : Change) (rest : Option Change) → (t ≡ true → P n k) → (Some c ≡ rest → P b c) → Some c ≡ cond (nat_eq b n && t) (Some k) rest
@@ -50,7 +44,7 @@ by_test : (P : ℕ → Change → Type 0) (b n : ℕ) (t : Bool) (c k : Change) 
 by_test P b n t c k rest met other = go (nat_eq b n && t) refl
   where
     go : (x : Bool) → (nat_eq b n && t) ≡ x → Some c ≡ cond x (Some k) rest → P b c
-    go true f e = let (g, h) = both (nat_eq b n) t f in rw (eqb-true b n g, same_change c k e) (met h)
+    go true f e = let (g, h) = and_parts (nat_eq b n) t f in rw (eqb-true b n g, same_Some c k e) (met h)
     go false f e = other e
 
 gap_of : (p : Phase) (h : Held) → Some h ≡ held_before p → p ≡ phase.Gap h
@@ -110,9 +104,8 @@ module _ (limit top d : ℕ) (ws : List PolWord) (name : List ℕ) (some : 0 < t
 
   space_on : (v : ℕ) → 0 < v → v ≤ top → pol_automaton.step (at (phase.Number v)) 32 ≡ Go (with_id v)
   space_on v h i =
-      let nonzero : nat_eq v 0 ≡ false = fails (nat_eq v 0) (λ e. let f : v ≡ 0 = eqb-true v 0 e in absurd (omega arith)) in
       let fits : nat_le v top ≡ true = le-leb v top i in
-      let planned : move.Turn (change.Id (pos v)) (phase.Gap (held_number limit d v)) ≡ plan limit top d (phase.Number v) kind.Blank = rw (nonzero, fits) refl in
+      let planned : move.Turn (change.Id (pos v)) (phase.Gap (held_number limit d v)) ≡ plan limit top d (phase.Number v) kind.Blank = rw (not_zero v h, fits) refl in
       moved limit top ws d name (phase.Number v) 32 kind.Blank (move.Turn (change.Id (pos v)) (phase.Gap (held_number limit d v))) refl planned
 
   -- an id and the space behind it
@@ -120,7 +113,7 @@ module _ (limit top d : ℕ) (ws : List PolWord) (name : List ℕ) (some : 0 < t
   id_runs p text v e (ds, is, all, f, i, l) =
       let first : Runs pol_automaton (at p) ds (at (phase.Number v)) =
       subst (λ (n : ℕ). Runs pol_automaton (at p) ds (at (phase.Number n))) (sym f)
-      (id_digits p ds e all (subst (λ (n : ℕ). 0 < n) f i) (subst (λ (n : ℕ). n ≤ bound limit top d) f (id_within limit top d v l))) in
+      (id_digits p ds e all (subst (λ (n : ℕ). 0 < n) f i) (subst (λ (n : ℕ). n ≤ bound limit top d) f (bound_of_id limit top d v l))) in
       subst (λ (t : List ℕ). Runs pol_automaton (at p) t (with_id v)) (sym is)
       (runs_more pol_automaton (at p) ds (at (phase.Number v)) 32 (with_id v) first (space_on v i l)
       (midway_state limit top (ws ++ Id (pos v) ∷ []) (suc d) [] (phase.Gap (held_number limit d v)) some refl))

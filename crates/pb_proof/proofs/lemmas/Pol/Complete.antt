@@ -1,9 +1,7 @@
 -- A machine of postfix words reads each line of them: one lemma for each word.
 use Rattle.std.proofs.Common.{◌≡◌, ℕ, zero, suc, ◌-◌, ◌<◌, ◌≤◌, Bool, true, false, cond, List, [], ◌∷◌, ◌++◌, refl, sym, ap, subst, arith, append_assoc, append-nil, ◌∙◌}
-use Rattle.std.proofs.Math.Nat.{le-max_left, le-max_right}
 use Rattle.std.proofs.lemmas.Bool.{le-leb}
-use Rattle.std.proofs.lemmas.Bool.Decides.{nat_tests}
-use Rattle.std.specs.Prelude.{pos, neg_ℤ, nat_eq, nat_le, ℤ, Some}
+use Rattle.std.specs.Prelude.{pos, neg_ℤ, nat_le, ℤ, Some}
 use Rattle.pb_text.specs.Automaton.{Go, Reads}
 use Rattle.pb_text.specs.Languages.{unmarked, ◌⋅◌, Byte, Bytes, Blanks1}
 use Rattle.pb_text.specs.Numbers.{Digits}
@@ -11,7 +9,7 @@ use Rattle.pb_text.specs.Spelling.{Letter, plain}
 use Rattle.pb_text.proofs.Walking.{Walks, walks_then, reads_behind, longer}
 use Rattle.pb_sums.specs.Sums.{IsName, SpellsLiteral}
 use Rattle.pb_proof.specs.Lines.{LineEnd, Listed, Factor, SpellsId, SpellsWord, SpellsWords}
-use Rattle.pb_proof.specs.Line.Pol.{act, close, held_number, held_name, changed, counted, turned, with_last, bound}
+use Rattle.pb_proof.specs.Line.Pol.{act, close, held_number, held_name, changed, counted, turned, with_last}
 use Rattle.pb_proof.specs.Line.PolState.{PolState, pol_automaton, pol_first, pol_last, over}
 use Rattle.pb_proof.specs.declared.word.PolWord.{PolWord}
 use Rattle.pb_proof.specs.declared.word.PolWord.TheVariants as word
@@ -26,12 +24,10 @@ use Rattle.pb_proof.specs.declared.line.pol.phase.Change.TheVariants as change
 use Rattle.pb_proof.specs.declared.line.pol.phase.Move.TheVariants as move
 use Rattle.pb_proof.proofs.lemmas.Line.Ends.{MayEnd, blanks1_lead, line_reads}
 use Rattle.pb_proof.proofs.lemmas.Pol.Covers.{state, as_after}
-use Rattle.pb_proof.proofs.lemmas.Pol.Fronts.{NotLarge, with_last_append}
+use Rattle.pb_proof.proofs.lemmas.Pol.Fronts.{NotLarge, with_last_append, bound_of_id, bound_of_factor}
 use Rattle.pb_proof.proofs.lemmas.Pol.Trees.{Counts, postfix_counts}
 use Rattle.pb_proof.proofs.lemmas.Pol.Walks.{unsigned_walk, signed_walk, name_walk, negated_walk, takes_blanks, late_blanks}
-
-not_zero : (n : ℕ) → 0 < n → nat_eq n 0 ≡ false
-not_zero n h = grind (arith, nat_tests)
+use Rattle.pb_proof.proofs.lemmas.NumberTests.{not_zero}
 
 free_number : (limit d n : ℕ) → NotLarge (held_number limit d n)
 free_number limit zero n = tt
@@ -45,13 +41,6 @@ free_name : (negated : Bool) (d : ℕ) → NotLarge (held_name negated d)
 free_name true d = tt
 free_name false zero = tt
 free_name false (suc d) = tt
-
-bound_of_id : (limit top d n : ℕ) → n ≤ top → n ≤ bound limit top d
-bound_of_id limit top zero n h = h
-bound_of_id limit top (suc d) n h = let i = le-max_right limit top in omega (arith, i)
-
-bound_of_factor : (limit top d n : ℕ) → n ≤ limit → n ≤ bound limit top (suc d)
-bound_of_factor limit top d n h = let i = le-max_left limit top in omega (arith, i)
 
 -- a number that is an operator's
 abbrev IsOperand : Held → Type 0

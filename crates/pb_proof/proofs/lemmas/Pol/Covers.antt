@@ -66,9 +66,6 @@ module _ (limit top : ℕ) (e : List PolWord) (after : PolState) where
       → R s (l ∷ t) → R own (l ∷ t)
   at_kind s own l t f r = covered pol_automaton s own l t e after (f (kind_of l.byte)) r
 
-  never : false ≡ true → ⊥
-  never e = cc
-
   -- a letter that may be an operator may begin a name
   as_letter : (r : Role) → may_be_name r ≡ true → (ws : List PolWord) (d : ℕ) (name : List ℕ) (t : List Letter)
       → R (st ws d name (phase.Lone role.Name)) t → R (st ws d name (phase.Lone r)) t

@@ -1,12 +1,13 @@
 -- What a machine of postfix words has read.
-use Rattle.std.proofs.Common.{◌≡◌, ℕ, suc, ◌-◌, ◌<◌, ◌≤◌, Bool, true, false, List, [], ◌∷◌, ◌++◌, refl, sym, ap, subst, arith, append_assoc, ◌∙◌}
-use Rattle.std.specs.Prelude.{IsTrue, pos}
-use Rattle.pb_text.specs.Classes.{is_letter, is_name_byte}
+use Rattle.std.proofs.Common.{◌≡◌, ℕ, zero, suc, ◌-◌, ◌<◌, ◌≤◌, true, false, List, [], ◌∷◌, ◌++◌, refl, sym, ap, subst, arith, append_assoc, ◌∙◌}
+use Rattle.std.specs.Prelude.{pos}
+use Rattle.std.proofs.Math.Nat.{le-max_left, le-max_right}
 use Rattle.pb_text.specs.Languages.{Language, ◌⋅◌, Byte, Bytes, Blanks1}
 use Rattle.pb_text.specs.Numbers.{Digits}
 use Rattle.pb_text.specs.Spelling.{Letter}
-use Rattle.pb_text.proofs.Languages.{each-append, regroup3}
-use Rattle.pb_sums.specs.Sums.{IsName, literal_bytes, SpellsLiteral}
+use Rattle.pb_text.proofs.Languages.{regroup3}
+use Rattle.pb_sums.specs.Sums.{IsName}
+use Rattle.pb_sums.proofs.LiteralFronts.{FirstOf, LiteralOf}
 use Rattle.pb_proof.specs.Lines.{Listed, SpellsWord, SpellsWords}
 use Rattle.pb_proof.specs.Line.Pol.{bound, with_last}
 use Rattle.pb_proof.specs.Line.PolState.{PolState}
@@ -21,27 +22,13 @@ use Rattle.pb_proof.specs.declared.line.pol.phase.Phase.TheVariants as phase
 use Rattle.pb_proof.proofs.lemmas.Line.Ends.{Closing, listed_append}
 use Rattle.pb_proof.proofs.lemmas.Pol.Trees.{Counts}
 
--- names
-abbrev pub IsFirst : List ℕ → Type 0
-IsFirst [] = ⊥
-IsFirst (b ∷ []) = IsTrue (is_letter b)
-IsFirst (b ∷ c ∷ bs) = ⊥
+-- ids and factors are within the bound of a number
+pub bound_of_id : (limit top d n : ℕ) → n ≤ top → n ≤ bound limit top d
+bound_of_id limit top zero n h = h
+bound_of_id limit top (suc d) n h = let i = le-max_right limit top in omega (arith, i)
 
-pub name_append : (bs : List ℕ) (b : ℕ) → IsName bs → IsTrue (is_name_byte b) → IsName (bs ++ b ∷ [])
-name_append [] b h k = absurd h
-name_append (x ∷ []) b h k = absurd h
-name_append (x ∷ y ∷ bs) b h k = (h.0, each-append (λ e. IsTrue (is_name_byte e)) (y ∷ bs) b h.1 k)
-
-pub first_append : (bs : List ℕ) (b : ℕ) → IsFirst bs → IsTrue (is_name_byte b) → IsName (bs ++ b ∷ [])
-first_append [] b h k = absurd h
-first_append (x ∷ []) b h k = (h, (k, tt))
-first_append (x ∷ y ∷ bs) b h k = absurd h
-
-abbrev pub FirstOf : Bool → List ℕ → Language
-FirstOf negated name = λ t. IsFirst name × Bytes (literal_bytes negated name) t
-
-abbrev pub LiteralOf : Bool → List ℕ → Language
-LiteralOf negated name = SpellsLiteral (record { negated = negated; name = name })
+pub bound_of_factor : (limit top d n : ℕ) → n ≤ limit → n ≤ bound limit top (suc d)
+bound_of_factor limit top d n h = let i = le-max_left limit top in omega (arith, i)
 
 -- the last of some words
 pub with_last_append : (f : PolWord → PolWord) (ws : List PolWord) (w : PolWord) → with_last f (ws ++ w ∷ []) ≡ ws ++ f w ∷ []

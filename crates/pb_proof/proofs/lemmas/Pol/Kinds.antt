@@ -1,9 +1,10 @@
 -- What the kind of a byte says of it, and the other way round.
-use Rattle.std.proofs.Common.{◌≡◌, ℕ, ◌+◌, ◌-◌, ◌<◌, Bool, true, false, cond, refl, sym, ap, arith}
-use Rattle.std.proofs.lemmas.Bool.{eqb-true}
+use Rattle.std.proofs.Common.{◌≡◌, ℕ, ◌+◌, ◌-◌, ◌<◌, Bool, true, false, cond, refl, ap, arith}
+use Rattle.std.proofs.lemmas.Bool.{eqb-true, cond_both, false≢true}
 use Rattle.std.proofs.lemmas.Bool.Decides.{nat_tests}
 use Rattle.std.specs.Prelude.{IsTrue, nat_eq}
 use Rattle.pb_text.specs.Classes.{is_blank, is_digit, is_letter, is_name_byte}
+use Rattle.pb_text.proofs.ByteTests.{digit_byte, blank_digit, digit_of, letter_name}
 use Rattle.pb_proof.specs.Line.Pol.{letter, symbol, kind_of, is_letter_kind, is_name_kind}
 use Rattle.pb_proof.specs.declared.line.pol.phase.Kind.{Kind}
 use Rattle.pb_proof.specs.declared.line.pol.phase.Kind.TheVariants.{Digit, D, S, W, Letter, Mark, Blank, Feed, Semicolon, Plus, Star, Minus, Tilde, Other}
@@ -24,40 +25,30 @@ Says Minus b = b ≡ 45
 Says Tilde b = b ≡ 126
 Says Other b = Unit {0}
 
-chosen : (b : ℕ) (t : Bool) (x y : Kind) → (t ≡ true → Says x b) → (t ≡ false → Says y b) → Says (cond t x y) b
-chosen b true x y f g = f refl
-chosen b false x y f g = g refl
-
 letter_says : (b : ℕ) → IsTrue (is_letter b) → Says (letter b) b
 letter_says b h =
-    chosen b (nat_eq b 100) D _ (eqb-true b 100) (λ _.
-    chosen b (nat_eq b 115) S _ (eqb-true b 115) (λ _.
-    chosen b (nat_eq b 119) W _ (eqb-true b 119) (λ _. h)))
+    let P : Kind → Type 0 = λ k. Says k b in
+    cond_both (nat_eq b 100) D _ P (eqb-true b 100) (λ _.
+    cond_both (nat_eq b 115) S _ P (eqb-true b 115) (λ _.
+    cond_both (nat_eq b 119) W _ P (eqb-true b 119) (λ _. h)))
 
 symbol_says : (b : ℕ) → Says (symbol b) b
 symbol_says b =
-    chosen b (nat_eq b 10) Feed _ (eqb-true b 10) (λ _.
-    chosen b (nat_eq b 59) Semicolon _ (eqb-true b 59) (λ _.
-    chosen b (nat_eq b 43) Plus _ (eqb-true b 43) (λ _.
-    chosen b (nat_eq b 42) Star _ (eqb-true b 42) (λ _.
-    chosen b (nat_eq b 45) Minus _ (eqb-true b 45) (λ _.
-    chosen b (nat_eq b 126) Tilde _ (eqb-true b 126) (λ _. tt))))))
-
-digit_says : (b : ℕ) → is_digit b ≡ true → (b ≡ 48 + (b - 48)) × (b - 48 < 10)
-digit_says b e = grind (arith, nat_tests)
+    let P : Kind → Type 0 = λ k. Says k b in
+    cond_both (nat_eq b 10) Feed _ P (eqb-true b 10) (λ _.
+    cond_both (nat_eq b 59) Semicolon _ P (eqb-true b 59) (λ _.
+    cond_both (nat_eq b 43) Plus _ P (eqb-true b 43) (λ _.
+    cond_both (nat_eq b 42) Star _ P (eqb-true b 42) (λ _.
+    cond_both (nat_eq b 45) Minus _ P (eqb-true b 45) (λ _.
+    cond_both (nat_eq b 126) Tilde _ P (eqb-true b 126) (λ _. tt))))))
 
 pub kind_says : (b : ℕ) → Says (kind_of b) b
 kind_says b =
-    chosen b (is_digit b) (Digit (b - 48)) _ (digit_says b) (λ _.
-    chosen b (is_letter b) (letter b) _ (letter_says b) (λ _.
-    chosen b (is_name_byte b) Mark _ (λ e. e) (λ _.
-    chosen b (is_blank b) Blank _ (λ e. e) (λ _. symbol_says b))))
-
-never : true ≡ false → ⊥
-never e = cc
-
-letter_name : (b : ℕ) → IsTrue (is_letter b) → IsTrue (is_name_byte b)
-letter_name b e = rw e refl
+    let P : Kind → Type 0 = λ k. Says k b in
+    cond_both (is_digit b) (Digit (b - 48)) _ P (digit_of b) (λ _.
+    cond_both (is_letter b) (letter b) _ P (letter_says b) (λ _.
+    cond_both (is_name_byte b) Mark _ P (λ e. e) (λ _.
+    cond_both (is_blank b) Blank _ P (λ e. e) (λ _. symbol_says b))))
 
 digit_name : (b d : ℕ) → b ≡ 48 + d → d < 10 → is_name_byte b ≡ true
 digit_name b d e h = grind (arith, nat_tests)
@@ -68,7 +59,7 @@ letter_kind D b h e = rw h refl
 letter_kind S b h e = rw h refl
 letter_kind W b h e = rw h refl
 letter_kind Letter b h e = h
-letter_kind _ b h e = absurd (never (sym e))
+letter_kind _ b h e = absurd (false≢true e)
 
 pub name_kind : (k : Kind) (b : ℕ) → Says k b → is_name_kind k ≡ true → IsTrue (is_name_byte b)
 name_kind (Digit d) b h e = digit_name b d h.0 h.1
@@ -77,21 +68,19 @@ name_kind S b h e = rw h refl
 name_kind W b h e = rw h refl
 name_kind Letter b h e = letter_name b h
 name_kind Mark b h e = h
-name_kind _ b h e = absurd (never (sym e))
+name_kind _ b h e = absurd (false≢true e)
 
 -- the kinds of bytes
 pub of_digit : (d : ℕ) → d < 10 → kind_of (48 + d) ≡ Digit d
 of_digit d h =
-    let e : is_digit (48 + d) ≡ true = grind (arith, nat_tests) in
     let f : (48 + d) - 48 ≡ d = omega arith in
-    rw e (ap Digit f)
+    rw (digit_byte d h) (ap Digit f)
 
 pub of_blank : (b : ℕ) → IsTrue (is_blank b) → kind_of b ≡ Blank
 of_blank b h =
-    let e : is_digit b ≡ false = grind (arith, nat_tests) in
     let f : is_letter b ≡ false = grind (arith, nat_tests) in
     let g : is_name_byte b ≡ false = grind (arith, nat_tests) in
-    rw (g, e, f, h) refl
+    rw (g, blank_digit b h, f, h) refl
 
 letter_kinds : (b : ℕ) → (x y z : Bool) → is_letter_kind (cond x D (cond y S (cond z W Letter))) ≡ true
 letter_kinds b true y z = refl
@@ -109,7 +98,7 @@ letter_is_name D e = refl
 letter_is_name S e = refl
 letter_is_name W e = refl
 letter_is_name Letter e = refl
-letter_is_name _ e = absurd (never (sym e))
+letter_is_name _ e = absurd (false≢true e)
 
 pub of_name : (b : ℕ) → IsTrue (is_name_byte b) → is_name_kind (kind_of b) ≡ true
 of_name b h = go (is_digit b) (is_letter b) refl refl

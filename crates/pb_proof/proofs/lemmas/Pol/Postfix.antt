@@ -1,4 +1,4 @@
--- Postfix words tell their expression, and leave one.
+-- Postfix words tell their expression, and leave one. Offered to other crates.
 use Rattle.std.proofs.Common.{◌≡◌, ℕ, zero, suc, List, [], ◌∷◌, ◌++◌, refl, sym, ap, ◌∙◌, subst, arith}
 use Rattle.pb_proof.specs.Leaving.{Leaves, WordsTell, WordsLeaveOne}
 use Rattle.pb_proof.specs.Postfix.{Tree, Constraint, True, Sum, Times, Divided, Saturated, Weakened, words}
@@ -7,7 +7,7 @@ use Rattle.pb_proof.specs.declared.word.PolWord.TheVariants.{Id, Axiom, Add, Mul
 use Rattle.pb_proof.proofs.lemmas.Pol.Trees.{Counts, postfix_counts, counts_postfix}
 
 -- a word on a stack of expressions, the last one first
-one_word : PolWord → List Tree → List Tree
+pub one_word : PolWord → List Tree → List Tree
 one_word (Id id) ts = Constraint id ∷ ts
 one_word (Axiom l) ts = True l ∷ ts
 one_word Add (b ∷ a ∷ ts) = Sum a b ∷ ts
@@ -22,16 +22,16 @@ one_word Saturate [] = []
 one_word (Weaken name) (a ∷ ts) = Weakened a name ∷ ts
 one_word (Weaken name) [] = []
 
-built : List PolWord → List Tree → List Tree
+pub built : List PolWord → List Tree → List Tree
 built [] ts = ts
 built (w ∷ ws) ts = built ws (one_word w ts)
 
-built_then : (xs ys : List PolWord) (ts : List Tree) → built (xs ++ ys) ts ≡ built ys (built xs ts)
+pub built_then : (xs ys : List PolWord) (ts : List Tree) → built (xs ++ ys) ts ≡ built ys (built xs ts)
 unfolding built
 built_then [] ys ts = refl
 built_then (x ∷ xs) ys ts = built_then xs ys (one_word x ts)
 
-built_words : (t : Tree) (ts : List Tree) → built (words t) ts ≡ t ∷ ts
+pub built_words : (t : Tree) (ts : List Tree) → built (words t) ts ≡ t ∷ ts
 unfolding built one_word
 built_words (Constraint id) ts = refl
 built_words (True l) ts = refl

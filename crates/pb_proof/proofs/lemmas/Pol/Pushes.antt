@@ -1,10 +1,12 @@
 -- A push does what was planned.
 use Rattle.std.proofs.Common.{◌≡◌, ℕ, ◌<◌, Bool, true, false, ◌&&◌, List, [], refl, sym, ap, subst, ◌∙◌}
 use Rattle.std.specs.Prelude.{IsTrue, if◌then◌else◌}
-use Rattle.pb_text.specs.Automaton.{Next, Go, End, Refuse, Admits, IsState, Pushes}
+use Rattle.pb_text.specs.Automaton.{Next, End, Refuse, Admits, IsState, Pushes}
 use Rattle.pb_text.specs.Classes.{is_digit}
 use Rattle.pb_text.specs.declared.machine.Push.{Push}
 use Rattle.pb_text.specs.declared.machine.Push.TheVariants as push
+use Rattle.pb_text.proofs.Booleans.{never}
+use Rattle.pb_text.proofs.Outcomes.{go_or_refuse, end_or_refuse}
 use Rattle.pb_proof.specs.Line.Pol.{act, plan, kind_of, wants, is_midway, is_in_number}
 use Rattle.pb_proof.specs.Line.PolState.{PolState, pol_automaton, over, IsPolInOrder}
 use Rattle.pb_proof.specs.declared.word.PolWord.{PolWord}
@@ -13,7 +15,6 @@ use Rattle.pb_proof.specs.declared.line.pol.phase.Phase.{Phase}
 use Rattle.pb_proof.specs.declared.line.pol.phase.Phase.TheVariants as phase
 use Rattle.pb_proof.specs.declared.line.pol.phase.Move.{Move}
 use Rattle.pb_proof.specs.declared.line.pol.phase.Move.TheVariants.{To, Begin, Add, Turn, End as EndLine, Stop}
-use Rattle.pb_proof.proofs.lemmas.Choices.{never}
 use Rattle.pb_proof.proofs.lemmas.Pol.Covers.{state}
 use Rattle.pb_proof.proofs.lemmas.Pol.Theorems.{pol_admits, pol_is_state}
 
@@ -21,18 +22,12 @@ abbrev pub IsTaken : Move → Type 0
 IsTaken Stop = ⊥
 IsTaken _ = Unit {0}
 
-refuse_go : (t : PolState) → ◌≡◌ {A = Next PolState (List PolWord)} (Go t) Refuse → ⊥
-refuse_go t h = cc
-
-refuse_end : (t : PolState) (e : List PolWord) → ◌≡◌ {A = Next PolState (List PolWord)} (End e t) Refuse → ⊥
-refuse_end t e h = cc
-
 taken : (s : PolState) (b : ℕ) (m : Move) → IsTaken m → over s (act s.work b m) ≡ Refuse → ⊥
-taken s b (To q) h e = refuse_go _ e
-taken s b (Begin q) h e = refuse_go _ e
-taken s b (Add q) h e = refuse_go _ e
-taken s b (Turn c q) h e = refuse_go _ e
-taken s b (EndLine c) h e = refuse_end _ _ e
+taken s b (To q) h e = go_or_refuse _ e
+taken s b (Begin q) h e = go_or_refuse _ e
+taken s b (Add q) h e = go_or_refuse _ e
+taken s b (Turn c q) h e = go_or_refuse _ e
+taken s b (EndLine c) h e = end_or_refuse _ _ e
 taken s b Stop h e = h
 
 module _ (limit top : ℕ) (ws : List PolWord) (d : ℕ) (name : List ℕ) (ph : Phase) (b : ℕ) (k : Kind) (m : Move) where

@@ -1,8 +1,10 @@
 -- What the plan for a phase and a kind says of the state that it leads to.
 use Rattle.std.proofs.Common.{◌≡◌, ℕ, ◌+◌, ◌*◌, ◌≤◌, Bool, true, false, cond, ◌&&◌, List, [], ◌∷◌, ◌++◌, length, refl, sym, subst, arith, length-append}
 use Rattle.std.specs.Prelude.{pos, neg_ℤ, nat_eq, nat_le, Some, None}
-use Rattle.pb_text.specs.Automaton.{Next, Go, End, Refuse}
-use Rattle.pb_proof.specs.Line.Pol.{Work, work, act, plan, read, next, next_word, next_large, star, late, blank, semicolon, feed, close, close_number, held_number, close_lone, held_name, number, signed, role_of, bound, is_letter_kind, is_name_kind, may_be_name, is_midway, is_done, is_in_number, adds, changed, counted, turned, with_last, finished}
+use Rattle.std.proofs.lemmas.Bool.{false≢true, true≢false}
+use Rattle.pb_text.specs.Automaton.{Go, End}
+use Rattle.pb_text.proofs.Outcomes.{one_state, one_end, go_or_end, refuse_or_go, refuse_or_end, end_or_go}
+use Rattle.pb_proof.specs.Line.Pol.{Work, work, act, plan, read, next, next_word, late, blank, semicolon, feed, close, held_number, number, signed, role_of, bound, is_letter_kind, is_name_kind, may_be_name, is_midway, is_done, adds, changed, counted, turned, with_last, finished}
 use Rattle.pb_proof.specs.Line.Pol as pol
 use Rattle.pb_proof.specs.Line.PolState.{word_units, units, in_hand, ready, all_units}
 use Rattle.pb_proof.specs.declared.word.PolWord.{PolWord}
@@ -18,9 +20,6 @@ use Rattle.pb_proof.specs.declared.line.pol.phase.Change.{Change}
 use Rattle.pb_proof.specs.declared.line.pol.phase.Change.TheVariants as change
 use Rattle.pb_proof.specs.declared.line.pol.phase.Move.{Move}
 use Rattle.pb_proof.specs.declared.line.pol.phase.Move.TheVariants as move
-
-never : false ≡ true → ⊥
-never e = cc
 
 -- The text has begun, a literal is in hand where a name has, and a word that is added was in hand or had room.
 abbrev pub IsSane : Phase → Move → Type 0
@@ -40,9 +39,9 @@ test ph false m h = tt
 
 module _ (limit top d : ℕ) where
   close-sane : (ph : Phase) → IsClosing ph (close limit top d ph)
-  close-sane phase.Start = λ e. absurd (never e)
-  close-sane phase.After = λ e. absurd (never e)
-  close-sane (phase.Gap h) = λ e. absurd (never e)
+  close-sane phase.Start = λ e. absurd (false≢true e)
+  close-sane phase.After = λ e. absurd (false≢true e)
+  close-sane (phase.Gap h) = λ e. absurd (false≢true e)
   close-sane (phase.Signed n) = go (nat_eq n 0)
     where
       go : (b : Bool) → IsClosing (phase.Signed n) (cond b None (Some (change.Id (neg_ℤ (pos n)), held.Nothing)))
@@ -56,9 +55,9 @@ module _ (limit top d : ℕ) where
       go false false = λ e. refl
   close-sane (phase.Lone role.Name) = tt
   close-sane (phase.Lone role.Saturate) = λ e. refl
-  close-sane (phase.Lone role.Divide) = λ e. absurd (never e)
-  close-sane (phase.Lone role.DivideLarge) = λ e. absurd (never e)
-  close-sane (phase.Lone role.Weaken) = λ e. absurd (never e)
+  close-sane (phase.Lone role.Divide) = λ e. absurd (false≢true e)
+  close-sane (phase.Lone role.DivideLarge) = λ e. absurd (false≢true e)
+  close-sane (phase.Lone role.Weaken) = λ e. absurd (false≢true e)
   close-sane (phase.Name negated) = λ e. refl
   close-sane _ = tt
 
@@ -81,12 +80,12 @@ module _ (limit top d : ℕ) where
   next_word-sane h kind.Minus = (refl, refl)
   next_word-sane h kind.Tilde = (refl, refl)
   next_word-sane h kind.Plus = test (phase.Gap h) (nat_le 2 d) (move.Turn change.Sum phase.After) (refl, refl, λ e. refl)
-  next_word-sane held.Number kind.Star = (refl, refl, λ e. absurd (never e))
+  next_word-sane held.Number kind.Star = (refl, refl, λ e. absurd (false≢true e))
   next_word-sane h kind.Star = tt
   next_word-sane h k = test (phase.Gap h) (is_letter_kind k) (move.Begin (phase.Lone (role_of d h k))) (refl, refl, refl)
 
   next-sane : (h : Held) (k : Kind) → IsSane (phase.Gap h) (next limit top d h k)
-  next-sane held.Large kind.Star = (refl, refl, λ e. absurd (never e))
+  next-sane held.Large kind.Star = (refl, refl, λ e. absurd (false≢true e))
   next-sane held.Large kind.D = (refl, refl, refl)
   next-sane held.Large k = tt
   next-sane held.Nothing k = next_word-sane held.Nothing k
@@ -148,7 +147,7 @@ changed_units change.Keep ws name h = omega arith
 changed_units change.Multiply ws name h = units_last (turned change.Multiply) multiply_units ws
 changed_units change.Divide ws name h = units_last (turned change.Divide) divide_units ws
 changed_units change.Weaken ws name h = units_last (turned change.Weaken) weaken_units ws
-changed_units _ ws name h = absurd (never (sym h))
+changed_units _ ws name h = absurd (true≢false h)
 
 added_units : (c : Change) (ws : List PolWord) (name : List ℕ) → adds c ≡ true → units (changed c ws name) ≤ units ws + 1 + length name
 added_units (change.Id z) ws name h = let e = units_append ws (word.Id z) in omega (arith, e)
@@ -156,7 +155,7 @@ added_units (change.Axiom negated) ws name h = let e = units_append ws (word.Axi
 added_units (change.Large k) ws name h = let e = units_append ws (word.Multiply k) in omega (arith, e)
 added_units change.Saturate ws name h = let e = units_append ws word.Saturate in omega (arith, e)
 added_units change.Sum ws name h = let e = units_append ws word.Add in omega (arith, e)
-added_units _ ws name h = absurd (never h)
+added_units _ ws name h = absurd (false≢true h)
 
 ready_once : (ph : Phase) → ready ph ≤ 1
 ready_once (phase.Gap h) = omega arith
@@ -174,48 +173,33 @@ turn_grows : (c : Change) (ws : List PolWord) (name : List ℕ) (ph q : Phase) (
 turn_grows c ws name ph q false e f g = let h = changed_units c ws name e in let i = ready_once q in omega (arith, h, i, f)
 turn_grows c ws name ph q true e f g = let h = added_units c ws name e in let i = ready_once q in let j = g e in omega (arith, h, i, f, j)
 
-go_same : (v w : Work) → ◌≡◌ {A = Next Work (List PolWord)} (Go v) (Go w) → v ≡ w
-go_same v w e = cc
-
-end_go : (e : List PolWord) (v w : Work) → ◌≡◌ {A = Next Work (List PolWord)} (End e v) (Go w) → ⊥
-end_go e v w h = cc
-
-refuse_go : (w : Work) → ◌≡◌ {A = Next Work (List PolWord)} Refuse (Go w) → ⊥
-refuse_go w h = cc
-
-end_same : (e f : List PolWord) (v w : Work) → ◌≡◌ {A = Next Work (List PolWord)} (End e v) (End f w) → v ≡ w
-end_same e f v w h = cc
-
-refuse_end : (e : List PolWord) (w : Work) → ◌≡◌ {A = Next Work (List PolWord)} Refuse (End e w) → ⊥
-refuse_end e w h = cc
-
 -- behind a byte: within a line, and one unit more at most
 abbrev pub IsNext : Work → Work → Type 0
 IsNext w v = (is_midway v.phase ≡ true) × (potential v ≤ potential w + 1)
 
 pub goes : (w v : Work) (b : ℕ) (m : Move) → IsSane w.phase m → act w b m ≡ Go v → IsNext w v
 goes w v b (move.To q) h e =
-    subst (IsNext w) (go_same (work w.words w.depth w.name q) v e)
+    subst (IsNext w) (one_state (work w.words w.depth w.name q) v e)
     (h.0, (let i = ready_once q in let j = h.1 in omega (arith, i, j)))
 goes w v b (move.Begin q) h e =
-    subst (IsNext w) (go_same (work w.words w.depth (b ∷ []) q) v e)
+    subst (IsNext w) (one_state (work w.words w.depth (b ∷ []) q) v e)
     (h.0, (let i = h.1 in let j = h.2 in omega (arith, i, j)))
 goes w v b (move.Add q) h e =
-    subst (IsNext w) (go_same (work w.words w.depth (w.name ++ b ∷ []) q) v e)
+    subst (IsNext w) (one_state (work w.words w.depth (w.name ++ b ∷ []) q) v e)
     (h.0, (let i = h.1 in let j = h.2 in omega (arith, i, j, length-append w.name (b ∷ []))))
 goes w v b (move.Turn c q) h e =
-    subst (IsNext w) (go_same (work (changed c w.words w.name) (counted c w.depth) [] q) v e)
+    subst (IsNext w) (one_state (work (changed c w.words w.name) (counted c w.depth) [] q) v e)
     (h.0, turn_grows c w.words w.name w.phase q (adds c) refl h.1 h.2)
-goes w v b (move.End c) h e = absurd (end_go (changed c w.words w.name) finished v e)
-goes w v b move.Stop h e = absurd (refuse_go v e)
+goes w v b (move.End c) h e = end_or_go (changed c w.words w.name) finished v e
+goes w v b move.Stop h e = refuse_or_go v e
 
 pub ends : (w v : Work) (b : ℕ) (m : Move) (e : List PolWord) → act w b m ≡ End e v → v ≡ finished
-ends w v b (move.End c) e h = sym (end_same (changed c w.words w.name) e finished v h)
-ends w v b (move.To q) e h = absurd (end_go e v (work w.words w.depth w.name q) (sym h))
-ends w v b (move.Begin q) e h = absurd (end_go e v (work w.words w.depth (b ∷ []) q) (sym h))
-ends w v b (move.Add q) e h = absurd (end_go e v (work w.words w.depth (w.name ++ b ∷ []) q) (sym h))
-ends w v b (move.Turn c q) e h = absurd (end_go e v (work (changed c w.words w.name) (counted c w.depth) [] q) (sym h))
-ends w v b move.Stop e h = absurd (refuse_end e v h)
+ends w v b (move.End c) e h = sym (one_end (changed c w.words w.name) e finished v h).1
+ends w v b (move.To q) e h = go_or_end (work w.words w.depth w.name q) e v h
+ends w v b (move.Begin q) e h = go_or_end (work w.words w.depth (b ∷ []) q) e v h
+ends w v b (move.Add q) e h = go_or_end (work w.words w.depth (w.name ++ b ∷ []) q) e v h
+ends w v b (move.Turn c q) e h = go_or_end (work (changed c w.words w.name) (counted c w.depth) [] q) e v h
+ends w v b move.Stop e h = refuse_or_end e v h
 
 -- where the line has ended no byte is taken
 pub stops : (limit top d : ℕ) (ph : Phase) (k : Kind) → is_done ph ≡ true → plan limit top d ph k ≡ move.Stop
@@ -223,4 +207,4 @@ stops limit top d phase.Done kind.Blank h = refl
 stops limit top d phase.Done kind.Semicolon h = refl
 stops limit top d phase.Done kind.Feed h = refl
 stops limit top d phase.Done k h = refl
-stops limit top d _ k h = absurd (never h)
+stops limit top d _ k h = absurd (false≢true h)

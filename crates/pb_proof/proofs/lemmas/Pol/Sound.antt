@@ -1,19 +1,20 @@
 -- A machine of postfix words has read a front of such a line: one lemma for each step that goes on.
 use Rattle.std.proofs.Common.{◌≡◌, ℕ, zero, suc, ◌+◌, ◌-◌, ◌*◌, ◌<◌, ◌≤◌, Bool, true, false, cond, ◌&&◌, List, [], ◌∷◌, ◌++◌, refl, sym, ap, subst, arith, append-nil, ◌∙◌}
-use Rattle.std.proofs.lemmas.Bool.{eqb-true, leb-true}
+use Rattle.std.proofs.lemmas.Bool.{eqb-true, leb-true, and_parts, false≢true}
 use Rattle.std.proofs.lemmas.Bool.Decides.{nat_tests}
 use Rattle.std.specs.Prelude.{IsTrue, pos, neg_ℤ, nat_eq, nat_le, Some, None}
 use Rattle.pb_text.specs.Automaton.{Next, Reads}
 use Rattle.pb_text.specs.Classes.{is_blank, is_name_byte}
-use Rattle.pb_text.specs.Languages.{unmarked, digit, Language, ◌⋅◌, Byte, Bytes, Blanks0, Blanks1}
+use Rattle.pb_text.specs.Languages.{unmarked, Language, ◌⋅◌, Byte, Bytes, Blanks0, Blanks1}
 use Rattle.pb_text.specs.Numbers.{Digits}
 use Rattle.pb_text.specs.Spelling.{Letter, plain}
-use Rattle.pb_text.proofs.Languages.{grown, next as next_part, none_yet, regroup, regroup3, inside, behind_it, some-grown, some-one, some-many, map-append}
+use Rattle.pb_text.proofs.Languages.{grown, next as next_part, regroup, regroup3, inside}
 use Rattle.pb_text.proofs.Numbers.{digits-grown, digits-one}
 use Rattle.pb_text.proofs.Walking.{On, Keeps, told}
-use Rattle.pb_sums.specs.Sums.{literal_bytes}
+use Rattle.pb_text.proofs.Letters.{as_unmarked, as_digit}
+use Rattle.pb_sums.proofs.LiteralFronts.{FirstOf, LiteralOf}
 use Rattle.pb_proof.specs.Lines.{LineEnd, SpellsWord, SpellsWords}
-use Rattle.pb_proof.specs.Line.Pol.{Work, work, act, plan, read, next, next_word, next_large, star, late, blank, semicolon, feed, close, close_number, held_number, close_lone, held_name, number, signed, role_of, bound, kind_of, is_letter_kind, is_name_kind, may_be_name, changed, counted, turned, with_last, finished}
+use Rattle.pb_proof.specs.Line.Pol.{work, act, plan, read, next, next_word, next_large, star, late, blank, semicolon, feed, close, close_number, held_number, close_lone, held_name, number, signed, role_of, bound, kind_of, is_letter_kind, is_name_kind, may_be_name, changed, counted, turned, with_last}
 use Rattle.pb_proof.specs.Line.Pol as pol
 use Rattle.pb_proof.specs.Line.PolState.{PolState, pol_automaton, pol_first, over}
 use Rattle.pb_proof.specs.declared.word.PolWord.{PolWord}
@@ -29,34 +30,21 @@ use Rattle.pb_proof.specs.declared.line.pol.phase.Phase.TheVariants as phase
 use Rattle.pb_proof.specs.declared.line.pol.phase.Change.TheVariants as change
 use Rattle.pb_proof.specs.declared.line.pol.phase.Move.{Move}
 use Rattle.pb_proof.specs.declared.line.pol.phase.Move.TheVariants as move
-use Rattle.pb_proof.proofs.lemmas.Line.Ends.{as_unmarked, semicolon_behind_blanks, blank_closing, line_behind_blanks, line_closing}
+use Rattle.pb_proof.proofs.lemmas.Line.Ends.{semicolon_behind_blanks, blank_closing, line_behind_blanks, line_closing, gapped, first_blank, further_blank, gapped_some}
 use Rattle.pb_proof.proofs.lemmas.Pol.Kinds.{Says, kind_says, letter_kind, name_kind}
 use Rattle.pb_proof.proofs.lemmas.Pol.Trees.{Counts, counts_postfix}
-use Rattle.pb_proof.proofs.lemmas.Pol.Fronts.{first_append, name_append, FirstOf, LiteralOf, Words, Settled, settle, Holds, NotLarge, released, whole, takes_number, with_last_append, lead, at, Named, IsRole, Before, front, Front, Whole}
+use Rattle.pb_proof.proofs.lemmas.Pol.Fronts.{Words, Settled, settle, Holds, NotLarge, released, whole, takes_number, with_last_append, lead, at, Named, IsRole, Before, front, Front, Whole}
+use Rattle.pb_proof.proofs.lemmas.Literals.Names.{first_grown, more_grown}
+use Rattle.pb_proof.proofs.lemmas.NumberTests.{positive}
 
 -- letters
-as_digit : (l : Letter) (d : ℕ) → l.byte ≡ 48 + d → l.numeral ≡ true → l ≡ digit d
-as_digit l d e f = rw (sym e, sym f) refl
 
 one : (l : Letter) (b : ℕ) → l.byte ≡ b → l.numeral ≡ false → l ∷ [] ≡ plain (b ∷ [])
-one l b e f = ap (λ x. x ∷ []) (as_unmarked l b e f)
+one l b e f = ap (λ x. x ∷ []) (as_unmarked l b f e)
 
 blanks_more : (l : Letter) → IsTrue (is_blank l.byte) → l.numeral ≡ false → (q : List Letter) → Blanks0 q → Blanks1 (q ++ l ∷ [])
-blanks_more l h f q ([], i, e) =
-    subst (λ x. Blanks1 (x ++ l ∷ [])) (sym e) (some-one (λ b. IsTrue (is_blank b)) l.byte l (as_unmarked l l.byte refl f) h)
-blanks_more l h f q (b ∷ bs, i, e) =
-    some-grown (λ b. IsTrue (is_blank b)) l.byte l (as_unmarked l l.byte refl f) h q (b, bs, i.0, i.1, e)
-
-literal_append : (negated : Bool) (name : List ℕ) (b : ℕ) → literal_bytes negated (name ++ b ∷ []) ≡ literal_bytes negated name ++ b ∷ []
-literal_append true name b = refl
-literal_append false name b = refl
-
-name_bytes : (negated : Bool) (name : List ℕ) (l : Letter) (q : List Letter) → l.numeral ≡ false → Bytes (literal_bytes negated name) q
-    → Bytes (literal_bytes negated (name ++ l.byte ∷ [])) (q ++ l ∷ [])
-name_bytes negated name l q f e =
-    subst (λ bs. Bytes bs (q ++ l ∷ [])) (sym (literal_append negated name l.byte))
-    (ap (λ x. x ++ l ∷ []) e ∙ (ap (λ y. plain (literal_bytes negated name) ++ y ∷ []) (as_unmarked l l.byte refl f)
-    ∙ map-append unmarked (literal_bytes negated name) l.byte))
+blanks_more l h f q ([], i, e) = first_blank l q h f e
+blanks_more l h f q (b ∷ bs, i, e) = further_blank l q h f (b, bs, i.0, i.1, e)
 
 -- counts
 sum_counts : (d : ℕ) (rest : List PolWord) → 2 ≤ d → Counts (d - 1) rest → Counts d (word.Add ∷ rest)
@@ -67,11 +55,6 @@ sum_counts (suc (suc d)) rest h c = let e : suc (suc d) - 1 ≡ suc d = omega ar
 saturate_counts : (d : ℕ) (rest : List PolWord) → 0 < d → Counts d rest → Counts d (word.Saturate ∷ rest)
 saturate_counts zero rest h c = absurd (omega arith)
 saturate_counts (suc d) rest h c = c
-
-both : (x y : Bool) → (x && y) ≡ true → (x ≡ true) × (y ≡ true)
-both true true e = (refl, refl)
-both true false e = cc
-both false y e = cc
 
 module _ (limit top : ℕ) (ws : List PolWord) (d : ℕ) (name : List ℕ) where
   abbrev before : Phase → Language
@@ -88,12 +71,6 @@ module _ (limit top : ℕ) (ws : List PolWord) (d : ℕ) (name : List ℕ) where
   closed_test : (b : Bool) (c : pol.Closing) (p : List Letter) → (b ≡ false → Closed c p) → Closed (cond b None c) p
   closed_test true c p h = tt
   closed_test false c p h = h refl
-
-  no_blanks : (P : Language) (p : List Letter) → P p → (P ⋅ Blanks0) p
-  no_blanks P p h = none_yet P Blanks0 p ([], tt, refl) h
-
-  not_zero : (n : ℕ) → nat_eq n 0 ≡ false → 0 < n
-  not_zero n e = grind (arith, nat_tests)
 
   closes_number : (n : ℕ) (p : List Letter) → 0 < n → before (phase.Number n) p → Closed (close_number limit top d n) p
   closes_number n p h (le, t) = go d refl (nat_le n top) refl (nat_le n limit) refl
@@ -112,48 +89,45 @@ module _ (limit top : ℕ) (ws : List PolWord) (d : ℕ) (name : List ℕ) where
 
       go : (e : ℕ) → d ≡ e → (x : Bool) → nat_le n top ≡ x → (y : Bool) → nat_le n limit ≡ y →
           Closed (cond x (Some (change.Id (pos n), held_number limit e n)) (Some (change.Large (pos n), held.Large))) p
-      go zero f true i y j = no_blanks (Has (ws ++ word.Id (pos n) ∷ []) (suc d)) p (as_id (leb-true n top i))
+      go zero f true i y j = gapped (Has (ws ++ word.Id (pos n) ∷ []) (suc d)) p (as_id (leb-true n top i))
       go (suc e) f true i true j = rw j (
           let (m, o) = leads_of e f in
-          no_blanks (Holds limit top held.Number (ws ++ word.Id (pos n) ∷ []) (suc d)) p
+          gapped (Holds limit top held.Number (ws ++ word.Id (pos n) ∷ []) (suc d)) p
           (ws, e, n, refl, ap suc f, h, leb-true n limit j, leb-true n top i, o, m)
           )
-      go (suc e) f true i false j = rw j (no_blanks (Has (ws ++ word.Id (pos n) ∷ []) (suc d)) p (as_id (leb-true n top i)))
+      go (suc e) f true i false j = rw j (gapped (Has (ws ++ word.Id (pos n) ∷ []) (suc d)) p (as_id (leb-true n top i)))
       go zero f false i y j = absurd (too_large (subst (λ x. n ≤ bound limit top x) f le))
         where
           too_large : n ≤ top → ⊥
           too_large k = grind (arith, nat_tests)
       go (suc e) f false i y j =
           let (m, o) = leads_of e f in
-          no_blanks (Holds limit top held.Large (ws ++ word.Multiply (pos n) ∷ []) (suc d)) p
+          gapped (Holds limit top held.Large (ws ++ word.Multiply (pos n) ∷ []) (suc d)) p
           (ws, e, n, refl, ap suc f, h, large_fits e f i, tt, o, m)
 
   -- a letter that is an operator
   operator : (b : ℕ) (P : Language) (p : List Letter) → name ≡ b ∷ [] → (P ⋅ Blanks1 ⋅ FirstOf false name) p → (P ⋅ Blanks1 ⋅ Byte b) p
   operator b P p e (x, y, f, r, (k, g)) = (x, y, f, r, g ∙ ap plain e)
 
+  divides : (n : ℕ) (q : List Letter) → 0 < n → n ≤ limit → (Digits n ⋅ Blanks1 ⋅ Byte 100) q → SpellsWord limit top (word.Divide (pos n)) q
+  divides n q i l (a, b, g, (u, v, k, o, j), m) = (a, b, g, (u, v, k, (n, i, l, refl, o), j), m)
+
   closes_lone : (r : Role) (p : List Letter) → before (phase.Lone r) p → Closed (close_lone r) p
   closes_lone role.Name p h = tt
   closes_lone role.Saturate p (e, t) =
-      no_blanks (Has (ws ++ word.Saturate ∷ []) d) p
+      gapped (Has (ws ++ word.Saturate ∷ []) d) p
       (let (a, b, g, (u, v, i, (m, o), j), k) = operator 115 (Before limit top role.Saturate ws d) p e t in
       settle limit top ws d d word.Saturate p (λ rest r. saturate_counts d rest m r) (a, b, g, (u, v, i, o, j), k))
   closes_lone role.Divide p (e, t) =
-      no_blanks (Has (changed change.Divide ws name) (d - 1)) p
+      gapped (Has (changed change.Divide ws name) (d - 1)) p
       (takes_number limit top (λ n. word.Id (pos n)) (λ n. word.Divide (pos n)) (λ n. n ≤ top) (turned change.Divide) 100 (λ n. refl)
       divides (λ n e rest r. r) ws d p (operator 100 (Holds limit top held.Number ws d) p e t))
-    where
-      divides : (n : ℕ) (q : List Letter) → 0 < n → n ≤ limit → (Digits n ⋅ Blanks1 ⋅ Byte 100) q → SpellsWord limit top (word.Divide (pos n)) q
-      divides n q i l (a, b, g, (u, v, k, o, j), m) = (a, b, g, (u, v, k, (n, i, l, refl, o), j), m)
   closes_lone role.DivideLarge p (e, t) =
-      no_blanks (Has (changed change.Divide ws name) (d - 1)) p
+      gapped (Has (changed change.Divide ws name) (d - 1)) p
       (takes_number limit top (λ n. word.Multiply (pos n)) (λ n. word.Divide (pos n)) (λ n. Unit {0}) (turned change.Divide) 100 (λ n. refl)
       divides (λ n e rest r. r) ws d p (operator 100 (Holds limit top held.Large ws d) p e t))
-    where
-      divides : (n : ℕ) (q : List Letter) → 0 < n → n ≤ limit → (Digits n ⋅ Blanks1 ⋅ Byte 100) q → SpellsWord limit top (word.Divide (pos n)) q
-      divides n q i l (a, b, g, (u, v, k, o, j), m) = (a, b, g, (u, v, k, (n, i, l, refl, o), j), m)
   closes_lone role.Weaken p (e, t) =
-      no_blanks (Has (changed change.Weaken ws name) (d - 1)) p (weakens (operator 119 (Holds limit top held.Name ws d) p e t))
+      gapped (Has (changed change.Weaken ws name) (d - 1)) p (weakens (operator 119 (Holds limit top held.Name ws d) p e t))
     where
       weakens : (Named limit top ws d ⋅ Blanks1 ⋅ Byte 119) p → Has (changed change.Weaken ws name) (d - 1) p
       weakens (ab, c, i, (a, s, j, (vs, e, x, k, m, is, leads, t), u), v) =
@@ -172,24 +146,24 @@ module _ (limit top : ℕ) (ws : List PolWord) (d : ℕ) (name : List ℕ) where
       literal n = word.Axiom (record { negated = n; name = name })
 
       as_literal : (n : Bool) → before (phase.Name n) p → (Has (ws ++ literal n ∷ []) (suc d) ⋅ Blanks0) p
-      as_literal n k = no_blanks (Has (ws ++ literal n ∷ []) (suc d)) p (settle limit top ws d (suc d) (literal n) p (λ rest r. r) k)
+      as_literal n k = gapped (Has (ws ++ literal n ∷ []) (suc d)) p (settle limit top ws d (suc d) (literal n) p (λ rest r. r) k)
 
       go : (n : Bool) (e : ℕ) → d ≡ e → before (phase.Name n) p → (Holds limit top (held_name n e) (ws ++ literal n ∷ []) (suc d) ⋅ Blanks0) p
       go true e f k = as_literal true k
       go false zero f k = as_literal false k
       go false (suc e) f (a, b, g, (u, v, i, (m, o), j), k) =
-          no_blanks (Holds limit top held.Name (ws ++ literal false ∷ []) (suc d)) p
+          gapped (Holds limit top held.Name (ws ++ literal false ∷ []) (suc d)) p
           (ws, e, name, refl, ap suc f, k.0, (λ rest r. m rest (subst (λ x. Counts x rest) (sym f) r)), (a, b, g, (u, v, i, o, j), k.1))
 
   closes : (ph : Phase) (p : List Letter) → before ph p → Closed (close limit top d ph) p
-  closes phase.Start p (e, f, g) = no_blanks (Has ws d) p (at limit top ws [] d 0 p e f (λ rest r. r, g))
-  closes phase.After p h = no_blanks (Has ws d) p h
-  closes (phase.Gap h) p k = behind_it (Holds limit top h ws d) Blanks1 Blanks0 p (some-many (λ b. IsTrue (is_blank b))) k
+  closes phase.Start p (e, f, g) = gapped (Has ws d) p (at limit top ws [] d 0 p e f (λ rest r. r, g))
+  closes phase.After p h = gapped (Has ws d) p h
+  closes (phase.Gap h) p k = gapped_some (Holds limit top h ws d) p k
   closes (phase.Signed n) p (le, t) = closed_test (nat_eq n 0) (Some (change.Id (neg_ℤ (pos n)), held.Nothing)) p (λ e.
       let (a, b, g, r, k) = regroup (Has ws d ⋅ Blanks1) (Byte 45) (Digits n) p t in
-      no_blanks (Has (ws ++ word.Id (neg_ℤ (pos n)) ∷ []) (suc d)) p
-      (settle limit top ws d (suc d) (word.Id (neg_ℤ (pos n))) p (λ rest r. r) (a, b, g, r, (true, n, not_zero n e, le, refl, k))))
-  closes (phase.Number n) p h = closed_test (nat_eq n 0) (close_number limit top d n) p (λ e. closes_number n p (not_zero n e) h)
+      gapped (Has (ws ++ word.Id (neg_ℤ (pos n)) ∷ []) (suc d)) p
+      (settle limit top ws d (suc d) (word.Id (neg_ℤ (pos n))) p (λ rest r. r) (a, b, g, r, (true, n, positive n e, le, refl, k))))
+  closes (phase.Number n) p h = closed_test (nat_eq n 0) (close_number limit top d n) p (λ e. closes_number n p (positive n e) h)
   closes (phase.Lone r) p h = closes_lone r p h
   closes (phase.Name negated) p h = closes_name negated p h
   closes _ p h = tt
@@ -272,32 +246,27 @@ module _ (limit top : ℕ) (ws : List PolWord) (d : ℕ) (name : List ℕ) (l : 
   tildes : (k : Kind) → Says k l.byte → Was phase.Tilde p → OnMove (cond (is_letter_kind k) (move.Begin phase.First) move.Stop)
   tildes k e t = test (is_letter_kind k) (move.Begin phase.First) (λ i g f.
       grown (Settled limit top ws d ⋅ Blanks1) (Byte 126) (FirstOf true (l.byte ∷ [])) p l
-      (λ q r. (letter_kind k l.byte e i, ap (λ x. x ++ l ∷ []) r ∙ ap (λ y. unmarked 126 ∷ y ∷ []) (as_unmarked l l.byte refl f))) t)
+      (λ q r. (letter_kind k l.byte e i, ap (λ x. x ++ l ∷ []) r ∙ ap (λ y. unmarked 126 ∷ y ∷ []) (as_unmarked l l.byte f refl))) t)
 
   seconds : (P : Language) (negated : Bool) → IsTrue (is_name_byte l.byte) → l.numeral ≡ false → (P ⋅ FirstOf negated name) p
       → (P ⋅ LiteralOf negated (name ++ l.byte ∷ [])) (p ++ l ∷ [])
   seconds P negated i f t =
-      grown P (FirstOf negated name) (LiteralOf negated (name ++ l.byte ∷ [])) p l
-      (λ q r. (first_append name l.byte r.0 i, name_bytes negated name l q f r.1)) t
+      first_grown P negated name l.byte l p (as_unmarked l l.byte f refl) i t
 
   names : (negated : Bool) (k : Kind) → Says k l.byte → Was (phase.Name negated) p → OnMove (cond (is_name_kind k) (move.Add (phase.Name negated)) move.Stop)
   names negated k e t = test (is_name_kind k) (move.Add (phase.Name negated)) (λ i g f.
-      grown (Settled limit top ws d ⋅ Blanks1) (LiteralOf negated name) (LiteralOf negated (name ++ l.byte ∷ [])) p l
-      (λ q r. (name_append name l.byte r.0 (name_kind k l.byte e i), name_bytes negated name l q f r.1)) t)
+      more_grown (Settled limit top ws d ⋅ Blanks1) negated name l.byte l p (as_unmarked l l.byte f refl) (name_kind k l.byte e i) t)
 
   as_before : (r : Role) → may_be_name r ≡ true → (q : List Letter) → Before limit top r ws d q → Settled limit top ws d q
   as_before role.Name e q h = h
   as_before role.Saturate e q h = h.1
   as_before role.Divide e q h = released limit top held.Number ws d q tt h
-  as_before role.DivideLarge e q h = absurd (never e)
-    where
-      never : false ≡ true → ⊥
-      never e = cc
+  as_before role.DivideLarge e q h = absurd (false≢true e)
   as_before role.Weaken e q h = released limit top held.Name ws d q tt h
 
   lones : (r : Role) (k : Kind) → Says k l.byte → Was (phase.Lone r) p → OnMove (cond (may_be_name r && is_name_kind k) (move.Add (phase.Name false)) move.Stop)
   lones r k e (j, t) = test (may_be_name r && is_name_kind k) (move.Add (phase.Name false)) (λ i g f.
-      let (m, n) = both (may_be_name r) (is_name_kind k) i in
+      let (m, n) = and_parts (may_be_name r) (is_name_kind k) i in
       seconds (Settled limit top ws d ⋅ Blanks1) false (name_kind k l.byte e n) f
       (inside (Before limit top r ws d ⋅ Blanks1) (Settled limit top ws d ⋅ Blanks1) (FirstOf false name) p
       (λ q. inside (Before limit top r ws d) (Settled limit top ws d) Blanks1 q (as_before r m)) t))

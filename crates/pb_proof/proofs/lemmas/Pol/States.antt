@@ -1,67 +1,51 @@
 -- The automaton of postfix words reads one line and has ended then.
-use Rattle.std.proofs.Common.{◌≡◌, ℕ, ◌+◌, ◌-◌, ◌^◌, ◌<◌, ◌≤◌, min, true, false, List, length, refl, sym, ap, subst, arith, ◌∙◌}
+use Rattle.std.proofs.Common.{◌≡◌, ℕ, ◌+◌, ◌-◌, ◌^◌, ◌<◌, ◌≤◌, true, false, List, length, refl, sym, ap, subst, arith, ◌∙◌}
 use Rattle.std.proofs.Math.Nat.{min-le_left}
-use Rattle.pb_text.specs.Automaton.{Next, Go, End, Refuse}
+use Rattle.std.proofs.lemmas.Bool.{false≢true, true≢false}
+use Rattle.pb_text.specs.Automaton.{Go, End, Refuse}
+use Rattle.pb_text.proofs.Outcomes.{one_state, one_end, go_or_end, refuse_or_go, refuse_or_end, end_or_go}
 use Rattle.pb_proof.specs.Line.Pol.{Work, Outcome, act, step, plan, kind_of, is_midway, is_done, is_in_number, finished}
 use Rattle.pb_proof.specs.Line.PolState.{PolState, pol_with, pol_automaton, over, all_units, in_hand, ready, units, IsPolInOrder}
 use Rattle.pb_proof.specs.declared.word.PolWord.{PolWord}
 use Rattle.pb_proof.specs.declared.line.pol.phase.Phase.{Phase}
 use Rattle.pb_proof.specs.declared.line.pol.phase.Phase.TheVariants as phase
-use Rattle.pb_proof.proofs.lemmas.Line.One.{IsOfOne}
+use Rattle.pb_text.proofs.OneText.{IsOfOne}
 use Rattle.pb_proof.proofs.lemmas.Pol.Alive.{alive}
 use Rattle.pb_proof.proofs.lemmas.Pol.Sane.{plan-sane, potential, IsNext, goes, ends, stops}
-
-same_go : (s t : PolState) → ◌≡◌ {A = Next PolState (List PolWord)} (Go s) (Go t) → s ≡ t
-same_go s t e = cc
-
-same_end : (s t : PolState) (e f : List PolWord) → ◌≡◌ {A = Next PolState (List PolWord)} (End e s) (End f t) → s ≡ t
-same_end s t e f h = cc
-
-go_end : (s t : PolState) (e : List PolWord) → ◌≡◌ {A = Next PolState (List PolWord)} (Go s) (End e t) → ⊥
-go_end s t e h = cc
-
-refuse_go : (t : PolState) → ◌≡◌ {A = Next PolState (List PolWord)} Refuse (Go t) → ⊥
-refuse_go t h = cc
-
-refuse_end : (t : PolState) (e : List PolWord) → ◌≡◌ {A = Next PolState (List PolWord)} Refuse (End e t) → ⊥
-refuse_end t e h = cc
 
 -- Where the automaton goes on, and where it ends.
 went : (s next : PolState) (b : ℕ) (n : Outcome) → step s.limit s.top s.work b ≡ n → over s n ≡ Go next → (v : Work) × (next ≡ pol_with s v) × IsNext s.work v
 went s next b (Go v) e h = (
   v,
-  sym (same_go (pol_with s v) next h),
+  sym (one_state (pol_with s v) next h),
   goes s.work v b (plan s.limit s.top s.work.depth s.work.phase (kind_of b)) (plan-sane s.limit s.top s.work.depth s.work.phase (kind_of b)) e,
 )
-went s next b (End f v) e h = absurd (go_end next (pol_with s v) f (sym h))
-went s next b Refuse e h = absurd (refuse_go next h)
+went s next b (End f v) e h = end_or_go f (pol_with s v) next h
+went s next b Refuse e h = refuse_or_go next h
 
 pub next_state : (s next : PolState) (b : ℕ) → pol_automaton.step s b ≡ Go next → (v : Work) × (next ≡ pol_with s v) × IsNext s.work v
 next_state s next b h = went s next b (step s.limit s.top s.work b) refl h
 
 closed : (s next : PolState) (b : ℕ) (f : List PolWord) (n : Outcome) → step s.limit s.top s.work b ≡ n → over s n ≡ End f next → next ≡ pol_with s finished
-closed s next b f (Go v) e h = absurd (go_end (pol_with s v) next f h)
+closed s next b f (Go v) e h = go_or_end (pol_with s v) f next h
 closed s next b f (End g v) e h =
-    sym (same_end (pol_with s v) next g f h)
+    sym (one_end g f (pol_with s v) next h).1
     ∙ ap (λ w. pol_with s w) (ends s.work v b (plan s.limit s.top s.work.depth s.work.phase (kind_of b)) g e)
-closed s next b f Refuse e h = absurd (refuse_end next f h)
-
-never : true ≡ false → ⊥
-never e = cc
+closed s next b f Refuse e h = refuse_or_end f next h
 
 midway_owes : (ph : Phase) → is_midway ph ≡ true → is_done ph ≡ false
-midway_owes phase.Done h = absurd (never (sym h))
+midway_owes phase.Done h = absurd (false≢true h)
 midway_owes _ h = refl
 
 plain_number : (ph : Phase) → is_midway ph ≡ false → is_in_number ph ≡ false
-plain_number (phase.Signed n) h = absurd (never h)
-plain_number (phase.Number n) h = absurd (never h)
+plain_number (phase.Signed n) h = absurd (true≢false h)
+plain_number (phase.Number n) h = absurd (true≢false h)
 plain_number _ h = refl
 
 nothing_kept : (ph : Phase) → is_midway ph ≡ false → 0 + in_hand ph + 0 + ready ph ≡ 0
 nothing_kept phase.Start h = refl
 nothing_kept phase.Done h = refl
-nothing_kept _ h = absurd (never h)
+nothing_kept _ h = absurd (true≢false h)
 
 abbrev pub HasIds : PolState → Type 0
 HasIds s = 0 < s.top
@@ -81,11 +65,8 @@ of_one = record {
   goes_on = λ s g h. alive s.limit s.top s.work.phase s.work.words s.work.depth s.work.name g h;
   plain = λ s h. plain_number s.work.phase h;
   grows = λ s next b e. let (v, f, h) = next_state s next b e in subst (λ x. potential x.work ≤ potential s.work + 1) (sym f) h.1;
-  bounds = λ s. kept_within (all_units s.work) (ready s.work.phase);
+  bounds = λ s. omega (arith, min-le_left (all_units s.work) (2 ^ 64 - 1));
 }
-  where
-    kept_within : (n r : ℕ) → min n (2 ^ 64 - 1) ≤ n + r
-    kept_within n r = omega (arith, min-le_left n (2 ^ 64 - 1))
 
 -- before a line and behind it nothing is kept
 pub empties : (s : PolState) → IsPolInOrder s → pol_automaton.begun s ≡ false → pol_automaton.spent s ≡ 0
@@ -97,4 +78,4 @@ empties s h i =
 pub keeps_order : (s next : PolState) (b : ℕ) → IsPolInOrder s → pol_automaton.step s b ≡ Go next → IsPolInOrder next
 keeps_order s next b g e =
     let (v, f, h) = next_state s next b e in
-    (subst (λ x. 0 < x.top) (sym f) g.0, λ i. absurd (never (sym (ap (λ x. is_midway x.work.phase) f ∙ h.0) ∙ i)))
+    (subst (λ x. 0 < x.top) (sym f) g.0, λ i. absurd (true≢false (sym (ap (λ x. is_midway x.work.phase) f ∙ h.0) ∙ i)))

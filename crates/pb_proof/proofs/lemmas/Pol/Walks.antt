@@ -1,14 +1,14 @@
 -- How a machine of postfix words reads digits, names and blanks.
-use Rattle.std.proofs.Common.{◌≡◌, ℕ, zero, suc, ◌+◌, ◌*◌, ◌^◌, ◌<◌, ◌≤◌, Bool, true, false, cond, ◌&&◌, List, [], ◌∷◌, ◌++◌, length, map, refl, sym, ap, subst, arith, append_assoc, append-nil, ◌∙◌}
-use Rattle.std.proofs.Math.Nat.{pow-succ', le-mul_of_pos_right}
-use Rattle.std.proofs.lemmas.Bool.{le-leb}
+use Rattle.std.proofs.Common.{◌≡◌, ℕ, ◌+◌, ◌*◌, ◌≤◌, Bool, true, false, cond, ◌&&◌, List, [], ◌∷◌, ◌++◌, refl, ap, subst, arith, append_assoc, append-nil, ◌∙◌}
+use Rattle.std.proofs.lemmas.Bool.{le-leb, false≢true}
 use Rattle.std.specs.Prelude.{IsTrue, nat_le, Some}
 use Rattle.pb_text.specs.Automaton.{Go}
 use Rattle.pb_text.specs.Classes.{is_name_byte}
-use Rattle.pb_text.specs.Languages.{digit, Each}
-use Rattle.pb_text.specs.Numbers.{value, Digits}
+use Rattle.pb_text.specs.Languages.{Each}
+use Rattle.pb_text.specs.Numbers.{Digits}
 use Rattle.pb_text.specs.Spelling.{Letter, plain}
 use Rattle.pb_text.proofs.Walking.{Walks}
+use Rattle.pb_text.proofs.DigitWalks.{digits_lead}
 use Rattle.pb_sums.specs.Sums.{IsName}
 use Rattle.pb_proof.specs.Line.Pol.{act, plan, close, blank, changed, counted, bound, may_be_name, is_letter_kind, is_name_kind, role_of, kind_of}
 use Rattle.pb_proof.specs.Line.PolState.{PolState, pol_automaton, over}
@@ -27,35 +27,6 @@ use Rattle.pb_proof.specs.declared.line.pol.phase.Move.TheVariants as move
 use Rattle.pb_proof.proofs.lemmas.Line.Ends.{TakesBlanks}
 use Rattle.pb_proof.proofs.lemmas.Pol.Covers.{state}
 use Rattle.pb_proof.proofs.lemmas.Pol.Kinds.{of_digit, of_blank, of_letter, of_name}
-
-never : false ≡ true → ⊥
-never e = cc
-
-ten_pos : (k : ℕ) → 0 < 10 ^ k
-ten_pos zero = omega arith
-ten_pos (suc k) = rw (pow-succ' 10 k) (omega (arith, ten_pos k))
-
--- digits, in states that know their value
-module _ (at : ℕ → PolState) (most : ℕ) (goes : (n k : ℕ) → k < 10 → 10 * n + k ≤ most → pol_automaton.step (at n) (48 + k) ≡ Go (at (10 * n + k)))
-    (begun : (n : ℕ) → pol_automaton.begun (at n) ≡ true) (marked : (n : ℕ) → pol_automaton.in_number (at n) ≡ true) where
-  digits_walk : (ds : List ℕ) (m v : ℕ) → Each (λ e. e < 10) ds → v ≡ m * 10 ^ length ds + value ds → v ≤ most → Walks pol_automaton (at m) (map digit ds) (at v)
-  digits_walk [] m v h e l = let f : v ≡ m = omega arith in ap at f
-  digits_walk (x ∷ ds) m v h e l =
-      let p : 10 ^ suc (length ds) ≡ 10 * 10 ^ length ds = pow-succ' 10 (length ds) in
-      let w : v ≡ (10 * m + x) * 10 ^ length ds + value ds = e ∙ rw p (omega arith) in
-      let i : 10 * m + x ≤ (10 * m + x) * 10 ^ length ds = le-mul_of_pos_right (10 * m + x) (ten_pos (length ds)) in
-      let u : 10 * m + x ≤ most = omega arith in
-      (at (10 * m + x), goes m x h.0 u, begun (10 * m + x), sym (marked (10 * m + x)), digits_walk ds (10 * m + x) v h.1 w l)
-
-  pub number_walk : (s : PolState) → ((k : ℕ) → k < 10 → 10 * 0 + k ≤ most → pol_automaton.step s (48 + k) ≡ Go (at (10 * 0 + k)))
-      → (n : ℕ) (t : List Letter) → n ≤ most → Digits n t → Walks pol_automaton s t (at n)
-  number_walk s first n t l (d, ds, h, f, v) =
-      let same : d ≡ 10 * 0 + d = omega arith in
-      let w : n ≡ (10 * 0 + d) * 10 ^ length ds + value ds = v ∙ ap (λ x. x * 10 ^ length ds + value ds) same in
-      let i : 10 * 0 + d ≤ (10 * 0 + d) * 10 ^ length ds = le-mul_of_pos_right (10 * 0 + d) (ten_pos (length ds)) in
-      let u : 10 * 0 + d ≤ most = omega arith in
-      subst (λ x. Walks pol_automaton s x (at n)) (sym f)
-      (at (10 * 0 + d), first d h.0 u, begun (10 * 0 + d), sym (marked (10 * 0 + d)), digits_walk ds (10 * 0 + d) n h.1 w l)
 
 -- the step at a known kind, and at a known move
 pub steps : (s : PolState) (b : ℕ) (k : Kind) → kind_of b ≡ k → pol_automaton.step s b ≡ over s (act s.work b (plan s.limit s.top s.work.depth s.work.phase k))
@@ -77,16 +48,29 @@ module _ (limit top : ℕ) (ws : List PolWord) (d : ℕ) where
       ∙ (ap (λ x. over s (act s.work (48 + k) x)) f ∙ ap (λ x. over s (act s.work (48 + k) (cond x (move.To ph) move.Stop))) (le-leb n most l))
 
   pub unsigned_walk : (n : ℕ) (t : List Letter) → n ≤ bound limit top d → Digits n t → Walks pol_automaton (st [] (phase.Gap held.Nothing)) t (st [] (phase.Number n))
-  unsigned_walk n t l h = number_walk (λ m. st [] (phase.Number m)) (bound limit top d)
-      (λ m k i j. tested (st [] (phase.Number m)) k (bound limit top d) (10 * m + k) (phase.Number (10 * m + k)) (of_digit k i) refl j) (λ m. refl) (λ m. refl)
+  unsigned_walk n t l h = digits_lead pol_automaton (λ m. st [] (phase.Number m)) (bound limit top d)
+      (record {
+        more = λ m k i j. tested (st [] (phase.Number m)) k (bound limit top d) (10 * m + k) (phase.Number (10 * m + k)) (of_digit k i) refl j;
+        begun = λ m. refl;
+        number = λ m. refl;
+      })
       (st [] (phase.Gap held.Nothing))
-      (λ k i j. tested (st [] (phase.Gap held.Nothing)) k (bound limit top d) (10 * 0 + k) (phase.Number (10 * 0 + k)) (of_digit k i) refl j) n t l h
+      (λ k i j. let e : 10 * 0 + k ≡ k = omega arith in
+      tested (st [] (phase.Gap held.Nothing)) k (bound limit top d) (10 * 0 + k) (phase.Number (10 * 0 + k)) (of_digit k i) refl (omega arith)
+      ∙ ap (λ x. Go (st [] (phase.Number x))) e)
+      n l t h
 
   pub signed_walk : (n : ℕ) (t : List Letter) → n ≤ top → Digits n t → Walks pol_automaton (st [] phase.Minus) t (st [] (phase.Signed n))
-  signed_walk n t l h = number_walk (λ m. st [] (phase.Signed m)) top
-      (λ m k i j. tested (st [] (phase.Signed m)) k top (10 * m + k) (phase.Signed (10 * m + k)) (of_digit k i) refl j) (λ m. refl) (λ m. refl)
+  signed_walk n t l h = digits_lead pol_automaton (λ m. st [] (phase.Signed m)) top
+      (record {
+        more = λ m k i j. tested (st [] (phase.Signed m)) k top (10 * m + k) (phase.Signed (10 * m + k)) (of_digit k i) refl j;
+        begun = λ m. refl;
+        number = λ m. refl;
+      })
       (st [] phase.Minus)
-      (λ k i j. tested (st [] phase.Minus) k top (10 * 0 + k) (phase.Signed (10 * 0 + k)) (of_digit k i) refl j) n t l h
+      (λ k i j. let e : 10 * 0 + k ≡ k = omega arith in
+      tested (st [] phase.Minus) k top (10 * 0 + k) (phase.Signed (10 * 0 + k)) (of_digit k i) refl (omega arith) ∙ ap (λ x. Go (st [] (phase.Signed x))) e)
+      n l t h
 
   -- names
   plan_letter : (k : Kind) → is_letter_kind k ≡ true → plan limit top d (phase.Gap held.Nothing) k ≡ move.Begin (phase.Lone (role_of d held.Nothing k))
@@ -94,30 +78,30 @@ module _ (limit top : ℕ) (ws : List PolWord) (d : ℕ) where
   plan_letter kind.S e = refl
   plan_letter kind.W e = refl
   plan_letter kind.Letter e = refl
-  plan_letter _ e = absurd (never e)
+  plan_letter _ e = absurd (false≢true e)
 
   plan_name : (negated : Bool) (k : Kind) → is_name_kind k ≡ true → plan limit top d (phase.Name negated) k ≡ move.Add (phase.Name negated)
-  plan_name negated kind.Blank e = absurd (never e)
-  plan_name negated kind.Semicolon e = absurd (never e)
-  plan_name negated kind.Feed e = absurd (never e)
+  plan_name negated kind.Blank e = absurd (false≢true e)
+  plan_name negated kind.Semicolon e = absurd (false≢true e)
+  plan_name negated kind.Feed e = absurd (false≢true e)
   plan_name negated k e = ap (λ x. cond x (move.Add (phase.Name negated)) move.Stop) e
 
   plan_second : (r : Role) → may_be_name r ≡ true → (k : Kind) → is_name_kind k ≡ true → plan limit top d (phase.Lone r) k ≡ move.Add (phase.Name false)
-  plan_second r h kind.Blank e = absurd (never e)
-  plan_second r h kind.Semicolon e = absurd (never e)
-  plan_second r h kind.Feed e = absurd (never e)
+  plan_second r h kind.Blank e = absurd (false≢true e)
+  plan_second r h kind.Semicolon e = absurd (false≢true e)
+  plan_second r h kind.Feed e = absurd (false≢true e)
   plan_second r h k e = ap (λ x. cond (x && is_name_kind k) (move.Add (phase.Name false)) move.Stop) h ∙ ap (λ x. cond x (move.Add (phase.Name false)) move.Stop) e
 
   plan_tilde : (k : Kind) → is_letter_kind k ≡ true → plan limit top d phase.Tilde k ≡ move.Begin phase.First
-  plan_tilde kind.Blank e = absurd (never e)
-  plan_tilde kind.Semicolon e = absurd (never e)
-  plan_tilde kind.Feed e = absurd (never e)
+  plan_tilde kind.Blank e = absurd (false≢true e)
+  plan_tilde kind.Semicolon e = absurd (false≢true e)
+  plan_tilde kind.Feed e = absurd (false≢true e)
   plan_tilde k e = ap (λ x. cond x (move.Begin phase.First) move.Stop) e
 
   plan_first : (k : Kind) → is_name_kind k ≡ true → plan limit top d phase.First k ≡ move.Add (phase.Name true)
-  plan_first kind.Blank e = absurd (never e)
-  plan_first kind.Semicolon e = absurd (never e)
-  plan_first kind.Feed e = absurd (never e)
+  plan_first kind.Blank e = absurd (false≢true e)
+  plan_first kind.Semicolon e = absurd (false≢true e)
+  plan_first kind.Feed e = absurd (false≢true e)
   plan_first k e = ap (λ x. cond x (move.Add (phase.Name true)) move.Stop) e
 
   named_role : (k : Kind) → may_be_name (role_of d held.Nothing k) ≡ true

@@ -1,33 +1,21 @@
 -- What was read of a proof are the first of its statements, and they meet the rules.
-use Rattle.std.proofs.Common.{◌≡◌, ℕ, ◌<◌, ◌≤◌, Bool, true, false, List, [], ◌∷◌, ◌++◌, length, map, Option, Some, None, All, refl, sym, ap, ◌∙◌, subst, arith, length-append}
-use Rattle.std.proofs.lemmas.Bool.{false≢true}
-use Rattle.std.proofs.lemmas.Bool.Decides.{nat_tests}
+use Rattle.std.proofs.Common.{◌≡◌, ℕ, ◌<◌, ◌≤◌, Bool, true, false, List, [], ◌∷◌, ◌++◌, length, Option, Some, None, All, refl, sym, ap, ◌∙◌, subst, arith, length-append}
+use Rattle.std.proofs.lemmas.Bool.{false≢true, lt-leb, leb-false}
 use Rattle.std.proofs.lemmas.List.{append-nil}
 use Rattle.std.proofs.lemmas.List.Elements.{All-nil, All-cons, All-head, All-tail}
 use Rattle.std.specs.Prelude.{nat_le}
 use Rattle.pb_text.specs.Reading.{ended_within, IsUnderWay, IsSpelled}
 use Rattle.pb_text.specs.Spelling.{Item, bytes, place_after, marks_since, marks_of}
-use Rattle.pb_text.specs.Whole.{events_of}
+use Rattle.pb_text.specs.Whole.{events_at, events_of}
 use Rattle.pb_text.specs.declared.Place.{Place}
 use Rattle.pb_text.specs.declared.Spanned.{Spanned}
+use Rattle.pb_text.proofs.Short.{place_after-offset}
+use Rattle.pb_text.proofs.Wholes.{marks_events}
 use Rattle.pb_proof.specs.Proofs.{IsProof}
 use Rattle.pb_proof.specs.Values.{IsStatementValue}
 use Rattle.pb_proof.specs.ValueLaws.{BeginProof, ReadStatements}
 use Rattle.pb_proof.specs.declared.statement.Statement.{Statement}
 use Rattle.pb_proof.proofs.lemmas.Proofs.Values.{events_values, proof_values}
-
-abbrev events : List (Spanned Statement) → List Statement
-events marks = map (λ m. m.event) marks
-
-offset_of : (text : List ℕ) → (place_after text).offset ≡ length text
-unfolding place_after
-offset_of text = refl
-
-past_it : (n k : ℕ) → n < k → nat_le k n ≡ false
-past_it n k h = grind (arith, nat_tests)
-
-not_yet : (k n : ℕ) → nat_le k n ≡ false → n < k
-not_yet k n e = grind (arith, nat_tests)
 
 abbrev behind : List ℕ → Item Statement → List ℕ
 behind before i = before ++ (i.gap ++ bytes i.text)
@@ -40,24 +28,20 @@ later : (n : ℕ) (items : List (Item Statement)) (start : Option Place) (before
 later n [] start before h = refl
 later n (i ∷ rest) start before h =
     let more : n < length (behind before i) = omega (arith, h, longer before i) in
-    rw (offset_of (behind before i), past_it n (length (behind before i)) more) (later n rest None (behind before i) more)
+    rw (place_after-offset (behind before i), lt-leb (length (behind before i)) n more) (later n rest None (behind before i) more)
 
 -- those that end within so many bytes are the first
 first_ones : (n : ℕ) (items : List (Item Statement)) (start : Option Place) (before : List ℕ)
-    → (rest : List Statement) × (events_of items ≡ events (ended_within n (marks_since start before items)) ++ rest)
+    → (rest : List Statement) × (events_of items ≡ events_at (ended_within n (marks_since start before items)) ++ rest)
 first_ones n [] start before = ([], refl)
 first_ones n (i ∷ rest) start before = by_test (first_ones n rest None (behind before i)) (nat_le (place_after (behind before i)).offset n) refl
   where
-    by_test : ((more : List Statement) × (events_of rest ≡ events (ended_within n (marks_since None (behind before i) rest)) ++ more)) → (b : Bool) → nat_le (place_after (behind before i)).offset n ≡ b
-        → (more : List Statement) × (events_of (i ∷ rest) ≡ events (ended_within n (marks_since start before (i ∷ rest))) ++ more)
+    by_test : ((more : List Statement) × (events_of rest ≡ events_at (ended_within n (marks_since None (behind before i) rest)) ++ more)) → (b : Bool) → nat_le (place_after (behind before i)).offset n ≡ b
+        → (more : List Statement) × (events_of (i ∷ rest) ≡ events_at (ended_within n (marks_since start before (i ∷ rest))) ++ more)
     by_test r true e = (r.0, rw e (ap (λ (x : List Statement). i.event ∷ x) r.1))
     by_test r false e =
-        let h : n < length (behind before i) = not_yet (length (behind before i)) n (rw (offset_of (behind before i)) at e) in
+        let h : n < length (behind before i) = leb-false (length (behind before i)) n (rw (place_after-offset (behind before i)) at e) in
         (events_of (i ∷ rest), rw (e, later n rest None (behind before i) h) refl)
-
-all_ones : (items : List (Item Statement)) (start : Option Place) (before : List ℕ) → events (marks_since start before items) ≡ events_of items
-all_ones [] start before = refl
-all_ones (i ∷ rest) start before = ap (λ (x : List Statement). i.event ∷ x) (all_ones rest None (behind before i))
 
 left : (P : Statement → Type 0) (xs ys : List Statement) → All P (xs ++ ys) → All P xs
 left P [] ys h = All-nil P
@@ -75,17 +59,17 @@ module _ (limit top : ℕ) where
     rules = proof_values limit top items v (v, spelled) spelled.1;
   }
 
-  under_way : (longest : ℕ) (used : List ℕ) (marks : List (Spanned Statement)) → IsUnderWay (IsProof limit top) longest used marks → BeginProof limit top (events marks) false
+  under_way : (longest : ℕ) (used : List ℕ) (marks : List (Spanned Statement)) → IsUnderWay (IsProof limit top) longest used marks → BeginProof limit top (events_at marks) false
   under_way longest used marks w =
       let (items, h, front) = w.viable in
       let seen : ended_within (length used) (marks_of items) ≡ marks = w.seen items h front in
       let r = first_ones (length used) items None [] in
-      begins items h (events marks) r.0 false (r.1 ∙ ap (λ (x : List (Spanned Statement)). events x ++ r.0) seen) (λ e. absurd (false≢true e))
+      begins items h (events_at marks) r.0 false (r.1 ∙ ap (λ (x : List (Spanned Statement)). events_at x ++ r.0) seen) (λ e. absurd (false≢true e))
 
-  whole : (longest : ℕ) (used : List ℕ) (marks : List (Spanned Statement)) → IsSpelled (IsProof limit top) longest used marks → BeginProof limit top (events marks) true
+  whole : (longest : ℕ) (used : List ℕ) (marks : List (Spanned Statement)) → IsSpelled (IsProof limit top) longest used marks → BeginProof limit top (events_at marks) true
   whole longest used marks s =
-      begins s.items s.spelled (events marks) [] true
-      (sym (all_ones s.items None []) ∙ (ap events (sym s.marks_are) ∙ sym (append-nil (events marks)))) (λ e. refl)
+      begins s.items s.spelled (events_at marks) [] true
+      (sym (marks_events None [] s.items) ∙ (ap events_at (sym s.marks_are) ∙ sym (append-nil (events_at marks)))) (λ e. refl)
 
 pub read_statements : ReadStatements
 read_statements limit top longest input used marks place true stop r = whole limit top longest used marks r.answer.0

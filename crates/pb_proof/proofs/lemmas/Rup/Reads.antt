@@ -1,13 +1,16 @@
 -- What a machine of `rup` reads is the grammar.
 use Rattle.std.proofs.Common.{◌≡◌, ℕ, true, false, List, [], ◌∷◌, ◌++◌, refl, sym, ap, subst, ◌∙◌, ◌↔◌}
-use Rattle.std.proofs.lemmas.Bool.{eqb-true}
+use Rattle.std.proofs.lemmas.Bool.{eqb-true, cond_both, false_from_ne_true}
 use Rattle.std.specs.Prelude.{IsTrue, nat_eq, Option, Some, None}
 use Rattle.pb_text.specs.Automaton.{Next, Go, End, Refuse, Reads}
 use Rattle.pb_text.specs.Classes.{is_blank}
-use Rattle.pb_text.specs.Languages.{Language, ◌⋅◌, Byte, Blanks0, Blanks1}
+use Rattle.pb_text.specs.Languages.{Language, ◌⋅◌, Blanks0, Blanks1}
 use Rattle.pb_text.specs.Spelling.{Letter}
-use Rattle.pb_text.proofs.Languages.{grown, next, none_yet, regroup, many-grown, some-grown, some-one}
+use Rattle.pb_text.proofs.Languages.{grown, none_yet}
 use Rattle.pb_text.proofs.Walking.{Walks, walks_then, walks_more, ends_walk, reads_behind, On, Keeps, told}
+use Rattle.pb_text.proofs.Booleans.{never}
+use Rattle.pb_text.proofs.ByteTests.{blank_each}
+use Rattle.pb_text.proofs.Outcomes.{refuse_or_go, refuse_or_end}
 use Rattle.pb_sums.specs.State.{SumState, sums}
 use Rattle.pb_sums.specs.Sums.{SpellsLinear, Spells, allows}
 use Rattle.pb_sums.specs.declared.Linear.{Linear}
@@ -25,11 +28,16 @@ use Rattle.pb_proof.specs.declared.line.rup.phase.RupPhase.{RupPhase}
 use Rattle.pb_proof.specs.declared.line.rup.phase.RupPhase.TheVariants.{Start, Gap, Inside, Tail, Done}
 use Rattle.pb_proof.specs.declared.line.rup.phase.RupMove.{RupMove}
 use Rattle.pb_proof.specs.declared.line.rup.phase.RupMove.TheVariants.{Give}
-use Rattle.pb_proof.proofs.lemmas.Choices.{never, chosen, blank_each, fails}
-use Rattle.pb_proof.proofs.lemmas.Line.Ends.{as_unmarked, TakesBlanks, blanks1_lead, Feeds, feed_reads}
+use Rattle.pb_proof.proofs.lemmas.Line.Ends.{TakesBlanks, blanks1_lead, Feeds, feed_reads, gapped, first_blank, further_blank, blank_more, feed_behind_blanks}
 
-abbrev IsBlank : ℕ → Type 0
-IsBlank b = IsTrue (is_blank b)
+-- what the machine of sums reads
+pub given_walks : (o : Option Linear) (t : List Letter) (inner new : SumState) (e : SumEvent) → Reads sums inner t e new
+    → Walks rup_automaton (record { phase = Inside; sums = inner; linear = o }) t (record { phase = Tail; sums = new; linear = Some (linear_of e) })
+given_walks o [] inner new e r = absurd r
+given_walks o (l ∷ []) inner new e (g, n) =
+    (record { phase = Tail; sums = new; linear = Some (linear_of e) }, ap (rup_over (record { phase = Inside; sums = inner; linear = o })) g, refl, n, refl)
+given_walks o (l ∷ k ∷ t) inner new e (mid, g, i, n, r) =
+    (record { phase = Inside; sums = mid; linear = o }, ap (rup_over (record { phase = Inside; sums = inner; linear = o })) g, refl, n, given_walks o (k ∷ t) mid new e r)
 
 module _ (limit top : ℕ) where
   abbrev pub SumFront : SumState → Language
@@ -58,8 +66,8 @@ module _ (limit top : ℕ) where
     After m = Leaves (rup_act s l.byte m)
 
     at_start : p ≡ [] → s.sums ≡ sum_first limit → s.linear ≡ None → After (rup_plan Start l.byte)
-    at_start e i n = chosen After (is_blank l.byte) _ _
-        (λ h w f. (subst Blanks1 (ap (λ x. x ++ l ∷ []) (sym e)) (some-one IsBlank l.byte l (as_unmarked l l.byte refl f) h), i, n))
+    at_start e i n = cond_both (is_blank l.byte) _ _ After
+        (λ h w f. (first_blank l p h f e, i, n))
         (λ h. tt)
 
     allowed : (r : Relation) → IsTrue (allows part.TheVariants.AtLeast r) → r ≡ AtLeast
@@ -70,7 +78,7 @@ module _ (limit top : ℕ) where
         → ((linear_of e).relation ≡ AtLeast) × (Blanks1 ⋅ SpellsLinear Blank limit (linear_of e) ⋅ Blanks0) (p ++ l ∷ [])
     spelled (sum.TheVariants.Sum terms) (a, b, e, h, k) = never false k.0 refl
     spelled (sum.TheVariants.Linear c) (a, b, e, h, k) =
-        (allowed c.relation k.0, none_yet (Blanks1 ⋅ SpellsLinear Blank limit c) Blanks0 (p ++ l ∷ []) ([], tt, refl) (a, b, e, h, k.1))
+        (allowed c.relation k.0, gapped (Blanks1 ⋅ SpellsLinear Blank limit c) (p ++ l ∷ []) (a, b, e, h, k.1))
 
     given : s.linear ≡ None → (Blanks1 ⋅ SumFront s.sums) p → (x : Next SumState SumEvent) → sums.step s.sums l.byte ≡ x → Leaves (rup_over s x)
     given n h (Go inner) e = λ w f. (
@@ -87,14 +95,14 @@ module _ (limit top : ℕ) where
     given n h Refuse i = tt
 
     in_gap : Blanks1 p → s.sums ≡ sum_first limit → s.linear ≡ None → After (rup_plan Gap l.byte)
-    in_gap h i n = chosen After (is_blank l.byte) _ _
-        (λ k w f. (some-grown IsBlank l.byte l (as_unmarked l l.byte refl f) k p h, i, n))
+    in_gap h i n = cond_both (is_blank l.byte) _ _ After
+        (λ k w f. (further_blank l p k f h, i, n))
         (λ k. given n (none_yet Blanks1 (SumFront s.sums) p i h) (sums.step s.sums l.byte) refl)
 
     in_tail : s.sums ≡ sum_last limit → (c : Linear) → s.linear ≡ Some c → c.relation ≡ AtLeast → (Blanks1 ⋅ SpellsLinear Blank limit c ⋅ Blanks0) p → After (rup_plan Tail l.byte)
-    in_tail i c k r h = chosen After (is_blank l.byte) _ _
-        (λ g w f. (i, (c, k, r, grown (Blanks1 ⋅ SpellsLinear Blank limit c) Blanks0 Blanks0 p l (many-grown IsBlank l.byte l (as_unmarked l l.byte refl f) g) h)))
-        (λ _. chosen After (nat_eq l.byte 10) _ _
+    in_tail i c k r h = cond_both (is_blank l.byte) _ _ After
+        (λ g w f. (i, (c, k, r, blank_more (Blanks1 ⋅ SpellsLinear Blank limit c) l p g f h)))
+        (λ _. cond_both (nat_eq l.byte 10) _ _ After
         (λ g. ends g s.linear k)
         (λ _. tt))
       where
@@ -103,7 +111,7 @@ module _ (limit top : ℕ) where
         ends g (Some d) e = λ f.
             let same : d ≡ c = cc in
             let whole : SpellsRup limit top c (p ++ l ∷ []) =
-            (r, regroup (Blanks1 ⋅ SpellsLinear Blank limit c) Blanks0 (Byte 10) (p ++ l ∷ []) (next (Blanks1 ⋅ SpellsLinear Blank limit c ⋅ Blanks0) (Byte 10) p l h (ap (λ x. x ∷ []) (as_unmarked l 10 (eqb-true l.byte 10 g) f)))) in
+            (r, feed_behind_blanks (Blanks1 ⋅ SpellsLinear Blank limit c) l p (eqb-true l.byte 10 g) f h) in
             (subst (λ x. SpellsRup limit top x (p ++ l ∷ [])) (sym same) whole, rw i refl)
 
     sound : (q : RupPhase) → front s q p → After (rup_plan q l.byte)
@@ -149,35 +157,22 @@ module _ (limit top : ℕ) where
   tail_feeds : (e : SumEvent) → Feeds rup_automaton (behind e (sum_last limit)) (behind e (sum_last limit)) (linear_of e) (rup_last limit)
   tail_feeds e = record { blanks = tail_blanks e (sum_last limit); ends = refl; ends_gap = refl }
 
-  -- what the machine of sums reads
-  given_walks : (t : List Letter) (inner new : SumState) (e : SumEvent) → Reads sums inner t e new → Walks rup_automaton (inside inner) t (behind e new)
-  given_walks [] inner new e r = absurd r
-  given_walks (l ∷ []) inner new e (g, n) = (behind e new, ap (rup_over (inside inner)) g, refl, n, refl)
-  given_walks (l ∷ k ∷ t) inner new e (mid, g, i, n, r) =
-      (inside mid, ap (rup_over (inside inner)) g, refl, n, given_walks (k ∷ t) mid new e r)
-
-  refuse_end : (e : SumEvent) (new : SumState) → ◌≡◌ {A = Next SumState SumEvent} Refuse (End e new) → ⊥
-  refuse_end e new h = cc
-
-  refuse_go : (new : SumState) → ◌≡◌ {A = Next SumState SumEvent} Refuse (Go new) → ⊥
-  refuse_go new h = cc
-
   -- no blank begins a constraint
   no_blank : (b : ℕ) → is_blank b ≡ true → sums.step (sum_first limit) b ≡ Refuse
   no_blank = blank_each (λ b. sums.step (sum_first limit) b ≡ Refuse) refl refl refl
 
   gap_gives : (l : Letter) → (sums.step (sum_first limit) l.byte ≡ Refuse → ⊥) → rup_plan Gap l.byte ≡ Give
   gap_gives l h =
-      let e : is_blank l.byte ≡ false = fails (is_blank l.byte) (λ k. h (no_blank l.byte k)) in rw e refl
+      let e : is_blank l.byte ≡ false = false_from_ne_true (is_blank l.byte) (λ k. h (no_blank l.byte k)) in rw e refl
 
   linear_walks : (t : List Letter) (new : SumState) (e : SumEvent) → Reads sums (sum_first limit) t e new → Walks rup_automaton (in_phase Gap) t (behind e new)
   linear_walks [] new e r = absurd r
   linear_walks (l ∷ []) new e (g, n) =
-      let k = gap_gives l (λ h. refuse_end e new (sym h ∙ g)) in
+      let k = gap_gives l (λ h. refuse_or_end e new (sym h ∙ g)) in
       (behind e new, ap (rup_act (in_phase Gap) l.byte) k ∙ ap (rup_over (in_phase Gap)) g, refl, n, refl)
   linear_walks (l ∷ c ∷ t) new e (mid, g, i, n, r) =
-      let k = gap_gives l (λ h. refuse_go mid (sym h ∙ g)) in
-      (inside mid, ap (rup_act (in_phase Gap) l.byte) k ∙ ap (rup_over (in_phase Gap)) g, refl, n, given_walks (c ∷ t) mid new e r)
+      let k = gap_gives l (λ h. refuse_or_go mid (sym h ∙ g)) in
+      (inside mid, ap (rup_act (in_phase Gap) l.byte) k ∙ ap (rup_over (in_phase Gap)) g, refl, n, given_walks None (c ∷ t) mid new e r)
 
   allows_it : (r : Relation) → r ≡ AtLeast → IsTrue (allows part.TheVariants.AtLeast r)
   allows_it AtLeast h = refl

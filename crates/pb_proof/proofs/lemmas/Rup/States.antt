@@ -1,11 +1,13 @@
 -- What holds of each state that a machine of `rup` can be in.
-use Rattle.std.proofs.Common.{◌≡◌, ℕ, ◌+◌, ◌≤◌, Bool, true, false, cond, List, [], ◌∷◌, ◌++◌, refl, sym, ap, subst, ◌∙◌, arith, ◌&&◌}
+use Rattle.std.proofs.Common.{◌≡◌, ℕ, ◌+◌, ◌≤◌, Bool, true, false, cond, List, [], ◌++◌, refl, sym, ap, subst, ◌∙◌, arith, ◌&&◌}
 use Rattle.std.specs.Prelude.{IsTrue, nat_eq, Option, Some, None}
-use Rattle.pb_text.specs.Automaton.{Next, Go, End, Refuse, Reads, Accepts, Admits, IsState, is_large}
+use Rattle.std.proofs.lemmas.Bool.{cond_both}
+use Rattle.pb_text.specs.Automaton.{Next, Go, End, Refuse, Accepts, Admits, IsState, is_large}
 use Rattle.pb_text.specs.Classes.{is_blank, is_digit}
-use Rattle.pb_text.specs.Spelling.{Letter, Item}
+use Rattle.pb_text.specs.Spelling.{Item}
 use Rattle.pb_text.proofs.Residual.{refuses}
-use Rattle.pb_text.proofs.Walking.{Walks, reads_behind}
+use Rattle.pb_text.proofs.Walking.{reads_behind}
+use Rattle.pb_text.proofs.Booleans.{never}
 use Rattle.pb_sums.specs.Machine.{Work, Outcome, act, flushed, plan, kind, letter_at, is_numeric}
 use Rattle.pb_sums.specs.State.{SumState, sums, over, units}
 use Rattle.pb_sums.specs.declared.Linear.{Linear}
@@ -23,8 +25,8 @@ use Rattle.pb_proof.specs.declared.line.rup.phase.RupPhase.{RupPhase}
 use Rattle.pb_proof.specs.declared.line.rup.phase.RupPhase.TheVariants.{Start, Gap, Inside, Tail, Done}
 use Rattle.pb_proof.specs.declared.line.rup.phase.RupMove.{RupMove}
 use Rattle.pb_proof.specs.declared.line.rup.phase.RupMove.TheVariants.{To, Give, Finish, Stop}
-use Rattle.pb_proof.proofs.lemmas.Choices.{never, chosen}
-use Rattle.pb_proof.proofs.lemmas.Living.{IsAlive, before, final, accepted, admits_before}
+use Rattle.pb_text.proofs.Living.{IsAlive, before, final, accepted, admits_before}
+use Rattle.pb_proof.proofs.lemmas.Rup.Reads.{given_walks}
 
 -- The constraint that the machine of sums gives has no more units than that machine had.
 acted-terms : (ys xs : List Term) (name : List ℕ) (m : Move) (e : SumEvent) (w : Work) → act ys xs name m ≡ End e w → (linear_of e).terms ≡ ys
@@ -66,23 +68,23 @@ OnMove (To p) = rup_midway p ≡ true
 OnMove _ = Unit {0}
 
 on_plan : (p : RupPhase) (b : ℕ) → OnMove (rup_plan p b)
-on_plan Start b = chosen OnMove (is_blank b) (To Gap) Stop (λ e. refl) (λ e. tt)
-on_plan Gap b = chosen OnMove (is_blank b) (To Gap) Give (λ e. refl) (λ e. tt)
+on_plan Start b = cond_both (is_blank b) (To Gap) Stop OnMove (λ e. refl) (λ e. tt)
+on_plan Gap b = cond_both (is_blank b) (To Gap) Give OnMove (λ e. refl) (λ e. tt)
 on_plan Inside b = tt
-on_plan Tail b = chosen OnMove (is_blank b) (To Tail) _ (λ e. refl) (λ e. chosen OnMove (nat_eq b 10) Finish Stop (λ e. tt) (λ e. tt))
+on_plan Tail b = cond_both (is_blank b) (To Tail) _ OnMove (λ e. refl) (λ e. cond_both (nat_eq b 10) Finish Stop OnMove (λ e. tt) (λ e. tt))
 on_plan Done b = tt
 
 -- where bytes are given to the machine of sums, and where the line ends
+not_given : (x y : Bool) → cond x (To Tail) (cond y Finish Stop) ≡ Give → ⊥
+not_given true y e = cc
+not_given false true e = cc
+not_given false false e = cc
+
 given_none : (s : RupState) (p : RupPhase) (b : ℕ) → RupHolds s p → rup_plan p b ≡ Give → s.linear ≡ None
 given_none s Start b h e = h.0
 given_none s Gap b h e = h.0
 given_none s Inside b h e = h.0
 given_none s Tail b h e = absurd (not_given (is_blank b) (nat_eq b 10) e)
-  where
-    not_given : (x y : Bool) → cond x (To Tail) (cond y Finish Stop) ≡ Give → ⊥
-    not_given true y e = cc
-    not_given false true e = cc
-    not_given false false e = cc
 given_none s Done b h e = h.0
 
 finish_empty : (s : RupState) (p : RupPhase) (b : ℕ) → RupHolds s p → rup_plan p b ≡ Finish → sums.spent s.sums ≡ 0
@@ -196,23 +198,13 @@ inside_alive s p d =
       event = tail.event;
       after = tail.after;
       reads = reads_behind rup_automaton text tail.text (record s { phase = Inside }) (record { phase = Tail; sums = last; linear = Some (linear_of e) }) tail.after tail.event
-          (walks s.linear text s.sums last e r) tail.reads;
+          (given_walks s.linear text s.sums last e r) tail.reads;
       rest = tail.rest;
       accepts = tail.accepts;
     })
   where
     same : (s : RupState) → s.phase ≡ Inside → s ≡ record s { phase = Inside }
     same s p = rw p refl
-
-    at : Option Linear → SumState → RupState
-    at o inner = record { phase = Inside; sums = inner; linear = o }
-
-    walks : (o : Option Linear) (t : List Letter) (inner new : SumState) (e : SumEvent) → Reads sums inner t e new
-        → Walks rup_automaton (at o inner) t (record { phase = Tail; sums = new; linear = Some (linear_of e) })
-    walks o [] inner new e r = absurd r
-    walks o (l ∷ []) inner new e (g, n) = (record { phase = Tail; sums = new; linear = Some (linear_of e) }, ap (rup_over (at o inner)) g, refl, n, refl)
-    walks o (l ∷ k ∷ t) inner new e (mid, g, i, n, r) =
-        (at o mid, ap (rup_over (at o inner)) g, refl, n, walks o (k ∷ t) mid new e r)
 
 -- behind blanks, with `>`
 gap_alive : (s : RupState) → s.phase ≡ Gap → s.sums ≡ sum_first s.sums.limit → IsAlive rup_automaton s
@@ -291,11 +283,6 @@ given_number s Inside b h e = refl
 given_number s Gap b h e = sym (ap sums.in_number h.1)
 given_number s Start b h e = sym (ap sums.in_number h.1)
 given_number s Tail b h e = absurd (not_given (is_blank b) (nat_eq b 10) e)
-  where
-    not_given : (x y : Bool) → cond x (To Tail) (cond y Finish Stop) ≡ Give → ⊥
-    not_given true y e = cc
-    not_given false true e = cc
-    not_given false false e = cc
 given_number s Done b h e = absurd (let f : ⊥ = cc in f)
 
 module _ (s : RupState) (h : IsRupInOrder s) (b : ℕ) (planned : rup_plan s.phase b ≡ Give) where

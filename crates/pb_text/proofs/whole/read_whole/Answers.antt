@@ -1,5 +1,5 @@
 use Rattle.std.proofs.Common.{◌≡◌, ◌+◌, ◌-◌, ◌≤◌, ◌<◌, ◌^◌, ℕ, [], ◌∷◌, ◌++◌, sym, append-nil, ap, ◌∙◌, refl, subst, IsTrue, Option, arith}
-use Rattle.pb_text.specs.Limit.{end_of}
+use Rattle.pb_text.specs.SpentBytes.{end_of}
 use Rattle.pb_text.proofs.Short.{end_limit}
 use Rattle.pb_text.specs.declared.place.Place.{Place}
 use Rattle.pb_text.proofs.Pulled.{lost_nothing}

@@ -1,4 +1,4 @@
-use Rattle.std.proofs.Common.{ℕ, ◌+◌, ◌-◌, ◌^◌, ◌<◌, ◌≤◌, [], ◌∷◌, ◌++◌, ap, ◌∙◌, arith, append-nil, refl, subst, sym, Some, None, Ok, Err}
+use Rattle.std.proofs.Common.{◌^◌, ◌≤◌, [], ◌∷◌, ◌++◌, ap, ◌∙◌, append-nil, refl, subst, sym, Some, None, Ok, Err}
 use Rattle.pb_text.specs.Automaton.{Accepts, MayAsk}
 use Rattle.pb_text.specs.Feeding.{place_of}
 use Rattle.pb_text.specs.declared.Place.{Place}
@@ -7,7 +7,7 @@ use Rattle.pb_text.proofs.Writing.{writes_nothing}
 use Rattle.pb_tool.specs.Given.{OfGiven}
 use Rattle.pb_tool.specs.Show.{EndsAt, InText}
 use Rattle.pb_tool.proofs.GivenRow.{given_broken, given_next, given_refused, given_row, given_shown, given_so_far}
-use Rattle.pb_tool.proofs.Shown.{first_pull, shown_more, shows_end, so_far_within}
+use Rattle.pb_tool.proofs.Shown.{fewer, first_pull, shown_more, shows_end, so_far_within}
 use Rattle.pb_tool.proofs.Wanted.{end_asking, pull_asking}
 use Rattle.pb_tool.proofs.show_file.show_each.Goals as goal
 
@@ -25,9 +25,6 @@ loop-read-init g c = record {
     writes_nothing g.W.Sink.contents g.W.Sink.faults c.args.out.now,
   );
 }
-
-fewer : (a b : ℕ) → b ≤ 2 ^ 40 → a < b → 2 ^ 40 + 1 - b < 2 ^ 40 + 1 - a
-fewer a b reach onward = omega arith
 
 pub loop-read-smaller : goal.loop-read-smaller
 loop-read-smaller g c =

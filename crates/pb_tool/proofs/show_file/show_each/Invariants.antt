@@ -1,6 +1,6 @@
 use Rattle.std.proofs.Common.{◌≡◌, ◌+◌, ◌-◌, ◌^◌, List}
 use Rattle.pb_text.specs.Feeding.{place_of}
-use Rattle.pb_text.specs.Rows.{HasPulled}
+use Rattle.pb_text.specs.PullsInARow.{HasPulled}
 use Rattle.pb_text.specs.Writing.{Wrote}
 use Rattle.pb_text.specs.declared.Spanned.{Spanned}
 use Rattle.pb_tool.specs.Show.{shown}

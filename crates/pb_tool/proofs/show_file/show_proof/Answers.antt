@@ -1,6 +1,5 @@
 use Rattle.std.proofs.Common.{Some, ◌++◌}
 use Rattle.pb_text.specs.Automaton.{Accepts, MayAsk}
-use Rattle.pb_text.proofs.Formats as formats
 use Rattle.pb_proof.specs.Machine.State.{proofs}
 use Rattle.pb_proof.specs.Canonical.{statement_bytes}
 use Rattle.pb_tool.specs.Files.{IsVeri}
@@ -11,20 +10,12 @@ use Rattle.pb_tool.proofs.show_file.show_proof.Goals as goal
 
 pub returns-clause-shows : goal.returns-clause-shows
 returns-clause-shows g c =
-    shows_to (Accepts proofs c.new.result) (IsVeri c.args.limits) _
-    (formats.reads (Accepts proofs c.new.result) (IsVeri c.args.limits) (λ items h. (c.new.ensures.accepts items).0 h) (λ items h. (c.new.ensures.accepts items).1 h) c.args.longest)
-    statement_bytes g.W.Sink.contents g.W.Sink.faults _ _ c.show_each.result _ _ c.show_each.ensures.shows
+    shows_to (Accepts proofs c.new.result) (IsVeri c.args.limits) _ (c.new.ensures.reads _) statement_bytes g.W.Sink.contents g.W.Sink.faults _ _ c.show_each.result _ _ c.show_each.ensures.shows
 
 pub returns-clause-given : goal.returns-clause-given
 returns-clause-given g c =
-    let (given, seen, e, shows) = c.show_each.ensures.given in (
-      given,
-      seen,
-      e,
-      shows_to (Accepts proofs c.new.result) (IsVeri c.args.limits) _
-          (formats.reads (Accepts proofs c.new.result) (IsVeri c.args.limits) (λ items h. (c.new.ensures.accepts items).0 h) (λ items h. (c.new.ensures.accepts items).1 h) c.args.longest)
-          statement_bytes g.W.Sink.contents g.W.Sink.faults (Some (given ++ seen)) c.args.out.now c.show_each.result (Some seen) c.show_each.new.out shows,
-    )
+    let (given, seen, e, shows) = c.show_each.ensures.given in
+    (given, seen, e, shows_to (Accepts proofs c.new.result) (IsVeri c.args.limits) _ (c.new.ensures.reads _) statement_bytes g.W.Sink.contents g.W.Sink.faults (Some (given ++ seen)) c.args.out.now c.show_each.result (Some seen) c.show_each.new.out shows)
 
 pub returns-clause-memory : goal.returns-clause-memory
 returns-clause-memory g c =

@@ -1,18 +1,17 @@
-use Rattle.std.proofs.Common.{ℕ, ◌+◌, ◌-◌, ◌^◌, ◌<◌, ◌≤◌, [], ◌∷◌, ◌++◌, None, Some, Ok, Err, true, ap, ◌∙◌, sym, arith, refl, subst, append-nil}
-use Rattle.pb_text.specs.Automaton.{Accepts as AcceptsBytes, MayAsk}
+use Rattle.std.proofs.Common.{ℕ, ◌^◌, ◌≤◌, [], ◌∷◌, ◌++◌, None, Some, Ok, Err, ap, ◌∙◌, sym, refl, subst, append-nil}
+use Rattle.pb_text.specs.Automaton.{MayAsk}
 use Rattle.pb_text.specs.Limits.{largest, top_of}
 use Rattle.pb_text.specs.Pulling.{faults_with}
 use Rattle.pb_text.specs.declared.Place.{Place}
 use Rattle.pb_proof.specs.Machine.State.{begin, proofs}
-use Rattle.pb_tool.specs.Verified.{IsAccepted}
 use Rattle.pb_tool.specs.Files.{IsVeri}
 use Rattle.pb_tool.specs.Wants.{AsksVeri}
 use Rattle.pb_text.specs.Feeding.{place_of}
-use Rattle.pb_tool.proofs.CheckGiven.{given_ended, given_step, given_stopped}
+use Rattle.pb_tool.proofs.CheckGiven.{given_ended, given_step, given_stopped, moved}
 use Rattle.pb_tool.proofs.CheckWants.{step_no_text}
 use Rattle.pb_tool.proofs.GivenRow.{given_next, given_row, given_so_far}
 use Rattle.pb_tool.proofs.Replayed as replayed
-use Rattle.pb_tool.proofs.Shown.{first_pull, so_far_within}
+use Rattle.pb_tool.proofs.Shown.{fewer, first_pull, so_far_within}
 use Rattle.pb_tool.proofs.Wanted.{each_at, pull_asking}
 use Rattle.pb_tool.proofs.verify.run.Goals as goal
 
@@ -37,15 +36,12 @@ step_through-requires g c =
     let (more, sofar) = t.row c.args.longest _ (g.S.Source.left c.args.input.now) i.led.0 i.led.1 in
     replayed.value_pulled c.proofs_are_exact.ensures c.args.replay.now.limits c.args.longest _ _ c.reads_are_of_proofs.ensures c.loop-read.replay.limits i.limited i.led.0 c.in-Ok-Some.read _ sofar
 
-fewer : (a b : ℕ) → b ≤ 2 ^ 40 → a < b → 2 ^ 40 + 1 - b < 2 ^ 40 + 1 - a
-fewer a b reach onward = omega arith
-
 pub loop-read-smaller : goal.loop-read-smaller
 loop-read-smaller g c =
     let i = c.loop-read.invariant in
     let t = rw (c.in-Ok-Some.is, c.in-Ok-Some.field-0-is) at c.pull.ensures in
     let (more, sofar) = t.row c.args.longest _ (g.S.Source.left c.args.input.now) i.led.0 i.led.1 in
-    let within = so_far_within (AcceptsBytes proofs (begin (largest c.args.replay.now.limits) (top_of c.args.replay.now.limits))) c.args.longest (g.S.Source.left c.args.input.now) (g.S.Source.left c.pull.new.source) (i.led.0 ++ c.in-Ok-Some.read ∷ []) c.in-Ok-Some.read.past sofar in
+    let within = so_far_within (replayed.Taken c.args.replay.now.limits) c.args.longest (g.S.Source.left c.args.input.now) (g.S.Source.left c.pull.new.source) (i.led.0 ++ c.in-Ok-Some.read ∷ []) c.in-Ok-Some.read.past sofar in
     fewer _ _ (subst (λ (p : Place). p.offset ≤ 2 ^ 40) (t.past c.in-Ok-Some.read refl) within) (t.onward c.in-Ok-Some.read refl)
 
 pub loop-read-preserved : goal.loop-read-preserved
@@ -105,8 +101,8 @@ pub returns-clause-runs : goal.returns-clause-runs
 returns-clause-runs g c first at =
     let i = c.loop-read.invariant in
     let t = rw (c.in-Ok-None.is, c.in-Ok-None.field-0-is) at c.pull.ensures in
-    let (last, accepted, claimed) = replayed.ended c.proofs_are_exact.ensures c.args.replay.now.limits c.args.longest (g.S.Source.left c.args.input.now) (g.S.Source.left c.pull.new.source) c.args.replay.now.problem first c.loop-read.replay i.led.0 (i.led.2 first at) i.unspent _ c.in-Some.verdict (t.row c.args.longest _ (g.S.Source.left c.args.input.now) i.led.0 i.led.1) (sym c.in-Some.is ∙ c.verdict.ensures.verdict) in
-    (last, subst (λ (p : Place). IsAccepted c.args.replay.now.limits c.args.longest c.args.replay.now.problem first (g.S.Source.left c.args.input.now) (g.S.Source.left c.pull.new.source) p true None last) (sym c.place.ensures.place) accepted, claimed)
+    moved c.args.replay.now.limits c.args.longest c.args.replay.now.problem first (g.S.Source.left c.args.input.now) (g.S.Source.left c.pull.new.source) _ _ c.in-Some.verdict (sym c.place.ensures.place)
+    (replayed.ended c.proofs_are_exact.ensures c.args.replay.now.limits c.args.longest (g.S.Source.left c.args.input.now) (g.S.Source.left c.pull.new.source) c.args.replay.now.problem first c.loop-read.replay i.led.0 (i.led.2 first at) i.unspent _ c.in-Some.verdict (t.row c.args.longest _ (g.S.Source.left c.args.input.now) i.led.0 i.led.1) (sym c.in-Some.is ∙ c.verdict.ensures.verdict))
 
 pub returns-clause-faults : goal.returns-clause-faults
 returns-clause-faults g c =
@@ -151,5 +147,5 @@ returns-in-Err-clause-wants g c =
     let t = rw c.in-Err.is at c.pull.ensures in
     let reads = rw (c.new.ensures.begins, c.limits.ensures) at c.new.ensures.reads in
     let asks = rw (c.new.ensures.begins, c.limits.ensures) at c.new.ensures.asks in
-    each_at (AcceptsBytes proofs (begin (largest c.args.replay.now.limits) (top_of c.args.replay.now.limits))) (IsVeri c.args.replay.now.limits) c.args.longest (MayAsk proofs (begin (largest c.args.replay.now.limits) (top_of c.args.replay.now.limits))) (AsksVeri c.args.replay.now.limits) (reads c.args.longest) asks _ _ c.in-Err.stop
+    each_at (replayed.Taken c.args.replay.now.limits) (IsVeri c.args.replay.now.limits) c.args.longest (MayAsk proofs (begin (largest c.args.replay.now.limits) (top_of c.args.replay.now.limits))) (AsksVeri c.args.replay.now.limits) (reads c.args.longest) asks _ _ c.in-Err.stop
     (pull_asking c.args.longest _ (g.S.Source.left c.args.input.now) (g.S.Source.left c.loop-read.input) (g.S.Source.left c.pull.new.source) i.led.0 c.loop-read.feeder c.pull.new.feeder i.led.1 c.in-Err.stop _ _ (t.pulls c.args.longest _ i.led.1.used i.led.0 (rw i.led.1.running tt) i.led.1.stands) t.stop)

@@ -1,13 +1,13 @@
 use Rattle.std.proofs.Common.{◌≡◌, ◌+◌, ◌-◌, ◌^◌, List, None}
 use Rattle.pb_text.specs.Feeding.{place_of}
 use Rattle.pb_text.specs.Limits.{largest, top_of}
-use Rattle.pb_text.specs.Rows.{HasPulled}
+use Rattle.pb_text.specs.PullsInARow.{HasPulled}
 use Rattle.pb_text.specs.declared.Spanned.{Spanned}
 use Rattle.pb_proof.specs.Machine.State.{begin}
 use Rattle.pb_proof.specs.declared.Statement.{Statement}
 use Rattle.pb_replay.specs.Replay.{State}
 use Rattle.pb_replay.specs.Statements.{Accepts}
-use Rattle.pb_tool.specs.Checks.{statements_at}
+use Rattle.pb_text.specs.Whole.{events_at}
 use Rattle.pb_replay.specs.Kept.{StandsFor}
 use Rattle.pb_tool.proofs.GivenRow.{HasGiven}
 use Rattle.pb_tool.proofs.verify.run.Given as goal
@@ -21,7 +21,7 @@ invariant-loop-read g l = record {
   problem : l.replay.problem ≡ l.fn.replay.problem;
   led : (marks : List (Spanned Statement))
       × HasPulled l.fn.longest (begin (largest l.fn.replay.limits) (top_of l.fn.replay.limits)) (g.S.Source.left l.fn.input) marks l.feeder (g.S.Source.left l.input)
-      × ((first : State) → StandsFor l.fn.replay first → (t : State) × StandsFor l.replay t × Accepts (largest l.fn.replay.limits) (top_of l.fn.replay.limits) l.fn.replay.problem first (statements_at marks) t)
+      × ((first : State) → StandsFor l.fn.replay first → (t : State) × StandsFor l.replay t × Accepts (largest l.fn.replay.limits) (top_of l.fn.replay.limits) l.fn.replay.problem first (events_at marks) t)
       × HasGiven l.fn.longest (begin (largest l.fn.replay.limits) (top_of l.fn.replay.limits)) (g.S.Source.history l.fn.input) marks l.feeder (g.S.Source.history l.input);
 }
 

@@ -1,16 +1,10 @@
-use Rattle.std.proofs.Common.{◌≡◌, ◌∙◌, ℕ, ap, sym, subst}
-use Rattle.pb_opb.specs.Machine.{plan}
+use Rattle.std.proofs.Common.{ℕ, subst}
 use Rattle.pb_opb.specs.Order.{PhaseFits}
 use Rattle.pb_opb.specs.State.{OpbState}
 use Rattle.pb_opb.specs.contracts.machine.OpbMachine.{the_view}
-use Rattle.pb_opb.specs.declared.phase.Move.{Move}
-use Rattle.pb_opb.specs.declared.phase.Phase.{Phase}
 use Rattle.pb_opb.specs.declared.phase.Move.TheVariants.{To, Give}
-use Rattle.pb_opb.proofs.Pushed.{to_order, give_order}
+use Rattle.pb_opb.proofs.Pushed.{planned_at, to_order, give_order}
 use Rattle.pb_opb.proofs.machine.OpbMachine.advance.Goals as goal
-
-planned_at : (n top : ℕ) (p : Phase) (b : ℕ) (m : Move) → n ≡ top → m ≡ plan n p b → plan top p b ≡ m
-planned_at n top p b m e h = ap (λ (k : ℕ). plan k p b) (sym e) ∙ sym h
 
 pub invariant_of-self : goal.invariant_of-self
 invariant_of-self c =

@@ -28,8 +28,8 @@ returns-in-Event c =
     rw (← c.self.view_is, c.statement_of.ensures, c.phase_owing-self-inside.ensures, c.owed_after-self-inside.ensures)
     (end_step s c.self.invariant c.args.byte c.args.phase c.push.new.self c.restart.new.self c.in-Event.event planned c.in-Event.ensures.pushes c.restart.ensures.begins)
 
-same_view : (s : OpbState) (inner : SumState) → inner ≡ s.inner → record s { inner = inner } ≡ s
-same_view s inner e = ap (λ (i : SumState). let t : OpbState = record s { inner = i } in t) e
+same_view : (s : OpbState) (inner : SumState) → inner ≡ s.sums → record s { sums = inner } ≡ s
+same_view s inner e = ap (λ (i : SumState). let t : OpbState = record s { sums = i } in t) e
 
 pub returns-in-No : goal.returns-in-No
 returns-in-No c =
@@ -37,7 +37,7 @@ returns-in-No c =
     let planned : plan s.top s.phase c.args.byte ≡ Give c.args.phase = subst (λ (x : OpbState). plan x.top x.phase c.args.byte ≡ Give c.args.phase) (sym c.self.view_is) c.requires in
     let p = c.in-No.ensures.pushes in
     let k = give_refused s c.self.invariant c.args.byte c.args.phase planned p.0 in
-    subst (λ (x : OpbState). (opb.step x c.args.byte ≡ Refuse) × (is_large opb x c.args.byte ≡ false) × (record s { inner = c.push.new.self } ≡ x)) c.self.view_is (k.0, k.1 ∙ p.1, same_view s c.push.new.self p.2)
+    subst (λ (x : OpbState). (opb.step x c.args.byte ≡ Refuse) × (is_large opb x c.args.byte ≡ false) × (record s { sums = c.push.new.self } ≡ x)) c.self.view_is (k.0, k.1 ∙ p.1, same_view s c.push.new.self p.2)
 
 pub returns-in-Large : goal.returns-in-Large
 returns-in-Large c =
@@ -45,7 +45,7 @@ returns-in-Large c =
     let planned : plan s.top s.phase c.args.byte ≡ Give c.args.phase = subst (λ (x : OpbState). plan x.top x.phase c.args.byte ≡ Give c.args.phase) (sym c.self.view_is) c.requires in
     let p = c.in-Large.ensures.pushes in
     let k = give_refused s c.self.invariant c.args.byte c.args.phase planned p.0 in
-    subst (λ (x : OpbState). (opb.step x c.args.byte ≡ Refuse) × (is_large opb x c.args.byte ≡ true) × (record s { inner = c.push.new.self } ≡ x)) c.self.view_is (k.0, k.1 ∙ p.1, same_view s c.push.new.self p.2)
+    subst (λ (x : OpbState). (opb.step x c.args.byte ≡ Refuse) × (is_large opb x c.args.byte ≡ true) × (record s { sums = c.push.new.self } ≡ x)) c.self.view_is (k.0, k.1 ∙ p.1, same_view s c.push.new.self p.2)
 
 pub returns-in-Memory : goal.returns-in-Memory
 returns-in-Memory c =
@@ -53,4 +53,4 @@ returns-in-Memory c =
     let planned : plan s.top s.phase c.args.byte ≡ Give c.args.phase = subst (λ (x : OpbState). plan x.top x.phase c.args.byte ≡ Give c.args.phase) (sym c.self.view_is) c.requires in
     let p = c.in-Memory.ensures.pushes in
     let k = give_admits s c.self.invariant c.args.byte c.args.phase planned p.0 p.1 in
-    subst (λ (x : OpbState). IsTrue (opb.asks x c.args.byte) × Admits opb x c.args.byte × (record s { inner = c.push.new.self } ≡ x)) c.self.view_is (k.0, k.1, same_view s c.push.new.self p.2)
+    subst (λ (x : OpbState). IsTrue (opb.asks x c.args.byte) × Admits opb x c.args.byte × (record s { sums = c.push.new.self } ≡ x)) c.self.view_is (k.0, k.1, same_view s c.push.new.self p.2)

@@ -1,8 +1,9 @@
-use Rattle.std.proofs.Common.{◌≡◌, List, ℕ, true, take, sym, subst}
+use Rattle.std.proofs.Common.{◌≡◌, ◌∙◌, List, ℕ, true, take, sym, subst}
 use Rattle.pb_text.specs.Automaton.{Runs}
+use Rattle.pb_text.proofs.Results.{grown}
 use Rattle.pb_opb.specs.State.{OpbState, opb, keeps_line}
 use Rattle.pb_opb.specs.contracts.machine.OpbMachine.{the_view}
-use Rattle.pb_opb.proofs.Lines.{grown, line_order, line_runs}
+use Rattle.pb_opb.proofs.Lines.{line_order, line_runs}
 use Rattle.pb_opb.proofs.States.{is_state}
 use Rattle.pb_opb.proofs.machine.OpbMachine.keep_line.Goals as goal
 
@@ -11,7 +12,7 @@ returns-clause-runs c = rw (← c.self.view_is) (
     let s : OpbState = the_view c.self.inside in
     let keeps : keeps_line s.phase ≡ true = subst (λ (x : OpbState). keeps_line x.phase ≡ true) (sym c.self.view_is) c.requires in
     let length = c.line_prefix-length.result in
-    subst (λ (t : List ℕ). Runs opb s (take length c.args.piece.now) (record s { text = t })) (sym (grown s.text (take length c.args.piece.now) c.push_slice.new.self _ _ c.is_err.ensures.negation c.if-is_err.false c.push_slice.ensures))
+    subst (λ (t : List ℕ). Runs opb s (take length c.args.piece.now) (record s { text = t })) (sym (grown c.push_slice.result c.push_slice.new.self _ _ c.push_slice.ensures (sym c.is_err.ensures.value ∙ c.if-is_err.false)))
     (line_runs s c.self.invariant keeps (take length c.args.piece.now) c.line_prefix-length.ensures.line)
     )
 

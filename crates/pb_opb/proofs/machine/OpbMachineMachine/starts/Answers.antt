@@ -1,16 +1,10 @@
-use Rattle.std.proofs.Common.{◌≡◌, ◌∙◌, ℕ, ap, sym}
+use Rattle.std.proofs.Common.{◌∙◌, ap, sym}
 use Rattle.pb_text.specs.Automaton.{begins}
-use Rattle.pb_opb.specs.Machine.{plan}
 use Rattle.pb_opb.specs.State.{OpbState, opb}
 use Rattle.pb_opb.specs.contracts.machine.OpbMachine.{the_view}
-use Rattle.pb_opb.specs.declared.phase.Move.{Move}
-use Rattle.pb_opb.specs.declared.phase.Phase.{Phase}
 use Rattle.pb_opb.specs.declared.phase.Move.TheVariants.{Give}
-use Rattle.pb_opb.proofs.Pushed.{give_begins}
+use Rattle.pb_opb.proofs.Pushed.{planned_at, give_begins}
 use Rattle.pb_opb.proofs.machine.OpbMachineMachine.starts.Goals as goal
-
-planned_at : (n top : ℕ) (p : Phase) (b : ℕ) (m : Move) → n ≡ top → m ≡ plan n p b → plan top p b ≡ m
-planned_at n top p b m e h = ap (λ (k : ℕ). plan k p b) (sym e) ∙ sym h
 
 pub returns-in-Give : goal.returns-in-Give
 returns-in-Give c =

@@ -1,10 +1,11 @@
 use Rattle.std.specs.Prelude.{filter}
 use Rattle.std.proofs.Common.{◌+◌, ◌<◌, ◌≤◌, length, drop, get_or, refl, sym, ◌∙◌, arith}
 use Rattle.std.proofs.lemmas.List.{length-map, get_or_default}
+use Rattle.std.proofs.lemmas.List.{take_rest}
 use Rattle.pb_replay.specs.Engine.Fields.{shapes_of, entries_of, kept_shape}
 use Rattle.pb_replay.specs.Engine.Rest.{waits}
 use Rattle.pb_replay.proofs.Engine.Derivations.{derivation-then}
-use Rattle.pb_replay.proofs.Engine.Propagated.{Propagating-start, Propagating-look, Propagating-next, Propagating-bound, Propagating-choose, Propagating-settled, Propagating-upper, tail-all}
+use Rattle.pb_replay.proofs.Engine.Propagated.{Propagating-start, Propagating-look, Propagating-next, Propagating-bound, Propagating-choose, Propagating-settled, Propagating-upper}
 use Rattle.pb_replay.proofs.Engine.Spent.{sum-bounded}
 use Rattle.pb_replay.proofs.propagate.run.propagate.Goals as goal
 
@@ -24,7 +25,7 @@ look-requires-clause-tidy c =
     let run = c.work.run in
     let inside : run.next < length run.work.items = omega (arith, c.if-run-len.true, c.len.ensures, run.work.ok.0) in
     let p = waits keep in
-    let all = tail-all c.args.waiting.now c.work.taken in
+    let all = take_rest c.args.waiting.now c.work.taken in
     rw all (Propagating-look (filter p (drop c.work.taken c.args.waiting.now)) (shapes_of keep) (length keep) run.opens.items run.candidates.items run.assignment.list.items run.work.items run.trail.items run.next c.index-form.result.now (length-map keep kept_shape) inside c.index-form.ensures c.work.invariant.state.tidy)
 
 pub returns-then-branch-clause-derived : goal.returns-then-branch-clause-derived
@@ -67,7 +68,7 @@ work-preserved-else-branch c =
     let run = c.work.run in
     let done = c.look.new.run in
     let told = c.in_ok-look.ensures in
-    let tidy = rw (tail-all c.args.waiting.now c.work.taken) at (told.tidy c.if-branch.false) in
+    let tidy = rw (take_rest c.args.waiting.now c.work.taken) at (told.tidy c.if-branch.false) in
     record {
       values = told.values ∙ c.work.invariant.values;
       taken = c.work.invariant.taken;

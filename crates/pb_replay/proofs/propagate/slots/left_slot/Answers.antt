@@ -1,13 +1,10 @@
-use Rattle.std.specs.Prelude.{Option, Some, None, is_some}
-use Rattle.std.proofs.Common.{◌≡◌, false, ap, refl, sym, ◌∙◌}
+use Rattle.std.specs.Prelude.{Option, Some}
+use Rattle.std.proofs.Common.{ap, sym, ◌∙◌}
 use Rattle.pb_normal.specs.Form.{Form}
 use Rattle.pb_replay.specs.declared.propagate.kept.Kept.{Kept}
 use Rattle.pb_replay.proofs.Engine.Gets.{get-map}
+use Rattle.pb_replay.proofs.lemmas.Options.{none_of}
 use Rattle.pb_replay.proofs.propagate.slots.left_slot.Goals as goal
-
-none_of : (o : Option Form) → is_some o ≡ false → o ≡ None
-none_of None e = refl
-none_of (Some f) e = absurd cc
 
 pub returns : goal.returns
 returns c =

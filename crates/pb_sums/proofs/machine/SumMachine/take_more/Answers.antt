@@ -1,5 +1,5 @@
 use Rattle.std.proofs.Common.{◌≡◌, List, ℕ, ◌++◌, take, ap, sym, ◌∙◌}
-use Rattle.pb_sums.proofs.Pushes.{changed}
+use Rattle.pb_text.proofs.Results.{grown}
 use Rattle.pb_sums.proofs.Names.{more_runs}
 use Rattle.pb_sums.proofs.States.{more_state}
 use Rattle.pb_sums.proofs.machine.SumMachine.take_more.Goals as goal
@@ -7,7 +7,7 @@ use Rattle.pb_sums.proofs.machine.SumMachine.take_more.Goals as goal
 pub returns-clause-runs : goal.returns-clause-runs
 returns-clause-runs c = rw (← c.self.view_is) (
     let e : c.push_str.new.self ≡ c.self.inside.name ++ take c.name_prefix-length.result c.args.text.now =
-    changed c.push_str.result _ _ _ c.push_str.ensures (sym c.if-is_err.ensures.value) ∙ ap (λ (x : List ℕ). c.self.inside.name ++ x) c.in-Ok.ensures.cases.0 in
+    grown c.push_str.result _ _ _ c.push_str.ensures (sym c.if-is_err.ensures.value) ∙ ap (λ (x : List ℕ). c.self.inside.name ++ x) c.in-Ok.ensures.cases.0 in
     let more = c.requires in
     more_runs c.self.inside.spaces c.self.inside.part c.self.inside.limit c.self.inside.terms c.self.inside.name _ c.self.inside.phase
     (take c.name_prefix-length.result c.args.text.now) (rw (← c.self.view_is) at more) c.name_prefix-length.ensures.name e

@@ -1,7 +1,8 @@
 use Rattle.std.proofs.Common.{List, ℕ, [], ◌∷◌, ◌++◌, refl, sym, ap, ◌∙◌}
 use Rattle.pb_sums.proofs.Names.{more_goes}
 use Rattle.pb_sums.proofs.States.{is_state, midway_order, midway_state, more_midway, more_state}
-use Rattle.pb_sums.proofs.Pushes.{goes_to, begins_to, adds_to, when_ok, when_err, changed, unchanged, same_state}
+use Rattle.pb_sums.proofs.Pushes.{goes_to, begins_to, adds_to, same_state}
+use Rattle.pb_text.proofs.Results.{when_ok, when_err, grown, unchanged}
 use Rattle.pb_sums.proofs.machine.SumMachineMachine.goes.Goals as goal
 
 pub returns-then-is_err-clause-state : goal.returns-then-is_err-clause-state
@@ -75,7 +76,7 @@ returns-then-is_err-clause-goes c = rw (← c.self.view_is) (
 
 pub returns-then-is_name_byte-clause-goes : goal.returns-then-is_name_byte-clause-goes
 returns-then-is_name_byte-clause-goes c = rw (← c.self.view_is) (
-    let k = changed c.push.result _ _ _ c.push.ensures (sym c.if-is_err.ensures.value) in
+    let k = grown c.push.result _ _ _ c.push.ensures (sym c.if-is_err.ensures.value) in
     more_goes c.self.inside.spaces c.self.inside.part c.self.inside.limit c.self.inside.terms c.self.inside.name _ c.self.inside.phase c.args.byte
     (sym c.is_more.ensures ∙ c.if-is_more.true) (sym c.is_name_byte.ensures.byte ∙ c.if-is_name_byte.true) k
     )
@@ -97,14 +98,14 @@ returns-then-is_err-4-clause-goes c = rw (← c.self.view_is) (
 
 pub returns-else-is_err-2-clause-goes : goal.returns-else-is_err-2-clause-goes
 returns-else-is_err-2-clause-goes c = rw (← c.self.view_is) (
-    let k = changed c.push-in-Begin.result _ _ _ c.push-in-Begin.ensures (sym c.if-is_err-2.ensures.value) ∙ ap (λ (x : List ℕ). x ++ c.in-Begin.first ∷ []) c.new-name.ensures in
+    let k = grown c.push-in-Begin.result _ _ _ c.push-in-Begin.ensures (sym c.if-is_err-2.ensures.value) ∙ ap (λ (x : List ℕ). x ++ c.in-Begin.first ∷ []) c.new-name.ensures in
     begins_to c.self.inside.spaces c.self.inside.part c.self.inside.limit c.self.inside.terms c.self.inside.name c.self.inside.phase c.in-Begin.phase c.args.byte
     c.is_numeric.result c.kind-kind.result c.in-Begin.first _ k c.is_numeric.ensures c.kind-kind.ensures.kind c.in-Begin.ensures.plan
     )
 
 pub returns-else-is_err-3-clause-goes : goal.returns-else-is_err-3-clause-goes
 returns-else-is_err-3-clause-goes c = rw (← c.self.view_is) (
-    let k = changed c.push-in-Add.result _ _ _ c.push-in-Add.ensures (sym c.if-is_err-3.ensures.value) in
+    let k = grown c.push-in-Add.result _ _ _ c.push-in-Add.ensures (sym c.if-is_err-3.ensures.value) in
     adds_to c.self.inside.spaces c.self.inside.part c.self.inside.limit c.self.inside.terms c.self.inside.name c.self.inside.phase c.in-Add.phase c.args.byte
     c.is_numeric.result c.kind-kind.result c.in-Add.next _ k c.is_numeric.ensures c.kind-kind.ensures.kind c.in-Add.ensures.plan
     )

@@ -4,7 +4,8 @@ use Rattle.std.specs.Int.{w128}
 use Rattle.std.proofs.lemmas.Int.{ints, to_z-of_z}
 use Rattle.pb_sums.specs.declared.phase.Move.TheVariants.{To, Begin, Add, EndSum, EndLinear, Stop}
 use Rattle.pb_sums.proofs.States.{is_state, midway_order, midway_state}
-use Rattle.pb_sums.proofs.Pushes.{wants, refuses, goes_to, begins_to, adds_to, ends_sum, ends_linear, ended_order, ended_state, when_ok, when_err, changed, unchanged, same_state}
+use Rattle.pb_sums.proofs.Pushes.{wants, refuses, goes_to, begins_to, adds_to, ends_sum, ends_linear, ended_order, ended_state, same_state}
+use Rattle.pb_text.proofs.Results.{when_ok, when_err, grown, unchanged}
 use Rattle.pb_sums.proofs.machine.SumMachineMachine.push.Goals as goal
 
 pub returns-then-is_err-clause-pushes : goal.returns-then-is_err-clause-pushes
@@ -101,14 +102,14 @@ returns-in-Stop-clause-pushes c = rw (← c.self.view_is) (
 
 pub returns-else-is_err-clause-pushes : goal.returns-else-is_err-clause-pushes
 returns-else-is_err-clause-pushes c = rw (← c.self.view_is) (
-    let k = changed c.push.result _ _ _ c.push.ensures (sym c.if-is_err.ensures.value) ∙ ap (λ (x : List ℕ). x ++ c.in-Begin.first ∷ []) c.new-name.ensures in
+    let k = grown c.push.result _ _ _ c.push.ensures (sym c.if-is_err.ensures.value) ∙ ap (λ (x : List ℕ). x ++ c.in-Begin.first ∷ []) c.new-name.ensures in
     begins_to c.self.inside.spaces c.self.inside.part c.self.inside.limit c.self.inside.terms c.self.inside.name c.self.inside.phase c.in-Begin.phase c.args.byte
     c.is_numeric.result c.kind-kind.result c.in-Begin.first _ k c.is_numeric.ensures c.kind-kind.ensures.kind c.in-Begin.ensures.plan
     )
 
 pub returns-else-is_err-2-clause-pushes : goal.returns-else-is_err-2-clause-pushes
 returns-else-is_err-2-clause-pushes c = rw (← c.self.view_is) (
-    let k = changed c.push-in-Add.result _ _ _ c.push-in-Add.ensures (sym c.if-is_err-2.ensures.value) in
+    let k = grown c.push-in-Add.result _ _ _ c.push-in-Add.ensures (sym c.if-is_err-2.ensures.value) in
     adds_to c.self.inside.spaces c.self.inside.part c.self.inside.limit c.self.inside.terms c.self.inside.name c.self.inside.phase c.in-Add.phase c.args.byte
     c.is_numeric.result c.kind-kind.result c.in-Add.next _ k c.is_numeric.ensures c.kind-kind.ensures.kind c.in-Add.ensures.plan
     )

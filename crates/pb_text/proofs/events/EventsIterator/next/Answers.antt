@@ -4,7 +4,7 @@ use Rattle.std.specs.Result.{result_transpose}
 use Rattle.pb_text.specs.Standing.{IsOpen}
 use Rattle.pb_text.specs.Feeding.{WantsMemory, stop_of}
 use Rattle.pb_text.specs.Pulling.{Pulls, faults_after}
-use Rattle.pb_text.specs.Rows.{PullsOn}
+use Rattle.pb_text.specs.PullsInARow.{PullsOn}
 use Rattle.pb_text.proofs.ItemsPulled.{transposed, event_pulled, none_pulled, none_there}
 use Rattle.pb_text.proofs.events.EventsIterator.next.Goals as goal
 

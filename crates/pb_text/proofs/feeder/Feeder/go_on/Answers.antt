@@ -1,7 +1,7 @@
 use Rattle.std.proofs.Common.{◌≡◌, ◌≤◌, ◌-◌, ◌+◌, ℕ, arith, sym, subst, ap, ◌∙◌, None, Option, List, length, take, min, length-take-le}
 use Rattle.std.proofs.lemmas.List.{length-take, take-take}
 use Rattle.pb_text.specs.Automaton.{Runs}
-use Rattle.pb_text.specs.Limit.{end_of}
+use Rattle.pb_text.specs.SpentBytes.{end_of}
 use Rattle.pb_text.specs.Spelling.{place_past}
 use Rattle.pb_text.specs.Standing.{Stands}
 use Rattle.pb_text.specs.declared.place.Place.{Place}

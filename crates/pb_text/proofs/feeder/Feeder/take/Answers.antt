@@ -1,5 +1,5 @@
 use Rattle.std.proofs.Common.{◌≡◌, ℕ, refl, subst, ap, ◌∙◌, None, Option}
-use Rattle.pb_text.specs.Limit.{end_of}
+use Rattle.pb_text.specs.SpentBytes.{end_of}
 use Rattle.pb_text.specs.declared.place.Place.{Place}
 use Rattle.pb_text.specs.declared.place.Stop.{Stop}
 use Rattle.pb_text.specs.Standing.{Stands}

@@ -1,7 +1,8 @@
-use Rattle.std.proofs.Common.{◌++◌, ℕ, List, length, take, drop, subst, sym, ap, ◌∙◌, arith}
+use Rattle.std.proofs.Common.{◌++◌, ◌-◌, ℕ, List, length, take, drop, subst, sym, ap, ◌∙◌, arith}
 use Rattle.std.proofs.lemmas.List.{length-drop}
-use Rattle.pb_tool.specs.Pieces.{bytes_to, ChecksAt, WantsMemory, fault_of}
+use Rattle.pb_tool.specs.Pieces.{ChecksAt, WantsMemory, fault_of}
 use Rattle.pb_tool.specs.Checker.{Checking}
+use Rattle.pb_text.proofs.Spans.{all_rest}
 use Rattle.pb_tool.proofs.Checked as checked
 use Rattle.pb_tool.proofs.checker.Checker.feed.Goals as goal
 
@@ -15,7 +16,7 @@ returns-then-not-went-clause-checks c =
     let i = c.loop-went.used in (
       λ limits longest v first input owed h.
           subst (λ (x : List ℕ). ChecksAt limits longest v first x c.advance.new.self)
-          (ap (λ (x : List ℕ). (input ++ take i piece) ++ bytes_to c.in-Ok.went.more c.in-Ok.went.used x) (checked.all_rest piece i) ∙ (ap (λ (x : List ℕ). (input ++ take i piece) ++ x) (checked.to_all c.in-Ok.went.more c.in-Ok.went.used (drop i piece) c.if-not-went.true) ∙ checked.to_end input piece i))
+          (ap (λ (x : List ℕ). (input ++ take i piece) ++ x) (checked.to_all c.in-Ok.went.more c.in-Ok.went.used (take (length piece - i) (drop i piece)) c.if-not-went.true) ∙ checked.to_end input piece i)
           (t.stands limits longest v first (input ++ take i piece) (c.loop-went.invariant.stands limits longest v first input h)),
       λ owed. t.open,
     )
@@ -27,11 +28,11 @@ loop-went-preserved c =
     let i = c.loop-went.used in
     record {
       running = t.fault;
-      bound = omega (arith, t.used.1, length-drop i piece, ap (λ (x : List ℕ). length x) (checked.all_rest piece i), c.loop-went.invariant.bound);
+      bound = omega (arith, t.used.1, length-drop i piece, ap (λ (x : List ℕ). length x) (all_rest piece i), c.loop-went.invariant.bound);
       offset = omega (arith, t.used.0, c.loop-went.invariant.offset);
       stands = λ limits longest v first input h.
           subst (λ (x : List ℕ). ChecksAt limits longest v first x c.advance.new.self)
-          (ap (λ (x : List ℕ). (input ++ take i piece) ++ bytes_to c.in-Ok.went.more c.in-Ok.went.used x) (checked.all_rest piece i) ∙ (ap (λ (x : List ℕ). (input ++ take i piece) ++ x) (checked.to_more c.in-Ok.went.more c.in-Ok.went.used (drop i piece) c.if-not-went.false) ∙ checked.onward_by input piece i c.in-Ok.went.used))
+          (ap (λ (x : List ℕ). (input ++ take i piece) ++ x) (checked.to_more c.in-Ok.went.more c.in-Ok.went.used (take (length piece - i) (drop i piece)) c.if-not-went.false) ∙ checked.onward_by input piece i c.in-Ok.went.used)
           (t.stands limits longest v first (input ++ take i piece) (c.loop-went.invariant.stands limits longest v first input h));
     }
 
@@ -39,7 +40,7 @@ pub returns-in-Err-clause-checks : goal.returns-in-Err-clause-checks
 returns-in-Err-clause-checks c =
     let t = rw c.in-Err.is at c.advance.ensures in (
       λ limits longest v first input owed h.
-          subst (λ (x : List ℕ). ChecksAt limits longest v first x c.advance.new.self) (ap (λ (x : List ℕ). (input ++ take c.loop-went.used c.args.piece.now) ++ x) (checked.all_rest c.args.piece.now c.loop-went.used) ∙ checked.to_end input c.args.piece.now c.loop-went.used)
+          subst (λ (x : List ℕ). ChecksAt limits longest v first x c.advance.new.self) (checked.to_end input c.args.piece.now c.loop-went.used)
           (t.stands limits longest v first (input ++ take c.loop-went.used c.args.piece.now) (c.loop-went.invariant.stands limits longest v first input h)),
       λ owed. t.open,
     )
@@ -50,5 +51,5 @@ returns-in-Err-clause-unread c none = let t = rw c.in-Err.is at c.advance.ensure
 pub returns-in-Err-clause-memory : goal.returns-in-Err-clause-memory
 returns-in-Err-clause-memory c limits longest v first input none h =
     let t = rw c.in-Err.is at c.advance.ensures in
-    subst (λ (x : List ℕ). WantsMemory limits x c.in-Err.fault) (ap (λ (x : List ℕ). (input ++ take c.loop-went.used c.args.piece.now) ++ x) (checked.all_rest c.args.piece.now c.loop-went.used) ∙ checked.to_end input c.args.piece.now c.loop-went.used)
+    subst (λ (x : List ℕ). WantsMemory limits x c.in-Err.fault) (checked.to_end input c.args.piece.now c.loop-went.used)
     (t.memory limits longest v first (input ++ take c.loop-went.used c.args.piece.now) (c.loop-went.invariant.stands limits longest v first input h))

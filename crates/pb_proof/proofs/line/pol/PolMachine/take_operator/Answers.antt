@@ -6,7 +6,7 @@ use Rattle.pb_proof.specs.declared.line.pol.phase.Phase.TheVariants as phase
 use Rattle.pb_proof.proofs.lemmas.Pol.AtOnce.{operator_runs}
 use Rattle.pb_proof.proofs.lemmas.Pol.Covers.{state}
 use Rattle.pb_proof.proofs.lemmas.Pol.Pushes.{same_state, midway_state}
-use Rattle.pb_proof.proofs.lemmas.Results.{when_ok}
+use Rattle.pb_text.proofs.Results.{when_ok}
 use Rattle.pb_proof.proofs.line.pol.PolMachine.take_operator.Goals as goal
 
 pub returns-clause-runs : goal.returns-clause-runs

@@ -22,7 +22,7 @@ use Rattle.pb_replay.specs.Engine.Lists.{Shape}
 use Rattle.pb_replay.specs.Engine.Slots.{numbered}
 use Rattle.pb_replay.proofs.Engine.Placed.{placed-with, numbered-same, numbered-entered}
 use Rattle.pb_replay.proofs.Engine.Bounds.{slots-terms, slots-eager, filter-few, found-least, most-looks}
-use Rattle.pb_replay.proofs.Engine.Completions.{closed-none}
+use Rattle.pb_replay.proofs.lemmas.Completing.{closed-none}
 use Rattle.pb_replay.proofs.Engine.Rests.{slots-entered, rest-entered, rest-tidy-first, rest-undone, rest-lengths, rest-left, eager-entered, with-kept, opposite-inside}
 use Rattle.pb_replay.proofs.propagate.engine.Engine.rup.Goals as goal
 

@@ -1,9 +1,10 @@
 -- Sums over choices of literals.
-use Rattle.std.proofs.Common.{◌≡◌, ℕ, ◌+◌, ◌≤◌, Bool, true, false, not, cond, eqb, List, [], ◌∷◌, refl, sym, arith, eq-eqb}
+use Rattle.std.specs.Prelude.{Contains}
+use Rattle.std.proofs.Common.{zero, suc, ◌<◌, ◌∙◌, ap, ◌≡◌, ℕ, ◌+◌, ◌≤◌, Bool, true, false, not, cond, eqb, List, [], ◌∷◌, refl, sym, arith, eq-eqb}
 use Rattle.std.proofs.lemmas.Bool.{eqb-true, and_parts}
 use Rattle.pb_normal.specs.declared.entry.Entry.{Entry}
-use Rattle.pb_normal.specs.Form.{total}
-use Rattle.pb_replay.specs.Propagation.{only}
+use Rattle.pb_normal.specs.Form.{IsRising, total, counted}
+use Rattle.pb_normal.specs.Rules.{only}
 
 -- two choices that do not meet, both within a third
 one_fits : (p r q : Bool) (c : ℕ) → (p ≡ true → q ≡ true) → (r ≡ true → q ≡ true) → (p ≡ true → r ≡ true → ⊥) → cond p c 0 + cond r c 0 ≤ cond q c 0
@@ -46,3 +47,19 @@ sign_self false = refl
 
 pub only-self : (v : ℕ) (n : Bool) → only v n v n ≡ true
 only-self v n = rw (eq-eqb v v refl) (sign_self n)
+
+-- an entry counts for the literals that are chosen
+pub total-has : (p : ℕ → Bool → Bool) (es : List Entry) (e : Entry) → Contains es e → p e.variable e.negated ≡ true → e.coefficient ≤ total p es
+total-has p [] e (k, inside, is) h = absurd (omega (arith, inside))
+total-has p (x ∷ xs) e (zero, inside, is) h =
+    let whole : counted p x ≡ e.coefficient = ap (counted p) is ∙ rw h refl in
+    omega (arith, whole)
+total-has p (x ∷ xs) e (suc k, inside, is) h =
+    let rest = total-has p xs e (k, omega (arith, inside), is) h in
+    omega (arith, rest)
+
+-- the entries of a rising list count
+pub rising-positive : (n : ℕ) (es : List Entry) (e : Entry) → IsRising n es → Contains es e → 0 < e.coefficient
+rising-positive n [] e r (k, inside, is) = absurd (omega (arith, inside))
+rising-positive n (x ∷ xs) e r (zero, inside, is) = omega (arith, r.1, ap (λ (y : Entry). y.coefficient) is)
+rising-positive n (x ∷ xs) e r (suc k, inside, is) = rising-positive (x.variable + 1) xs e r.2 (k, omega (arith, inside), is)

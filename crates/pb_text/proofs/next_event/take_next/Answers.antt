@@ -4,7 +4,7 @@ use Rattle.pb_text.specs.declared.place.Place.{Place}
 use Rattle.pb_text.specs.declared.place.Stop.{Stop}
 use Rattle.pb_text.proofs.Begin.{stands_more, stands_ended, stands_failed}
 use Rattle.pb_text.proofs.Pulled.{lost_nothing, lost_byte, seen_byte, seen_end, seen_rest, seen_after}
-use Rattle.pb_text.proofs.pulling.take_next.Goals as goal
+use Rattle.pb_text.proofs.next_event.take_next.Goals as goal
 
 pub returns-in-Ok-None-clause-draws : goal.returns-in-Ok-None-clause-draws
 returns-in-Ok-None-clause-draws g c =

@@ -1,4 +1,4 @@
--- What is known of a result of which it is known whether it is an error.
+-- What is known of a result of which it is known whether it is an error. Offered to other crates.
 use Rattle.std.proofs.Common.{◌≡◌, true, false}
 use Rattle.std.specs.Prelude.{Result, OnOk, OnErr, is_ok, is_err, Ok, Err, if◌then◌else◌}
 
@@ -17,3 +17,12 @@ unchanged (Err x) new more old h e = h
 pub grown : {T E A : Type 0} (r : Result T E) (new more old : A) → new ≡ (if is_ok r then more else old) → is_err r ≡ false → new ≡ more
 grown (Ok x) new more old h e = h
 grown (Err x) new more old h e = cc
+
+pub ok_or_err : {T E A : Type 0} {x : T} {y : E} → ◌≡◌ {A = Result T E} (Ok x) (Err y) → A
+ok_or_err e = cc
+
+pub same_ok : {T E : Type 0} {x y : T} → ◌≡◌ {A = Result T E} (Ok x) (Ok y) → x ≡ y
+same_ok e = cc
+
+pub same_err : {T E : Type 0} {x y : E} → ◌≡◌ {A = Result T E} (Err x) (Err y) → x ≡ y
+same_err e = cc

@@ -5,7 +5,7 @@ use Rattle.pb_text.specs.declared.place.Stop.{Stop}
 use Rattle.pb_text.proofs.Begin.{stands_failed}
 use Rattle.pb_text.proofs.Drawn.{draws_poured, draws_join}
 use Rattle.pb_text.proofs.Pulled.{seen_after}
-use Rattle.pb_text.proofs.pulling.draw.Goals as goal
+use Rattle.pb_text.proofs.next_event.draw.Goals as goal
 
 pub returns-in-Ok-Some-clause-draws : goal.returns-in-Ok-Some-clause-draws
 returns-in-Ok-Some-clause-draws g c =

@@ -1,7 +1,7 @@
 use Rattle.std.proofs.Common.{◌≡◌, ◌≤◌, ◌+◌, ◌-◌, ◌^◌, None, Ok, false}
 use Rattle.pb_text.specs.Automaton.{IsState}
 use Rattle.pb_text.specs.Pulling.{Draws}
-use Rattle.pb_text.proofs.pulling.pull.Given as goal
+use Rattle.pb_text.proofs.next_event.pull.Given as goal
 
 -- the feeder stands to the input with the bytes that were taken of the source
 abbrev pub invariant-loop-event : goal.invariant-loop-event

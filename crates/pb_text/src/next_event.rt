@@ -5,7 +5,7 @@ ghost use Rattle.pb_text.specs.Automaton.{IsState};
 ghost use Rattle.pb_text.specs.Standing.{IsOpen};
 ghost use Rattle.pb_text.specs.Feeding.{StandsAt, WantsMemory, stop_of, state_of, place_of, halt_of, is_complete};
 ghost use Rattle.pb_text.specs.Pulling.{Pulls, Draws, faults_after};
-ghost use Rattle.pb_text.specs.Rows.{HasPulled, PullsOn};
+ghost use Rattle.pb_text.specs.PullsInARow.{HasPulled, PullsOn};
 ghost use Rattle.pb_text.specs.declared.place.Spanned.{Spanned};
 ghost use Rattle.pb_text.specs.declared.place.Stop.{Stop};
 

@@ -2,8 +2,8 @@ use Rattle.std.proofs.Common.{◌≡◌, ◌∙◌, [], sym, refl, append-nil, N
 use Rattle.pb_text.proofs.Begin.{stands_more}
 use Rattle.pb_text.proofs.Drawn.{draws_none, draws_join, pulls_event, pulls_stop}
 use Rattle.pb_text.proofs.Pulled.{lost_nothing, seen_after}
-use Rattle.pb_text.proofs.Rows.{row}
-use Rattle.pb_text.proofs.pulling.pull.Goals as goal
+use Rattle.pb_text.proofs.PullsInARow.{row}
+use Rattle.pb_text.proofs.next_event.pull.Goals as goal
 
 pub returns-in-Some-clause-pulls : goal.returns-in-Some-clause-pulls
 returns-in-Some-clause-pulls g c longest start input marks counts s =

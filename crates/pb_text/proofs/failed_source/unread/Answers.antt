@@ -1,5 +1,5 @@
 use Rattle.pb_text.proofs.NothingRead.{reads_nothing}
-use Rattle.pb_text.proofs.failing.unread.Goals as goal
+use Rattle.pb_text.proofs.failed_source.unread.Goals as goal
 
 pub returns-clause-reads : goal.returns-clause-reads
 returns-clause-reads g c owed longest some =

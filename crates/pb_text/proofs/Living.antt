@@ -1,14 +1,22 @@
--- States from which a text can be completed.
+-- States from which a text can be completed. Offered to other crates.
 use Rattle.std.proofs.Common.{◌≡◌, ℕ, true, false, List, [], ◌∷◌, refl, sym, ap, subst, ◌∙◌}
-use Rattle.pb_text.specs.Automaton.{Automaton, Next, Go, End, Skips, Reads, Accepts, Admits, IsState}
+use Rattle.pb_text.specs.Automaton.{Automaton, Go, End, Skips, Reads, Accepts, Admits, IsState}
 use Rattle.pb_text.specs.Spelling.{Letter, Item, bytes_of}
 use Rattle.pb_text.proofs.Residual.{First, Nothing, InGap, InText, AtLast, first_of}
 use Rattle.pb_text.proofs.Walking.{longer}
-use Rattle.pb_proof.proofs.lemmas.Choices.{never}
+use Rattle.pb_text.proofs.Booleans.{never}
+use Rattle.pb_text.proofs.FirstBytes.{head}
+use Rattle.pb_text.proofs.Outcomes.{one_state, go_or_end}
 
 module _ {S E : Type 0} (m : Automaton S E) where
   abbrev pub ReadsOn : S → Type 0
   ReadsOn s = (text : List Letter) × (e : E) × (after : S) × Reads m s text e after
+
+  -- a byte before
+  pub reads_before : (s next : S) (b : ℕ) → m.step s b ≡ Go next → m.begun next ≡ true → ReadsOn next → ReadsOn s
+  reads_before s next b goes inside (text, e, after, r) =
+      let l : Letter = record { byte = b; numeral = m.in_number next } in
+      (l ∷ text, e, after, longer m l text s next after e goes inside refl r)
 
   -- A state from which a statement can be ended, and then the text.
   pub record IsAlive (s : S) : Type 0 where
@@ -75,15 +83,6 @@ module _ {S E : Type 0} (m : Automaton S E) where
           (i.text, i.event, after, subst (λ x. Reads m x i.text i.event after) (gapless begins s at i.gap g) r)
 
   -- What is admitted goes on to an event.
-  same_byte : (c b : ℕ) (cs more : List ℕ) → c ∷ cs ≡ b ∷ more → c ≡ b
-  same_byte c b cs more e = cc
-
-  one_state : (u v : S) → ◌≡◌ {A = Next S E} (Go u) (Go v) → u ≡ v
-  one_state u v e = cc
-
-  go_end : (u v : S) (e : E) → ◌≡◌ {A = Next S E} (Go u) (End e v) → ⊥
-  go_end u v e h = cc
-
   pub admitted_on : BeginsAtOnce → (s next : S) (b : ℕ) → m.step s b ≡ Go next → Admits m s b → ReadsOn next
   admitted_on begins s next b g (items, a, more, e) = by_first items (first_of m s items a) e
     where
@@ -91,9 +90,9 @@ module _ {S E : Type 0} (m : Automaton S E) where
       by_first _ (Nothing d) e = cc
       by_first _ (InGap c gap text x rest mid h o k) e = never (m.begun mid) (begins s mid c h) o
       by_first _ (InText l k text x rest mid h i n (at, after, f, r, z)) e =
-          let byte : l.byte ≡ b = same_byte l.byte b _ more e in
+          let byte : l.byte ≡ b = head l.byte b _ more e in
           let same : mid ≡ next = one_state mid next (sym h ∙ (ap (m.step s) byte ∙ g)) in
           (k ∷ text, x, after, subst (λ y. Reads m y (k ∷ text) x after) (f ∙ same) r)
       by_first _ (AtLast l x rest last h n k) e =
-          let byte : l.byte ≡ b = same_byte l.byte b _ more e in
-          absurd (go_end next last x (sym g ∙ (ap (m.step s) (sym byte) ∙ h)))
+          let byte : l.byte ≡ b = head l.byte b _ more e in
+          go_or_end next x last (sym g ∙ (ap (m.step s) (sym byte) ∙ h))

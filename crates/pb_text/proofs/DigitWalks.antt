@@ -1,4 +1,4 @@
--- A machine on its way through the digits of a number.
+-- A machine on its way through the digits of a number. Offered to other crates.
 use Rattle.std.proofs.Common.{◌≡◌, ℕ, zero, suc, ◌+◌, ◌*◌, ◌^◌, ◌<◌, ◌≤◌, true, List, [], ◌∷◌, length, map, sym, subst, arith, ◌∙◌, ap}
 use Rattle.std.proofs.Math.Nat.{pow-succ', le-mul_of_pos_right}
 use Rattle.pb_text.specs.Automaton.{Automaton, Go}
@@ -6,7 +6,7 @@ use Rattle.pb_text.specs.Languages.{digit, Each}
 use Rattle.pb_text.specs.Numbers.{value, Digits}
 use Rattle.pb_text.proofs.Walking.{Walks, Leads}
 
-ten_pos : (k : ℕ) → 0 < 10 ^ k
+pub ten_pos : (k : ℕ) → 0 < 10 ^ k
 ten_pos zero = omega arith
 ten_pos (suc k) = rw (pow-succ' 10 k) (omega (arith, ten_pos k))
 

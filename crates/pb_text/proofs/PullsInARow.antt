@@ -3,11 +3,11 @@ use Rattle.std.proofs.Common.{◌≡◌, ℕ, List, [], ◌∷◌, ◌++◌, len
 use Rattle.pb_text.specs.Automaton.{Accepts}
 use Rattle.pb_text.specs.Spelling.{bytes}
 use Rattle.pb_text.specs.Reading.{Reads}
-use Rattle.pb_text.specs.Limit.{end_of}
+use Rattle.pb_text.specs.SpentBytes.{end_of}
 use Rattle.pb_text.specs.Standing.{Stands}
 use Rattle.pb_text.specs.Feeding.{stop_of, is_complete}
 use Rattle.pb_text.specs.Pulling.{Pulls, Took}
-use Rattle.pb_text.specs.Rows.{HasPulled, PullsOn}
+use Rattle.pb_text.specs.PullsInARow.{HasPulled, PullsOn}
 use Rattle.pb_text.specs.declared.place.Place.{Place}
 use Rattle.pb_text.specs.declared.place.Spanned.{Spanned}
 use Rattle.pb_text.specs.declared.place.Stop.{Stop}

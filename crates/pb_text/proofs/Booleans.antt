@@ -1,0 +1,9 @@
+-- A test is not both, and what a sum of tests gives. Offered to other crates.
+use Rattle.std.proofs.Common.{◌≡◌, Bool, true, false, ◌||◌, refl}
+
+pub never : {A : Type 0} (b : Bool) → b ≡ true → b ≡ false → A
+never b h k = cc
+
+pub by_or : {A : Type 0} (p q : Bool) → (p || q) ≡ true → (p ≡ true → A) → (q ≡ true → A) → A
+by_or true q h f g = f refl
+by_or false q h f g = g h
