@@ -7,7 +7,7 @@ use Rattle.pb_text.specs.Classes.{is_white}
 use Rattle.pb_text.specs.Languages.{unmarked, Language, ◌⋅◌, Byte, Bytes}
 use Rattle.pb_text.specs.Spelling.{Letter, plain}
 use Rattle.pb_text.proofs.Languages.{grown, next, none_yet, many-grown}
-use Rattle.pb_text.proofs.Letters.{as_unmarked, bytes_grown, word_grown, word_whole}
+use Rattle.pb_text.proofs.Letters.{as_unmarked, bytes_grown, word_grown, word_whole, further}
 use Rattle.pb_text.proofs.Booleans.{never}
 use Rattle.pb_text.proofs.Walking.{Walks, walks_more, ends_walk, On, Keeps, told}
 use Rattle.pb_sums.specs.State.{SumState, sums}
@@ -26,7 +26,7 @@ use Rattle.pb_opb.specs.declared.phase.Phase.{Phase}
 use Rattle.pb_opb.specs.declared.phase.Phase as phase
 use Rattle.pb_opb.specs.declared.phase.Move.{Move}
 use Rattle.pb_opb.specs.declared.phase.Move.TheVariants.{To, BeginSum}
-use Rattle.pb_opb.proofs.Fronts.{line_grown, further}
+use Rattle.pb_opb.proofs.Fronts.{line_grown}
 use Rattle.pb_opb.proofs.Objectives.{MinFront, objective_of}
 use Rattle.pb_opb.proofs.Stands.{idle}
 
@@ -117,7 +117,7 @@ module _ (limit top v n : ℕ) (may : Bool) where
     in_min j m i h = cond_both (nat_eq l.byte (slice_index min_word j)) _ _ After
         (λ e. cond_both (nat_eq (j + 1) (length min_word)) BeginSum (To (phase.TheVariants.Min (j + 1))) After
         (λ g w f. (k, (m, refl, none_yet (Bytes min_word) Whites0 (p ++ l ∷ []) ([], tt, refl) (word_whole min_word (j + 1) (p ++ l ∷ []) (eqb-true (j + 1) (length min_word) g) (longer f e)))))
-        (λ g w f. (k, (m, further (length min_word) j i g, longer f e))))
+        (λ g w f. (k, (m, further j (length min_word) i g, longer f e))))
         (λ _. tt)
       where
         longer : l.numeral ≡ false → nat_eq l.byte (slice_index min_word j) ≡ true → Bytes (take (j + 1) min_word) (p ++ l ∷ [])

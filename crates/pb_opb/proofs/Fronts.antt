@@ -1,6 +1,5 @@
--- Lines, tails and words that grow at their end.
-use Rattle.std.proofs.Common.{◌≡◌, ℕ, ◌+◌, ◌<◌, false, not, List, [], ◌∷◌, ◌++◌, refl, ap, arith}
-use Rattle.std.proofs.lemmas.Bool.Decides.{nat_tests}
+-- Lines and tails that grow at their end.
+use Rattle.std.proofs.Common.{◌≡◌, ℕ, false, not, List, [], ◌∷◌, ◌++◌, refl, ap}
 use Rattle.std.specs.Prelude.{IsTrue, nat_eq}
 use Rattle.pb_text.proofs.Languages.{each-append}
 use Rattle.pb_opb.specs.Instances.{IsInLine, IsTail}
@@ -11,7 +10,3 @@ line_grown bs b e h = each-append (λ x. IsTrue (not (nat_eq x 10))) bs b h (ap 
 pub tail_grown : (bs : List ℕ) (b : ℕ) → nat_eq b 10 ≡ false → (bs ≡ [] → ⊥) → IsTail bs → IsTail (bs ++ b ∷ [])
 tail_grown [] b e n h = absurd (n refl)
 tail_grown (c ∷ bs) b e n h = (h.0, line_grown bs b e h.1)
-
--- a word that is not whole with its next byte goes on
-pub further : (size j : ℕ) → j < size → nat_eq (j + 1) size ≡ false → j + 1 < size
-further size j i g = grind (arith, nat_tests)

@@ -8,7 +8,7 @@ use Rattle.pb_text.specs.Languages.{unmarked, digit, Language, ◌⋅◌, Byte, 
 use Rattle.pb_text.specs.Numbers.{Digits, Count}
 use Rattle.pb_text.specs.Spelling.{Letter, plain}
 use Rattle.pb_text.proofs.Languages.{grown, next, none_yet, behind_it, many-grown, some-grown, some-one}
-use Rattle.pb_text.proofs.Letters.{as_unmarked, some_digit, bytes_grown, word_grown, word_whole}
+use Rattle.pb_text.proofs.Letters.{as_unmarked, some_digit, bytes_grown, word_grown, word_whole, further}
 use Rattle.pb_text.proofs.Numbers.{digits-grown, digits-one}
 use Rattle.pb_text.proofs.Walking.{On, Keeps, told}
 use Rattle.pb_opb.specs.Instances.{variable_word, constraint_word, IsTail, SpellsHeader}
@@ -22,7 +22,7 @@ use Rattle.pb_opb.specs.declared.phase.Phase.{Phase}
 use Rattle.pb_opb.specs.declared.phase.Phase as phase
 use Rattle.pb_opb.specs.declared.phase.Move.{Move}
 use Rattle.pb_opb.specs.declared.phase.Move.TheVariants.{To}
-use Rattle.pb_opb.proofs.Fronts.{tail_grown, further}
+use Rattle.pb_opb.proofs.Fronts.{tail_grown}
 use Rattle.pb_opb.proofs.Stands.{idle}
 
 abbrev IsBlank : ℕ → Type 0
@@ -103,7 +103,7 @@ module _ (limit top : ℕ) where
           none_yet (P ⋅ Bytes (word_of f)) Blanks0 (p ++ l ∷ []) ([], tt, refl)
               (behind_it P (Bytes (take (j + 1) (word_of f))) (Bytes (word_of f)) (p ++ l ∷ []) (λ q. word_whole (word_of f) (j + 1) q (eqb-true (j + 1) (length (word_of f)) g)) (longer n e)),
         ))
-        (λ g w n. (k, (further (length (word_of f)) j i g, longer n e))))
+        (λ g w n. (k, (further j (length (word_of f)) i g, longer n e))))
         (λ _. tt)
       where
         P : Language

@@ -1,8 +1,9 @@
 -- The letters of bytes, and words that grow letter by letter. Offered to other crates.
 use Rattle.std.proofs.Common.{◌≡◌, ℕ, ◌+◌, ◌-◌, ◌<◌, true, false, List, [], ◌∷◌, ◌++◌, length, take, refl, sym, ap, subst, arith, ◌∙◌, add-one}
 use Rattle.std.proofs.Math.Seq.{take-suc}
+use Rattle.std.proofs.lemmas.Bool.Decides.{nat_tests}
 use Rattle.std.proofs.lemmas.List.{take_all}
-use Rattle.std.specs.Prelude.{slice_index}
+use Rattle.std.specs.Prelude.{nat_eq, slice_index}
 use Rattle.pb_text.specs.Classes.{is_digit}
 use Rattle.pb_text.specs.Languages.{unmarked, digit, Bytes}
 use Rattle.pb_text.specs.Spelling.{Letter, plain}
@@ -36,3 +37,7 @@ word_grown w j l h m e q r =
 
 pub word_whole : (w : List ℕ) (j : ℕ) (q : List Letter) → j ≡ length w → Bytes (take j w) q → Bytes w q
 word_whole w j q h r = subst (λ x. Bytes x q) (take_all j w (omega arith)) r
+
+-- a place in a word that is not the last one, and the one behind it
+pub further : (k size : ℕ) → k < size → nat_eq (k + 1) size ≡ false → k + 1 < size
+further k size h e = grind (arith, nat_tests)

@@ -1,5 +1,5 @@
 -- Tests of numbers.
-use Rattle.std.proofs.Common.{◌≡◌, ℕ, ◌+◌, ◌<◌, false, arith}
+use Rattle.std.proofs.Common.{◌≡◌, ℕ, ◌<◌, false, arith}
 use Rattle.std.proofs.lemmas.Bool.Decides.{nat_tests}
 use Rattle.std.specs.Prelude.{nat_eq}
 
@@ -8,7 +8,3 @@ positive n e = grind (arith, nat_tests)
 
 pub not_zero : (n : ℕ) → 0 < n → nat_eq n 0 ≡ false
 not_zero n h = grind (arith, nat_tests)
-
--- a place that is not the last one, and the one behind it
-pub further : (k size : ℕ) → k < size → nat_eq (k + 1) size ≡ false → k + 1 < size
-further k size h e = grind (arith, nat_tests)

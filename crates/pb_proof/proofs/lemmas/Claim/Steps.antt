@@ -5,6 +5,7 @@ use Rattle.std.specs.Prelude.{ℤ, Some, None, slice_index, List}
 use Rattle.pb_text.specs.Automaton.{Next, Go, End, Refuse}
 use Rattle.pb_text.specs.Classes.{is_blank, is_digit}
 use Rattle.pb_text.specs.Numbers.{signed}
+use Rattle.pb_text.proofs.Letters.{further}
 use Rattle.pb_sums.specs.declared.Literal.{Literal}
 use Rattle.pb_proof.specs.Lines.{inf_word}
 use Rattle.pb_proof.specs.Line.Claim.{word_of, behind_word, behind_bound, spell, first_word, digits, begin_bound, colon, behind, between, after_bound, id_digits, after_id, plan, is_within, is_done, PhaseFits}
@@ -28,7 +29,6 @@ use Rattle.pb_proof.specs.declared.line.claim.phase.Phase.TheVariants as phase
 use Rattle.pb_proof.specs.declared.line.claim.phase.Move.{Move}
 use Rattle.pb_proof.specs.declared.line.claim.phase.Move.TheVariants.{To, Finish, Give, Stop}
 use Rattle.pb_proof.proofs.lemmas.Literals.Theorems.{literals_of_one}
-use Rattle.pb_proof.proofs.lemmas.NumberTests.{further}
 
 abbrev N : Type 0
 N = Next ClaimState Conclusion

@@ -11,7 +11,7 @@ use Rattle.pb_text.specs.Spelling.{Letter, plain}
 use Rattle.pb_text.proofs.Languages.{grown, none_yet}
 use Rattle.pb_text.proofs.Walking.{Walks, walks_more, ends_walk, On, Keeps, told}
 use Rattle.pb_text.proofs.Booleans.{never}
-use Rattle.pb_text.proofs.Letters.{as_unmarked}
+use Rattle.pb_text.proofs.Letters.{as_unmarked, further}
 use Rattle.pb_proof.specs.Line.Machine.{line_automaton, line_first, SpellsRest}
 use Rattle.pb_proof.specs.Lines.{f_word, pol_word, rup_word, soli_word, solx_word, conclusion_word, SpellsStatement}
 use Rattle.pb_proof.specs.Machine.Transition.{words_of, sol_word, behind, meets, spell, step_keyword, enter, pass, between, plan}
@@ -33,7 +33,6 @@ use Rattle.pb_proof.specs.declared.statement.Statement as statement
 use Rattle.pb_proof.proofs.lemmas.Line.Laws.{line_only, line_begins, line_fresh}
 use Rattle.pb_proof.proofs.lemmas.Line.Ends.{Gapped, Closing as Closed, blank_more, semicolon_behind_blanks, blank_closing, line_behind_blanks, line_closing, feed_behind_blanks, gapped}
 use Rattle.pb_proof.proofs.lemmas.Spaced.{Spaced, one_met, spaced_more, spaced_blank, KeywordWords, keyword_only, some_byte}
-use Rattle.pb_proof.proofs.lemmas.NumberTests.{further}
 
 -- the stage of the words that a statement begins with, and of what stands behind them
 abbrev pub stage_keyword : Keyword → Stage

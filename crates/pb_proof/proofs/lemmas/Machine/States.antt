@@ -22,10 +22,10 @@ use Rattle.pb_proof.specs.declared.machine.phase.Move.{Move}
 use Rattle.pb_proof.specs.declared.machine.phase.Move.TheVariants as move
 use Rattle.pb_proof.specs.declared.statement.Statement.{Statement}
 use Rattle.pb_proof.proofs.lemmas.Line.Laws.{line_begins, line_fresh, line_first_state}
+use Rattle.pb_text.proofs.Letters.{further}
 use Rattle.pb_text.proofs.Living.{admits_before, admits_final, admitted_on}
 use Rattle.pb_proof.proofs.lemmas.Machine.Alive.{live, reading_alive, stage_accepts, example}
 use Rattle.pb_proof.proofs.lemmas.Machine.Exact.{closes}
-use Rattle.pb_proof.proofs.lemmas.NumberTests.{further}
 use Rattle.pb_proof.proofs.lemmas.Spaced.{some_byte}
 
 -- no machine stands behind the words
