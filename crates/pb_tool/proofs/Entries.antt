@@ -6,7 +6,7 @@ use Rattle.std.proofs.lemmas.Slice.Eq.{bytes_eq-Decides}
 use Rattle.std.specs.Str.Parse.{digits_value, without_leading_plus}
 use Rattle.clap.specs.Words.{IsUnsignedIn}
 use Rattle.clap.specs.Walk.{Row}
-use Rattle.pb_tool.specs.declared.words.WordsFault.{WordsFault}
+use Rattle.pb_tool.specs.declared.words.fault.WordsFault.{WordsFault}
 use Rattle.pb_tool.specs.Words.{IsEntryFault, IsFlag, IsInstanceFault, IsNumberFault, IsSwitch}
 
 pub absent : (low high : ℕ) (found : Option (List ℕ)) → None ≡ found → IsFlag low high found None

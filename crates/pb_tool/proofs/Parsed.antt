@@ -5,8 +5,8 @@ use Rattle.clap.specs.declared.Error.{Error}
 use Rattle.clap.specs.Words.{App, HasKind, Row, Text, fault_of, is_simple, is_simple_and_free, kind_of, subcommand_of}
 use Rattle.clap.specs.declared.error.ErrorKind.TheVariants.{OutOfMemory}
 use Rattle.pb_tool.specs.declared.words.Job.{Job}
-use Rattle.pb_tool.specs.declared.words.WordsFault.{WordsFault}
-use Rattle.pb_tool.specs.declared.words.WordsFault.TheVariants.{Words, Memory}
+use Rattle.pb_tool.specs.declared.words.fault.WordsFault.{WordsFault}
+use Rattle.pb_tool.specs.declared.words.fault.WordsFault.TheVariants.{Words, Memory}
 use Rattle.pb_tool.specs.Words.{AsksFor, ExplainsWords, IsEntryFault, pb_command}
 
 pub right_words : (a : App) (words : List Text) → a ≡ pb_command → (is_simple_and_free a ≡ true → fault_of a words ≡ []) → fault_of pb_command words ≡ []

@@ -8,8 +8,8 @@ use Rattle.clap.specs.declared.error.ErrorKind.TheVariants.{ValueValidation, Mis
 use Rattle.clap.specs.declared.builder.action.ArgAction.TheVariants.{SetTrue}
 use Rattle.pb_tool.specs.declared.words.Job.{Job}
 use Rattle.pb_tool.specs.declared.words.Job.TheVariants.{Show, Tidy, Check}
-use Rattle.pb_tool.specs.declared.words.WordsFault.{WordsFault}
-use Rattle.pb_tool.specs.declared.words.WordsFault.TheVariants.{Words, Memory}
+use Rattle.pb_tool.specs.declared.words.fault.WordsFault.{WordsFault}
+use Rattle.pb_tool.specs.declared.words.fault.WordsFault.TheVariants.{Words, Memory}
 
 -- ---- the command: `pb show` and `pb tidy`, each with FILE, `--longest` and `--bits`, and `tidy` with `--normal`;
 -- ---- `pb check` with INSTANCE, PROOF, `--longest` and `--bits`

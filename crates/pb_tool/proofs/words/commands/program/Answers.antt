@@ -2,7 +2,7 @@ use Rattle.std.proofs.Common.{◌∙◌, ap, true}
 use Rattle.clap.specs.Simple.{App, app_of_fields, on_top}
 use Rattle.clap.specs.declared.builder.command.Command.{Command}
 use Rattle.clap.specs.declared.builder.command.Command.TheOpen.{Command-F}
-use Rattle.pb_tool.proofs.words.program.Goals as goal
+use Rattle.pb_tool.proofs.words.commands.program.Goals as goal
 
 abbrev asked : Command-F Command → App
 asked f = app_of_fields (record f { subcommand_required = true; arg_required_else_help = true })

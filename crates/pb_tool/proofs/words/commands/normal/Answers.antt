@@ -3,7 +3,7 @@ use Rattle.clap.specs.Walk.{Rule}
 use Rattle.clap.specs.Words.{rule_of}
 use Rattle.clap.specs.declared.builder.action.ArgAction.TheVariants.{SetTrue}
 use Rattle.clap.specs.declared.builder.arg.Arg.{Arg}
-use Rattle.pb_tool.proofs.words.normal.Goals as goal
+use Rattle.pb_tool.proofs.words.commands.normal.Goals as goal
 
 pub returns-clause-rule : goal.returns-clause-rule
 returns-clause-rule c =

@@ -1,4 +1,4 @@
-use Rattle.pb_tool.proofs.words.show.Goals as goal
+use Rattle.pb_tool.proofs.words.commands.show.Goals as goal
 
 pub returns-clause-app : goal.returns-clause-app
 returns-clause-app c = c.reader.ensures.app
