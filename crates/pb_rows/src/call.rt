@@ -3,7 +3,7 @@
 use crate::broken::Broken;
 use crate::constraint::is_rule;
 use pb_sums::Part;
-use pb_text::{BYTE_LIMIT, Limits};
+use pb_text::{BYTE_LIMIT, Limits, Place};
 
 /// What is called.
 #[derive(Clone, Copy)]
@@ -23,6 +23,9 @@ pub enum Verb {
     Words,
     Fault,
     Limits,
+    Write,
+    Rest,
+    Count,
     Check,
     Checker,
     Steps,
@@ -71,6 +74,10 @@ pub struct Call {
     pub is_alone: bool,
     pub is_held: bool,
     pub has_spans: bool,
+    /// The place that a rest begins at.
+    pub behind: Place,
+    /// How many statements are counted before memory runs out.
+    pub room: u64,
     pub looks_least: Option<u64>,
     pub looks_most: u64,
 }
@@ -94,6 +101,8 @@ impl Call {
             is_alone: false,
             is_held: false,
             has_spans: false,
+            behind: Place::START,
+            room: u64::MAX,
             looks_least: None,
             looks_most: u64::MAX,
         }
@@ -170,6 +179,9 @@ fn other_verb(word: &str) -> Result<Verb, Broken> {
         "words" => Ok(Verb::Words),
         "fault" => Ok(Verb::Fault),
         "limits" => Ok(Verb::Limits),
+        "write" => Ok(Verb::Write),
+        "rest" => Ok(Verb::Rest),
+        "count" => Ok(Verb::Count),
         "check" => Ok(Verb::Check),
         "checker" => Ok(Verb::Checker),
         "steps" => Ok(Verb::Steps),
@@ -223,6 +235,10 @@ fn set(call: &mut Call, key: &str, value: &str) -> Result<(), Broken> {
         "reader-most" => call.reader_most = number as usize,
         "writer-fails" => call.writer_fails = Some(number),
         "writer-most" => call.writer_most = number as usize,
+        "line" => call.behind.line = number,
+        "column" => call.behind.column = number,
+        "offset" => call.behind.offset = number,
+        "room" => call.room = number,
         "looks-least" => call.looks_least = Some(number),
         "looks-most" => call.looks_most = number,
         _ => return Err(Broken::Word),

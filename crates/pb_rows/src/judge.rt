@@ -7,7 +7,7 @@ use crate::page::{Done, Page, answered, page, tell_either};
 use crate::value::{instance_of, proof_of, statement_of};
 use pb_opb::instance_is_value;
 use pb_proof::{proof_is_value, statement_is_value};
-use pb_sums::write_count;
+use pb_sums::{write_count, write_number};
 use pb_text::{Limits, write_bytes};
 use std::alloc::Global;
 
@@ -52,6 +52,8 @@ pub(crate) fn run_limits(alloc: Global, call: &Call) -> Result<Done, Broken> {
             write_count(limits.bits() as u64, &mut told)?;
             write_bytes(b" ", &mut told)?;
             write_count(limits.top(), &mut told)?;
+            write_bytes(b" ", &mut told)?;
+            write_number(limits.largest() as i128, &mut told)?;
             write_bytes(b"\n", &mut told)?;
         }
         None => write_bytes(b"none\n", &mut told)?,

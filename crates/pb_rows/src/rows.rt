@@ -4,6 +4,7 @@ use crate::broken::Broken;
 use crate::call::{Call, Verb, call_of};
 use crate::check::run_checker;
 use crate::constraint::run_forms;
+use crate::counted::run_count;
 use crate::fault::run_fault;
 use crate::feed::run_feed;
 use crate::job::run_words;
@@ -12,10 +13,12 @@ use crate::name::{run_names, run_numbers};
 use crate::page::{Done, is_same};
 use crate::read::run_read;
 use crate::refuted::run_refuted;
+use crate::rest::run_rest;
 use crate::row::Row;
 use crate::spell::add_line;
 use crate::steps::run_steps;
 use crate::sweep::run_sweep;
+use crate::text::run_write;
 use crate::turns::run_turns;
 use pb_sums::write_count;
 use pb_text::{Failed, Sink, write_bytes};
@@ -169,6 +172,9 @@ fn run_call(alloc: Global, call: &Call, row: &Row<'_>) -> Result<Done, Broken> {
         Verb::Words => run_words(alloc, row.call, text),
         Verb::Fault => run_fault(alloc, row.call),
         Verb::Limits => run_limits(alloc, call),
+        Verb::Write => run_write(alloc, call, text),
+        Verb::Rest => run_rest(alloc, call, text),
+        Verb::Count => run_count(alloc, call, text),
         Verb::Checker => run_checker(alloc, call, text, &row.wanted),
         Verb::Steps => run_steps(alloc, call, text),
         Verb::Refuted => run_refuted(alloc, text),

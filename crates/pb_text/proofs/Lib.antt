@@ -40,7 +40,6 @@ pub mod Short
 pub mod Spans
 pub mod Steps
 pub mod Told
-pub mod Toys
 pub mod Unkept
 pub mod Walking
 pub mod Wholes

@@ -22,7 +22,6 @@ pub mod Source
 pub mod Spelling
 pub mod Standing
 pub mod Staying
-pub mod Toy
 pub mod ValueRead
 pub mod NothingRead
 pub mod Whole

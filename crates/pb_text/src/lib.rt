@@ -20,10 +20,6 @@ mod reader;
 mod sequence;
 mod sink;
 mod source;
-#[cfg(test)]
-mod tests;
-#[cfg(test)]
-mod toy;
 mod whole;
 
 pub use blank::rest_is_blank;

@@ -1,0 +1,52 @@
+//! Rows of a whole read from a reader, which is given back.
+
+use crate::broken::Broken;
+use crate::call::Call;
+use crate::page::{Done, answered, page, tell_count, tell_end};
+use pb_opb::{OpbEvent, OpbMachine};
+use pb_text::{Gather, read_from};
+use std::alloc::{AllocError, Global};
+
+/// How many statements were read, and for how many more there is room.
+#[derive(Drop)]
+struct Counted {
+    statements: u64,
+    room: u64,
+}
+
+impl Gather for Counted {
+    ghost use Rattle.std.specs.Prelude.{◌+◌, ◌-◌, ◌^◌, min};
+
+    type Event = OpbEvent;
+
+    ghost with = { λ s _. record { statements = min (s.statements + 1) (2 ^ 64 - 1); room = s.room - 1 } };
+
+    fn add(&mut self, _event: OpbEvent) -> Result<(), AllocError> {
+        if self.room == 0 {
+            return Err(AllocError);
+        }
+        self.room -= 1;
+        self.statements = self.statements.saturating_add(1);
+        Ok(())
+    }
+}
+
+/// Reads an instance and counts its statements, and tells the end and how many bytes were left to the reader.
+pub(crate) fn run_count(alloc: Global, call: &Call, text: &[u8]) -> Result<Done, Broken> {
+    let machine = OpbMachine::new(alloc, call.limits()?);
+    let nothing = Counted {
+        statements: 0,
+        room: call.room,
+    };
+    let (read, left) = read_from(text, machine, call.longest.max(1), nothing);
+    let mut told = page(alloc);
+    match read {
+        Ok(spanned) => {
+            tell_count(spanned.event.statements, b" statements\n", &mut told)?;
+            tell_count(spanned.past.offset, b" bytes\n", &mut told)?;
+        }
+        Err(stop) => tell_end(Err(stop), &mut told)?,
+    }
+    tell_count(left.len() as u64, b" left\n", &mut told)?;
+    Ok(answered(alloc, told))
+}

@@ -1,0 +1,22 @@
+//! Rows of texts that are written.
+
+use crate::broken::Broken;
+use crate::call::Call;
+use crate::page::{Done, page, tell_count, tell_either};
+use crate::turns::writer_of;
+use pb_text::{Over, write_bytes};
+use std::alloc::Global;
+
+/// Writes the input as one text, and tells its end and how often the writer was called.
+pub(crate) fn run_write(alloc: Global, call: &Call, text: &[u8]) -> Result<Done, Broken> {
+    let mut out = Over::new(writer_of(alloc, call));
+    let is_written = write_bytes(text, &mut out).is_ok();
+    let writer = out.into_inner();
+    let mut told = page(alloc);
+    tell_either(is_written, b"ok\n", b"write fault\n", &mut told)?;
+    tell_count(writer.calls, b" calls\n", &mut told)?;
+    Ok(Done {
+        written: writer.taken,
+        answer: told.into_inner().taken,
+    })
+}
