@@ -6,15 +6,20 @@ import subprocess
 import sys
 import time
 
-KINDS = ["chain", "units", "common", "long", "dead", "live"]
+BENCH = os.path.dirname(os.path.abspath(__file__))
+# The script that writes each kind. Those with dear steps have a twentieth of the steps.
+KINDS = {
+    **dict.fromkeys(["chain", "units", "common", "long", "dead", "live"], ("propagation.py", 1)),
+    **dict.fromkeys(["random", "pigeons", "parity"], ("search.py", 20)),
+    "wide": ("propagation.py", 20),
+}
 # What a step of a kind leaves in memory: how many things, and their name.
 LEFT = {"dead": (1, "deleted constraint"), "live": (20, "live term")}
-GENERATOR = os.path.join(os.path.dirname(os.path.abspath(__file__)), "propagation.py")
 
 
 def files_of(kind, count, folder):
     """Writes an instance and its proof; their paths."""
-    subprocess.run([sys.executable, GENERATOR, kind, str(count), folder], check=True)
+    subprocess.run([sys.executable, os.path.join(BENCH, KINDS[kind][0]), kind, str(count), folder], check=True)
     return [os.path.join(folder, f"{kind}.{end}") for end in ["opb", "pbp"]]
 
 
@@ -38,16 +43,16 @@ def instructions_of(words, folder):
     return int(re.search(r"Collected : (\d+)", told)[1])
 
 
-def looks_of(rows, files):
-    """The statements of a proof, and the looks that their propagation takes, as the program of the rows tells them."""
+def visits_of(rows, files):
+    """The statements of a proof, and the visits that their propagation takes, as the program of the rows reports them."""
     told = subprocess.run([rows, "--looks", *files], capture_output=True, text=True, check=True).stdout
     return [int(number) for number in re.fullmatch(r"(\d+) statements, (\d+) looks\n", told).groups()]
 
 
 def main():
-    program, rows, folder, count, times = sys.argv[1], sys.argv[2], sys.argv[3], int(sys.argv[4]), int(sys.argv[5])
-    for kind in KINDS:
-        peaks = []
+    program, rows, folder, most, times = sys.argv[1], sys.argv[2], sys.argv[3], int(sys.argv[4]), int(sys.argv[5])
+    for kind, (_, part) in KINDS.items():
+        peaks, count = [], max(most // part, 1)
         for size in [count, 10 * count]:
             words = [program, "check"] + files_of(kind, size, folder)
             runs = [run(words) for _ in range(times)]
@@ -59,8 +64,8 @@ def main():
             print(f"{kind}: {(peaks[1] - peaks[0]) * 1e6 / (9 * count * number):.0f} bytes a {name}", flush=True)
         size = max(count // 10, 1)
         files = files_of(kind, size, folder)
-        statements, looks = looks_of(rows, files)
-        print(f"{kind} {size}: {looks} looks in {statements} statements, {looks / size:.1f} a step", flush=True)
+        statements, visits = visits_of(rows, files)
+        print(f"{kind} {size}: {visits} visits in {statements} statements, {visits / size:.1f} a step", flush=True)
         instructions = instructions_of([program, "check"] + files, folder)
         if instructions is not None:
             print(f"{kind} {size}: {instructions / size:.0f} instructions a step", flush=True)

@@ -1,12 +1,11 @@
 #!/usr/bin/env python3
-"""Writes an OPB instance with 2^K names that all have one hash in a table whose hasher is the kit's FoldHasher with its
-fixed seed, as those of `pb tidy --normal` and `pb check` once were; or, with `other`, one with as many names of the same length
-that do not.
+"""Writes an OPB instance whose 2^K names collide under the kit's FoldHasher with its fixed seed. With `other` it writes one
+with as many names of the same length that do not collide.
 
     bench/collide.py K [other] > FILE
 
-`pb tidy --normal` and `pb check`, with a proof that claims nothing, are to take both in about the same time: their tables are
-hashed by random keys. A name is K pairs of blocks of 16 bytes. The hasher multiplies the two words of a block, each after an
+`pb tidy --normal` and `pb check`, with a proof that claims nothing, should take the same time for both:
+their tables use random keys. A name is K pairs of blocks of 16 bytes. The hasher multiplies the two words of a block, each after an
 exclusive or: the first with the state, the second with a constant. So a block and the one with the two factors exchanged
 leave one state, and the block before them is chosen so that both are bytes of a name.
 """

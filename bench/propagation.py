@@ -9,8 +9,10 @@ writes FOLDER/KIND.opb and FOLDER/KIND.pbp. The kinds:
     units   such a chain with its first variable, and so many steps, each a unit that follows from the one before
     common  so many clauses with one common literal, which are deleted one by one in any order
     long    2,000 clauses of 20 literals, and so many steps, each of them one of the clauses with a literal more
-    dead    the same, but each step is deleted behind it, so that 2,000 clauses stay
+    dead    the same, but each step is deleted after it, so that 2,000 clauses stay
     live    one clause of 20 literals, and so many steps that each add it once more
+    wide    100 constraints of 200 terms with coefficients from 1 to 50, and so many steps, each the clause of the literals without
+            which one of the constraints cannot hold; each step is deleted after it
 
 The same kind and count give the same bytes: what is random comes from a fixed seed. Every step is accepted.
 """
@@ -21,6 +23,7 @@ import sys
 LONG_CLAUSES = 2_000
 LONG_VARIABLES = 1_000
 LONG_LITERALS = 20
+WIDE_SUMS, WIDE_TERMS, WIDE_VARIABLES = 100, 200, 1_000
 
 
 def clause(*literals):
@@ -65,6 +68,30 @@ def live(count, rng):
     return LONG_LITERALS, [clause(*literals)], ["pol 1\n"] * count
 
 
+def wide(count, rng):
+    names = [f"x{i}" for i in range(1, WIDE_VARIABLES + 1)]
+    sums = [[(rng.randint(1, 50), name) for name in rng.sample(names, WIDE_TERMS)] for _ in range(WIDE_SUMS)]
+    lines = [" ".join(f"+{factor} {name}" for factor, name in one) + f" >= {degree_of(one)} ;\n" for one in sums]
+    steps = [f"rup {clause(*without(rng.choice(sums), rng))}del id {WIDE_SUMS + 1 + i}\n" for i in range(count)]
+    return WIDE_VARIABLES, lines, steps
+
+
+def degree_of(terms):
+    """Three quarters of the sum of the coefficients."""
+    return sum(factor for factor, _ in terms) * 3 // 4
+
+
+def without(terms, rng):
+    """Some names, without which the other terms are below the degree."""
+    names, left = [], sum(factor for factor, _ in terms)
+    for factor, name in rng.sample(terms, len(terms)):
+        if left < degree_of(terms):
+            break
+        names.append(name)
+        left -= factor
+    return names
+
+
 def literals(rng):
     variables = rng.sample(range(1, LONG_VARIABLES + 1), LONG_LITERALS)
     return [("~" if rng.random() < 0.5 else "") + f"x{variable}" for variable in variables]
@@ -78,7 +105,7 @@ def write(folder, name, head, lines):
 
 def main():
     kind, count, folder = sys.argv[1], int(sys.argv[2]), sys.argv[3]
-    kinds = {"chain": chain, "units": units, "common": common, "long": long, "dead": dead, "live": live}
+    kinds = {"chain": chain, "units": units, "common": common, "long": long, "dead": dead, "live": live, "wide": wide}
     variables, constraints, steps = kinds[kind](count, random.Random(2012))
     write(folder, f"{kind}.opb", f"* #variable= {variables} #constraint= {len(constraints)}\n", constraints)
     end = ["output NONE\n", "conclusion NONE\n", "end pseudo-Boolean proof\n"]

@@ -3,7 +3,8 @@
 use std::cell::RefCell;
 use std::io::{self, Read, Write};
 
-/// A reader that lets go out what was written before it waits for more.
+/// A reader that flushes what was written before it waits for more. If the flush fails, it reads nothing: nobody is left to
+/// read the output. The writer returns the error again at the end.
 #[derive(Drop)]
 pub(crate) struct Tied<'a, I, O> {
     input: I,
@@ -18,9 +19,9 @@ impl<'a, I, O> Tied<'a, I, O> {
 
 impl<I: Read, O: Write> Read for Tied<'_, I, O> {
     fn read(&mut self, buf: &mut [u8]) -> io::Result<usize> {
-        // What does not go out now stays with the writer, which tells it at the end.
-        if let Ok(mut out) = self.out.try_borrow_mut() {
-            let _ = out.flush();
+        match self.out.try_borrow_mut() {
+            Ok(mut out) => out.flush()?,
+            Err(_) => return Err(io::Error::from(io::ErrorKind::WouldBlock)),
         }
         self.input.read(buf)
     }

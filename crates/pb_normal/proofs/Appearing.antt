@@ -1,4 +1,4 @@
--- Names that appear in turn. Offered to other crates.
+-- Names that appear one after another. Offered to other crates.
 use Rattle.std.proofs.Common.{◌≡◌, ℕ, ◌<◌, Bool, true, false, cond, List, [], ◌∷◌, ◌++◌, length, map, refl, sym, ◌∙◌, ap, subst, append_assoc, append-nil, pos}
 use Rattle.std.specs.List.{All}
 use Rattle.std.proofs.lemmas.List.{get_or_append_left}
@@ -15,7 +15,7 @@ pub in_turn : (names others further : List (List ℕ)) → with_names names (oth
 in_turn names [] further = refl
 in_turn names (n ∷ others) further = in_turn (with_name names n) others further
 
--- the names before stand in front
+-- the names before are a prefix
 one_front : (names : List (List ℕ)) (name : List ℕ) → (more : List (List ℕ)) × (with_name names name ≡ names ++ more)
 one_front names name = by_test (has_name names name)
   where
@@ -53,7 +53,7 @@ present names (n ∷ others) h =
     let same : with_name names n ≡ names = ap (λ (b : Bool). cond b names (names ++ n ∷ [])) h.0 in
     rw same (present names others h.1)
 
--- the terms of a form are written out alike over more names
+-- the terms of a form are written in the same way if more names follow
 terms_alike : (names more : List (List ℕ)) (ts : List Entry) → All (λ t. t.variable < length names) ts → map (term_of (names ++ more)) ts ≡ map (term_of names) ts
 terms_alike names more [] h = refl
 terms_alike names more (t ∷ ts) h =

@@ -33,7 +33,7 @@ only-turned a x b n = both (eqb a x) (eqb x a) b n (both_ways (eqb a x) (eqb x a
     both d f false true e = ap (λ g. g && false) e
     both d f false false e = ap (λ g. g && true) e
 
--- a literal counts among the given ones exactly where it is given
+-- a literal has a coefficient among the given ones if and only if it is given
 given_counts : (ls : List (ℕ × Bool)) (x : ℕ) (n : Bool) → (among ls x n ≡ true → 0 < total (only x n) (map unit_of ls)) × (among ls x n ≡ false → total (only x n) (map unit_of ls) ≡ 0)
 given_counts [] x n = (λ e. absurd cc, λ e. refl)
 given_counts (l ∷ ls) x n = step (only x n l.0 l.1) (only l.0 l.1 x n) _ _ (only-turned l.0 x l.1 n) (given_counts ls x n)
@@ -42,7 +42,7 @@ given_counts (l ∷ ls) x n = step (only x n l.0 l.1) (only l.0 l.1 x n) _ _ (on
     step a true c k e h = rw e (λ f. omega arith, λ f. absurd cc)
     step a false c k e h = rw e (λ f. omega (arith, h.0 f), λ f. omega (arith, h.1 f))
 
--- what counts for a literal of the first term's variable, behind it
+-- the terms after the first one have no coefficient on its variable
 nothing_behind : (x : ℕ) (n : Bool) (t : Entry) (ts : List Entry) → IsRising (t.variable + 1) ts → t.variable ≡ x → total (only x n) ts ≡ 0
 nothing_behind x n t ts h e = none_below (λ m. cond n m (not m)) x (t.variable + 1) ts h (omega (arith, e))
 
@@ -50,7 +50,7 @@ at_variable : (x : ℕ) (n : Bool) (t : Entry) → only x n t.variable t.negated
 at_variable x n t e =
     eqb-true t.variable x (and_parts (eqb t.variable x) _ e).0
 
--- in a rising list a literal stands once
+-- in a rising list a literal appears once
 once : (k x : ℕ) (n : Bool) (ts : List Entry) → IsRising k ts → (0 < total (only x n) ts → total (only x n) (ones ts) ≡ 1) × (total (only x n) ts ≡ 0 → total (only x n) (ones ts) ≡ 0)
 once k x n [] h = (λ e. absurd (omega (arith, e)), λ e. refl)
 once k x n (t ∷ ts) h = by_test (only x n t.variable t.negated) refl (once (t.variable + 1) x n ts h.2)
@@ -62,7 +62,7 @@ once k x n (t ∷ ts) h = by_test (only x n t.variable t.negated) refl (once (t.
         (λ f. omega (arith, rest.1 none), λ f. absurd (omega (arith, f, h.1)))
     by_test false e rest = (λ f. omega (arith, rest.0 (omega (arith, f))), λ f. omega (arith, rest.1 (omega (arith, f))))
 
--- and not with its negation
+-- and its negation does not appear with it
 apart : (k x : ℕ) (n : Bool) (ts : List Entry) → IsRising k ts → 0 < total (only x n) ts → total (only x (not n)) ts ≡ 0
 apart k x n [] h e = refl
 apart k x n (t ∷ ts) h e = by_test (only x n t.variable t.negated) (only x (not n) t.variable t.negated) refl refl e (λ f. apart (t.variable + 1) x n ts h.2 f)
@@ -91,7 +91,7 @@ flipped x n ts = total-same _ _ (λ v m. turned (eqb v x) n m) ts
     turned d false true = refl
     turned d false false = refl
 
--- what is left of the literals, each with coefficient 1
+-- what remains of the literals, each with coefficient 1
 counts : (x : ℕ) (n b : Bool) (ls : List (ℕ × Bool)) (rs : List Entry) (gone : ℕ) → among ls x n ≡ b → (among ls x n ≡ true → among ls x (not n) ≡ false) → IsRising 0 rs → Adds (map unit_of ls) [] rs gone →
     total (only x n) (ones rs) ≡ cond b 1 0
 counts x n true ls rs gone e other h adds =

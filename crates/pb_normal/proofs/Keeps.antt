@@ -1,4 +1,5 @@
--- The result of a rule has no other variables than its operands, and a form holds alike where its variables do. Offered to other crates.
+-- The result of a rule has no other variables than its operands. Whether a form holds depends on the values of its
+-- variables only. Offered to other crates.
 use Rattle.std.proofs.Common.{◌≡◌, ◌≢◌, ℕ, ◌+◌, ◌<◌, ◌↔◌, nat_lt, Bool, true, false, not, ◌&&◌, cond, eqb, List, [], ◌∷◌, All, map, filter, refl, ap, arith}
 use Rattle.std.proofs.lemmas.Bool.{ltb-true, lt-ltb}
 use Rattle.std.proofs.lemmas.Int.{ints}
@@ -18,13 +19,13 @@ differs p v x h k same = let twice : p x ≡ true = rw same at h in cc
 other : (e : Bool → Bool) (p : ℕ → Bool) (t : Entry) (x : ℕ) → p t.variable ≡ true → p x ≡ false → cond (eqb t.variable x && e t.negated) t.coefficient 0 ≡ 0
 other e p t x h k = counted-other t.variable x (e t.negated) t.coefficient (differs p t.variable x h k)
 
--- nothing counts on a variable outside
+-- a variable outside the set has no coefficient
 pub none_outside : (e : Bool → Bool) (p : ℕ → Bool) (x : ℕ) (ts : List Entry) → AreIn p ts → p x ≡ false → total (λ v m. eqb v x && e m) ts ≡ 0
 none_outside e p x [] h k = refl
 none_outside e p x (t ∷ ts) h k =
     omega (arith, other e p t x (All-head (λ (u : Entry). p u.variable ≡ true) t ts h) k, none_outside e p x ts (All-tail (λ (u : Entry). p u.variable ≡ true) t ts h) k)
 
--- a rising list that balances at all numbers outside has its variables inside
+-- a rising list that balances on all variables outside the set has its variables inside it
 pub balanced_outside : (p : ℕ → Bool) (m : ℕ) (ts : List Entry) → IsRising m ts → ((x : ℕ) → p x ≡ false → total (plain_of x) ts ≡ total (negated_of x) ts) → AreIn p ts
 balanced_outside p m [] h e = All-nil (λ (u : Entry). p u.variable ≡ true)
 balanced_outside p m (t ∷ ts) h e =
@@ -44,7 +45,7 @@ pub IsOver-sum : (p : ℕ → Bool) (f g r : Form) → IsSum f g r → IsOver p 
 IsOver-sum p f g r s hf hg = balanced_outside p 0 r.terms s.ordered
     (λ x out. omega (arith, ints, s.coefficients x, none_outside not p x f.terms hf out, none_outside (λ b. b) p x f.terms hf out, none_outside not p x g.terms hg out, none_outside (λ b. b) p x g.terms hg out))
 
--- the product, the quotient, the form saturated, without a term, and negated
+-- the product, the quotient, the saturated form, the form without a term, and the negation
 pub IsOver-mapped : (p : ℕ → Bool) (g : Entry → ℕ) (ts : List Entry) → AreIn p ts → AreIn p (map (λ t. with_coefficient t (g t)) ts)
 IsOver-mapped p g ts h = All-map (λ (u : Entry). p u.variable ≡ true) (λ t. with_coefficient t (g t)) ts h
 
@@ -58,14 +59,14 @@ All-to : {P Q : Entry → Type 0} (ts : List Entry) → ((t : Entry) → P t →
 All-to {P} {Q} [] f h = All-nil Q
 All-to {P} {Q} (t ∷ ts) f h = All-cons Q t ts (f t (All-head P t ts h)) (All-to ts f (All-tail P t ts h))
 
--- the numbers below n are a set
+-- the numbers below n as a set
 pub AreIn-below : (n : ℕ) (ts : List Entry) → AreIn (λ v. nat_lt v n) ts ↔ All (λ t. t.variable < n) ts
 AreIn-below n ts = (All-to ts (λ t. ltb-true t.variable n), All-to ts (λ t. lt-ltb t.variable n))
 
 pub IsOver-below : (n : ℕ) (f : Form) → IsOver (λ v. nat_lt v n) f ↔ All (λ t. t.variable < n) f.terms
 IsOver-below n f = AreIn-below n f.terms
 
--- a sum of coefficients is alike where the literals count alike
+-- if two assignments agree on the variables, the true literals have the same sum at both
 total-alike : (a b : ℕ → Bool) (ts : List Entry) → All (λ t. a t.variable ≡ b t.variable) ts → total (true_at a) ts ≡ total (true_at b) ts
 total-alike a b [] h = refl
 total-alike a b (t ∷ ts) h =

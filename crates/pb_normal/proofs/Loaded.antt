@@ -1,6 +1,8 @@
 -- The forms that constraints load as, over the names so far. Offered to other crates.
 use Rattle.std.proofs.Common.{Result, Ok, Err, OnOk, OnErr, ◌≡◌, ℕ, ◌<◌, List, [], ◌∷◌, ◌++◌, length, zero, suc, arith, refl, sym, ◌∙◌, ap, subst, append_assoc, append-nil, take, get_or, ◌+◌}
-use Rattle.std.specs.List.{AllByRecursion}
+use Rattle.std.specs.List.{All, AllByRecursion}
+use Rattle.pb_normal.specs.declared.fault.NormalFault.{NormalFault}
+use Rattle.pb_normal.specs.declared.fault.NormalFault.TheVariants.{Memory, Overflow}
 use Rattle.std.proofs.lemmas.Grind.{flat_map-append}
 use Rattle.pb_sums.specs.declared.values.Linear.{Linear}
 use Rattle.pb_sums.specs.declared.values.Relation.{Relation}
@@ -29,12 +31,21 @@ are_named names (c ∷ cs) h =
     let parts = names_split names (names_of c.terms) (constraint_names cs) h in
     named_sides names c.relation c (sides_in cs) parts.0 (are_named names cs parts.1)
 
--- over more names
+-- the same forms over more names
 pub forms_more : (names more : List (List ℕ)) (sides : List (Side × Linear)) (forms : List Form) → AreDistinct (names ++ more) → AreNamed names sides → AreFormsOf names sides forms → AreFormsOf (names ++ more) sides forms
 forms_more names more [] [] d n f = tt
 forms_more names more [] (r ∷ forms) d n f = absurd f
 forms_more names more (side ∷ sides) [] d n f = absurd f
 forms_more names more (side ∷ sides) (r ∷ forms) d n f = (IsSideOf-append names more side.0 side.1 r d n.0 f.0, forms_more names more sides forms d n.1 f.1)
+
+-- a fault that is not `Overflow`
+pub memory_alone : (e : NormalFault) → (e ≡ Overflow → ⊥) → e ≡ Memory
+memory_alone Overflow h = absurd (h refl)
+memory_alone Memory h = refl
+
+-- an element that was read from a list is one of its elements
+pub all_read : (P : Linear → Type 0) (cs : List Linear) (i : ℕ) (c : Linear) → i < length cs → c ≡ get_or cs i c → All P cs → P c
+all_read P cs i c lt e h = subst P (sym e) (h i c lt)
 
 -- one list after another
 pub forms_then : (names : List (List ℕ)) (ss ts : List (Side × Linear)) (fs gs : List Form) → AreFormsOf names ss fs → AreFormsOf names ts gs → AreFormsOf names (ss ++ ts) (fs ++ gs)
@@ -43,7 +54,7 @@ forms_then names [] ts (f ∷ fs) gs h k = absurd h
 forms_then names (s ∷ ss) ts [] gs h k = absurd h
 forms_then names (s ∷ ss) ts (f ∷ fs) gs h k = (h.0, forms_then names ss ts fs gs h.1 k)
 
--- where a constraint's names are there already, its second side is loaded over the same names
+-- if a constraint's names have numbers already, its second side is loaded over the same names
 pub loaded_twice : (old names new : List (List ℕ)) (c : Linear) (l m : Form) → names ≡ with_names old (names_of c.terms) → HasNames names (names_of c.terms) → new ≡ with_names names (names_of c.terms)
     → AreFormsOf names ((least, c) ∷ []) (l ∷ []) → AreFormsOf new ((most, c) ∷ []) (m ∷ [])
     → AreFormsOf new ((least, c) ∷ (most, c) ∷ []) (l ∷ m ∷ []) × (new ≡ with_names old (names_of c.terms))
@@ -51,7 +62,7 @@ loaded_twice old names new c l m e h k first second =
     let same : new ≡ names = k ∙ present names (names_of c.terms) h in
     (forms_then new ((least, c) ∷ []) ((most, c) ∷ []) (l ∷ []) (m ∷ []) (rw same first) second, same ∙ e)
 
--- an equality's second form behind its first
+-- the second form of an equality after its first
 pub second_loaded : {E : Type 0} (result : Result Unit E) (old names new : List (List ℕ)) (c : Linear) (before middle after : List Form) → c.relation ≡ Equal → names ≡ with_names old (names_of c.terms)
     → HasNames names (names_of c.terms)
     → (x : Form) × AreFormsOf names ((least, c) ∷ []) (x ∷ []) × (middle ≡ before ++ x ∷ [])
@@ -68,7 +79,7 @@ pub second_names : {E : Type 0} (result : Result Unit E) (old names new : List (
 second_names (Err f) old names new ns e h k = tt
 second_names (Ok u) old names new ns e h k = k ∙ present names ns h ∙ e
 
--- what was loaded so far, from these names on
+-- what was loaded so far, starting with these names
 pub record LoadedFrom (old new : List (List ℕ)) (cs : List Linear) (ls : List Form) : Type 0 where
   pub names : new ≡ with_names old (constraint_names cs)
   pub loaded : AreFormsOf new (sides_in cs) ls
@@ -76,7 +87,7 @@ pub record LoadedFrom (old new : List (List ℕ)) (cs : List Linear) (ls : List 
 pub loaded_none : (old : List (List ℕ)) → LoadedFrom old old [] []
 loaded_none old = record { names = refl; loaded = tt }
 
--- one constraint more
+-- one more constraint
 pub loaded_next : (old names new : List (List ℕ)) (cs : List Linear) (c : Linear) (ls added : List Form) → AreDistinct old → LoadedFrom old names cs ls → new ≡ with_names names (names_of c.terms)
     → AreFormsOf new (with_sides c.relation c) added → LoadedFrom old new (cs ++ c ∷ []) (ls ++ added)
 loaded_next old names new cs c ls added d before e one =
@@ -100,7 +111,7 @@ pub loaded_at : (old names new : List (List ℕ)) (cs : List Linear) (i : ℕ) (
 loaded_at old names new cs i c ls after lt e d before k (added, one, is) =
     rw (take_read cs i c c lt e, is) (loaded_next old names new (take i cs) c ls added d before k one)
 
--- ---- a front of the names
+-- ---- a prefix of the names
 front_longer : (xs ys : List (List ℕ)) (k : ℕ) → (m : ℕ) × (take m (xs ++ ys) ≡ take k xs)
 front_longer xs ys zero = (0, refl)
 front_longer [] ys (suc k) = (0, refl)
@@ -122,7 +133,7 @@ front_named names (n ∷ ns) (suc k) h = (h.0, front_named names ns k h.1)
 pub after_all : (old new ns : List (List ℕ)) → new ≡ with_names old ns → AfterFront old ns new
 after_all old new ns e = let all = whole ns in (all.0, e ∙ ap (with_names old) (sym all.1))
 
--- the names of the second side are there already
+-- the names of the second side have numbers already
 after_again : (old names new ns : List (List ℕ)) → names ≡ with_names old ns → HasNames names ns → AfterFront names ns new → AfterFront old ns new
 after_again old names new ns e h (k, is) = after_all old new ns (is ∙ present names (take k ns) (front_named names ns k h) ∙ e)
 
@@ -137,7 +148,7 @@ after_others old names new before own more e (k, is) =
     let to : before ++ take k own ≡ take outer.0 (before ++ (own ++ more)) = sym (outer.1 ∙ ap (λ (ns : List (List ℕ)). before ++ ns) inner.1) in
     (outer.0, is ∙ ap (λ (ks : List (List ℕ)). with_names ks (take k own)) e ∙ sym (in_turn old before (take k own)) ∙ ap (with_names old) to)
 
--- the names of one constraint stand behind those of the ones before
+-- the names of one constraint come after those of the constraints before
 names_at : (cs : List Linear) (i : ℕ) (c : Linear) → i < length cs → c ≡ get_or cs i c → (more : List (List ℕ)) × (constraint_names cs ≡ constraint_names (take i cs) ++ (names_of c.terms ++ more))
 names_at [] i c lt e = absurd (omega (arith, lt))
 names_at (x ∷ cs) zero c lt e = (constraint_names cs, ap (λ (y : Linear). names_of y.terms ++ constraint_names cs) (sym e))

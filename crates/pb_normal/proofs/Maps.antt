@@ -1,4 +1,4 @@
--- What a change of every term, and a filter, keep. Offered to other crates.
+-- What a change of every term and a filter preserve. Offered to other crates.
 use Rattle.std.proofs.Common.{zero, suc, inl, inr, ◌⊎◌, ◌≡◌, ℕ, ◌+◌, ◌*◌, ◌/◌, ◌%◌, min, ◌<◌, ◌≤◌, Bool, true, false, not, cond, eqb, List, [], ◌∷◌, map, refl, arith}
 use Rattle.std.specs.List.{filter}
 use Rattle.pb_normal.specs.declared.entry.Entry.{Entry}
@@ -14,7 +14,7 @@ pub IsRising-map : (g : Entry → Entry) (n : ℕ) (ts : List Entry) → ((t : E
 IsRising-map g n [] same kept h = tt
 IsRising-map g n (t ∷ ts) same kept h = (omega (arith, same t), kept t h.1, rw (same t) (IsRising-map g (t.variable + 1) ts same kept h.2))
 
--- each term counts for at least as much before
+-- each term counted for at least as much before
 pub total-map-le : (g : Entry → Entry) (p : ℕ → Bool → Bool) (ts : List Entry) → ((t : Entry) → counted p (g t) ≤ counted p t) → total p (map g ts) ≤ total p ts
 total-map-le g p [] h = omega arith
 total-map-le g p (t ∷ ts) h = omega (arith, h t, total-map-le g p ts h)
@@ -59,7 +59,7 @@ one_or_none : (r : ℕ) → (min 1 r ≡ 0) × (r ≡ 0) ⊎ (min 1 r ≡ 1) × 
 one_or_none zero = inl (omega arith, refl)
 one_or_none (suc r) = inr (omega arith, omega arith)
 
--- n is at most k times the quotient that is rounded up, which is the least such number
+-- n is at most k times its quotient rounded up, which is the least such number
 pub le-div_ceil : (n k : ℕ) → 0 < k → n ≤ k * div_ceil n k
 le-div_ceil n k h = below_ceil (n / k) (n % k) k n (min 1 (n % k)) (div-add-mod' n k) (mod_below n k h) (one_or_none (n % k))
 
@@ -106,7 +106,7 @@ total-divided p k [] h = omega arith
 total-divided p k (t ∷ ts) h =
     omega (arith, total-divided p k ts h, counted-mul (p t.variable t.negated) k (div_ceil t.coefficient k) t.coefficient (le-div_ceil t.coefficient k h))
 
--- where a form holds, its quotient holds
+-- if a form holds, its quotient holds
 pub Holds-divided : (a : ℕ → Bool) (k : ℕ) (f : Form) → 0 < k → Holds a f → Holds a (divided k f)
 Holds-divided a k f h holds =
     div_ceil-least f.degree k _ h (omega (arith, total-divided (true_at a) k f.terms h))
@@ -123,7 +123,7 @@ total-without p x (t ∷ ts) =
 pub Holds-weakened : (a : ℕ → Bool) (x : ℕ) (f : Form) → Holds a f → Holds a (weakened x f)
 Holds-weakened a x f holds = omega (arith, total-without (true_at a) x f.terms)
 
--- the literals that are true at a are those that are not true on the other side
+-- the literals that are true at an assignment are those that are false after negation
 opposite-sum : (v n : Bool) (c : ℕ) → cond (cond n (not v) v) c 0 + cond (cond (not n) (not v) v) c 0 ≡ c
 opposite-sum true true c = omega arith
 opposite-sum true false c = omega arith
@@ -134,7 +134,7 @@ total-opposite : (a : ℕ → Bool) (ts : List Entry) → total (true_at a) ts +
 total-opposite a [] = refl
 total-opposite a (t ∷ ts) = omega (arith, total-opposite a ts, opposite-sum (a t.variable) t.negated t.coefficient)
 
--- the negation holds exactly where the form does not
+-- the negation holds if and only if the form does not
 pub Holds-negation : (a : ℕ → Bool) (f : Form) → 1 ≤ f.degree → Holds a (negation_of f) → ¬ Holds a f
 Holds-negation a f h n holds = omega (arith, total-opposite a f.terms)
 

@@ -1,4 +1,4 @@
--- The size and the degree of a sum, by what cancels.
+-- The size and the degree of a sum, in terms of what cancels.
 use Rattle.std.proofs.Common.{inl, inr, ◌≡◌, ℕ, ◌+◌, ◌-◌, ◌*◌, ◌<◌, ◌≤◌, List, refl, sym, ◌∙◌, ap, arith, ◌↔◌}
 use Rattle.pb_normal.specs.declared.entry.Entry.{Entry}
 use Rattle.pb_normal.specs.Adds.{Adds, Cancels}
@@ -29,7 +29,7 @@ SumIsContradiction-measured f g s d m = (
       omega (arith, m.2, m.3, w.2),
 )
 
--- the merged list with the degree that was measured is the sum
+-- the merged list with the measured degree is the sum
 pub IsSum-measured : (f g : Form) (s d : ℕ) (rs : List Entry) (c : ℕ) → SumMeasures f g s d → IsRising 0 rs → Adds f.terms g.terms rs c → IsSum f g record { terms = rs; degree = d } × (total each rs ≡ s)
 IsSum-measured f g s d rs c m rising adds =
     let sum = IsSum-from f g rs c rising adds in

@@ -1,4 +1,4 @@
--- What the merge of two lists keeps, and its steps
+-- What the merge of two lists preserves, and its steps. Offered to other crates.
 use Rattle.std.proofs.Common.{◌≡◌, ℕ, ◌+◌, ◌<◌, ◌≤◌, false, List, [], ◌∷◌, ◌++◌, length, take, drop, get_or, arith, append_assoc, add-zero, ◌⊎◌, inl, inr, Option, Some, None, IfSome}
 use Rattle.std.specs.Option.{option_to_list}
 use Rattle.std.proofs.lemmas.List.{append-nil, drop_all, take-append-drop}
@@ -44,7 +44,7 @@ Merging-right left right i j out c d x y m ilt jlt xe ye lt =
       right_rising = rw (append_assoc) (rw dy at m.right_rising);
     }
 
--- both entries give the entry t
+-- both entries add up to the entry t
 pub Merging-both : (left right : List Entry) (i j : ℕ) (out : List Entry) (c : ℕ) (d x y t : Entry) (g : ℕ) → Merging left right i j out c → i < length left → j < length right → x ≡ get_or left i d → y ≡ get_or right j d → x.variable ≡ y.variable → Adds (x ∷ []) (y ∷ []) (t ∷ []) g → (t.variable ≡ x.variable) × (0 < t.coefficient) → Merging left right (i + 1) (j + 1) (out ++ t ∷ []) (c + g)
 Merging-both left right i j out c d x y t g m ilt jlt xe ye e a k =
     let dx = drop_read left i d x ilt xe in
@@ -71,7 +71,7 @@ Merging-none left right i j out c d x y g m ilt jlt xe ye a =
       right_rising = IsRising-without 0 out y _ (rw dy at m.right_rising);
     }
 
--- where one list is at its end, the rests of both follow
+-- if one list is at its end, the rests of both follow
 pub Merging-end : (left right : List Entry) (i j : ℕ) (out : List Entry) (c : ℕ) → Merging left right i j out c → Adds left right ((out ++ drop i left) ++ drop j right) c
 Merging-end left right i j out c m =
     let a = Adds-append _ _ _ _ _ _ _ _ m.adds (Adds-apart (drop i left) (drop j right)) in
@@ -92,14 +92,14 @@ total-read xs i d x lt e =
     let t = rw (take-append-drop, drop_read xs i d x lt e) at s in
     omega arith
 
--- what a value reads as where there is none
+-- the default value of a read outside the list
 abbrev pub no_entry : Entry
 no_entry = record { variable = 0; negated = false; coefficient = 0 }
 
 pub positive-read : (n : ℕ) (out xs : List Entry) (i : ℕ) (d x : Entry) → IsRising n (out ++ drop i xs) → i < length xs → x ≡ get_or xs i d → 0 < x.coefficient
 positive-read n out xs i d x h lt e = IsRising-positive n out x _ (rw (drop_read xs i d x lt e) at h)
 
--- both entries give what `combined` says
+-- both entries give the result of `combined`
 pub Merging-combined : (left right : List Entry) (i j : ℕ) (out : List Entry) (c : ℕ) (d x y : Entry) (o : Option Entry) (g : ℕ) → Merging left right i j out c → i < length left → j < length right → x ≡ get_or left i d → y ≡ get_or right j d → x.variable ≡ y.variable → Adds (x ∷ []) (y ∷ []) (option_to_list o) g → IfSome o (λ t. (t.variable ≡ x.variable) × (0 < t.coefficient)) → Merging left right (i + 1) (j + 1) (out ++ option_to_list o) (c + g)
 Merging-combined left right i j out c d x y (Some t) g m ilt jlt xe ye e a k = Merging-both left right i j out c d x y t g m ilt jlt xe ye e a k
 Merging-combined left right i j out c d x y None g m ilt jlt xe ye e a k = rw append-nil (Merging-none left right i j out c d x y g m ilt jlt xe ye a)

@@ -10,7 +10,7 @@ use Rattle.pb_normal.specs.Written.{term_of}
 abbrev pub term_named : List ℕ → Entry → Term
 term_named name t = record { coefficient = pos t.coefficient; literal = record { name = name; negated = t.negated } }
 
--- one term more
+-- one more term
 pub terms_push : (names : List (List ℕ)) (ts : List Entry) (i : ℕ) (d : Entry) (out : List Term) (name : List ℕ) → i < length ts → slice_get names (get_or ts i d).variable ≡ Some name → out ≡ map (term_of names) (take i ts) → out ++ term_named name (get_or ts i d) ∷ [] ≡ map (term_of names) (take (i + 1) ts)
 terms_push names ts i d out name lt get e =
     let t = get_or ts i d in

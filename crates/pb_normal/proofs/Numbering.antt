@@ -1,4 +1,4 @@
--- A number once given stays, and names appear one by one. Offered to other crates.
+-- A name keeps its number, and names appear one by one. Offered to other crates.
 use Rattle.std.proofs.Common.{◌≡◌, ℕ, zero, suc, ◌+◌, ◌<◌, Bool, true, false, not, ◌||◌, cond, List, [], ◌∷◌, ◌++◌, length, take, map, refl, sym, ◌∙◌, ap, arith, Option, Some, None, slice_get, Result, Ok, Err, OnErr, nat_lt}
 use Rattle.std.specs.List.{list_any, position, position_or_len}
 use Rattle.std.specs.Str.{bytes_eq}
@@ -23,7 +23,7 @@ second : (a b : Bool) → (a || b) ≡ true → a ≡ false → b ≡ true
 second true b e f = absurd cc
 second false b e f = e
 
--- a place that was found stays when more follows
+-- a position that was found is the same if more elements follow
 position_or_len-found : {A : Type 0} (p : A → Bool) (xs ys : List A) → list_any p xs ≡ true → position_or_len p (xs ++ ys) ≡ position_or_len p xs
 position_or_len-found p [] ys e = absurd cc
 position_or_len-found p (x ∷ xs) ys e = stays (p x) _ _ (λ f. position_or_len-found p xs ys (second (p x) (list_any p xs) e f))
@@ -40,7 +40,7 @@ list_any-last : {A : Type 0} (p : A → Bool) (xs : List A) (y : A) → p y ≡ 
 list_any-last p [] y e = rw e refl
 list_any-last p (x ∷ xs) y e = or_right (p x) _ (list_any-last p xs y e)
 
--- names and their numbers stay when more names follow
+-- names keep their numbers if more names follow
 pub has_name-append : (names more : List (List ℕ)) (q : List ℕ) → has_name names q ≡ true → has_name (names ++ more) q ≡ true
 has_name-append names more q e = list_any-more (bytes_eq q) names more e
 
@@ -103,7 +103,7 @@ place_here : (b : Bool) (m : ℕ) → b ≡ true → cond (not b) (1 + m) 0 ≡ 
 place_here true m h = refl
 place_here false m h = absurd cc
 
--- among distinct names a name has one place
+-- among distinct names a name has one position
 pub number_in-get : (names : List (List ℕ)) (x : ℕ) (q : List ℕ) → AreDistinct names → slice_get names x ≡ Some q → number_in names q ≡ x
 number_in-get [] x q d e = absurd cc
 number_in-get (n ∷ names) zero q d e = place_here (bytes_eq q n) _ ((bytes_eq-Decides q n).1 (let same : q ≡ n = cc in same))
@@ -123,7 +123,7 @@ none_pushed (m ∷ names) k n h f =
     let parts = or_parts (bytes_eq n m) (has_name names n) h in
     or_from (bytes_eq n m) _ parts.0 (none_pushed names k n parts.1 f)
 
--- a new name is one more that is distinct
+-- distinct names and a new one are distinct
 pub AreDistinct-push : (names : List (List ℕ)) (k : List ℕ) → AreDistinct names → has_name names k ≡ false → AreDistinct (names ++ k ∷ [])
 AreDistinct-push [] k d e = (refl, tt)
 AreDistinct-push (n ∷ names) k d e =
@@ -145,7 +145,7 @@ AreDistinct-with names k d = by_test (has_name names k) refl
     by_test true t = d
     by_test false t = AreDistinct-push names k d t
 
--- a position, in the words of names and numbers
+-- a position in terms of names and numbers
 pub position-number : (names : List (List ℕ)) (q : List ℕ) → position (bytes_eq q) names ≡ cond (has_name names q) (let o : Option ℕ = Some (number_in names q) in o) None
 position-number names q = at (has_name names q) refl
   where
@@ -174,7 +174,7 @@ pub record Numbering (side : Side) (old new : List (List ℕ)) (ts : List Term) 
   pub names : new ≡ with_names old (names_of ts)
   pub entries : out ≡ map (raw_of new) (side_terms side ts)
 
--- one term more
+-- one more term
 pub Numbering-push : (side : Side) (old ks new : List (List ℕ)) (ts : List Term) (t : Term) (out : List Entry) (n : ℕ) → Numbering side old ks ts out → new ≡ with_name ks t.literal.name → n ≡ number_in new t.literal.name → Numbering side old new (ts ++ t ∷ []) (out ++ entry_of n t.literal.negated (side_number side t.coefficient) ∷ [])
 Numbering-push side old ks new ts t out n h e p =
     let last = ap (λ m. entry_of m t.literal.negated (side_number side t.coefficient)) p in

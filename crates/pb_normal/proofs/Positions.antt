@@ -1,4 +1,4 @@
--- Positions in a list that is mapped, or that has one more
+-- Positions in a list that is mapped, or that has one more element
 use Rattle.std.proofs.Common.{◌≡◌, ℕ, suc, ◌+◌, Bool, true, false, not, ◌||◌, cond, ltb, List, [], ◌∷◌, ◌++◌, length, map, get_or, slice_get, Option, Some, None, IfSome, refl, sym, ◌∙◌, ap, arith}
 use Rattle.std.specs.List.{list_any, position, position_or_len}
 use Rattle.std.specs.Str.{bytes_eq}
@@ -42,7 +42,7 @@ pub list_any-same : {A : Type 0} (p q : A → Bool) (xs : List A) → ((x : A) �
 list_any-same p q [] h = refl
 list_any-same p q (x ∷ xs) h = let first = h x in let rest = list_any-same p q xs h in cc
 
--- a list with a new key, seen through f
+-- a list with a new key, mapped by f
 pub map-inserted : {A B : Type 0} (f : A → B) (e : A → Bool) (p : B → Bool) (xs : List A) (y : A) → ((x : A) → e x ≡ p (f x)) → list_any p (map f xs) ≡ false → map f (cond (list_any e xs) xs (xs ++ y ∷ [])) ≡ map f xs ++ f y ∷ []
 map-inserted f e p xs y same none =
     let absent : list_any e xs ≡ false = list_any-same e (λ x. p (f x)) xs same ∙ sym (list_any-map f p xs) ∙ none in
@@ -53,7 +53,7 @@ position-inserted f e p xs y same none here =
     let absent : list_any e xs ≡ false = list_any-same e (λ x. p (f x)) xs same ∙ sym (list_any-map f p xs) ∙ none in
     position-push p (map f xs) (f y) none here ∙ ap (λ n. let o : Option ℕ = Some n in o) (length-map xs f ∙ sym (position_or_len-none e xs absent))
 
--- what a position is of
+-- the name at a position that was found
 pub named_at : (names : List (List ℕ)) (q : List ℕ) (o : Option ℕ) → o ≡ position (bytes_eq q) names → IfSome o (λ n. slice_get names n ≡ Some q)
 named_at names q None e = tt
 named_at names q (Some n) e =

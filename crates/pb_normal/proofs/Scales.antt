@@ -12,7 +12,7 @@ use Rattle.pb_normal.proofs.Maps.{IsRising-map, total-filter-le, total-map-le, c
 use Rattle.pb_normal.proofs.Merging.{total-read}
 use Rattle.pb_normal.proofs.Totals.{IsRising-from}
 
--- a quotient against a product
+-- comparing a quotient and a product
 pub past_quotient : (m n k : ℕ) → 0 < k → n / k < m → n < m * k
 past_quotient m n k h lt =
     elim (cases_lt n (m * k)) [ inl past ↦ past | inr le ↦ absurd (omega (arith, le-div m n k h le)) ]
@@ -35,7 +35,7 @@ times_pos (suc n) k h p = omega arith
 pub IsRising-multiplied : (k n : ℕ) (ts : List Entry) → 0 < k → IsRising n ts → IsRising n (map (λ t. with_coefficient t (t.coefficient * k)) ts)
 IsRising-multiplied k n ts h r = IsRising-map _ n ts (λ t. refl) (λ t p. times_pos t.coefficient k p h) r
 
--- each product is below m, where the total is
+-- each product is at most m if the product of the total is
 pub All-multiplied : (k m : ℕ) (ts : List Entry) → total each ts * k ≤ m → All (λ t. t.coefficient * k < m + 1) ts
 All-multiplied k m ts le i d lt =
     omega (arith, mul-le-mul_left k (total-read ts i d (get_or ts i d) lt refl))
@@ -91,7 +91,7 @@ IsNormal-saturated f n = record {
   degree_in = n.degree_in;
 }
 
--- a product passes the limit exactly where the form passes the quotient
+-- a product exceeds the limit if and only if the form exceeds the quotient
 pub Passes-size : (limit k : ℕ) (f : Form) → 0 < k → limit / k < size f → Passes limit (multiplied k f)
 Passes-size limit k f h lt = inl (omega (arith, total-multiplied each k f.terms, past_quotient (size f) limit k h lt))
 

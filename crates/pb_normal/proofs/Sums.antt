@@ -1,4 +1,4 @@
--- The sum of two forms: that a merge gives it, and that it holds where both forms hold. Offered to other crates.
+-- The sum of two forms: a merge computes it, and it holds if both forms hold. Offered to other crates.
 use Rattle.std.proofs.Common.{◌≡◌, ℕ, ◌+◌, ◌-◌, ◌≤◌, max, Bool, true, false, not, ◌&&◌, cond, eqb, List, refl, sym, arith, ℤ, pos, negsuc, ◌+ℤ◌}
 use Rattle.std.proofs.lemmas.Int.{ints}
 use Rattle.pb_normal.specs.declared.entry.Entry.{Entry}
@@ -25,12 +25,12 @@ IsSum-from f g rs c rising h = record {
   degree = sym (at_least_0-is ((bound f +ℤ bound g) +ℤ pos (total negative rs)) (f.degree + g.degree) c (omega (arith, ints, h.lows)));
 }
 
--- one variable's part of the balance, where b tells whether it is true
+-- one variable's part of the balance; b says whether the variable is true
 balance_at : (b : Bool) (on_r off_r on_f off_f on_g off_g : ℕ) → on_r + off_f + off_g ≡ off_r + on_f + on_g → (cond b on_r 0 + cond (not b) off_r 0) + (0 + off_f) + (0 + off_g) ≡ (0 + off_r) + (cond b on_f 0 + cond (not b) off_f 0) + (cond b on_g 0 + cond (not b) off_g 0)
 balance_at true on_r off_r on_f off_f on_g off_g h = omega arith
 balance_at false on_r off_r on_f off_f on_g off_g h = omega arith
 
--- where coefficients add up, the true literals at an assignment do, but for what stands on negations
+-- if coefficients add up, so do the sums of the true literals at an assignment, up to the coefficients on negations
 pub total-sum : (a : ℕ → Bool) (xs ys rs : List Entry) → ((x : ℕ) → total (plain_of x) rs + total (negated_of x) xs + total (negated_of x) ys ≡ total (negated_of x) rs + total (plain_of x) xs + total (plain_of x) ys) → total (true_at a) rs + total negative xs + total negative ys ≡ total negative rs + total (true_at a) xs + total (true_at a) ys
 total-sum a xs ys rs h =
     let n = max (top rs) (max (top xs) (top ys)) in
@@ -42,7 +42,7 @@ at_least_0-le : (z : ℤ) (m k n : ℕ) → (z +ℤ pos k) ≡ pos m → m ≤ n
 at_least_0-le (pos i) m k n e le = omega (arith, ints)
 at_least_0-le (negsuc i) m k n e le = omega arith
 
--- where two forms hold, their sum holds
+-- if two forms hold, their sum holds
 pub Holds-sum : (a : ℕ → Bool) (f g r : Form) → IsSum f g r → Holds a f → Holds a g → Holds a r
 Holds-sum a f g r s hf hg =
     let t = total-sum a f.terms g.terms r.terms (λ x. omega (arith, ints, s.coefficients x)) in

@@ -1,4 +1,4 @@
--- Lemmas on totals and on lists whose variables rise
+-- Lemmas on totals and on lists with rising variables
 use Rattle.std.proofs.Common.{◌≡◌, ℕ, ◌+◌, ◌*◌, ◌<◌, ◌≤◌, Bool, true, false, not, cond, List, [], ◌∷◌, ◌++◌, refl, arith}
 use Rattle.pb_normal.specs.declared.entry.Entry.{Entry}
 use Rattle.pb_normal.specs.Form.{total, each, negative, IsRising}
@@ -12,7 +12,7 @@ counted-split : (b : Bool) (n : ℕ) → n ≡ cond b n 0 + cond (not b) n 0
 counted-split true n = omega arith
 counted-split false n = omega arith
 
--- the size is what stands on literals and what stands on their negations
+-- the size is the sum of the coefficients on variables and of those on negations
 pub total-each : (xs : List Entry) → total each xs ≡ total negative xs + total (flip negative) xs
 total-each [] = refl
 total-each (x ∷ xs) = omega (arith, total-each xs, counted-split x.negated x.coefficient)
@@ -23,7 +23,7 @@ Adds-append a b r a' b' r' c c' h k = record {
   lows = simp total-append (omega (arith, h.lows, k.lows));
 }
 
--- with no variable in common nothing cancels
+-- without a common variable nothing cancels
 pub Adds-apart : (xs ys : List Entry) → Adds xs ys (xs ++ ys) 0
 Adds-apart xs ys = record {
   signed = λ p. simp total-append (omega arith);

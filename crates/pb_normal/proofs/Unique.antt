@@ -7,13 +7,13 @@ use Rattle.pb_normal.specs.Rules.{IsSum}
 use Rattle.pb_normal.specs.Form.{Form, counted, total, negative, plain_of, negated_of, IsRising, IsOrdered, coefficient, low}
 use Rattle.pb_normal.proofs.Variables.{counted-here, counted-other}
 
--- nothing counts on a variable below all others
+-- a variable below all others has no coefficient
 pub none_below : (e : Bool → Bool) (x n : ℕ) (ts : List Entry) → IsRising n ts → x < n → total (λ v m. eqb v x && e m) ts ≡ 0
 none_below e x n [] h lt = refl
 none_below e x n (t ∷ ts) h lt =
     omega (arith, none_below e x (t.variable + 1) ts h.2 (omega (arith, h.0)), counted-other t.variable x (e t.negated) t.coefficient (λ same. omega (arith, h.0)))
 
--- a term on a variable that nothing balances
+-- a single term on a variable does not balance
 pub one_sided : (b : Bool) (c : ℕ) → 0 < c → cond (not b) c 0 ≡ cond b c 0 → ⊥
 one_sided true c p e = omega arith
 one_sided false c p e = omega arith
@@ -56,11 +56,11 @@ IsRising-same n (x ∷ xs) (y ∷ ys) h k e =
 pub same_form : (ts us : List Entry) (d e : ℕ) → ts ≡ us → d ≡ e → (let f : Form = record { terms = ts; degree = d } in f) ≡ record { terms = us; degree = e }
 same_form ts us d e p q = rw (p, q) refl
 
--- two forms with the same coefficients and the same degree are one
+-- two forms with the same coefficients and the same degree are equal
 pub form-unique : (r s : Form) → IsOrdered r → IsOrdered s → ((x : ℕ) → coefficient r x ≡ coefficient s x) → r.degree ≡ s.degree → r ≡ s
 form-unique r s p q e d = same_form r.terms s.terms r.degree s.degree (IsRising-same 0 r.terms s.terms p q (λ z. omega (arith, ints, e z))) d
 
--- two sums of the same forms are one
+-- two sums of the same forms are equal
 pub IsSum-unique : (f g r s : Form) → IsSum f g r → IsSum f g s → r ≡ s
 IsSum-unique f g r s p q =
     let terms = IsRising-same 0 r.terms s.terms p.ordered q.ordered (λ z. omega (arith, ints, p.coefficients z, q.coefficients z)) in

@@ -31,12 +31,12 @@ up_to-one g v (suc n) lt h =
       | inr ne ↦ omega (arith, up_to-one g v n (omega arith) h, h n (omega arith))
     ]
 
--- six sums that balance at each variable balance
+-- six sums that balance at each variable balance as a whole
 pub up_to-balance : (a b c d e f : ℕ → ℕ) (n : ℕ) → ((x : ℕ) → a x + b x + c x ≡ d x + e x + f x) → up_to a n + up_to b n + up_to c n ≡ up_to d n + up_to e n + up_to f n
 up_to-balance a b c d e f zero h = refl
 up_to-balance a b c d e f (suc n) h = omega (arith, up_to-balance a b c d e f n h, h n)
 
--- what counts on the variable x
+-- the sum of the coefficients that count on the variable x
 abbrev pub share : (ℕ → Bool → Bool) → List Entry → ℕ → ℕ
 share p ts x = cond (p x false) (total (plain_of x) ts) 0 + cond (p x true) (total (negated_of x) ts) 0
 
@@ -60,7 +60,7 @@ at_sign : (f : Bool → Bool) (n : Bool) → cond n (f true) (f false) ≡ f n
 at_sign f true = refl
 at_sign f false = refl
 
--- what a coefficient counts for on a variable that is another, and on its own
+-- what a coefficient counts for on another variable, and on its own
 pub counted-other : (v x : ℕ) (b : Bool) (c : ℕ) → v ≢ x → cond (eqb v x && b) c 0 ≡ 0
 counted-other v x b c ne = ap (λ (e : Bool). cond (e && b) c 0) (ne_eqb v x ne)
 
@@ -73,7 +73,7 @@ cond_zero true false n m e f = omega arith
 cond_zero false true n m e f = omega arith
 cond_zero false false n m e f = omega arith
 
--- what one term puts on the variable x
+-- what one term contributes on the variable x
 abbrev share_of : (ℕ → Bool → Bool) → Entry → ℕ → ℕ
 share_of p t x = cond (p x false) (counted (plain_of x) t) 0 + cond (p x true) (counted (negated_of x) t) 0
 

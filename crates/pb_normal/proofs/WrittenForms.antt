@@ -35,7 +35,7 @@ pub total-raw : (names : List (List ℕ)) (ts : List Term) → total each (map (
 total-raw names [] = refl
 total-raw names (t ∷ ts) = omega (arith, total-raw names ts)
 
--- a term stands on the variable x exactly where its name is the one with that number
+-- a term is on the variable x if and only if its name is the one with that number
 same_test : (names : List (List ℕ)) (q name : List ℕ) (x : ℕ) → AreDistinct names → has_name names q ≡ true → slice_get names x ≡ Some name → eqb (number_in names q) x ≡ bytes_eq q name
 same_test names q name x d has get = by_test (bytes_eq q name) refl
   where
@@ -112,7 +112,7 @@ All-raw names [] h = All-nil (λ (t : Entry). t.variable < length names)
 All-raw names (t ∷ ts) h =
     All-cons (λ (u : Entry). u.variable < length names) (raw_of names t) (map (raw_of names) ts) (number_in-below names t.literal.name h.0) (All-raw names ts h.1)
 
--- what is collected from the terms is their form
+-- what was collected from the terms is their form
 pub IsFormOf-from : (names : List (List ℕ)) (ts : List Term) (d : ℤ) (rs : List Entry) (up down gone : ℕ) → AreDistinct names → HasNames names (names_of ts) → (d +ℤ pos down) ≡ pos up → IsRising 0 rs → Adds (map (raw_of names) ts) [] rs gone → IsFormOf names ts d record { terms = rs; degree = up + shift ts - (down + gone) }
 IsFormOf-from names ts d rs up down gone distinct has e rising h =
     let raw = map (raw_of names) ts in
@@ -140,7 +140,7 @@ at_least_0-below : (z : ℤ) (n : ℕ) → (at_least_0 z ≤ n) ↔ (z ≤ℤ po
 at_least_0-below (pos k) n = (λ h. omega (arith, ints), λ h. omega (arith, ints))
 at_least_0-below (negsuc k) n = (λ h. omega (arith, ints), λ h. omega (arith, ints))
 
--- a form of the terms holds exactly where their sum is at least the degree
+-- a form of the terms holds if and only if their sum is at least the degree
 pub Holds-form : (names : List (List ℕ)) (ts : List Term) (d : ℤ) (r : Form) → AreDistinct names → HasNames names (names_of ts) → IsFormOf names ts d r → (a : List ℕ → Bool) → Holds (by_number names a) r ↔ (d ≤ℤ true_sum a ts)
 Holds-form names ts d r distinct has f a =
     let raw = map (raw_of names) ts in
@@ -163,7 +163,7 @@ IsFormOf-unique names ts d r s p q =
     let degrees : r.degree ≡ s.degree = p.degree ∙ rw lows (sym q.degree) in
     same_form r.terms s.terms r.degree s.degree terms degrees
 
--- forms of the same sides are the same, where each sum has one
+-- forms of the same sides are equal if each sum has only one form
 pub same_forms : ((names : List (List ℕ)) (ts : List Term) (d : ℤ) (r s : Form) → IsFormOf names ts d r → IsFormOf names ts d s → r ≡ s)
     → (names : List (List ℕ)) (sides : List (Side × Linear)) (fs gs : List Form) → AreFormsOf names sides fs → AreFormsOf names sides gs → fs ≡ gs
 same_forms unique names [] [] [] h k = refl
@@ -205,7 +205,7 @@ true_sum-most a (t ∷ ts) =
 HasNames-side : (names : List (List ℕ)) (side : Side) (ts : List Term) → HasNames names (names_of ts) → HasNames names (names_of (side_terms side ts))
 HasNames-side names side ts h = rw (names_of-side side ts) h
 
--- the form of a side holds exactly where the side does
+-- the form of a side holds if and only if the side does
 pub SameSolutions-side : (names : List (List ℕ)) (side : Side) (linear : Linear) (r : Form) → AreDistinct names → HasNames names (names_of linear.terms) → IsSideOf names side linear r → SameSolutions names side linear r
 SameSolutions-side names AtLeast linear r distinct has f a =
     let whole = Holds-form names _ _ r distinct (HasNames-side names AtLeast linear.terms has) f a in
@@ -225,7 +225,7 @@ pub HasNames-append : (names more ns : List (List ℕ)) → HasNames names ns �
 HasNames-append names more [] h = tt
 HasNames-append names more (n ∷ ns) h = (has_name-append names more n h.0, HasNames-append names more ns h.1)
 
--- a form stays the form of its terms when more names appear
+-- a form remains the form of its terms if more names appear
 pub IsFormOf-append : (names more : List (List ℕ)) (ts : List Term) (d : ℤ) (r : Form) → AreDistinct (names ++ more) → HasNames names (names_of ts) → IsFormOf names ts d r → IsFormOf (names ++ more) ts d r
 IsFormOf-append names more ts d r distinct has f =
     let balanced = Balanced-raw names ts d r (AreDistinct-front names more distinct) has f in
@@ -250,7 +250,7 @@ pub SameAsForms-from : (names : List (List ℕ)) (linear : Linear) (r s : Form) 
 SameAsForms-from names linear r s e h k a =
     rw e (λ w. ((h a).1 (omega (arith, ints)), (k a).1 (omega (arith, ints))), λ w. let low = (h a).0 w.0 in let high = (k a).0 w.1 in omega (arith, ints))
 
--- what one term counts for is within the whole
+-- the magnitude of one term is at most that of the whole
 pub magnitude-append : (xs ys : List Term) → magnitude (xs ++ ys) ≡ magnitude xs + magnitude ys
 magnitude-append [] ys = omega arith
 magnitude-append (x ∷ xs) ys = omega (arith, magnitude-append xs ys)
@@ -268,7 +268,7 @@ shift-le (t ∷ ts) = omega (arith, shift-le ts, counted-le-all (is_below_0 t.co
 pub shift-side-le : (side : Side) (ts : List Term) → shift (side_terms side ts) ≤ magnitude ts
 shift-side-le side ts = omega (arith, shift-le (side_terms side ts), magnitude-side side ts)
 
--- what is known of a side when all has been collected
+-- what holds for a side after all has been collected
 pub record Collected (names : List (List ℕ)) (side : Side) (linear : Linear) (rs : List Entry) (up down gone limit : ℕ) : Type 0 where
   pub small : magnitude linear.terms + unsigned_abs linear.degree ≤ limit
   pub distinct : AreDistinct names
@@ -278,7 +278,7 @@ pub record Collected (names : List (List ℕ)) (side : Side) (linear : Linear) (
   pub rising : IsRising 0 rs
   pub adds : Adds (map (raw_of names) (side_terms side linear.terms)) [] rs gone
 
--- the same, from what the steps ensure
+-- the same, derived from the contracts of the steps
 pub Collected-from : (names : List (List ℕ)) (side : Side) (linear : Linear) (ts : List Term) (raw rs : List Entry) (z : ℤ) (up down gone limit : ℕ) → FitsSigned w128 linear.degree → FitsSigned w128 z → ts ≡ linear.terms → magnitude linear.terms + unsigned_abs linear.degree ≤ limit → AreDistinct names → HasNames names (names_of ts) → z ≡ side_number side (to_z w128 (of_z w128 linear.degree)) → (to_z w128 (of_z w128 z) +ℤ pos down) ≡ pos up → up + down ≡ unsigned_abs (to_z w128 (of_z w128 z)) → IsRising 0 rs → raw ≡ map (raw_of names) (side_terms side ts) → Adds raw [] rs gone → Collected names side linear rs up down gone limit
 Collected-from names side linear ts raw rs z up down gone limit fits z_fits same small distinct named sign difference parts rising entries adds =
     let signed = rw (to_z-of_z w128 linear.degree fits) at sign in
@@ -315,7 +315,7 @@ pub IsSideOf-Collected : (names : List (List ℕ)) (side : Side) (linear : Linea
 IsSideOf-Collected names side linear rs up down gone limit k =
     IsFormOf-from names (side_terms side linear.terms) (side_number side linear.degree) rs up down gone k.distinct (HasNames-side names side linear.terms k.named) k.difference k.rising k.adds
 
--- a form written out holds as the form does
+-- a form that is written with names holds if and only if the form does
 true_sum-terms : (names : List (List ℕ)) (a : List ℕ → Bool) (ts : List Entry) → true_sum a (map (term_of names) ts) ≡ pos (total (true_at (by_number names a)) ts)
 true_sum-terms names a [] = refl
 true_sum-terms names a (t ∷ ts) =

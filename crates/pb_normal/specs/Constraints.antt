@@ -1,4 +1,4 @@
--- Written constraints as forms: which sides each loads as, the names that appear, and which fit.
+-- Written constraints as forms: which sides each constraint loads as, the names that appear, and which constraints fit.
 use Rattle.std.specs.Prelude.{ℕ, ◌+◌, ◌≤◌, unsigned_abs, List, [], ◌∷◌, map}
 use Rattle.std.specs.List.{flat_map, AllZip}
 use Rattle.pb_sums.specs.declared.values.Linear.{Linear}
@@ -9,11 +9,11 @@ use Rattle.pb_normal.specs.declared.side.Side.TheVariants.{AtLeast as least, AtM
 use Rattle.pb_normal.specs.Form.{Form}
 use Rattle.pb_normal.specs.Written.{names_of, magnitude, IsSideOf}
 
--- the names that are written in constraints, as often as they are
+-- the names that are written in constraints, with repetitions
 abbrev pub constraint_names : List Linear → List (List ℕ)
 constraint_names = flat_map (λ c. names_of c.terms)
 
--- the sides that a constraint loads as: the one at least, and for an equality then the one at most
+-- the sides that a constraint loads as: "at least", and for an equality then "at most"
 abbrev pub sides_of : Relation → List Side
 sides_of AtLeast = least ∷ []
 sides_of Equal = least ∷ most ∷ []
@@ -29,6 +29,6 @@ sides_in = flat_map (λ c. with_sides c.relation c)
 abbrev pub AreFormsOf : List (List ℕ) → List (Side × Linear) → List Form → Type 0
 AreFormsOf names = AllZip (λ side r. IsSideOf names side.0 side.1 r)
 
--- the magnitudes of a constraint's coefficients and of its degree are within the limit together
+-- the magnitudes of a constraint's coefficients and of its degree add up to at most the limit
 abbrev pub Fits : ℕ → Linear → Type 0
 Fits limit c = magnitude c.terms + unsigned_abs c.degree ≤ limit

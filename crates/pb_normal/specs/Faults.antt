@@ -1,4 +1,4 @@
--- What a fault of a form says.
+-- The text of a fault of a form.
 use Rattle.std.specs.Prelude.{ℕ, List, codes}
 use Rattle.pb_normal.specs.declared.fault.NormalFault.{NormalFault}
 use Rattle.pb_normal.specs.declared.fault.NormalFault.TheVariants.{Overflow, Memory}

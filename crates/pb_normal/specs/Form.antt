@@ -2,7 +2,7 @@
 use Rattle.std.specs.Prelude.{◌≡◌, ℕ, ◌+◌, ◌<◌, ◌≤◌, ◌^◌, ◌==◌, ℤ, pos, negsuc, ◌-ℤ◌, ◌≤ℤ◌, unsigned_abs, Bool, true, not, ◌&&◌, ◌↔◌, if◌then◌else◌, List, [], ◌∷◌, slice_get, Some, All}
 use Rattle.pb_normal.specs.declared.entry.Entry.{Entry}
 
--- an entry's coefficient, where its literal counts
+-- an entry's coefficient if its literal counts, and 0 otherwise
 abbrev pub counted : (ℕ → Bool → Bool) → Entry → ℕ
 counted p t = if p t.variable t.negated then t.coefficient else 0
 
@@ -32,7 +32,7 @@ abbrev pub IsRising : ℕ → List Entry → Type 0
 IsRising n [] = Unit {0}
 IsRising n (t ∷ ts) = (n ≤ t.variable) × (0 < t.coefficient) × IsRising (t.variable + 1) ts
 
--- z, or 0 where z is below 0
+-- z, or 0 if z is below 0
 abbrev pub at_least_0 : ℤ → ℕ
 at_least_0 (pos n) = n
 at_least_0 (negsuc _) = 0
@@ -48,15 +48,15 @@ size f = total each f.terms
 abbrev pub low : Form → ℕ
 low f = total negative f.terms
 
--- what stands on x, less what stands on its negation
+-- the coefficient of x minus the coefficient of its negation
 abbrev pub coefficient : Form → ℕ → ℤ
 coefficient f x = pos (total (plain_of x) f.terms) -ℤ pos (total (negated_of x) f.terms)
 
--- the degree as it would be with all coefficients on variables that are not negated
+-- the degree if all coefficients were on variables that are not negated
 abbrev pub bound : Form → ℤ
 bound f = pos f.degree -ℤ pos (low f)
 
--- the coefficients of the true literals sum to the degree
+-- the coefficients of the true literals add up to at least the degree
 abbrev pub Holds : (ℕ → Bool) → Form → Type 0
 Holds a f = f.degree ≤ total (true_at a) f.terms
 
@@ -68,23 +68,23 @@ IsOver p f = All (λ t. p t.variable ≡ true) f.terms
 abbrev pub AgreeOn : (ℕ → Bool) → (ℕ → Bool) → Form → Type 0
 AgreeOn a b f = All (λ t. a t.variable ≡ b t.variable) f.terms
 
--- r holds wherever f does
+-- r holds if f does
 abbrev pub Follows : Form → Form → Type 0
 Follows f r = (a : ℕ → Bool) → Holds a f → Holds a r
 
--- r holds wherever both f and g do
+-- r holds if both f and g do
 abbrev pub FollowsBoth : Form → Form → Form → Type 0
 FollowsBoth f g r = (a : ℕ → Bool) → Holds a f → Holds a g → Holds a r
 
--- r holds exactly where f does not
+-- r holds if and only if f does not
 abbrev pub IsOpposite : Form → Form → Type 0
 IsOpposite f r = (a : ℕ → Bool) → Holds a r ↔ ¬ Holds a f
 
--- one entry for each variable, in their order
+-- at most one entry for each variable, in the order of the variables
 abbrev pub IsOrdered : Form → Type 0
 IsOrdered f = IsRising 0 f.terms
 
--- what is true of every normal form, whatever the limits
+-- what holds for every normal form, whatever the limits
 pub record IsNormal (f : Form) : Type 0 where
   pub ordered : IsOrdered f
   pub size_in : size f < 2 ^ 127
@@ -95,7 +95,7 @@ pub record IsWithin (limit : ℕ) (f : Form) : Type 0 where
   pub size_in : size f ≤ limit
   pub degree_in : f.degree ≤ limit
 
--- what a term reads as: its variable, whether it is negated, and its coefficient
+-- the parts of a term: its variable, whether it is negated, and its coefficient
 pub record ReadsTerm (ts : List Entry) (i : ℕ) (r : ℕ × Bool × ℤ) : Type 0 where
   pub is : slice_get ts i ≡ Some record { variable = r.0; negated = r.1; coefficient = unsigned_abs r.2 }
   pub positive : pos 1 ≤ℤ r.2

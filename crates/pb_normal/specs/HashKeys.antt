@@ -1,4 +1,4 @@
--- The hasher that keys make.
+-- The hasher that keys give.
 use Rattle.std.specs.Hash.DefaultHasher.{initial}
 use Rattle.std.specs.declared.hash.DefaultHasher.{DefaultHasher}
 use Rattle.std.specs.RandomState.{initial_hasher}

@@ -8,7 +8,7 @@ abbrev pub is_below_0 : ℤ → Bool
 is_below_0 (pos _) = false
 is_below_0 (negsuc _) = true
 
--- a negative coefficient goes to the other literal
+-- a negative coefficient is moved to the opposite literal
 abbrev pub entry_of : ℕ → Bool → ℤ → Entry
 entry_of variable negated coefficient = record {
   variable = variable;

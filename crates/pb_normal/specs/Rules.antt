@@ -10,11 +10,11 @@ pub record IsSum (f g r : Form) : Type 0 where
   pub coefficients : (x : ℕ) → coefficient r x ≡ (coefficient f x +ℤ coefficient g x)
   pub degree : r.degree ≡ at_least_0 ((bound f +ℤ bound g) +ℤ pos (low r))
 
--- size or degree is above the limit
+-- the size or the degree exceeds the limit
 abbrev pub Passes : ℕ → Form → Type 0
 Passes limit f = (limit < size f) ⊎ (limit < f.degree)
 
--- the sum of two forms, in whole numbers, passes the limit
+-- the sum of two forms, in unbounded integers, exceeds the limit
 abbrev pub SumPasses : ℕ → Form → Form → Type 0
 SumPasses limit f g = (r : Form) × IsSum f g r × Passes limit r
 
@@ -25,11 +25,11 @@ with_coefficient t n = record { variable = t.variable; negated = t.negated; coef
 abbrev pub multiplied : ℕ → Form → Form
 multiplied k f = record { terms = map (λ t. with_coefficient t (t.coefficient * k)) f.terms; degree = f.degree * k }
 
--- all are rounded up
+-- the coefficients and the degree are rounded up
 abbrev pub divided : ℕ → Form → Form
 divided k f = record { terms = map (λ t. with_coefficient t (div_ceil t.coefficient k)) f.terms; degree = div_ceil f.degree k }
 
--- every coefficient at most the degree, without those that are 0
+-- every coefficient is at most the degree, and terms with coefficient 0 are dropped
 abbrev pub saturated : Form → Form
 saturated f = record {
   terms = filter (λ t. nat_lt 0 t.coefficient) (map (λ t. with_coefficient t (min t.coefficient f.degree)) f.terms);
@@ -40,7 +40,7 @@ saturated f = record {
 abbrev pub of_variable : ℕ → ℕ → Bool → Bool
 of_variable x v _ = v == x
 
--- without the term on x, whose coefficient is taken from the degree
+-- without the term on x, whose coefficient is subtracted from the degree
 abbrev pub weakened : ℕ → Form → Form
 weakened x f = record {
   terms = filter (λ t. not (t.variable == x)) f.terms;
@@ -54,15 +54,15 @@ axiom_on x negated = record { terms = record { variable = x; negated = negated; 
 abbrev pub opposite : Entry → Entry
 opposite t = record { variable = t.variable; negated = not t.negated; coefficient = t.coefficient }
 
--- each literal negated; it holds where f does not, if f has a degree of at least 1
+-- each literal negated; it holds if f does not, provided that the degree of f is at least 1
 abbrev pub negation_of : Form → Form
 negation_of f = record { terms = map opposite f.terms; degree = size f + 1 - f.degree }
 
--- no assignment can meet it
+-- no assignment can satisfy it
 abbrev pub IsContradiction : Form → Type 0
 IsContradiction f = size f < f.degree
 
--- the sum of two forms, in whole numbers, is a contradiction
+-- the sum of two forms, in unbounded integers, is a contradiction
 abbrev pub SumIsContradiction : Form → Form → Type 0
 SumIsContradiction f g = (r : Form) × IsSum f g r × IsContradiction r
 
@@ -74,11 +74,11 @@ SumMeasures f g s d = (r : Form) × IsSum f g r × (size r ≡ s) × (r.degree �
 abbrev pub assignment : List Bool → ℕ → Bool
 assignment values v = get_or values v false
 
--- that literal alone
+-- exactly that literal
 abbrev pub only : ℕ → Bool → ℕ → Bool → Bool
 only x n v m = (v == x) && (if n then m else not m)
 
--- the literals of a list: a variable each, and whether it is negated
+-- the literals of a list: each is a variable, and whether it is negated
 abbrev pub among : List (ℕ × Bool) → ℕ → Bool → Bool
 among [] x n = false
 among (l ∷ ls) x n = only l.0 l.1 x n || among ls x n
@@ -87,7 +87,7 @@ among (l ∷ ls) x n = only l.0 l.1 x n || among ls x n
 abbrev pub unit_of : (ℕ × Bool) → Entry
 unit_of l = record { variable = l.0; negated = l.1; coefficient = 1 }
 
--- each literal of the list with coefficient 1, no other, and this degree
+-- each literal of the list with coefficient 1, no other literal, and this degree
 pub record IsCountOf (literals : List (ℕ × Bool)) (degree : ℕ) (r : Form) : Type 0 where
   pub ordered : IsOrdered r
   pub coefficients : (x : ℕ) (n : Bool) → total (only x n) r.terms ≡ (if among literals x n then 1 else 0)

@@ -1,4 +1,4 @@
--- Written constraints: signed coefficients on literals by name, repeated and zero terms as they come.
+-- Written constraints: signed coefficients on literals by name. Terms may repeat a name and may be zero.
 use Rattle.std.specs.Prelude.{◌≡◌, ℕ, ◌+◌, ◌<◌, ℤ, pos, ◌+ℤ◌, ◌-ℤ◌, ◌≤ℤ◌, neg_ℤ, unsigned_abs, Bool, not, ◌↔◌, if◌then◌else◌, List, [], ◌∷◌, map, length, slice_get, get_or, Some, All}
 use Rattle.std.specs.Str.{bytes_eq}
 use Rattle.pb_sums.specs.declared.values.Term.{Term}
@@ -19,7 +19,7 @@ abbrev pub magnitude : List Term → ℕ
 magnitude [] = 0
 magnitude (t ∷ ts) = unsigned_abs t.coefficient + magnitude ts
 
--- what stands on the name, less what stands on its negation
+-- the coefficients on the name minus those on its negation
 abbrev pub written_on : List ℕ → List Term → ℤ
 written_on x [] = pos 0
 written_on x (t ∷ ts) =
@@ -36,14 +36,15 @@ true_sum a [] = pos 0
 true_sum a (t ∷ ts) =
     (if (if t.literal.negated then not (a t.literal.name) else a t.literal.name) then t.coefficient else pos 0) +ℤ true_sum a ts
 
--- r is the form of the terms' sum, at least d, over these names' numbers
+-- r is the form of "the terms' sum is at least d", over the numbers of these names
 pub record IsFormOf (names : List (List ℕ)) (ts : List Term) (d : ℤ) (r : Form) : Type 0 where
   pub ordered : IsOrdered r
   pub named : All (λ t. t.variable < length names) r.terms
   pub coefficients : (x : ℕ) (name : List ℕ) → slice_get names x ≡ Some name → coefficient r x ≡ written_on name ts
   pub degree : r.degree ≡ at_least_0 ((d -ℤ on_negations ts) +ℤ pos (low r))
 
--- A side of a constraint: as it is, or with every coefficient and the degree negated, which is the sum at most the degree.
+-- A side of a constraint: as it is, or with every coefficient and the degree negated. The negated side says that the
+-- sum is at most the degree.
 abbrev pub side_number : Side → ℤ → ℤ
 side_number least z = z
 side_number most z = neg_ℤ z
@@ -58,11 +59,11 @@ side_terms side ts = map (side_term side) ts
 abbrev pub IsSideOf : List (List ℕ) → Side → Linear → Form → Type 0
 IsSideOf names side linear r = IsFormOf names (side_terms side linear.terms) (side_number side linear.degree) r
 
--- an assignment of the names, as one of their numbers
+-- an assignment of the names as an assignment of their numbers
 abbrev pub by_number : List (List ℕ) → (List ℕ → Bool) → ℕ → Bool
 by_number names a x = a (get_or names x [])
 
--- the sum compares with the degree as written
+-- the sum compares with the degree as the relation says
 abbrev pub Meets : (List ℕ → Bool) → Relation → Linear → Type 0
 Meets a AtLeast linear = linear.degree ≤ℤ true_sum a linear.terms
 Meets a Equal linear = true_sum a linear.terms ≡ linear.degree
@@ -76,18 +77,18 @@ abbrev pub MeetsSide : (List ℕ → Bool) → Side → Linear → Type 0
 MeetsSide a least linear = linear.degree ≤ℤ true_sum a linear.terms
 MeetsSide a most linear = true_sum a linear.terms ≤ℤ linear.degree
 
--- r holds exactly where that side of the constraint does
+-- r holds if and only if that side of the constraint does
 abbrev pub SameSolutions : List (List ℕ) → Side → Linear → Form → Type 0
 SameSolutions names side linear r = (a : List ℕ → Bool) → Holds (by_number names a) r ↔ MeetsSide a side linear
 
--- the constraint holds exactly where r does, or where both r and s do
+-- the constraint holds if and only if r does, or if and only if both r and s do
 abbrev pub SameAsForm : List (List ℕ) → Linear → Form → Type 0
 SameAsForm names linear r = (a : List ℕ → Bool) → HoldsWritten a linear ↔ Holds (by_number names a) r
 
 abbrev pub SameAsForms : List (List ℕ) → Linear → Form → Form → Type 0
 SameAsForms names linear r s = (a : List ℕ → Bool) → HoldsWritten a linear ↔ (Holds (by_number names a) r × Holds (by_number names a) s)
 
--- a form written out with the names of its variables
+-- a form written with the names of its variables
 abbrev pub term_of : List (List ℕ) → Entry → Term
 term_of names t = record {
   coefficient = pos t.coefficient;

@@ -1,6 +1,6 @@
 //! One term for each variable.
 
-ghost use Rattle.std.specs.Prelude.{◌<◌, ◌^◌, [], IfOk};
+ghost use Rattle.std.specs.Prelude.{◌<◌, ◌^◌, [], IfOk, IsTrue};
 ghost use Rattle.pb_normal.specs.Adds.{Adds};
 ghost use Rattle.pb_normal.specs.Form.{total, each, IsRising};
 
@@ -8,8 +8,46 @@ use crate::entry::Entry;
 use crate::merge::merged;
 use std::alloc::{AllocError, Global};
 
-// The terms with one for each variable, in their order, and how much of each cancels.
-pub(crate) fn collected(alloc: Global, raw: &[Entry]) -> Result<(Vec<Entry>, u128), AllocError>
+// Adds up the terms of each variable and sorts them by variable. Also returns the total that cancels, counted once for
+// each pair of opposite literals. If the variables differ, a sort is enough, which allocates nothing. If they rise
+// already, nothing is sorted.
+pub(crate) fn collected(
+    alloc: Global,
+    mut raw: Vec<Entry>,
+) -> Result<(Vec<Entry>, u128), AllocError>
+    requires { total each raw.items < 2 ^ 127 }
+    ensures rising { IfOk result (λ r. IsRising 0 r.0.items) }
+    ensures adds { IfOk result (λ r. Adds raw.items [] r.0.items r.1) }
+{
+    if is_rising(raw.as_slice()) {
+        return Ok((raw, 0));
+    }
+    raw.sort_unstable_by_key(|t| t.variable);
+    if is_rising(raw.as_slice()) {
+        return Ok((raw, 0));
+    }
+    added_up(alloc, raw.as_slice())
+}
+
+// Whether the variables rise and no coefficient is 0.
+fn is_rising(terms: &[Entry]) -> bool
+    ensures { IsTrue result → IsRising 0 terms.now }
+{
+    let mut above = usize::MAX;
+    let mut i = terms.len();
+    'terms: while i > 0 {
+        i -= 1;
+        let t = terms[i];
+        if t.variable >= above || t.coefficient == 0 {
+            return false;
+        }
+        above = t.variable;
+    }
+    true
+}
+
+// The same for any terms, which are added up by halves.
+fn added_up(alloc: Global, raw: &[Entry]) -> Result<(Vec<Entry>, u128), AllocError>
     requires { total each raw.now < 2 ^ 127 }
     ensures rising { IfOk result (λ r. IsRising 0 r.0.items) }
     ensures adds { IfOk result (λ r. Adds raw.now [] r.0.items r.1) }
@@ -25,8 +63,8 @@ pub(crate) fn collected(alloc: Global, raw: &[Entry]) -> Result<(Vec<Entry>, u12
         return Ok((out, 0));
     }
     let middle = raw.len() / 2;
-    let (left, left_gone) = collected(alloc, &raw[..middle])?;
-    let (right, right_gone) = collected(alloc, &raw[middle..])?;
+    let (left, left_gone) = added_up(alloc, &raw[..middle])?;
+    let (right, right_gone) = added_up(alloc, &raw[middle..])?;
     let (both, gone) = merged(alloc, left.as_slice(), right.as_slice())?;
     Ok((both, left_gone + right_gone + gone))
 }

@@ -1,6 +1,6 @@
 //! Written constraints as forms.
 
-ghost use Rattle.std.specs.Prelude.{◌≡◌, ◌++◌, ◌∷◌, [], List, OnOk, OnErr, IfOk, Err, All, Contains};
+ghost use Rattle.std.specs.Prelude.{◌≡◌, ◌++◌, ◌∷◌, [], List, OnOk, OnErr, IfOk, IfErr, Err, All, Contains};
 ghost use Rattle.pb_text.specs.Limits.{largest};
 ghost use Rattle.pb_sums.specs.declared.values.Linear.{Linear as Written};
 ghost use Rattle.pb_normal.specs.Constraints.{AreFormsOf, Fits, constraint_names, sides_in, with_sides};
@@ -10,6 +10,7 @@ ghost use Rattle.pb_normal.specs.Written.{names_of};
 
 use crate::fault::NormalFault;
 use crate::form::Normal;
+use crate::linear::fits;
 use crate::names::Names;
 use crate::side::Side;
 use pb_sums::{Linear, Relation};
@@ -61,11 +62,24 @@ fn add(
     }
 }
 
-/// The forms of the constraints in turn, over the numbers of their names: one of a constraint `>=`, and of an equality
-/// that of its side at least and then that of its side at most.
+// Tests each constraint, before anything is allocated.
+fn test(constraints: &[Linear], limits: Limits) -> Result<(), NormalFault>
+    ensures ok { OnOk result (All (Fits (largest limits)) constraints.now) }
+    ensures err { IfErr result (λ e. (e ≡ NormalFault.Overflow) × (c : Written) × Contains constraints.now c × ¬ Fits (largest limits) c) }
+{
+    for tested in constraints {
+        if !fits(tested, limits) {
+            return Err(NormalFault::Overflow);
+        }
+    }
+    Ok(())
+}
+
+/// The forms of the constraints in order, over the numbers of their names. A constraint `>=` has one form; an equality
+/// has that of its side "at least" and then that of its side "at most".
 ///
-/// `Overflow` comes only where some constraint passes the limit, and a form list only where none does. After a fault a
-/// front of the list of names has appeared.
+/// `Overflow` comes if and only if some constraint exceeds the limit, before anything is allocated, and leaves the
+/// names as they are. After `Memory` a prefix of the list of names has appeared.
 pub fn load(
     alloc: Global,
     names: &mut Names,
@@ -77,12 +91,36 @@ pub fn load(
     ensures fits { OnOk result (All (Fits (largest limits)) constraints.now) }
     ensures overflow { result ≡ Err NormalFault.Overflow →
         (c : Written) × Contains constraints.now c × ¬ Fits (largest limits) c }
+    ensures memory { result ≡ Err NormalFault.Memory → All (Fits (largest limits)) constraints.now }
+    ensures unchanged { result ≡ Err NormalFault.Overflow → names.new ≡ names.old }
     ensures err { OnErr result (AfterFront names.old (constraint_names constraints.now) names.new) }
+{
+    names.tell_distinct();
+    match test(constraints, limits) {
+        Ok(()) => load_tested(alloc, names, constraints, limits),
+        Err(fault) => Err(fault),
+    }
+}
+
+// The same for constraints that all fit.
+fn load_tested(
+    alloc: Global,
+    names: &mut Names,
+    constraints: &[Linear],
+    limits: Limits,
+) -> Result<Vec<Normal>, NormalFault>
+    requires { All (Fits (largest limits)) constraints.now }
+    ensures forms { IfOk result (λ v. AreFormsOf names.new (sides_in constraints.now) v.items) }
+    ensures names { OnOk result (names.new ≡ with_names names.old (constraint_names constraints.now)) }
+    ensures err { IfErr result (λ e. (e ≡ NormalFault.Memory) × AfterFront names.old (constraint_names constraints.now) names.new) }
 {
     names.tell_distinct();
     let mut forms = Vec::new(alloc);
     for constraint in constraints {
-        add(alloc, names, constraint, limits, &mut forms)?;
+        match add(alloc, names, constraint, limits, &mut forms) {
+            Ok(()) => {}
+            Err(fault) => return Err(fault),
+        }
     }
     Ok(forms)
 }

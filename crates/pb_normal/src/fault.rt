@@ -1,4 +1,4 @@
-//! Why an operation on forms gives no form.
+//! Why an operation on forms fails.
 
 ghost use Rattle.std.specs.Prelude.{◌≡◌, Some};
 ghost use Rattle.pb_normal.specs.Faults.{fault_text};
@@ -11,9 +11,9 @@ use std::fmt;
 /// Why there is no form.
 #[derive(Clone, Copy, Debug, PartialEq, Eq)]
 pub enum NormalFault {
-    /// The result passes the limit.
+    /// The result exceeds the limit.
     Overflow,
-    /// A growth was refused.
+    /// An allocation was refused.
     Memory,
 }
 

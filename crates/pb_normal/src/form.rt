@@ -8,10 +8,10 @@ use crate::entry::Entry;
 use crate::fault::NormalFault;
 use std::marker::Model;
 
-/// A constraint in normal form: positive coefficients on literals, one for each variable, and a degree.
-/// It holds where the coefficients of its true literals sum to the degree at least.
+/// A constraint in normal form: positive coefficients on literals of different variables, and a degree. It holds if the
+/// coefficients of its true literals add up to at least the degree.
 ///
-/// The terms stand in the order of their variables. The sum of the coefficients and the degree are below `2^127`.
+/// The terms are in the order of their variables. The sum of the coefficients and the degree are below `2^127`.
 #[derive(Drop)]
 pub struct Normal {
     pub(crate) terms: Vec<Entry>,
@@ -37,7 +37,7 @@ impl Normal {
         self.terms.len()
     }
 
-    /// Whether it has no term.
+    /// Whether it has no terms.
     pub fn is_empty(&self) -> bool
         ensures { IsTrue result ↔ (self.now.terms ≡ []) }
     {
@@ -77,7 +77,7 @@ impl Normal {
         self.degree as i128
     }
 
-    /// An equal form.
+    /// A copy of the form.
     pub fn copy(&self) -> Result<Normal, NormalFault>
         ensures copy { IfOk result (λ r. r ≡ self.now) }
         ensures normal { IfOk result (λ r. IsNormal r) }
@@ -112,7 +112,7 @@ impl Normal {
         sum >= self.degree
     }
 
-    /// Whether its degree is above the sum of its coefficients, so that it holds nowhere.
+    /// Whether its degree exceeds the sum of its coefficients, so that it holds nowhere.
     pub fn is_contradiction(&self) -> bool
         ensures { IsTrue result ↔ IsContradiction self.now }
     {

@@ -2,12 +2,12 @@
 
 use std::hash::{BuildHasher, DefaultHasher, RandomState};
 
-/// The keys by which names are hashed. No answer depends on them, but the time does that names take which collide.
+/// The keys by which names are hashed. No result depends on them, but the time that colliding names take does.
 #[derive(Clone, Copy)]
 pub enum HashKeys {
-    /// Always the same ones: who picks the names can make them collide.
+    /// Always the same keys: whoever picks the names can make them collide.
     Fixed,
-    /// Random ones, for names that come from strangers.
+    /// Random keys, for names from untrusted input.
     Random(RandomState),
 }
 

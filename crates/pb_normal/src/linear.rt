@@ -22,8 +22,8 @@ use std::alloc::{AllocError, Global};
 impl Normal {
     /// The normal form of one side of a constraint, over the numbers of its names, whatever its relation.
     ///
-    /// `Overflow` comes exactly where the magnitudes of all coefficients and of the degree together pass the limit,
-    /// and leaves the names as they are. After `Memory` a front of the list of names has appeared.
+    /// `Overflow` comes if and only if the magnitudes of all coefficients and of the degree add up to more than the
+    /// limit. It leaves the names as they are. After `Memory` a prefix of the list of names has appeared.
     pub fn from_linear(
         alloc: Global,
         names: &mut Names,
@@ -48,7 +48,7 @@ impl Normal {
             return Err(NormalFault::Overflow);
         }
         let raw = numbered(alloc, names, terms, side)?;
-        let (collected_terms, gone) = collected(alloc, raw.as_slice())?;
+        let (collected_terms, gone) = collected(alloc, raw)?;
         let (up, down) = split(signed(linear.degree, side));
         let degree = (up + shift_of(terms, side)).saturating_sub(down + gone);
         Ok(Normal {
@@ -58,23 +58,23 @@ impl Normal {
     }
 }
 
-/// Whether a constraint fits: the magnitudes of all coefficients and of the degree are within the limit together. It asks
-/// for no memory, and the forms of both sides overflow exactly where it does not fit.
+/// Whether a constraint fits: the magnitudes of all coefficients and of the degree add up to at most the limit. It
+/// allocates nothing. The forms of both sides overflow if and only if the constraint does not fit.
 pub fn fits(linear: &Linear, limits: Limits) -> bool
     ensures { IsTrue result ↔ Fits (largest limits) linear.now }
 {
     is_within(linear.terms.as_slice(), linear.degree, limits.largest())
 }
 
-/// Whether the magnitudes of all coefficients are within the limit together, as those of an objective have to be. It asks
-/// for no memory.
+/// Whether the magnitudes of all coefficients add up to at most the limit, as those of an objective must. It allocates
+/// nothing.
 pub fn terms_fit(terms: &[Term], limits: Limits) -> bool
     ensures { IsTrue result ↔ (magnitude terms.now ≤ largest limits) }
 {
     is_within(terms, 0, limits.largest())
 }
 
-// Whether the magnitudes of all coefficients and of the degree are within the limit together.
+// Whether the magnitudes of all coefficients and of the degree add up to at most the limit.
 fn is_within(terms: &[Term], degree: i128, limit: u128) -> bool
     requires { limit < 2 ^ 127 }
     ensures { IsTrue result ↔ (magnitude terms.now + unsigned_abs degree ≤ limit) }
@@ -89,7 +89,7 @@ fn is_within(terms: &[Term], degree: i128, limit: u128) -> bool
     sum <= limit
 }
 
-// A coefficient or degree as that side has it.
+// A coefficient or degree as it is on that side.
 fn signed(number: i128, side: Side) -> i128
     requires { unsigned_abs number < 2 ^ 127 }
     ensures { result ≡ side_number side number }
@@ -115,7 +115,7 @@ fn numbered(
     ensures err { OnErr result (AfterFront names.old (names_of terms.now) names.new) }
     ensures distinct { AreDistinct names.new }
 {
-    let mut out = Vec::new(alloc);
+    let mut out = Vec::with_capacity(alloc, terms.len())?;
     for t in terms {
         let variable = names.number(t.literal.name.as_str())?;
         let coefficient = signed(t.coefficient, side);
@@ -124,7 +124,7 @@ fn numbered(
     Ok(out)
 }
 
-// A negative coefficient goes to the other literal.
+// Moves a negative coefficient to the opposite literal.
 fn raw(variable: usize, negated: bool, coefficient: i128) -> Entry
     ensures { result ≡ entry_of variable negated coefficient }
 {

@@ -1,4 +1,4 @@
-//! Forms of literals that count alike.
+//! Forms of literals with equal coefficients.
 
 ghost use Rattle.std.specs.Prelude.{◌≡◌, ℕ, ◌<◌, ◌^◌, true, false, IfOk, IfErr, map};
 ghost use Rattle.pb_normal.specs.Form.{IsNormal};
@@ -11,8 +11,9 @@ use crate::form::Normal;
 use std::alloc::{AllocError, Global};
 
 impl Normal {
-    /// The literals of a list, a variable each and whether it is negated, with coefficient 1 each however often it is
-    /// given, at least a degree. With degree 1 it is the clause of the literals.
+    /// The constraint that at least `degree` of the literals of a list hold. A literal is a variable, and whether it is
+    /// negated. Each has coefficient 1, however often the list contains it. With degree 1 the form is the clause of the
+    /// literals.
     pub fn from_literals(
         alloc: Global,
         literals: &[(usize, bool)],
@@ -25,13 +26,13 @@ impl Normal {
         ensures memory { IfErr result (λ e. e ≡ NormalFault.Memory) }
     {
         let raw = units(alloc, literals)?;
-        let (once, _) = collected(alloc, raw.as_slice())?;
+        let (once, _) = collected(alloc, raw)?;
         let terms = counted_once(alloc, once.as_slice())?;
         Ok(Normal { terms, degree })
     }
 }
 
-// A term of coefficient 1 for each.
+// A term of coefficient 1 for each literal.
 fn units(alloc: Global, literals: &[(usize, bool)]) -> Result<Vec<Entry>, AllocError>
     ensures { IfOk result (λ v. v.items ≡ map unit_of literals.now) }
 {

@@ -9,7 +9,7 @@ ghost use Rattle.pb_normal.specs.Rules.{with_coefficient};
 use crate::entry::Entry;
 use std::alloc::{AllocError, Global};
 
-// What two terms of one variable add up to, and how much of each cancels.
+// The sum of two terms of one variable, and how much of each cancels.
 pub(crate) fn combined(left: Entry, right: Entry) -> (Option<Entry>, u128)
     requires same_variable { left.variable ≡ right.variable }
     requires left_positive { 0 < left.coefficient }
@@ -42,7 +42,7 @@ fn with_coefficient(term: Entry, coefficient: u128) -> Entry
     }
 }
 
-// The sum of two lists whose variables rise, and how much of each cancels.
+// The sum of two lists whose variables rise, and how much of each list cancels.
 pub(crate) fn merged(
     alloc: Global,
     left: &[Entry],
@@ -83,7 +83,7 @@ pub(crate) fn merged(
     Ok((out, cancelled))
 }
 
-// How much of each cancels in the sum of two lists whose variables rise.
+// How much of each list cancels in the sum of two lists whose variables rise.
 pub(crate) fn cancelled(left: &[Entry], right: &[Entry]) -> u128
     requires left_rising { IsRising 0 left.now }
     requires right_rising { IsRising 0 right.now }

@@ -29,7 +29,7 @@ impl Model for Names {
 }
 
 impl Names {
-    /// No names. It takes no memory. The keys of its hasher are fixed: for names that strangers pick there is
+    /// No names. It allocates nothing. The keys of its hasher are fixed: for names from untrusted input use
     /// `with_hasher`.
     pub fn new(alloc: Global) -> Names
         ensures { result ≡ [] }
@@ -37,7 +37,7 @@ impl Names {
         Names::with_hasher(alloc, HashKeys::Fixed)
     }
 
-    /// No names, in a table that is hashed by these keys. It takes no memory.
+    /// No names, in a table that is hashed with these keys. It allocates nothing.
     pub fn with_hasher(alloc: Global, keys: HashKeys) -> Names
         ensures { result ≡ [] }
     {
@@ -62,14 +62,14 @@ impl Names {
         self.set.is_empty()
     }
 
-    // Tells a proof that no name stands twice.
+    // Gives a proof the fact that no name appears twice.
     pub(crate) fn tell_distinct(&self)
         ensures { AreDistinct self.now }
     {
         let _ = &self.set;
     }
 
-    /// The number of a name, or `None` where it has none.
+    /// The number of a name, or `None` if it has none.
     pub fn number_of(&self, name: &str) -> Option<usize>
         ensures number { result ≡ (if has_name self.now name.now then Some (number_in self.now name.now) else None) }
         ensures named { IfSome result (λ n. slice_get self.now n ≡ Some name.now) }
@@ -77,7 +77,7 @@ impl Names {
         self.set.get_index_of(name)
     }
 
-    /// The name with a number, or `None` where no name has it.
+    /// The name with a number, or `None` if no name has it.
     pub fn name_of(&self, number: usize) -> Option<&str>
         ensures { option_copied result ≡ slice_get self.now number }
     {
@@ -87,7 +87,7 @@ impl Names {
         }
     }
 
-    // The name with a number that one has.
+    // The name with a number, which must belong to a name.
     pub(crate) fn text_of(&self, number: usize) -> &str
         requires { number < length self.now }
         ensures { slice_get self.now number ≡ Some result.now }
@@ -98,9 +98,9 @@ impl Names {
         }
     }
 
-    /// The number of a name, which gets the next one where it has none.
+    /// The number of a name. A name without a number gets the next one.
     ///
-    /// Where memory was refused nothing has changed.
+    /// If an allocation is refused, nothing has changed.
     pub fn number(&mut self, name: &str) -> Result<usize, AllocError>
         ensures names { OnOk result (self.new ≡ with_name self.old name.now) }
         ensures number { IfOk result (λ n. n ≡ number_in self.new name.now) }

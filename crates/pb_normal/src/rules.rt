@@ -15,7 +15,8 @@ use pb_text::Limits;
 use std::alloc::{AllocError, Global};
 
 impl Normal {
-    /// The sum of two forms. `Overflow` comes exactly where its coefficients' sum or its degree passes the limit.
+    /// The sum of two forms. `Overflow` comes if and only if the sum of its coefficients or its degree exceeds the
+    /// limit.
     pub fn add(&self, other: &Normal, limits: Limits) -> Result<Normal, NormalFault>
         ensures sum { IfOk result (λ r. IsSum self.now other.now r) }
         ensures normal { IfOk result (λ r. IsNormal r) }
@@ -33,8 +34,8 @@ impl Normal {
         Ok(Normal { terms, degree })
     }
 
-    /// The form with all coefficients and the degree multiplied. `Overflow` comes exactly where the
-    /// coefficients' sum or the degree of the result passes the limit.
+    /// The form with all coefficients and the degree multiplied. `Overflow` comes if and only if the sum of the
+    /// coefficients or the degree of the result exceeds the limit.
     pub fn multiply(&self, factor: i128, limits: Limits) -> Result<Normal, NormalFault>
         requires { pos 1 ≤ℤ factor }
         ensures product { IfOk result (λ r. r ≡ multiplied (unsigned_abs factor) self.now) }
@@ -67,7 +68,7 @@ impl Normal {
         Ok(Normal { terms, degree })
     }
 
-    /// The form with every coefficient at most the degree.
+    /// The form with every coefficient reduced to at most the degree.
     pub fn saturate(&self) -> Result<Normal, NormalFault>
         ensures saturated { IfOk result (λ r. r ≡ saturated self.now) }
         ensures normal { IfOk result (λ r. IsNormal r) }
@@ -81,7 +82,7 @@ impl Normal {
         })
     }
 
-    /// The form without the term on a variable, whose coefficient is taken from the degree.
+    /// The form without the term on a variable, whose coefficient is subtracted from the degree.
     pub fn weaken(&self, variable: usize) -> Result<Normal, NormalFault>
         ensures weakened { IfOk result (λ r. r ≡ weakened variable self.now) }
         ensures normal { IfOk result (λ r. IsNormal r) }
@@ -109,7 +110,7 @@ impl Normal {
         Ok(Normal { terms, degree: 0 })
     }
 
-    /// The form that holds exactly where this one, of degree 1 at least, does not.
+    /// The form that holds if and only if this one, of degree at least 1, does not.
     pub fn negation(&self) -> Result<Normal, NormalFault>
         requires { 1 ≤ self.now.degree }
         ensures negation { IfOk result (λ r. r ≡ negation_of self.now) }
@@ -122,7 +123,7 @@ impl Normal {
         Ok(Normal { terms, degree })
     }
 
-    /// Whether the sum of the two, in whole numbers without limit, is a contradiction. It takes no memory.
+    /// Whether the sum of the two, in unbounded integers, is a contradiction. It allocates nothing.
     pub fn refutes(&self, other: &Normal) -> bool
         ensures { IsTrue result ↔ SumIsContradiction self.now other.now }
     {
@@ -131,7 +132,7 @@ impl Normal {
     }
 }
 
-// The coefficients' sum and the degree of the sum of two forms.
+// The sum of the coefficients, and the degree, of the sum of two forms.
 fn measures_of_sum(left: &Normal, right: &Normal) -> (u128, u128)
     ensures { SumMeasures left.now right.now result.0 result.1 }
 {

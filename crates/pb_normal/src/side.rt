@@ -1,6 +1,6 @@
 //! The two sides of a constraint.
 
-/// Which form of a constraint is asked for.
+/// Which form of a constraint is meant.
 #[derive(Clone, Copy, Debug, PartialEq, Eq)]
 pub enum Side {
     /// The sum is at least the degree.

@@ -1,4 +1,4 @@
-//! A form written out with names.
+//! A form written with names.
 
 ghost use Rattle.std.specs.Prelude.{◌≡◌, ◌<◌, ◌^◌, IfOk, IfErr, All, map, length};
 ghost use Rattle.pb_normal.specs.Form.{total, each};
@@ -13,7 +13,7 @@ use pb_text::Sequence;
 use std::alloc::{AllocError, Global};
 
 impl Normal {
-    /// The form as a constraint `>=` over the names of its variables, which all have one.
+    /// The form as a constraint `>=` over the names of its variables, each of which must have a name.
     pub fn to_linear(&self, names: &Names) -> Result<Linear, NormalFault>
         requires { All (λ t. t.variable < length names.now) self.now.terms }
         ensures linear { IfOk result (λ r. r ≡ linear_of names.now self.now) }

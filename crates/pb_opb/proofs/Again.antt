@@ -1,10 +1,9 @@
--- What is written of an instance reads as that instance.
+-- What is written for an instance reads back as that instance.
 use Rattle.std.proofs.Common.{◌≡◌, ℕ, suc, ◌+◌, ◌<◌, ◌≤◌, ◌^◌, List, [], ◌∷◌, ◌++◌, length, refl, ap, sym, ◌∙◌, append_assoc, arith, false, true, Option, Some, None}
 use Rattle.pb_text.specs.Spelling.{Item, bytes_of}
 use Rattle.pb_text.specs.Whole.{events_of}
 use Rattle.pb_sums.specs.declared.values.Term.{Term}
 use Rattle.pb_sums.specs.declared.values.Linear.{Linear}
-use Rattle.pb_opb.specs.Instances.{IsBody}
 use Rattle.pb_opb.specs.Values.{IsValueOf, IsObjective, AreLinears, AreComments, is_one, statements}
 use Rattle.pb_opb.specs.Canonical.{header_bytes, lines, objective_events, constraint_events, in_order, body_events, instance_bytes}
 use Rattle.pb_opb.specs.Statements.{CanonicalInstance}
@@ -12,6 +11,7 @@ use Rattle.pb_opb.specs.declared.event.OpbEvent.{OpbEvent}
 use Rattle.pb_opb.specs.declared.event.OpbEvent.TheVariants.{Header}
 use Rattle.pb_opb.specs.declared.instance.Instance.{Instance}
 use Rattle.pb_opb.specs.declared.instance.Comment.{Comment}
+use Rattle.pb_opb.proofs.Counted.{IsCounted, body_of}
 use Rattle.pb_opb.proofs.Spelled.{AreMain, AreInLines, spelled, header_text, header-spelled, header-bytes, item-bytes, body-bytes, constraints-body, objective-body}
 use Rattle.pb_opb.proofs.Told.{spelled-events, order_variables, order_tail, order_objective, order_constraints, order_comments, in_lines}
 
@@ -38,7 +38,7 @@ abbrev items_of : Instance → List (Item OpbEvent)
 items_of v = first_item v ∷ spelled false (body_events v)
 
 instance-body : (limit : ℕ) → limit < 2 ^ 127 → (o : Option (List Term)) (ls : List Linear) (cs : List Comment) → IsObjective limit ls o → AreLinears limit ls → AreInLines cs
-    → IsBody limit true (length ls) (spelled false (in_order 0 cs (objective_events o ++ constraint_events ls)))
+    → IsCounted limit true (length ls) (spelled false (in_order 0 cs (objective_events o ++ constraint_events ls)))
 instance-body limit small None ls cs t h i = constraints-body limit small ls h cs i true 0 false
 instance-body limit small (Some terms) ls cs t h i = objective-body limit small terms t.1 ls t.0 h cs i 0 false
 
@@ -69,7 +69,7 @@ canonical_instance limit top v l t h = (
     refl,
     h.tail,
     header-spelled top v.variables (length v.constraints) v.tail t h.variables h.count,
-    instance-body limit l v.objective v.constraints v.comments h.objective h.constraints (in_lines 0 (statements v) v.comments h.comments),
+    body_of limit (length v.constraints) (spelled false (body_events v)) (instance-body limit l v.objective v.constraints v.comments h.objective h.constraints (in_lines 0 (statements v) v.comments h.comments)),
   ),
   instance-bytes v,
   instance-value v (events_of (spelled false (body_events v))) (spelled-events false (body_events v)) h.comments,

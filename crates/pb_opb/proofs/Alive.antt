@@ -1,4 +1,4 @@
--- Each state that a machine of instances can be in has texts before it.
+-- Each state that a machine of instances can be in accepts some text.
 use Rattle.std.proofs.Common.{◌≡◌, ℕ, zero, suc, ◌+◌, ◌-◌, ◌<◌, Bool, true, false, cond, List, [], length, refl, sym, ap, ◌∙◌, subst, arith, le-leb}
 use Rattle.pb_text.specs.Automaton.{Reads, Accepts}
 use Rattle.pb_text.specs.Spelling.{Letter, Item}
@@ -24,14 +24,14 @@ use Rattle.pb_opb.specs.declared.phase.Move.TheVariants.{To, Stop}
 use Rattle.pb_opb.proofs.GivenBytes.{Gives, gives_objective, gives_constraint, within_reads}
 use Rattle.pb_opb.proofs.Stands.{stands}
 
--- the machine of sums, once it has begun, ends
+-- the machine of sums, if it is not done, can read on to an event
 sums_end : (inner : SumState) → sums.done inner ≡ false → (text : List Letter) × (event : SumEvent) × (last : SumState) × Reads sums inner text event last
 sums_end inner h = reads_something inner.spaces inner.part inner.limit inner.work h
 
 one_less : (n : ℕ) → suc n - 1 ≡ n
 one_less n = omega arith
 
--- after any statement the constraints that are to come can be read
+-- after any statement the constraints that are still to come can be read
 pub owed_read : (s : OpbState) (may : Bool) (owed : ℕ) → (items : List (Item OpbEvent)) × Accepts opb (between s may owed) items
 owed_read s may zero = ([], refl)
 owed_read s may (suc n) =
@@ -47,7 +47,7 @@ owed_read s may (suc n) =
       accepts = subst (λ (k : ℕ). Accepts opb (between s false k) more.0) (sym (one_less n)) more.1;
     }))
 
--- a state in which bytes are given is alive
+-- a state in which bytes are given to the machine of sums is alive
 pub giving_alive : (s : OpbState) (p : Phase) → Gives p → (inner : SumState) → sums.done inner ≡ false → IsAlive opb (giving s p inner)
 giving_alive s p g inner h =
     let r = sums_end inner h in
@@ -55,14 +55,14 @@ giving_alive s p g inner h =
     record { text = r.0; event = statement_of r.1; after = after s p; reads = within_reads s p g r.0 inner r.1 r.2 r.3; rest = more.0; accepts = more.1 }
 
 module _ (limit top : ℕ) where
-  -- a state of the header, or with nothing in hand
+  -- a state of the header, or one with no stored byte and with the machine of sums at its start
   abbrev pub idle : ℕ → ℕ → Phase → OpbState
   idle variables owed p = stands limit top variables owed p []
 
   zero_counts : (f : Field) → count top f 0 48 ≡ To (phase.TheVariants.Count f 0)
   zero_counts f = ap (λ (b : Bool). cond b (To (phase.TheVariants.Count f 0)) Stop) (le-leb 0 top (omega arith))
 
-  -- the next byte of a word leads on, and the last one behind it
+  -- the next byte of a word continues it, and the last one ends it
   spelled : (f : Field) (k : ℕ) (is_last : Bool) → nat_eq (k + 1) (length (word_of f)) ≡ is_last
       → plan top (phase.TheVariants.Word f k) (slice_index (word_of f) k) ≡ To (cond is_last (phase.TheVariants.BeforeCount f) (phase.TheVariants.Word f (k + 1)))
   spelled f k is_last e = rw (eq-eqb (slice_index (word_of f) k) (slice_index (word_of f) k) refl, e) refl
@@ -71,7 +71,7 @@ module _ (limit top : ℕ) where
     abbrev at_phase : Phase → OpbState
     at_phase p = idle variables owed p
 
-    -- within a word, with so many bytes to come behind the next one
+    -- within a word, with this many bytes to come after the next one
     word_further : (f : Field) → IsAlive opb (at_phase (phase.TheVariants.BeforeCount f)) → (left k : ℕ) → suc (k + left) ≡ length (word_of f) → IsAlive opb (at_phase (phase.TheVariants.Word f k))
     word_further f whole zero k e =
         let s = at_phase (phase.TheVariants.Word f k) in
@@ -156,7 +156,7 @@ module _ (limit top : ℕ) where
     counted Variables n = variables_counted n
     counted Constraints n = constraints_counted variables owed n
 
--- the state, where nothing is in hand
+-- the state, if no byte is stored and the machine of sums is at its start
 is_idle : (s : OpbState) (p : Phase) → s.phase ≡ p → IsIdle s → s ≡ idle s.limit s.top s.variables s.owed p
 is_idle s p e (t, i) = rw (e, t, i) refl
 

@@ -1,4 +1,6 @@
--- Where a machine of instances asks, the next byte stands at a place of its statement that asks.
+-- If a machine of instances may allocate at a byte, then that byte's position in its statement is one that may
+-- allocate.
+use Rattle.pb_text.specs.Blank.{IsInLine}
 use Rattle.std.proofs.Common.{◌≡◌, ℕ, zero, suc, ◌+◌, ◌-◌, ◌*◌, ◌≤◌, Bool, true, false, cond, ◌&&◌, List, [], ◌∷◌, ◌++◌, length, refl, sym, ap, ap₂, subst, ◌∙◌, ◌⊎◌, inl, inr, append-nil}
 use Rattle.std.proofs.lemmas.Bool.{false≢true, cond_both}
 use Rattle.std.specs.Prelude.{IsTrue, nat_eq, nat_le, slice_index}
@@ -22,7 +24,7 @@ use Rattle.pb_sums.proofs.Asked.{sums_asked, first_asks_nothing}
 use Rattle.pb_sums.proofs.Links.{reads_grammar}
 use Rattle.pb_sums.proofs.States.{goes-midway}
 use Rattle.pb_opb.specs.Asking.{MinLead, Asks}
-use Rattle.pb_opb.specs.Instances.{constraint_word, min_word, IsTail, IsInLine, IsInstance}
+use Rattle.pb_opb.specs.Instances.{constraint_word, min_word, IsTail, IsInstance}
 use Rattle.pb_opb.specs.Machine.{word_of, plan, count}
 use Rattle.pb_opb.specs.State.{OpbState, opb, begin, act, asks, over, giving, statement_of, linears, objectives}
 use Rattle.pb_opb.specs.declared.event.OpbEvent.{OpbEvent}
@@ -40,12 +42,12 @@ use Rattle.pb_opb.proofs.HeaderFront as header
 use Rattle.pb_opb.proofs.GivenBytes.{Gives, gives_objective, gives_constraint, given_step}
 use Rattle.pb_opb.proofs.Stands.{idle}
 
--- no byte asks where the moves ask for nothing
+-- no byte may allocate if its moves do not
 silent : {A : Type 0} (s : OpbState) (b : ℕ) (m : Move) → asks s b m ≡ false → asks s b m ≡ true → A
 silent s b m e h = absurd (false≢true (sym e ∙ h))
 
 module _ (limit top : ℕ) where
-  -- between two statements, or before all
+  -- between two statements, or before the first one
   abbrev Idle : OpbState → Type 0
   Idle s = (s ≡ begin limit top) ⊎ ((v : ℕ) × (may : Bool) × (n : ℕ) × (s ≡ idle limit top v may n))
 
@@ -72,7 +74,7 @@ module _ (limit top : ℕ) where
   gaps : (s next : OpbState) (b : ℕ) → Idle s → opb.step s b ≡ Go next → opb.begun next ≡ false → Idle next × (opb.asks s b ≡ false)
   gaps s next b i g o = (subst (λ x. Quiet x (opb.asks s b)) g (gap_of s b i)) o
 
-  -- behind a statement
+  -- after a statement
   behind_header : (e : OpbEvent) (next : OpbState) (t : List Letter) → header.IsHeader limit top e next t → Idle next
   behind_header (Header v n tail) next t h = inr (v, true, n, h.2)
   behind_header (Comment line) next t h = absurd h
@@ -103,7 +105,7 @@ module _ (limit top : ℕ) where
       (s.variables, s.owed, a, s.text, k, ap bytes e ∙ (bytes-append a c ∙ ap (λ (x : List ℕ). bytes a ++ x) (ap bytes is ∙ bytes-plain s.text)), tail_grown s.text b line some h)
 
   module _ (s : OpbState) (p : List Letter) (b : ℕ) where
-    -- what follows where a move asks
+    -- what follows if a move may allocate
     abbrev Then : Type 0 → Move → Type 0
     Then A m = asks s b m ≡ true → A
 
@@ -139,14 +141,14 @@ module _ (limit top : ℕ) where
     header_asks phase.TheVariants.Constraint h = absurd h
     header_asks phase.TheVariants.Done h = absurd h
 
-  -- what stands at a place that asks, by phase
+  -- the position of a byte that may allocate, by phase
   at_header : (e : OpbEvent) (next : OpbState) (t : List Letter) (text : List ℕ) (b : ℕ) → header.IsHeader limit top e next t → AsksHeader top text b → Asks top e text b
   at_header (Header v n tail) next t text b h a = a
   at_header (Comment line) next t text b h a = absurd h
   at_header (Objective terms) next t text b h a = absurd h
   at_header (Constraint linear) next t text b h a = absurd h
 
-  -- Within a sum, what is read is read by the machine of sums.
+  -- Within a sum, the text is read by the machine of sums.
   module _ (q : Phase) (g : Gives q) where
     went : (s next : OpbState) (x : Next SumState SumEvent) → ◌≡◌ {A = Next OpbState OpbEvent} (over s q x) (Go next) → (inner : SumState) × (x ≡ Go inner) × (next ≡ giving s q inner)
     went s next (Go inner) e = (inner, refl, (let f : next ≡ giving s q inner = cc in f))
@@ -170,7 +172,7 @@ module _ (limit top : ℕ) where
         let number : opb.in_number mid ≡ sums.in_number inner = ap opb.in_number same ∙ g.number (giving s q inner) in
         (f, new, (inner, i, goes-midway s.sums inner l.byte i, n ∙ number, subst (λ (x : SumState). Reads sums x (k ∷ t) f new) (ap (λ x. x.sums) same) j), is)
 
-  -- Within a comment, what is read is a comment.
+  -- Within a comment, the text is a comment.
   comment_step : (s : OpbState) (b : ℕ) (m : Bool) (x : Bool) → s.phase ≡ phase.TheVariants.Comment m → nat_eq b 10 ≡ x → opb.step s b ≡ act s b (cond x (EndComment m) (Keep b))
   comment_step s b m x at e = ap (λ q. act s b (plan s.top q b)) at ∙ ap (λ y. act s b (cond y (EndComment m) (Keep b))) e
 
@@ -262,7 +264,7 @@ module _ (limit top : ℕ) where
       let k : entry.Front limit top v n may s front = fronts opb (entry.Front limit top v n may) (entry.IsStatement limit top v n may) (entry.keeps limit top v n may) front start [] s walk ((refl, refl, refl, refl), (refl, refl, refl, refl)) in
       entry_asks v n may s next front rest l e s.phase refl k.1 r a
 
-  -- behind these bytes of an instance
+  -- after these bytes of an instance
   pub asks_only : (used : List ℕ) (b : ℕ) → MayAsk opb (begin limit top) used b → AsksOnly (IsInstance limit top) (Asks top) used b
   asks_only used b (state, lead, a) items more h e =
       asked.asks_within opb Idle (Asks top) (record { gaps = gaps; ends = ends; texts = texts }) (begin limit top) used b (inl refl) state lead a items more (instance_each limit top items h) e

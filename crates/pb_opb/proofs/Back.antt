@@ -1,4 +1,4 @@
--- What is written reads as the same value.
+-- What is written reads back as the same value.
 use Rattle.std.proofs.Common.{List, sym, ◌∙◌, subst}
 use Rattle.pb_text.specs.Spelling.{Item}
 use Rattle.pb_text.specs.Whole.{events_of}

@@ -10,13 +10,14 @@ use Rattle.pb_text.proofs.Outcomes.{refuse_or_go, refuse_or_end}
 use Rattle.pb_text.proofs.Booleans.{never}
 use Rattle.pb_sums.specs.State.{SumState, sums}
 use Rattle.pb_sums.specs.declared.values.SumEvent.{SumEvent}
-use Rattle.pb_opb.specs.Instances.{IsEntry, IsBody, IsBegun, IsInstance}
+use Rattle.pb_opb.specs.Instances.{IsBegun, IsInstance}
 use Rattle.pb_opb.specs.State.{OpbState, opb, begin, act, over, linears}
 use Rattle.pb_opb.specs.declared.event.OpbEvent.{OpbEvent}
 use Rattle.pb_opb.specs.declared.event.OpbEvent.TheVariants.{Header, Comment, Objective, Constraint}
 use Rattle.pb_opb.specs.declared.phase.Phase.{Phase}
 use Rattle.pb_opb.specs.declared.phase.Phase as phase
 use Rattle.pb_opb.specs.declared.phase.Move.{Move}
+use Rattle.pb_opb.proofs.Counted.{IsEntry, IsCounted, counted, body_of}
 use Rattle.pb_opb.proofs.EntryFront.{entry_only}
 use Rattle.pb_opb.proofs.EntryWalk.{entry_reads}
 use Rattle.pb_opb.proofs.HeaderFront.{IsHeader, header_only}
@@ -24,7 +25,7 @@ use Rattle.pb_opb.proofs.HeaderWalk.{header_reads}
 use Rattle.pb_opb.proofs.Stands.{idle}
 use Rattle.pb_opb.proofs.States.{done_stops}
 
--- what may come of a byte in a gap
+-- what a byte of the white space before a statement may lead to
 abbrev pub InGap : (OpbState → Type 0) → Next OpbState OpbEvent → Type 0
 InGap P (Go mid) = opb.begun mid ≡ false → P mid
 InGap P (End e s) = Unit {0}
@@ -37,7 +38,7 @@ gap_given P s (End e new) = tt
 gap_given P s Refuse = tt
 
 module _ (limit top : ℕ) where
-  -- before a header there is no gap
+  -- no white space comes before a header
   start_gap : (gap : List ℕ) (at : OpbState) → Skips opb (begin limit top) gap at → (gap ≡ []) × (at ≡ begin limit top)
   start_gap [] at h = (refl, h)
   start_gap (b ∷ gap) at (mid, g, o, h) = absurd (on o)
@@ -104,30 +105,30 @@ module _ (limit top : ℕ) where
     nothing_read may [] (l ∷ k ∷ text) e at after h (mid, g, o, n, r) = refuse_or_go mid (sym (ap (λ s. opb.step s l.byte) h) ∙ g)
     nothing_read may (b ∷ gap) text e at after (mid, g, o, h) r = refuse_or_go mid g
 
-    body_only : (items : List (Item OpbEvent)) (may : Bool) (owed : ℕ) → Accepts opb (at_idle may owed) items → IsBody limit may owed items
+    body_only : (items : List (Item OpbEvent)) (may : Bool) (owed : ℕ) → Accepts opb (at_idle may owed) items → IsCounted limit may owed items
     body_only [] may zero h = tt
     body_only [] may (suc n) h = never false h refl
     body_only (i ∷ rest) may zero (at, after, g, r, a) = nothing_read may i.gap i.text i.event at after g r
     body_only (i ∷ rest) may (suc n) (at, after, g, r, a) =
         let f : Each (λ b. IsTrue (is_white b)) i.gap × (at ≡ at_idle may (suc n)) = gap_only may n i.gap at g in (
           f.0,
-          entry_map may n i.text (λ m k. after ≡ at_idle m k) (λ m k. IsBody limit m k rest) (λ m k e. body_only rest m k (subst (λ s. Accepts opb s rest) e a)) i.event
+          entry_map may n i.text (λ m k. after ≡ at_idle m k) (λ m k. IsCounted limit m k rest) (λ m k e. body_only rest m k (subst (λ s. Accepts opb s rest) e a)) i.event
               (entry_only limit top v n may i.text i.event after (subst (λ s. Reads opb s i.text i.event after) f.1 r)),
         )
 
-    body_each : (items : List (Item OpbEvent)) (may : Bool) (owed : ℕ) → IsBody limit may owed items → Accepts opb (at_idle may owed) items
+    body_each : (items : List (Item OpbEvent)) (may : Bool) (owed : ℕ) → IsCounted limit may owed items → Accepts opb (at_idle may owed) items
     body_each [] may zero h = refl
     body_each [] may (suc n) h = absurd h
     body_each (i ∷ rest) may zero h = absurd h
     body_each (i ∷ rest) may (suc n) (g, h) =
-        let f : (m : Bool) × (k : ℕ) × IsBody limit m k rest × IsEntry limit may n i.text (λ m' k'. at_idle m k ≡ at_idle m' k') i.event =
-        entry_after may n i.text (λ m k. IsBody limit m k rest) i.event h in
+        let f : (m : Bool) × (k : ℕ) × IsCounted limit m k rest × IsEntry limit may n i.text (λ m' k'. at_idle m k ≡ at_idle m' k') i.event =
+        entry_after may n i.text (λ m k. IsCounted limit m k rest) i.event h in
         (at_idle may (suc n), at_idle f.0 f.1, gap_each may n i.gap g, entry_reads limit top v n may i.text i.event (at_idle f.0 f.1) f.3, body_each rest f.0 f.1 f.2)
 
   -- with the header
   begun_only : (i : Item OpbEvent) (rest : List (Item OpbEvent)) (e : OpbEvent) (after : OpbState) → i.gap ≡ [] → IsHeader limit top e after i.text
       → Accepts opb after rest → IsBegun limit top i rest e
-  begun_only i rest (Header v n tail) after g h a = (g, h.0, h.1, body_only v rest true n (subst (λ s. Accepts opb s rest) h.2 a))
+  begun_only i rest (Header v n tail) after g h a = (g, h.0, h.1, body_of limit n rest (body_only v rest true n (subst (λ s. Accepts opb s rest) h.2 a)))
   begun_only i rest _ after g h a = absurd h
 
   pub instance_only : (items : List (Item OpbEvent)) → Accepts opb (begin limit top) items → IsInstance limit top items
@@ -143,7 +144,7 @@ module _ (limit top : ℕ) where
     idle limit top v true n,
     subst (λ x. Skips opb (begin limit top) x (begin limit top)) (sym g) refl,
     header_reads limit top v n tail i.text h spells,
-    body_each v rest true n body,
+    body_each v rest true n (counted limit n rest body),
   )
   begun_each i rest _ h = absurd h
 
@@ -151,10 +152,10 @@ module _ (limit top : ℕ) where
   instance_each [] h = absurd h
   instance_each (i ∷ rest) h = begun_each i rest i.event h
 
-  -- What a new machine accepts are the instances.
+  -- A new machine accepts the instances.
   pub reads_instances : (items : List (Item OpbEvent)) → Accepts opb (begin limit top) items ↔ IsInstance limit top items
   reads_instances items = (instance_only items, instance_each items)
 
--- Nothing may follow what is complete.
+-- Nothing may follow a complete instance.
 pub closes : (s : OpbState) → IsTrue (opb.done s) → (b : ℕ) → opb.step s b ≡ Refuse
 closes s h b = ap (act s b) (done_stops s.top s.phase b h)

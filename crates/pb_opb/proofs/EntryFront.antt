@@ -1,4 +1,5 @@
--- What the machine reads behind a header is a comment, an objective or a constraint.
+-- What the machine reads after a header is a comment, an objective or a constraint.
+use Rattle.pb_text.specs.Blank.{IsInLine}
 use Rattle.std.proofs.Common.{◌≡◌, ℕ, suc, ◌+◌, ◌-◌, ◌<◌, Bool, true, false, ◌&&◌, List, [], ◌∷◌, ◌++◌, length, take, refl, sym, ap, subst, arith, ◌∙◌}
 use Rattle.std.proofs.lemmas.Bool.{eqb-true, and_parts, cond_both}
 use Rattle.std.specs.Prelude.{IsTrue, nat_eq, slice_index}
@@ -18,7 +19,7 @@ use Rattle.pb_sums.specs.declared.values.SumEvent.{SumEvent}
 use Rattle.pb_sums.specs.declared.values.SumEvent as sum
 use Rattle.pb_sums.proofs.Links.{reads_grammar}
 use Rattle.pb_sums.proofs.States.{goes-midway}
-use Rattle.pb_opb.specs.Instances.{min_word, Whites0, IsInLine, SpellsObjective, IsEntry}
+use Rattle.pb_opb.specs.Instances.{min_word, Whites0, SpellsObjective}
 use Rattle.pb_opb.specs.Machine.{plan}
 use Rattle.pb_opb.specs.State.{OpbState, opb, act, over, after, statement_of, linears, objectives, is_in_number}
 use Rattle.pb_opb.specs.declared.event.OpbEvent.{OpbEvent}
@@ -26,6 +27,7 @@ use Rattle.pb_opb.specs.declared.phase.Phase.{Phase}
 use Rattle.pb_opb.specs.declared.phase.Phase as phase
 use Rattle.pb_opb.specs.declared.phase.Move.{Move}
 use Rattle.pb_opb.specs.declared.phase.Move.TheVariants.{To, BeginSum}
+use Rattle.pb_opb.proofs.Counted.{IsEntry}
 use Rattle.pb_opb.proofs.Fronts.{line_grown}
 use Rattle.pb_opb.proofs.Objectives.{MinFront, objective_of}
 use Rattle.pb_opb.proofs.Stands.{idle}
@@ -62,7 +64,7 @@ module _ (limit top v n : ℕ) (may : Bool) where
   same_idle l t w k k' m m' a b c d e = rw (a, b, c, d, e) refl
 
   module _ (s : OpbState) (l : Letter) (p : List Letter) (k : Known s) where
-    -- what is known of an outcome, and after a move
+    -- what holds for an outcome, and after a move
     abbrev Leaves : Next OpbState OpbEvent → Type 0
     Leaves x = On opb Front IsStatement x l (p ++ l ∷ [])
 

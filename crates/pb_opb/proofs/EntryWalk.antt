@@ -1,4 +1,5 @@
 -- The machine reads each comment, objective and constraint.
+use Rattle.pb_text.specs.Blank.{IsInLine}
 use Rattle.std.proofs.Common.{◌≡◌, ℕ, suc, ◌-◌, Bool, true, false, cond, List, [], ◌∷◌, ◌++◌, refl, sym, ap, subst, arith, ◌∙◌}
 use Rattle.std.specs.Prelude.{IsTrue, nat_eq}
 use Rattle.pb_text.specs.Automaton.{Go, Reads}
@@ -15,7 +16,7 @@ use Rattle.pb_sums.specs.declared.values.SumEvent.{SumEvent}
 use Rattle.pb_sums.specs.declared.values.SumEvent as sum
 use Rattle.pb_sums.specs.declared.values.Term.{Term}
 use Rattle.pb_sums.proofs.Links.{reads_grammar}
-use Rattle.pb_opb.specs.Instances.{min_word, Whites0, IsInLine, SpellsComment, SpellsObjective, IsEntry}
+use Rattle.pb_opb.specs.Instances.{min_word, Whites0, SpellsComment, SpellsObjective}
 use Rattle.pb_opb.specs.Machine.{plan}
 use Rattle.pb_opb.specs.State.{OpbState, opb, act, linears, objectives}
 use Rattle.pb_opb.specs.declared.event.OpbEvent.{OpbEvent}
@@ -23,6 +24,7 @@ use Rattle.pb_opb.specs.declared.event.OpbEvent.TheVariants.{Header, Comment, Ob
 use Rattle.pb_opb.specs.declared.phase.Phase.{Phase}
 use Rattle.pb_opb.specs.declared.phase.Phase as phase
 use Rattle.pb_opb.specs.declared.phase.Move.TheVariants.{To, Give}
+use Rattle.pb_opb.proofs.Counted.{IsEntry}
 use Rattle.pb_opb.proofs.FirstLetters.{spaces_white, IsDark, sum-dark, linear_first}
 use Rattle.pb_opb.proofs.GivenBytes.{gives_objective, gives_constraint, given_reads}
 use Rattle.pb_opb.proofs.Objectives.{MinFront, objective_parts}

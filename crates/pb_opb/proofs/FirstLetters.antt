@@ -20,7 +20,7 @@ use Rattle.pb_opb.specs.State.{linears}
 white-space : (b : ℕ) → is_space White b ≡ is_white b
 white-space b = ap (λ x. is_blank b || x) (and-true (nat_eq b 10))
 
--- white space is the space of the sums
+-- white space is what separates the parts of a sum
 pub spaces_white : (bs : List ℕ) → Each (λ b. IsTrue (is_space White b)) bs → Each (λ b. IsTrue (is_white b)) bs
 spaces_white [] h = tt
 spaces_white (b ∷ bs) h = (sym (white-space b) ∙ h.0, spaces_white bs h.1)
@@ -29,7 +29,7 @@ pub whites_space : (bs : List ℕ) → Each (λ b. IsTrue (is_white b)) bs → E
 whites_space [] h = tt
 whites_space (b ∷ bs) h = (white-space b ∙ h.0, whites_space bs h.1)
 
--- the first letter is no white space
+-- the first letter is not white space
 abbrev pub IsDark : Language
 IsDark t = (c : Letter) × (u : List Letter) × (t ≡ c ∷ u) × (is_white c.byte ≡ false)
 
@@ -51,12 +51,12 @@ sum-dark limit x xs P Q =
     (dark_then (Number limit x.coefficient ⋅ Spaces1 White limit) (SpellsLiteral x.literal)
     (dark_then (Number limit x.coefficient) (Spaces1 White limit) (number-dark limit x.coefficient)))))
 
--- what a machine refuses does not begin what it reads
+-- a byte that a machine rejects does not begin what it reads
 taken : (s : SumState) (l : Letter) (t : List Letter) (e : SumEvent) (after : SumState) → Reads sums s (l ∷ t) e after → sums.step s l.byte ≡ Refuse → ⊥
 taken s l [] e after (h, n) k = refuse_or_end e after (sym k ∙ h)
 taken s l (d ∷ t) e after (mid, h, i, n, r) k = refuse_or_go mid (sym k ∙ h)
 
--- no white space, no star and no `m` begins a linear text
+-- a linear text does not begin with white space, a star or `m`
 pub linear_first : (limit : ℕ) (l : Letter) (t : List Letter) (e : SumEvent) (after : SumState) → Reads sums (linears limit) (l ∷ t) e after
     → (is_white l.byte ≡ false) × (nat_eq l.byte 42 ≡ false) × (nat_eq l.byte 109 ≡ false)
 linear_first limit l t e after r = (

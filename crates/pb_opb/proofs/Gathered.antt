@@ -1,12 +1,10 @@
--- Statements that are put together one by one have the value that they say.
-use Rattle.std.proofs.Common.{◌≡◌, ℕ, ◌+◌, List, [], ◌∷◌, ◌++◌, Bool, IsTrue, refl, sym, ap, ◌∙◌, subst, append_assoc, append-nil, arith}
+-- Statements that are gathered one by one have the value that they state.
+use Rattle.std.proofs.Common.{◌≡◌, ℕ, ◌+◌, List, [], ◌∷◌, ◌++◌, IsTrue, refl, sym, ap, ◌∙◌, subst, append_assoc, append-nil, arith}
 use Rattle.pb_text.proofs.Unkept as stopped
-use Rattle.pb_text.specs.declared.place.Why.TheVariants.{Memory}
 use Rattle.pb_text.specs.Spelling.{Item}
-use Rattle.pb_text.specs.Whole.{gathered, events_of, IsWhole, StopsAfter}
+use Rattle.pb_text.specs.Whole.{gathered, events_of, IsRead, IsWhole, MayHold, StopsIn}
 use Rattle.pb_text.specs.declared.Spanned.{Spanned}
 use Rattle.pb_text.specs.declared.Stop.{Stop}
-use Rattle.pb_text.specs.ValueRead.{IsRead, StopsIn, WantsIn}
 use Rattle.pb_opb.specs.Gather.{with, ended_with, asks, counted, MayKeep, nothing}
 use Rattle.pb_opb.specs.Values.{IsValueOf, last_or, variables_in, tails_in, objectives_in, constraints_in, comments_in, comment_at}
 use Rattle.pb_opb.specs.declared.gather.InstanceSoFar.{InstanceSoFar}
@@ -17,7 +15,7 @@ use Rattle.pb_opb.specs.declared.event.OpbEvent.TheVariants.{Header, Comment, Ob
 abbrev pub one_more : InstanceSoFar → OpbEvent → InstanceSoFar
 one_more b e = record { instance = with b.ended b.instance e; ended = ended_with b.ended e }
 
--- what comes of more statements
+-- what more statements add
 pub record Adds (b : InstanceSoFar) (events : List OpbEvent) (v : Instance) : Type 0 where
   pub variables : v.variables ≡ last_or b.instance.variables (variables_in events)
   pub tail : v.tail ≡ last_or b.instance.tail (tails_in events)
@@ -65,23 +63,15 @@ module _ (format : List (Item OpbEvent) → Type 0) (longest : ℕ) (b : Instanc
   is_read m w = record {
     marks = w.marks;
     spelled = w.spelled;
-    value = value_of (events_of w.spelled.items) b m.event i n w.value_is;
-    first = w.first_is;
-    past = w.past_is;
+    value = value_of (events_of w.spelled.items) b m.event i n w.value;
+    first = w.first;
+    past = w.past;
   }
 
-  abbrev keeps : InstanceSoFar → OpbEvent → Bool
-  keeps c e = asks c.ended e
+  may_keep : (events : List OpbEvent) (x : OpbEvent) → MayHold one_more b (λ c e. asks c.ended e) events x → MayKeep events x
+  may_keep events x h =
+      let count : (gathered one_more b events).ended ≡ counted events = let k = ended_after events b in omega (arith, k, n) in
+      subst (λ (k : ℕ). IsTrue (asks k x)) count h
 
-  pub stops_in : (may_ask : List ℕ → ℕ → Type 0) (seen : List ℕ) (s : Stop) → StopsAfter format longest one_more b may_ask keeps used seen s → StopsIn format longest used seen s
-  stops_in may_ask seen s w = stopped.stops_in format format (λ items h. h) (λ items h. h) longest one_more b may_ask keeps used seen s w
-
-  -- a stop for want of memory
-  pub wants_in : (may_ask : List ℕ → ℕ → Type 0) (seen : List ℕ) (s : Stop) → StopsAfter format longest one_more b may_ask keeps used seen s → s.why ≡ Memory
-      → WantsIn format longest may_ask MayKeep used seen s
-  wants_in may_ask seen s w e = stopped.wants_in format format (λ items h. h) (λ items h. h) longest one_more b may_ask keeps used seen s may_ask (λ c h. h) MayKeep may_keep w e
-    where
-      may_keep : (events : List OpbEvent) (x : OpbEvent) → IsTrue (keeps (gathered one_more b events) x) → MayKeep events x
-      may_keep events x h =
-          let count : (gathered one_more b events).ended ≡ counted events = let k = ended_after events b in omega (arith, k, n) in
-          subst (λ (k : ℕ). IsTrue (asks k x)) count h
+  pub stops_in : (may_ask : List ℕ → ℕ → Type 0) (seen : List ℕ) (s : Stop) → StopsIn format longest may_ask (MayHold one_more b (λ c e. asks c.ended e)) used seen s → StopsIn format longest may_ask MayKeep used seen s
+  stops_in may_ask seen s w = stopped.stops_in format format (λ items h. h) (λ items h. h) longest may_ask may_ask (λ u c h. h) (MayHold one_more b (λ c e. asks c.ended e)) MayKeep may_keep used seen s w

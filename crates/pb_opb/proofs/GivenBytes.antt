@@ -1,4 +1,4 @@
--- A machine of instances, where it gives bytes to its machine of sums.
+-- A machine of instances in the phases in which it gives bytes to its machine of sums.
 use Rattle.std.proofs.Common.{◌≡◌, ℕ, ◌<◌, true, false, List, [], ◌∷◌, refl, sym, ap, ◌∙◌, subst, ◌⊎◌, inl, inr}
 use Rattle.pb_text.specs.Automaton.{Next, Go, End, Reads}
 use Rattle.pb_text.specs.Spelling.{Letter}
@@ -45,14 +45,14 @@ module _ (s : OpbState) (p : Phase) (h : Gives p) where
   stepped : (inner : SumState) (b : ℕ) (n : Next SumState SumEvent) → sums.step inner b ≡ n → opb.step (at inner) b ≡ over s p n
   stepped inner b n e = given_step (at inner) p h b refl ∙ ap (over s p) e
 
-  -- What the machine of sums reads, it reads.
+  -- What the machine of sums reads, the machine of instances reads too.
   pub within_reads : (t : List Letter) (inner : SumState) (e : SumEvent) (new : SumState) → Reads sums inner t e new → Reads opb (at inner) t (statement_of e) (after s p)
   within_reads [] inner e new r = absurd r
   within_reads (l ∷ []) inner e new (g, n) = (stepped inner l.byte (End e new) g, n)
   within_reads (l ∷ k ∷ t) inner e new (mid, g, i, n, r) =
       (at mid, stepped inner l.byte (Go mid) g, h.within, n ∙ sym (h.number (at mid)), within_reads (k ∷ t) mid e new r)
 
-  -- where the first letter is given too
+  -- the same if the first letter is given too
   pub given_reads : (l : Letter) (t : List Letter) (e : SumEvent) (new : SumState) → plan s.top s.phase l.byte ≡ Give p
       → Reads sums s.sums (l ∷ t) e new → Reads opb s (l ∷ t) (statement_of e) (after s p)
   given_reads l t e new f r =

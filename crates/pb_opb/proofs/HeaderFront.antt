@@ -1,4 +1,4 @@
--- What the machine reads as a header is one.
+-- What the machine reads as a header is a header.
 use Rattle.std.proofs.Common.{◌≡◌, ℕ, ◌+◌, ◌-◌, ◌*◌, ◌<◌, ◌≤◌, true, false, ◌&&◌, List, [], ◌∷◌, ◌++◌, length, take, refl, sym, ap, subst, arith, ◌∙◌}
 use Rattle.std.proofs.lemmas.Bool.{eqb-true, leb-true, and_parts, cond_both}
 use Rattle.std.specs.Prelude.{IsTrue, nat_eq, nat_le, slice_index}
@@ -28,7 +28,7 @@ use Rattle.pb_opb.proofs.Stands.{idle}
 abbrev IsBlank : ℕ → Type 0
 IsBlank b = IsTrue (is_blank b)
 
--- what stands before a field's word, and with its count
+-- the text before a field's word, and that text with the word and the count
 abbrev pub Whole : ℕ → Field → ℕ → Language → Language
 Whole top f n P = P ⋅ Bytes (word_of f) ⋅ Blanks0 ⋅ Count top n
 
@@ -75,7 +75,7 @@ module _ (limit top : ℕ) where
   Told _ after = λ p. ⊥
 
   module _ (s : OpbState) (l : Letter) (p : List Letter) (k : Known s) where
-    -- what is known after a move
+    -- what holds after a move
     abbrev After : Move → Type 0
     After m = On opb Front Told (act s l.byte m) l (p ++ l ∷ [])
 

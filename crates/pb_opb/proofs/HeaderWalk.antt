@@ -56,7 +56,7 @@ module _ (limit top : ℕ) where
   blanks_before_count : (f : Field) (v : ℕ) → Leads opb (head v (phase.TheVariants.BeforeCount f)) Blanks0 (head v (phase.TheVariants.BeforeCount f))
   blanks_before_count f v = stays_many IsBlank (head v (phase.TheVariants.BeforeCount f)) (λ b h. rw h refl) refl refl
 
-  -- the bytes of a word that are left
+  -- the remaining bytes of a word
   spelled : (f : Field) (v : ℕ) (front left : List ℕ) (b : ℕ) → word_of f ≡ front ++ b ∷ left
       → Walks opb (head v (phase.TheVariants.Word f (length front))) (plain (b ∷ left)) (head v (phase.TheVariants.BeforeCount f))
   spelled f v front [] b e =

@@ -1,4 +1,5 @@
--- What is read of an instance meets the rules, and what the statements behind its header say. Offered to other crates.
+-- The value of an instance that was read meets the rules; and what the statements after its header state. Offered to
+-- other crates.
 use Rattle.std.proofs.Common.{◌≡◌, ℕ, zero, suc, ◌+◌, ◌<◌, ◌≤◌, List, [], ◌∷◌, length, refl, ap, sym, ◌∙◌, subst, arith, Bool, true, false, Option, Some, None}
 use Rattle.std.specs.Prelude.{IsTrue}
 use Rattle.pb_text.specs.Spelling.{Letter, Item}
@@ -8,13 +9,14 @@ use Rattle.pb_sums.specs.declared.values.Term.{Term}
 use Rattle.pb_sums.specs.declared.values.Linear.{Linear}
 use Rattle.pb_sums.specs.declared.grammar.Spaces.TheVariants.{White}
 use Rattle.pb_sums.proofs.Within.{sum-within, linear-within}
-use Rattle.pb_opb.specs.Instances.{IsTail, SpellsHeader, SpellsObjective, IsEntry, IsBody, IsBegun}
+use Rattle.pb_opb.specs.Instances.{IsTail, SpellsHeader, SpellsObjective, IsBegun}
 use Rattle.pb_opb.specs.Values.{last_or, variables_in, tails_in, objectives_in, constraints_in, comments_in, IsValueOf, IsInstanceValue, IsObjective, AreLinears, AreComments, is_one}
 use Rattle.pb_opb.specs.Statements.{InstanceValues, IsOneHeader}
 use Rattle.pb_opb.specs.declared.event.OpbEvent.{OpbEvent}
 use Rattle.pb_opb.specs.declared.event.OpbEvent.TheVariants.{Header, Comment, Objective, Constraint}
 use Rattle.pb_opb.specs.declared.instance.Comment as comment
 use Rattle.pb_opb.specs.declared.instance.Instance.{Instance}
+use Rattle.pb_opb.proofs.Counted.{IsEntry, IsCounted, counted}
 
 objective-within : (limit : ℕ) (terms : List Term) (t : List Letter) → SpellsObjective limit terms t → AreTerms limit terms
 objective-within limit terms t (p4, l4, e4, (p3, l3, e3, (p2, l2, e2, h, s), w), b) = sum-within White limit terms l2 s
@@ -28,14 +30,14 @@ comments_fall low least all [] h k = tt
 comments_fall low least all (c ∷ cs) h k = (omega (arith, k.0), k.1, k.2, k.3)
 
 module _ (limit : ℕ) where
-  -- none, or one before so many constraints, where it may come
+  -- no objective, or one before this many constraints, if one may come
   abbrev Objectives : Bool → ℕ → List (Option (List Term)) → Type 0
   Objectives may n [] = Unit {0}
   Objectives may n (None ∷ rest) = ⊥
   Objectives may n (Some terms ∷ []) = IsTrue may × AreTerms limit terms × (0 < n)
   Objectives may n (Some terms ∷ x ∷ rest) = ⊥
 
-  -- statements behind a header, of which n are constraints
+  -- statements after a header, of which n are constraints
   pub record IsTold (may : Bool) (n : ℕ) (events : List OpbEvent) : Type 0 where
     pub variables : variables_in events ≡ []
     pub tails : tails_in events ≡ []
@@ -54,8 +56,8 @@ module _ (limit : ℕ) where
   objectives-more may n os h = subst (Objectives may (suc n)) (sym (no_objective n os h)) tt
 
   told-entry : (may : Bool) (n : ℕ) (text : List Letter) (e : OpbEvent) (rest : List (Item OpbEvent))
-      → ((m : Bool) (k : ℕ) → IsBody limit m k rest → IsTold m k (events_of rest))
-      → IsEntry limit may n text (λ m k. IsBody limit m k rest) e → IsTold may (suc n) (e ∷ events_of rest)
+      → ((m : Bool) (k : ℕ) → IsCounted limit m k rest → IsTold m k (events_of rest))
+      → IsEntry limit may n text (λ m k. IsCounted limit m k rest) e → IsTold may (suc n) (e ∷ events_of rest)
   told-entry may n text (Header a b t) rest ih h = absurd h
   told-entry may n text (Comment t) rest ih h =
       let r : IsTold may (suc n) (events_of rest) = ih may (suc n) h.2 in
@@ -95,7 +97,7 @@ module _ (limit : ℕ) where
             (subst (λ (a : ℕ). AreComments (k + 1) a (comments_in (k + 1) (events_of rest))) e (r.comments (k + 1)));
       }
 
-  pub told : (may : Bool) (n : ℕ) (items : List (Item OpbEvent)) → IsBody limit may n items → IsTold may n (events_of items)
+  pub told : (may : Bool) (n : ℕ) (items : List (Item OpbEvent)) → IsCounted limit may n items → IsTold may n (events_of items)
   told may zero [] h = record { variables = refl; tails = refl; count = refl; constraints = tt; objectives = tt; comments = λ k. tt }
   told may zero (i ∷ rest) h = absurd h
   told may (suc n) [] h = absurd h
@@ -120,7 +122,7 @@ begun limit top i rest (Objective t) v h k = absurd h
 begun limit top i rest (Constraint l) v h k = absurd h
 begun limit top i rest (Header n m tail) v h k =
     let events : List OpbEvent = events_of rest in
-    let r = told limit true m rest h.3 in
+    let r = told limit true m rest (counted limit m rest h.3) in
     let c = counts-within top n m tail i.text h.2 in
     let os : List (Option (List Term)) = objectives_in events in
     let o = objectives-count limit m os r.objectives in

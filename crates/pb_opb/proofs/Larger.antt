@@ -1,4 +1,4 @@
--- An instance stays one where numbers may be larger.
+-- An instance remains an instance if numbers may be larger.
 use Rattle.std.proofs.Common.{ℕ, zero, suc, ◌≤◌, Bool, true, false, List, [], ◌∷◌, arith, refl}
 use Rattle.pb_text.specs.Languages.{Language, ◌⋅◌, Byte, Bytes, Blanks0, Blanks1}
 use Rattle.pb_text.specs.Numbers.{Count}
@@ -10,16 +10,17 @@ use Rattle.pb_sums.specs.declared.grammar.Spaces.TheVariants.{White}
 use Rattle.pb_sums.specs.declared.values.SumEvent as sum
 use Rattle.pb_sums.specs.declared.values.Term.{Term}
 use Rattle.pb_sums.proofs.Larger.{spells_larger}
-use Rattle.pb_opb.specs.Instances.{variable_word, constraint_word, SpellsHeader, SpellsObjective, IsEntry, IsBody, IsBegun, IsInstance}
+use Rattle.pb_opb.specs.Instances.{variable_word, constraint_word, SpellsHeader, SpellsObjective, IsBegun, IsInstance}
 use Rattle.pb_opb.specs.declared.event.OpbEvent.{OpbEvent}
 use Rattle.pb_opb.specs.declared.event.OpbEvent.TheVariants.{Header, Comment, Objective, Constraint}
+use Rattle.pb_opb.proofs.Counted.{IsEntry, IsCounted, counted, body_of}
 use Rattle.pb_opb.proofs.Objectives.{MinFront, objective_of, objective_parts}
 
 module _ (top top' : ℕ) (h : top ≤ top') where
   abbrev Grows : (ℕ → Language) → Type 0
   Grows P = (t : List Letter) → P top t → P top' t
 
-  -- with a word behind, and with a count behind
+  -- followed by a word, and followed by a count
   then_same : (P : ℕ → Language) (Q : Language) → Grows P → Grows (λ n. P n ⋅ Q)
   then_same P Q f t k = inside (P top) (P top') Q t f k
 
@@ -54,16 +55,16 @@ module _ (limit limit' : ℕ) (h : limit ≤ limit') where
   entry_grows may n text P Q f (Objective xs) k = (k.0, objective_grows xs text k.1, f false (suc n) k.2)
   entry_grows may n text P Q f (Constraint c) k = ((spells_larger White limit limit' h part.TheVariants.Linear text (sum.TheVariants.Linear c) (refl, k.0)).1, f false n k.1)
 
-  body_grows : (items : List (Item OpbEvent)) (may : Bool) (owed : ℕ) → IsBody limit may owed items → IsBody limit' may owed items
+  body_grows : (items : List (Item OpbEvent)) (may : Bool) (owed : ℕ) → IsCounted limit may owed items → IsCounted limit' may owed items
   body_grows [] may zero k = tt
   body_grows [] may (suc n) k = absurd k
   body_grows (i ∷ rest) may zero k = absurd k
   body_grows (i ∷ rest) may (suc n) k =
-      (k.0, entry_grows may n i.text (λ m j. IsBody limit m j rest) (λ m j. IsBody limit' m j rest) (λ m j. body_grows rest m j) i.event k.1)
+      (k.0, entry_grows may n i.text (λ m j. IsCounted limit m j rest) (λ m j. IsCounted limit' m j rest) (λ m j. body_grows rest m j) i.event k.1)
 
 module _ (limit limit' top top' : ℕ) (h : limit ≤ limit') (j : top ≤ top') where
   begun_grows : (i : Item OpbEvent) (rest : List (Item OpbEvent)) (e : OpbEvent) → IsBegun limit top i rest e → IsBegun limit' top' i rest e
-  begun_grows i rest (Header v n tail) k = (k.0, k.1, header_grows top top' j v n tail i.text k.2, body_grows limit limit' h rest true n k.3)
+  begun_grows i rest (Header v n tail) k = (k.0, k.1, header_grows top top' j v n tail i.text k.2, body_of limit' n rest (body_grows limit limit' h rest true n (counted limit n rest k.3)))
   begun_grows i rest _ k = absurd k
 
   pub instance_grows : (items : List (Item OpbEvent)) → IsInstance limit top items → IsInstance limit' top' items

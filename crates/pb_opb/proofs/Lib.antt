@@ -13,6 +13,7 @@ pub mod Again
 pub mod Alive
 pub mod Back
 pub mod Bodies
+pub mod Counted
 pub mod Exactly
 pub mod Gathered
 pub mod Kept

@@ -1,10 +1,10 @@
--- Bytes of a line that are kept in one go, and the run that they are.
+-- Bytes of a line that are stored at once, and the run that they are.
+use Rattle.pb_text.specs.Blank.{IsInLine}
 use Rattle.std.proofs.Common.{◌≡◌, ℕ, zero, suc, ◌<◌, ◌≤◌, true, false, List, [], ◌∷◌, ◌++◌, length, take, get_or, refl, ap, subst, arith, append-nil, append_assoc}
 use Rattle.std.proofs.lemmas.Bool.{not-true, not_from_false, false_from_ne_true}
 use Rattle.std.specs.Prelude.{nat_eq, Option, Some, None, IfSome}
 use Rattle.std.specs.Option.{unwrap_or}
 use Rattle.pb_text.specs.Automaton.{Go, Runs}
-use Rattle.pb_opb.specs.Instances.{IsInLine}
 use Rattle.pb_opb.specs.Machine.{plan}
 use Rattle.pb_opb.specs.Order.{Holds, IsInOrder}
 use Rattle.pb_opb.specs.State.{OpbState, opb, act, keeps_line}
@@ -13,7 +13,7 @@ use Rattle.pb_opb.specs.declared.phase.Phase as phase
 use Rattle.pb_opb.specs.declared.phase.Move.TheVariants.{Keep}
 use Rattle.pb_opb.proofs.States.{is_state}
 
--- no byte of the front is a line feed
+-- no byte of the prefix is a line feed
 pub in_line : (text : List ℕ) (n : ℕ) → n ≤ length text → ((k : ℕ) → k < n → nat_eq (get_or text k 0) 10 ≡ true → ⊥) → IsInLine (take n text)
 in_line text zero h f = tt
 in_line [] (suc n) h f = absurd (omega (arith, h))
@@ -33,7 +33,7 @@ step_of s b at other = ap (act s b) (planned s.phase at)
     planned (phase.TheVariants.Comment may) e = rw other refl
     planned _ e = cc e
 
--- the text may be any
+-- the stored text may be any
 pub line_order : (s : OpbState) → IsInOrder s → keeps_line s.phase ≡ true → (text : List ℕ) → IsInOrder (keeping s text)
 line_order s h at text = record {
   limit = h.limit;
@@ -63,7 +63,7 @@ line_runs s h at (b ∷ line) is =
       subst (λ (t : List ℕ). Runs opb mid line (keeping s t)) (append_assoc s.text (b ∷ []) line) rest,
     )
 
--- the run that was taken, or none where memory ran out
+-- the run that was taken, or none if memory ran out
 pub kept_or_none : (old new : OpbState) (piece : List ℕ) (kept : Option ℕ) → IfSome kept (λ n. Runs opb old (take n piece) new) → (kept ≡ None → new ≡ old)
     → Runs opb old (take (unwrap_or kept 0) piece) new
 kept_or_none old new piece (Some n) runs same = runs

@@ -1,15 +1,15 @@
--- Rules that each of a list meets.
+-- Rules that each element of a list meets.
+use Rattle.pb_text.specs.Blank.{IsInLine}
 use Rattle.std.proofs.Common.{◌≡◌, ℕ, suc, ◌+◌, ◌<◌, ◌≤◌, Bool, true, false, List, ◌∷◌, length, drop, get_or, sym, subst, arith, ◌↔◌, refl, ◌∙◌}
 use Rattle.std.specs.Prelude.{IsTrue}
 use Rattle.std.proofs.lemmas.List.{drop_all}
 use Rattle.std.proofs.Math.Seq.{drop-cons}
 use Rattle.pb_sums.specs.Canonical.{IsLinear}
 use Rattle.pb_sums.specs.declared.values.Linear.{Linear}
-use Rattle.pb_opb.specs.Instances.{IsInLine}
 use Rattle.pb_opb.specs.Values.{AreLinears, AreComments}
 use Rattle.pb_opb.specs.declared.instance.Comment.{Comment}
 
--- the rest of a list, as its first and what follows
+-- the rest of a list, as its first element and what follows
 rest_is : {A : Type 0} (P : List A → Type 0) (xs : List A) (i : ℕ) (x : A) → i < length xs → x ≡ get_or xs i x → P (drop i xs) ↔ P (x ∷ drop (i + 1) xs)
 rest_is P xs i x h e =
     let one : suc i ≡ i + 1 = omega arith in

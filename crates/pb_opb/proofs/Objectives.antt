@@ -1,4 +1,4 @@
--- The texts of objectives: `min:` and white space, and what a machine of sums reads behind that.
+-- The texts of objectives: `min:` and white space, and what a machine of sums reads after that.
 use Rattle.std.proofs.Common.{ℕ, List, refl}
 use Rattle.pb_text.specs.Languages.{Language, ◌⋅◌, Byte, Bytes}
 use Rattle.pb_text.specs.Spelling.{Letter}

@@ -1,4 +1,4 @@
--- Statements are those of one instance. Offered to other crates.
+-- Statements have the value of one instance only. Offered to other crates.
 use Rattle.std.proofs.Common.{◌≡◌, ℕ, List, Option, refl, sym, ◌∙◌}
 use Rattle.pb_sums.specs.declared.values.Term.{Term}
 use Rattle.pb_sums.specs.declared.values.Linear.{Linear}

@@ -1,4 +1,4 @@
--- What a byte leaves a machine of instances with.
+-- The state of a machine of instances after a byte.
 use Rattle.std.proofs.Common.{◌≡◌, ℕ, zero, suc, ◌+◌, ◌-◌, ◌*◌, ◌<◌, Bool, true, false, ◌&&◌, nat_le, nat_eq, List, [], ◌∷◌, ◌++◌, length, refl, sym, ap, ◌∙◌, subst, arith, IsTrue}
 use Rattle.std.specs.Prelude.{slice_index}
 use Rattle.pb_text.specs.Classes.{is_blank, is_white, is_digit}
@@ -26,7 +26,7 @@ use Rattle.pb_text.proofs.Living.{admits_before, admits_final}
 use Rattle.pb_opb.proofs.GivenBytes.{Gives, IsGiving, gives_at, gives_objective, gives_constraint}
 use Rattle.pb_opb.proofs.States.{either_way, is_state, outside}
 
--- what is known where a byte is given to the machine of sums
+-- what holds if a byte is given to the machine of sums
 pub record IsGiven (s : OpbState) (q p : Phase) : Type 0 where
   pub gives : Gives p
   pub owed : 0 < s.owed
@@ -80,11 +80,11 @@ knows s phase.TheVariants.Done h b = tt
 known : (s : OpbState) → IsInOrder s → (b : ℕ) (m : Move) → plan s.top s.phase b ≡ m → Knows s s.phase m
 known s h b m e = subst (Knows s s.phase) e (knows s s.phase h.holds b)
 
--- the plan for a number that is the top
+-- the plan for a number that equals the top
 pub planned_at : (n top : ℕ) (p : Phase) (b : ℕ) (m : Move) → n ≡ top → m ≡ plan n p b → plan top p b ≡ m
 planned_at n top p b m e h = ap (λ (k : ℕ). plan k p b) (sym e) ∙ sym h
 
--- the state where the machine goes on
+-- the state if the machine continues
 pub to_order : (s : OpbState) → IsInOrder s → (b : ℕ) (p : Phase) → plan s.top s.phase b ≡ To p → PhaseFits s.top p → IsInOrder (at s p)
 to_order s h b p e fits = record {
   limit = h.limit;
@@ -96,7 +96,7 @@ to_order s h b p e fits = record {
   state = h.state;
 }
 
--- what the machine of sums keeps
+-- what the machine of sums leaves unchanged
 inner_goes : (inner next : SumState) (b : ℕ) → sums.step inner b ≡ Go next → (next.spaces ≡ inner.spaces) × (next.limit ≡ inner.limit) × (sums.done next ≡ false)
 inner_goes inner next b e =
     let g = goes inner next b e in
@@ -106,7 +106,7 @@ inner_ends : (inner next : SumState) (b : ℕ) (e : SumEvent) → sums.step inne
 inner_ends inner next b e h =
     let g = ended-last inner next b e h in (ap (λ (x : SumState). x.spaces) g, ap (λ (x : SumState). x.limit) g)
 
--- the state where the machine of sums goes on
+-- the state if the machine of sums continues
 pub give_order : (s : OpbState) → IsInOrder s → (b : ℕ) (p : Phase) (inner : SumState) → plan s.top s.phase b ≡ Give p → sums.step s.sums b ≡ Go inner → IsState sums inner → IsInOrder (giving s p inner)
 give_order s h b p inner e goes state =
     let k = known s h b (Give p) e in
@@ -121,7 +121,7 @@ give_order s h b p inner e goes state =
       state = state;
     }
 
--- a byte that is given to the machine of sums and goes on keeps the order
+-- a byte after which the machine of sums continues keeps the state in order
 pub goes_order : (s : OpbState) → IsInOrder s → (b : ℕ) (went : Bool) (inner : SumState) → IsGiving s
     → Goes sums s.sums b went inner → IsState sums inner → IsInOrder (giving s s.phase inner)
 goes_order s h b false inner at same state = subst (λ (i : SumState). IsInOrder (giving s s.phase i)) (sym same) h
@@ -137,7 +137,7 @@ owing_fits : (top : ℕ) (may : Bool) (n : ℕ) → PhaseFits top (phase_owing m
 owing_fits top may zero = tt
 owing_fits top may (suc n) = tt
 
--- the state where the machine of sums has ended and begins again
+-- the state if the machine of sums has ended and begins again
 module _ (s : OpbState) (h : IsInOrder s) (b : ℕ) (p : Phase) (next again : SumState) (x : SumEvent) (planned : plan s.top s.phase b ≡ Give p) (ends : sums.step s.sums b ≡ End x next) (begins : again ≡ first next.spaces part.TheVariants.Linear next.limit) where
   again_is : again ≡ linears s.limit
   again_is =
@@ -166,7 +166,7 @@ module _ (s : OpbState) (h : IsInOrder s) (b : ℕ) (p : Phase) (next again : Su
   pub end_step : opb.step s b ≡ End (statement_of x) ended
   end_step = ap (act s b) planned ∙ (ap (over s p) ends ∙ ap (λ (y : OpbState). End (statement_of x) y) (sym ended_is))
 
--- a byte that the machine of sums refuses
+-- a byte that the machine of sums rejects
 pub give_refused : (s : OpbState) → IsInOrder s → (b : ℕ) (p : Phase) → plan s.top s.phase b ≡ Give p → sums.step s.sums b ≡ Refuse → (opb.step s b ≡ Refuse) × (is_large opb s b ≡ is_large sums s.sums b)
 give_refused s h b p planned stops =
     (ap (act s b) planned ∙ ap (over s p) stops, ap (λ (x : Bool). x && is_digit b) (known s h b (Give p) planned).number)

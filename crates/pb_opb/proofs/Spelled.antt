@@ -1,4 +1,5 @@
--- The canonical text of an instance is a spelling.
+-- The canonical text of an instance is one of its texts.
+use Rattle.pb_text.specs.Blank.{IsInLine}
 use Rattle.std.proofs.Common.{◌≡◌, ℕ, zero, suc, ◌+◌, ◌<◌, ◌≤◌, ◌^◌, List, [], ◌∷◌, ◌++◌, length, take, drop, refl, ap, sym, ◌∙◌, append_assoc, append-nil, arith, Bool, true, false}
 use Rattle.std.specs.Prelude.{decimal, IsTrue}
 use Rattle.pb_text.specs.Languages.{unmarked, Each}
@@ -11,13 +12,14 @@ use Rattle.pb_sums.specs.declared.values.Term.{Term}
 use Rattle.pb_sums.specs.declared.values.Linear.{Linear}
 use Rattle.pb_sums.specs.declared.grammar.Spaces.TheVariants.{White}
 use Rattle.pb_sums.proofs.CanonicalLaws.{linear-spelled, sum-spelled, bytes-linear, bytes-sum}
-use Rattle.pb_opb.specs.Instances.{variable_word, constraint_word, min_word, IsInLine, SpellsHeader, SpellsComment, SpellsObjective, IsBody}
+use Rattle.pb_opb.specs.Instances.{variable_word, constraint_word, min_word, SpellsHeader, SpellsComment, SpellsObjective}
 use Rattle.pb_opb.specs.Canonical.{header_bytes, objective_bytes, event_bytes, lines, comment_events, constraint_events, due, in_order}
 use Rattle.pb_opb.specs.Led.{led_lines}
 use Rattle.pb_opb.specs.Values.{AreLinears}
 use Rattle.pb_opb.specs.declared.event.OpbEvent.{OpbEvent}
 use Rattle.pb_opb.specs.declared.event.OpbEvent.TheVariants.{Header, Comment, Objective, Constraint}
 use Rattle.pb_opb.specs.declared.instance.Comment as comment
+use Rattle.pb_opb.proofs.Counted.{IsCounted}
 use Rattle.pb_opb.proofs.Texts.{led-lines, led-between}
 
 -- The texts of statements.
@@ -34,7 +36,7 @@ header_text n m tail =
 abbrev comment_text : List ℕ → List Letter
 comment_text text = star ++ plain text ++ feed
 
--- the space behind a sum
+-- the space after a sum
 abbrev behind : List Term → List Letter
 behind [] = []
 behind (x ∷ xs) = space
@@ -48,7 +50,7 @@ text_of (Comment text) = comment_text text
 text_of (Objective terms) = objective_text terms
 text_of (Constraint linear) = linear_text linear
 
--- They are spelled.
+-- They are texts of their statements.
 pub header-spelled : (top n m : ℕ) (tail : List ℕ) → top < 2 ^ 63 → n ≤ top → m ≤ top → SpellsHeader top n m tail (header_text n m tail)
 header-spelled top n m tail t h k =
     let N : List Letter = digits_of (decimal n) in
@@ -165,7 +167,7 @@ objective-bytes terms =
     ap bytes (regrouped5 (plain min_word) space (sum_text terms) (behind terms) E)
     ∙ ap (λ y. min_word ++ (32 ∷ y)) (bytes-append (sum_text terms ++ behind terms) E ∙ ap (λ y. y ++ (59 ∷ [])) (head-bytes terms))
 
--- Statements with white space before them: a line feed where none ended the one before.
+-- Statements with white space before them: a line feed, unless the statement before ended with one.
 abbrev gap_of : Bool → List ℕ
 gap_of true = 10 ∷ []
 gap_of false = []
@@ -264,13 +266,13 @@ gap-white true = (refl, tt)
 gap-white false = tt
 
 module _ (limit : ℕ) (small : limit < 2 ^ 127) where
-  comments-body : (cs : List comment.Comment) → AreInLines cs → (may : Bool) (n : ℕ) (events : List OpbEvent) → ((owed : Bool) → IsBody limit may (suc n) (spelled owed events))
-      → (owed : Bool) → IsBody limit may (suc n) (spelled owed (comment_events cs ++ events))
+  comments-body : (cs : List comment.Comment) → AreInLines cs → (may : Bool) (n : ℕ) (events : List OpbEvent) → ((owed : Bool) → IsCounted limit may (suc n) (spelled owed events))
+      → (owed : Bool) → IsCounted limit may (suc n) (spelled owed (comment_events cs ++ events))
   comments-body [] h may n events ih owed = ih owed
   comments-body (c ∷ cs) h may n events ih owed = (gap-white owed, (h.0, comment-spelled c.text, comments-body cs h.1 may n events ih false))
 
   pub constraints-body : (ls : List Linear) → AreLinears limit ls → (cs : List comment.Comment) → AreInLines cs → (may : Bool) (n : ℕ) (owed : Bool)
-      → IsBody limit may (length ls) (spelled owed (in_order n cs (constraint_events ls)))
+      → IsCounted limit may (length ls) (spelled owed (in_order n cs (constraint_events ls)))
   constraints-body [] h cs i may n owed = tt
   constraints-body (l ∷ ls) h cs i may n owed =
       let later : List comment.Comment = drop (due n cs) cs in
@@ -278,7 +280,7 @@ module _ (limit : ℕ) (small : limit < 2 ^ 127) where
       (λ o. (gap-white o, (linear-spelled limit (omega arith) White l h.0, constraints-body ls h.1 later (in_lines-drop (due n cs) cs i) false (n + 1) true))) owed
 
   pub objective-body : (terms : List Term) → AreTerms limit terms → (ls : List Linear) → 0 < length ls → AreLinears limit ls → (cs : List comment.Comment) → AreInLines cs → (n : ℕ) (owed : Bool)
-      → IsBody limit true (length ls) (spelled owed (in_order n cs (Objective terms ∷ constraint_events ls)))
+      → IsCounted limit true (length ls) (spelled owed (in_order n cs (Objective terms ∷ constraint_events ls)))
   objective-body terms t [] some h cs i n owed = absurd (omega arith)
   objective-body terms t (l ∷ ls) some h cs i n owed =
       let later : List comment.Comment = drop (due n cs) cs in

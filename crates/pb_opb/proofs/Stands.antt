@@ -1,4 +1,5 @@
 -- The states of a machine of instances, within a header and between two statements.
+use Rattle.pb_text.specs.Blank.{IsInLine}
 use Rattle.std.proofs.Common.{◌≡◌, ℕ, Bool, true, false, List, [], ◌∷◌, ◌++◌, refl, sym, ap, subst, ◌∙◌, append_assoc}
 use Rattle.std.proofs.lemmas.Bool.{not-true}
 use Rattle.std.proofs.lemmas.List.{append-nil}
@@ -7,12 +8,11 @@ use Rattle.pb_text.specs.Automaton.{Go, End, Reads}
 use Rattle.pb_text.specs.Languages.{unmarked, Each, Many}
 use Rattle.pb_text.specs.Spelling.{plain}
 use Rattle.pb_text.proofs.Walking.{Walks, Leads, longer}
-use Rattle.pb_opb.specs.Instances.{IsInLine}
 use Rattle.pb_opb.specs.State.{OpbState, opb, phase_owing, linears}
 use Rattle.pb_opb.specs.declared.event.OpbEvent.{OpbEvent}
 use Rattle.pb_opb.specs.declared.phase.Phase.{Phase}
 
--- with the machine of sums before a linear text
+-- with the machine of sums at the start of a linear text
 abbrev pub stands : ℕ → ℕ → ℕ → ℕ → Phase → List ℕ → OpbState
 stands limit top variables owed p text = record {
   limit = limit;
@@ -28,7 +28,7 @@ stands limit top variables owed p text = record {
 abbrev pub idle : ℕ → ℕ → ℕ → Bool → ℕ → OpbState
 idle limit top variables may owed = stands limit top variables owed (phase_owing may owed) []
 
--- bytes that change nothing
+-- bytes that do not change the state
 pub stays : (P : ℕ → Type 0) (s : OpbState) → ((b : ℕ) → P b → opb.step s b ≡ Go s) → opb.begun s ≡ true → opb.in_number s ≡ false
     → (bs : List ℕ) → Each P bs → Walks opb s (plain bs) s
 stays P s f w n [] h = refl
@@ -37,7 +37,7 @@ stays P s f w n (b ∷ bs) h = (s, f b h.0, w, sym n, stays P s f w n bs h.1)
 pub stays_many : (P : ℕ → Type 0) (s : OpbState) → ((b : ℕ) → P b → opb.step s b ≡ Go s) → opb.begun s ≡ true → opb.in_number s ≡ false → Leads opb s (Many P) s
 stays_many P s f w n t (bs, h, e) = subst (λ x. Walks opb s x s) (sym e) (stays P s f w n bs h)
 
--- Bytes that are kept until a line feed.
+-- Bytes that are stored until a line feed.
 pub record Keeps (at : List ℕ → OpbState) (event : List ℕ → OpbEvent) (new : OpbState) : Type 0 where
   pub keep : (kept : List ℕ) (b : ℕ) → nat_eq b 10 ≡ false → opb.step (at kept) b ≡ Go (at (kept ++ b ∷ []))
   pub stop : (kept : List ℕ) → opb.step (at kept) 10 ≡ End (event kept) new

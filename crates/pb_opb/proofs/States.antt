@@ -1,4 +1,4 @@
--- What holds of each state that a machine of instances can be in.
+-- What holds for each state that a machine of instances can be in.
 use Rattle.std.proofs.Common.{◌≡◌, ℕ, zero, suc, ◌+◌, ◌-◌, ◌*◌, ◌≤◌, Bool, true, false, cond, ◌&&◌, nat_le, nat_eq, [], ◌∷◌, length, length-append, refl, sym, ap, subst, arith}
 use Rattle.std.specs.Prelude.{slice_index}
 use Rattle.std.proofs.lemmas.Bool.{false≢true}
@@ -22,7 +22,7 @@ use Rattle.pb_opb.proofs.Alive.{live}
 abbrev N : Type 0
 N = Next OpbState OpbEvent
 
--- what is said of what a byte leads to
+-- P holds for the next state if the machine continues, and Q if a statement has ended
 abbrev On : (OpbState → Type 0) → (OpbState → Type 0) → N → Type 0
 On P Q (Go s) = P s
 On P Q (End e s) = Q s
@@ -34,7 +34,7 @@ at_go P Q n next e h = subst (On P Q) e h
 at_end : (P Q : OpbState → Type 0) (n : N) (e : OpbEvent) (next : OpbState) → n ≡ End e next → On P Q n → Q next
 at_end P Q n e next i h = subst (On P Q) i h
 
--- the phase goes on, and a statement that has begun too
+-- the next phase is not the last one, and a statement that has begun has not ended
 abbrev GoesOn : Phase → Phase → Type 0
 GoesOn p q = (is_done q ≡ false) × (is_within p ≡ true → is_within q ≡ true)
 
@@ -44,7 +44,7 @@ OnMove p (Give q) = GoesOn p q
 OnMove p (Keep b) = is_done p ≡ false
 OnMove p _ = Unit {0}
 
--- what holds either way
+-- what holds in both cases
 pub either_way : {A : Type 0} (P : A → Type 0) (c : Bool) (x y : A) → P x → P y → P (cond c x y)
 either_way P true x y h k = h
 either_way P false x y h k = k
@@ -84,7 +84,7 @@ on_plan top phase.TheVariants.Objective b = (refl, λ h. refl)
 on_plan top phase.TheVariants.Constraint b = (refl, λ h. refl)
 on_plan top phase.TheVariants.Done b = tt
 
--- what a byte leads to
+-- what holds for the next state if the machine continues
 record Goes (s next : OpbState) : Type 0 where
   pub owes : opb.done next ≡ false
   pub stays : opb.begun s ≡ true → opb.begun next ≡ true
@@ -114,12 +114,12 @@ on_act s state b Stop h = tt
 steps : (s : OpbState) → IsState sums s.sums → (b : ℕ) → On (λ next. Goes s next) (λ next. opb.begun next ≡ false) (opb.step s b)
 steps s state b = on_act s state b (plan s.top s.phase b) (on_plan s.top s.phase b)
 
--- behind the last constraint
+-- after the last constraint
 pub done_stops : (top : ℕ) (p : Phase) (b : ℕ) → is_done p ≡ true → plan top p b ≡ Stop
 done_stops top phase.TheVariants.Done b h = refl
 done_stops top _ b h = absurd (false≢true h)
 
--- between two statements no number is read, and nothing is in hand
+-- between two statements no number is being read, and nothing is stored
 pub outside : (s : OpbState) (p : Phase) → is_within p ≡ false → Holds s p → (is_in_number s p ≡ false) × IsIdle s
 outside s phase.TheVariants.Start h i = (refl, i)
 outside s (phase.TheVariants.BeforeWord f) h i = absurd (false≢true (sym h))

@@ -11,7 +11,7 @@ use Rattle.pb_opb.proofs.States.{is_state}
 step_of : (s : OpbState) (b : ℕ) (mid : SumState) → IsGiving s → sums.step s.sums b ≡ Go mid → opb.step s b ≡ Go (giving s s.phase mid)
 step_of s b mid at goes = given_step s s.phase (gives_at s at) b refl ∙ ap (over s s.phase) goes
 
--- the run, and the order behind it
+-- the run, and that the state after it is in order
 pub runs_given : (s : OpbState) → IsInOrder s → IsGiving s → (text : List ℕ) (inner : SumState) → Runs sums s.sums text inner
     → Runs opb s text (giving s s.phase inner) × IsInOrder (giving s s.phase inner)
 runs_given s h at [] inner same = (ap (λ (i : SumState). giving s s.phase i) same, subst (λ (i : SumState). IsInOrder (giving s s.phase i)) (sym same) h)

@@ -1,4 +1,4 @@
--- What is written of an instance, in parts.
+-- What is written for an instance, in parts.
 use Rattle.std.proofs.Common.{◌≡◌, ℕ, zero, suc, ◌+◌, ◌<◌, ◌≤◌, List, [], ◌∷◌, ◌++◌, take, drop, length, refl, ap, ap₂, sym, append_assoc, ◌∙◌, arith, get_or, Option, Some, None}
 use Rattle.std.proofs.lemmas.List.{append-nil, take_more, drop_all}
 use Rattle.std.proofs.Math.Seq.{drop-cons}
@@ -50,7 +50,7 @@ comments_at (c ∷ cs) (suc i) d h =
     ap (λ (z : List ℕ). 10 ∷ 42 ∷ (c.text ++ z)) (comments_at cs i d (omega arith))
     ∙ ap (λ (z : List ℕ). 10 ∷ 42 ∷ z) (sym (append_assoc c.text (led_lines (comment_events (take i cs))) ((10 ∷ 42 ∷ (get_or cs i d).text) ++ led_lines (comment_events (drop (suc i) cs)))))
 
--- A statement with the comments before it, and then the others.
+-- A statement with the comments before it, and then the other statements.
 pub in_order_parts : (n : ℕ) (cs : List Comment) (e : OpbEvent) (events : List OpbEvent) →
     led_lines (in_order n cs (e ∷ events))
     ≡ led_lines (comment_events (take (due n cs) cs)) ++ ((10 ∷ event_bytes e) ++ led_lines (in_order (n + 1) (drop (due n cs) cs) events))
@@ -77,7 +77,7 @@ constraint_turn whole front n i k rest before later cs x h q b l f e =
     ∙ (ap (λ (y : Linear). T before y (n + i + 1) later (suc i)) (sym f)
     ∙ ap₂ (λ (j m : ℕ). T before x j later m) next one))))
 
--- the same, with all that is written in front
+-- the same, with all that was written before
 pub constraint_done : (whole front a b rest : List ℕ) → whole ≡ front ++ (a ++ (b ++ rest)) → whole ≡ (front ++ (a ++ b)) ++ rest
 constraint_done whole front a b rest e =
     e ∙ (ap (λ (z : List ℕ). front ++ z) (sym (append_assoc a b rest)) ∙ sym (append_assoc front (a ++ b) rest))
@@ -88,7 +88,7 @@ pub constraints_end : (whole front : List ℕ) (n i : ℕ) (rest : List Comment)
 constraints_end whole front n i rest cs h e =
     sym (e ∙ (ap (λ (z : List Linear). front ++ led_lines (in_order (n + i) rest (constraint_events z))) (drop_all i cs h) ∙ append-nil front))
 
--- the same of the objective
+-- the same for the objective
 pub objective_turn : (k : ℕ) (terms : List Term) (cs before later : List Comment) (events : List OpbEvent) → k ≡ due 0 cs → before ≡ take k cs → later ≡ drop k cs
     → led_lines (in_order 0 cs (Objective terms ∷ events)) ≡ led_lines (comment_events before) ++ ((10 ∷ []) ++ (objective_bytes terms ++ led_lines (in_order 1 later events)))
 objective_turn k terms cs before later events q b l =
@@ -101,7 +101,7 @@ pub led-between : (xs : List OpbEvent) (e : OpbEvent) (ys : List OpbEvent) → 1
 led-between [] e ys = led-lines e ys
 led-between (x ∷ xs) e ys = led-lines x (xs ++ e ∷ ys)
 
--- what stands behind the header, without an objective and with one
+-- what comes after the header, without an objective and with one
 pub body_without : (v : Instance) → v.objective ≡ None → 0 < length v.constraints → 10 ∷ lines (body_events v) ≡ led_lines (in_order 0 v.comments (constraint_events v.constraints))
 body_without v e h = ap (λ (o : Option (List Term)). 10 ∷ lines (in_order 0 v.comments (objective_events o ++ constraint_events v.constraints))) e ∙ some v.comments v.constraints h
   where

@@ -1,4 +1,4 @@
--- What statements in order say.
+-- What statements in order state.
 use Rattle.std.proofs.Common.{◌≡◌, ℕ, suc, ◌+◌, ◌≤◌, List, [], ◌∷◌, ◌++◌, length, take, drop, refl, ap, sym, ◌∙◌, arith, Bool, true, false, cond, subst, Option, Some, None, nat_le, take-append-drop}
 use Rattle.std.proofs.lemmas.Bool.{leb-true, leb-false}
 use Rattle.pb_text.specs.Whole.{events_of}
@@ -18,7 +18,7 @@ spelled-events owed (Comment t ∷ events) = ap (λ (x : List OpbEvent). Comment
 spelled-events owed (Objective t ∷ events) = ap (λ (x : List OpbEvent). Objective t ∷ x) (spelled-events true events)
 spelled-events owed (Constraint l ∷ events) = ap (λ (x : List OpbEvent). Constraint l ∷ x) (spelled-events true events)
 
--- Comments say nothing but themselves.
+-- Comments add nothing to the other parts of a value.
 module _ {A : Type 0} (F : List OpbEvent → List A) (over : (t : List ℕ) (events : List OpbEvent) → F (Comment t ∷ events) ≡ F events)
     (same : (e : OpbEvent) (xs ys : List OpbEvent) → F xs ≡ F ys → F (e ∷ xs) ≡ F (e ∷ ys)) where
   past_comments : (cs : List comment.Comment) (events : List OpbEvent) → F (comment_events cs ++ events) ≡ F events
@@ -56,7 +56,7 @@ same_constraints (Comment t) xs ys h = h
 same_constraints (Objective t) xs ys h = h
 same_constraints (Constraint l) xs ys h = ap (λ (x : List Linear). l ∷ x) h
 
--- of an objective and constraints
+-- the same for an objective and constraints
 module _ {A : Type 0} (F : List OpbEvent → List A) (none : F [] ≡ []) (over : (l : Linear) (events : List OpbEvent) → F (Constraint l ∷ events) ≡ F events) where
   none_in : (ls : List Linear) → F (constraint_events ls) ≡ []
   none_in [] = none
@@ -91,7 +91,7 @@ module _ (cs : List comment.Comment) (o : Option (List Term)) (ls : List Linear)
   pub order_constraints : constraints_in (in_order 0 cs (objective_events o ++ constraint_events ls)) ≡ ls
   order_constraints = past_order constraints_in (λ t e. refl) same_constraints (objective_events o ++ constraint_events ls) 0 cs ∙ main_constraints o ls
 
--- Comments come back, each with its number.
+-- Comments are read back, each with its number.
 pub in_lines : (least all : ℕ) (cs : List comment.Comment) → AreComments least all cs → AreInLines cs
 in_lines least all [] h = tt
 in_lines least all (c ∷ cs) h = (h.2, in_lines c.before all cs h.3)
@@ -99,7 +99,7 @@ in_lines least all (c ∷ cs) h = (h.2, in_lines c.before all cs h.3)
 numbered : (n : ℕ) (c : comment.Comment) → c.before ≡ n → comment_at n c.text ≡ c
 numbered n c e = ap (λ (m : ℕ). comment_at m c.text) (sym e)
 
--- The next comment is due, and so its number is n, or it is not, and its number is above n.
+-- Either the next comment is due, and its number is n; or it is not due, and its number is above n.
 module _ (n all : ℕ) (c : comment.Comment) (cs : List comment.Comment) (h : AreComments n all (c ∷ cs)) where
   is_due : nat_le c.before n ≡ true → c.before ≡ n
   is_due e = omega (arith, leb-true c.before n e)

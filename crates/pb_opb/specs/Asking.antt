@@ -1,10 +1,11 @@
--- Where an instance asks for memory, said of a statement, its bytes so far and the next one.
+-- Where reading an instance may allocate: a statement, its bytes so far and the next byte.
+use Rattle.pb_text.specs.Blank.{IsInLine}
 use Rattle.std.specs.Prelude.{◌≡◌, ℕ, List, [], ◌∷◌, ◌++◌}
 use Rattle.pb_text.specs.Languages.{Language, ◌⋅◌, Byte, Bytes, Blanks0, Blanks1}
 use Rattle.pb_text.specs.Numbers.{Count}
 use Rattle.pb_text.specs.Spelling.{Letter, bytes}
 use Rattle.pb_sums.specs.Asking.{AsksLiteral}
-use Rattle.pb_opb.specs.Instances.{variable_word, constraint_word, min_word, Whites0, IsTail, IsInLine}
+use Rattle.pb_opb.specs.Instances.{variable_word, constraint_word, min_word, Whites0, IsTail}
 use Rattle.pb_opb.specs.declared.event.OpbEvent.{OpbEvent}
 use Rattle.pb_opb.specs.declared.event.OpbEvent.TheVariants.{Header, Comment, Objective, Constraint}
 
@@ -18,8 +19,8 @@ SpellsCounts top variables constraints =
 abbrev pub MinLead : Language
 MinLead = Bytes min_word ⋅ Whites0
 
--- The next byte is one of the tail behind the counts, one of a comment behind its star, or one of a name or behind a
--- literal in a sum.
+-- The next byte is one of the tail after the counts, or one of a comment after its star. In a sum it is one of a name
+-- or one after a literal.
 abbrev pub Asks : ℕ → OpbEvent → List ℕ → ℕ → Type 0
 Asks top (Header variables constraints tail) text b =
     (v : ℕ) × (n : ℕ) × (counts : List Letter) × (kept : List ℕ) × SpellsCounts top v n counts × (text ≡ bytes counts ++ kept) × IsTail (kept ++ b ∷ [])

@@ -1,5 +1,5 @@
 -- The one text that is written for an instance.
-use Rattle.std.specs.Prelude.{ℕ, ◌+◌, nat_le, List, [], ◌∷◌, ◌++◌, map, length, take, drop, Option, Some, None, decimal}
+use Rattle.std.specs.Prelude.{ℕ, ◌+◌, nat_le, List, [], ◌∷◌, ◌++◌, map, length, take, drop, Option, Some, None, decimal, codes}
 use Rattle.std.specs.List.{prefix_len}
 use Rattle.pb_sums.specs.Canonical.{head_bytes, linear_bytes}
 use Rattle.pb_sums.specs.declared.values.Term.{Term}
@@ -16,9 +16,9 @@ abbrev pub header_bytes : ℕ → ℕ → List ℕ → List ℕ
 header_bytes variables constraints tail =
     42 ∷ 32 ∷ (variable_word ++ (32 ∷ (decimal variables ++ (32 ∷ (constraint_word ++ (32 ∷ (decimal constraints ++ tail)))))))
 
--- `min: `, the sum and ` ;`, or `min: ;` where it is empty
+-- `min: `, the sum and ` ;`, or `min: ;` if the sum is empty
 abbrev pub objective_bytes : List Term → List ℕ
-objective_bytes terms = min_word ++ (32 ∷ (head_bytes terms ++ (59 ∷ [])))
+objective_bytes terms = min_word ++ (32 ∷ (head_bytes terms ++ codes ";"))
 
 abbrev pub event_bytes : OpbEvent → List ℕ
 event_bytes (Header variables constraints tail) = header_bytes variables constraints tail
@@ -32,7 +32,7 @@ lines [] = []
 lines (e ∷ []) = event_bytes e
 lines (e ∷ f ∷ events) = event_bytes e ++ (10 ∷ lines (f ∷ events))
 
--- The statements of an instance behind its header.
+-- The statements of an instance after its header.
 abbrev pub objective_events : Option (List Term) → List OpbEvent
 objective_events None = []
 objective_events (Some terms) = Objective terms ∷ []
@@ -43,11 +43,11 @@ constraint_events = map Constraint
 abbrev pub comment_events : List comment.Comment → List OpbEvent
 comment_events = map (λ c. Comment c.text)
 
--- how many comments at the front come after n statements, or fewer
+-- how many comments at the start of the list come after n statements or fewer
 abbrev pub due : ℕ → List comment.Comment → ℕ
 due n comments = prefix_len (λ c. nat_le c.before n) comments
 
--- After n statements these follow, and before each of them the comments that come there. Comments that would come
+-- These statements follow n others, and before each of them come the comments that are due. Comments that would come
 -- after the last statement are no part of an instance.
 abbrev pub in_order : ℕ → List comment.Comment → List OpbEvent → List OpbEvent
 in_order n comments [] = []

@@ -7,22 +7,22 @@ use Rattle.pb_opb.specs.Instances.{IsInstance}
 use Rattle.pb_opb.specs.State.{opb, begin}
 use Rattle.pb_opb.specs.declared.event.OpbEvent.{OpbEvent}
 
--- What a new machine accepts are the instances.
+-- A new machine accepts the instances, and nothing else.
 abbrev pub ReadsInstances : Type 0
 ReadsInstances = (limit top : ℕ) (items : List (Item OpbEvent)) → Accepts opb (begin limit top) items ↔ IsInstance limit top items
 
--- A text spells one instance.
+-- A text is the text of one instance only.
 abbrev pub OneInstance : Type 0
 OneInstance = IsOneText IsInstance
 
--- In all spellings that begin with a front, the marks that end within it are the same.
+-- In all instances whose texts begin with the same prefix, the spans that end within the prefix are the same.
 abbrev pub FixedMarks : Type 0
 FixedMarks = FixesMarks IsInstance
 
--- No instance is a front of another.
+-- No instance's text is a prefix of another's.
 abbrev pub NoFront : Type 0
 NoFront = HasNoFront IsInstance
 
--- An instance stays one under larger limits.
+-- An instance remains an instance under larger limits.
 abbrev pub LargerLimits : Type 0
 LargerLimits = Widens IsInstance

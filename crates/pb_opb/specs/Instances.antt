@@ -1,7 +1,9 @@
--- Instances in OPB: their statements, with the gaps before them, and the texts of these.
-use Rattle.std.specs.Prelude.{◌≡◌, ℕ, zero, suc, Bool, true, false, not, nat_eq, List, [], ◌∷◌, IsTrue}
+-- Instances in OPB: their statements, with the white space before them, and the texts of the statements.
+use Rattle.std.specs.Prelude.{◌≡◌, ℕ, suc, List, [], ◌∷◌, IsTrue, codes}
+use Rattle.pb_text.specs.Blank.{IsInLine}
 use Rattle.pb_text.specs.Classes.{is_blank, is_white}
-use Rattle.pb_text.specs.Spelling.{Item, Letter}
+use Rattle.pb_text.specs.Spelling.{Item}
+use Rattle.pb_text.specs.Whole.{events_of}
 use Rattle.pb_text.specs.Languages.{Language, ◌⋅◌, Byte, Bytes, Each, Many, Blanks0, Blanks1}
 use Rattle.pb_text.specs.Numbers.{Count}
 use Rattle.pb_sums.specs.Sums.{SpellsSum, SpellsLinear}
@@ -10,26 +12,21 @@ use Rattle.pb_sums.specs.declared.Spaces.TheVariants.{White}
 use Rattle.pb_opb.specs.declared.event.OpbEvent.{OpbEvent}
 use Rattle.pb_opb.specs.declared.event.OpbEvent.TheVariants.{Header, Comment, Objective, Constraint}
 
--- `#variable=`
+-- the fixed words
 abbrev pub variable_word : List ℕ
-variable_word = 35 ∷ 118 ∷ 97 ∷ 114 ∷ 105 ∷ 97 ∷ 98 ∷ 108 ∷ 101 ∷ 61 ∷ []
+variable_word = codes "#variable="
 
--- `#constraint=`
 abbrev pub constraint_word : List ℕ
-constraint_word = 35 ∷ 99 ∷ 111 ∷ 110 ∷ 115 ∷ 116 ∷ 114 ∷ 97 ∷ 105 ∷ 110 ∷ 116 ∷ 61 ∷ []
+constraint_word = codes "#constraint="
 
--- `min:`
 abbrev pub min_word : List ℕ
-min_word = 109 ∷ 105 ∷ 110 ∷ 58 ∷ []
+min_word = codes "min:"
 
 -- white*
 abbrev pub Whites0 : Language
 Whites0 = Many (λ b. IsTrue (is_white b))
 
-abbrev pub IsInLine : List ℕ → Type 0
-IsInLine = Each (λ b. IsTrue (not (nat_eq b 10)))
-
--- nothing, or a blank and then any bytes but line feeds
+-- nothing, or a blank and then any bytes except line feeds
 abbrev pub IsTail : List ℕ → Type 0
 IsTail [] = Unit {0}
 IsTail (b ∷ bytes) = IsTrue (is_blank b) × IsInLine bytes
@@ -47,29 +44,56 @@ SpellsComment text = Byte 42 ⋅ Bytes text ⋅ Byte 10
 abbrev pub SpellsObjective : ℕ → List Term → Language
 SpellsObjective limit terms = Bytes min_word ⋅ Whites0 ⋅ SpellsSum White limit terms ⋅ Whites0 ⋅ Byte 59
 
-module _ (limit : ℕ) where
-  -- A statement behind the header, and what follows it: `follows may n` is said of the statements after it, of which
-  -- n are constraints and among which an objective may still come, or not.
-  abbrev pub IsEntry : Bool → ℕ → List Letter → (Bool → ℕ → Type 0) → OpbEvent → Type 0
-  IsEntry may n text follows (Header variables constraints tail) = ⊥
-  IsEntry may n text follows (Comment bytes) = IsInLine bytes × SpellsComment bytes text × follows may (suc n)
-  IsEntry may n text follows (Objective terms) = IsTrue may × SpellsObjective limit terms text × follows false (suc n)
-  IsEntry may n text follows (Constraint linear) = SpellsLinear White limit linear text × follows false n
+-- the text of a statement after the header
+abbrev pub SpellsEntry : ℕ → OpbEvent → Language
+SpellsEntry limit (Header variables constraints tail) = λ t. ⊥
+SpellsEntry limit (Comment bytes) = λ t. IsInLine bytes × SpellsComment bytes t
+SpellsEntry limit (Objective terms) = SpellsObjective limit terms
+SpellsEntry limit (Constraint linear) = SpellsLinear White limit linear
 
-  -- Statements with white space before them: so many constraints, the last one at the end; comments before them; and
-  -- before the first constraint an objective, where it may come.
-  abbrev pub IsBody : Bool → ℕ → List (Item OpbEvent) → Type 0
-  IsBody may zero [] = Unit {0}
-  IsBody may zero (i ∷ rest) = ⊥
-  IsBody may (suc n) [] = ⊥
-  IsBody may (suc n) (i ∷ rest) =
-      Each (λ b. IsTrue (is_white b)) i.gap × IsEntry may n i.text (λ m k. IsBody m k rest) i.event
+-- a list of such statements, each after white space
+abbrev pub AreSpelled : ℕ → List (Item OpbEvent) → Type 0
+AreSpelled limit [] = Unit {0}
+AreSpelled limit (i ∷ rest) = Each (λ b. IsTrue (is_white b)) i.gap × SpellsEntry limit i.event i.text × AreSpelled limit rest
+
+-- how many constraints there are
+abbrev pub constraint_count : List OpbEvent → ℕ
+constraint_count [] = 0
+constraint_count (Constraint linear ∷ events) = suc (constraint_count events)
+constraint_count (_ ∷ events) = constraint_count events
+
+-- no objective
+abbrev pub HasNoObjective : List OpbEvent → Type 0
+HasNoObjective [] = Unit {0}
+HasNoObjective (Objective terms ∷ events) = ⊥
+HasNoObjective (_ ∷ events) = HasNoObjective events
+
+-- no objective, or one before every constraint
+abbrev pub HasObjectiveFirst : List OpbEvent → Type 0
+HasObjectiveFirst [] = Unit {0}
+HasObjectiveFirst (Comment bytes ∷ events) = HasObjectiveFirst events
+HasObjectiveFirst (_ ∷ events) = HasNoObjective events
+
+-- nothing, or the last one is a constraint
+abbrev pub EndsInConstraint : List OpbEvent → Type 0
+EndsInConstraint [] = Unit {0}
+EndsInConstraint (Constraint linear ∷ []) = Unit {0}
+EndsInConstraint (_ ∷ []) = ⊥
+EndsInConstraint (_ ∷ e ∷ events) = EndsInConstraint (e ∷ events)
+
+-- What comes after a header that announces n constraints: these, comments, and at most one objective before them. It
+-- ends in a constraint, and is empty if n is 0.
+pub record IsBody (limit n : ℕ) (items : List (Item OpbEvent)) : Type 0 where
+  pub spelled : AreSpelled limit items
+  pub count : constraint_count (events_of items) ≡ n
+  pub objective : HasObjectiveFirst (events_of items)
+  pub last : EndsInConstraint (events_of items)
 
 module _ (limit top : ℕ) where
-  -- the first line, and the statements that it announces
+  -- the header, and the body that it announces
   abbrev pub IsBegun : Item OpbEvent → List (Item OpbEvent) → OpbEvent → Type 0
   IsBegun i rest (Header variables constraints tail) =
-      (i.gap ≡ []) × IsTail tail × SpellsHeader top variables constraints tail i.text × IsBody limit true constraints rest
+      (i.gap ≡ []) × IsTail tail × SpellsHeader top variables constraints tail i.text × IsBody limit constraints rest
   IsBegun i rest _ = ⊥
 
   -- an instance

@@ -7,6 +7,7 @@ pub mod Instances
 pub mod Led
 pub mod Machine
 pub mod Order
+pub mod Reading
 pub mod State
 pub mod Statements
 pub mod Values

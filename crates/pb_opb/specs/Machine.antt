@@ -23,7 +23,7 @@ abbrev pub count : ℕ → Field → ℕ → ℕ → Move
 count top field n b =
     cond (is_digit b && nat_le (10 * n + (b - 48)) top) (To (phase.TheVariants.Count field (10 * n + (b - 48)))) Stop
 
--- behind the digits of a count
+-- what comes after the digits of a count
 abbrev pub behind_count : Field → ℕ → ℕ → Move
 behind_count Variables n b = cond (is_blank b) (Declare n) Stop
 behind_count Constraints n b = cond (nat_eq b 10) (EndHeader n) (cond (is_blank b) (BeginTail n b) Stop)

@@ -1,4 +1,4 @@
--- What a machine of instances keeps of its state.
+-- The invariant of the state of a machine of instances.
 use Rattle.std.specs.Prelude.{◌≡◌, ℕ, ◌<◌, ◌≤◌, ◌^◌, false, [], length}
 use Rattle.pb_text.specs.Automaton.{IsState}
 use Rattle.pb_sums.specs.State.{sums}
@@ -10,7 +10,7 @@ use Rattle.pb_opb.specs.declared.phase.Phase as phase
 use Rattle.pb_opb.specs.declared.phase.Move.{Move}
 use Rattle.pb_opb.specs.declared.phase.Move.TheVariants.{To, Declare, BeginTail, EndHeader, Give}
 
--- a word is not read to its end, and a count is at most top
+-- a word was not read to its end, and a count is at most top
 abbrev pub PhaseFits : ℕ → Phase → Type 0
 PhaseFits top (phase.TheVariants.Word f k) = k < length (word_of f)
 PhaseFits top (phase.TheVariants.Count f n) = n ≤ top
@@ -27,11 +27,11 @@ MoveFits top (Give phase.TheVariants.Constraint) = Unit {0}
 MoveFits top (Give _) = ⊥
 MoveFits top _ = Unit {0}
 
--- nothing is in hand
+-- no byte is stored, and the machine of sums is at its start
 abbrev pub IsIdle : OpbState → Type 0
 IsIdle s = (s.text ≡ []) × (s.sums ≡ linears s.limit)
 
--- what stands with what was read last
+-- what holds with each phase
 abbrev pub Holds : OpbState → Phase → Type 0
 Holds s phase.TheVariants.Tail = s.sums ≡ linears s.limit
 Holds s (phase.TheVariants.Between may) = (0 < s.owed) × IsIdle s

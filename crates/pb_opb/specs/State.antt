@@ -15,8 +15,8 @@ use Rattle.pb_opb.specs.declared.phase.Phase as phase
 use Rattle.pb_opb.specs.declared.phase.Move.{Move}
 use Rattle.pb_opb.specs.declared.phase.Move.TheVariants.{To, Declare, BeginTail, Keep, EndHeader, EndTail, EndComment, BeginSum, Give, Stop}
 
--- what a machine keeps: its limits, the counts of its header, what was read last, the bytes of a tail or a comment, and
--- the machine of sums
+-- what a machine stores: its limits, the counts of its header, the phase, the bytes of a tail or a comment, and the
+-- machine of sums
 pub record OpbState : Type 0 where
   pub limit : ℕ
   pub top : ℕ
@@ -45,7 +45,7 @@ begin limit top = record {
   sums = linears limit;
 }
 
--- where so many constraints are to come
+-- the phase with this many constraints to come
 abbrev pub phase_owing : Bool → ℕ → Phase
 phase_owing may zero = phase.TheVariants.Done
 phase_owing may (suc n) = phase.TheVariants.Between may
@@ -71,7 +71,7 @@ keeping s p text = record s { phase = p; text = text }
 abbrev pub giving : OpbState → Phase → SumState → OpbState
 giving s p inner = record s { phase = p; sums = inner }
 
--- the statement that a sum or a linear text is
+-- the statement for a sum or a linear text
 abbrev pub statement_of : SumEvent → OpbEvent
 statement_of (sum.TheVariants.Sum terms) = event.TheVariants.Objective terms
 statement_of (sum.TheVariants.Linear linear) = event.TheVariants.Constraint linear
@@ -116,7 +116,7 @@ abbrev pub is_done : Phase → Bool
 is_done phase.TheVariants.Done = true
 is_done _ = false
 
--- bytes up to a line feed are kept
+-- bytes up to a line feed are stored
 abbrev pub keeps_line : Phase → Bool
 keeps_line phase.TheVariants.Tail = true
 keeps_line (phase.TheVariants.Comment may) = true
@@ -128,7 +128,7 @@ is_in_number s phase.TheVariants.Objective = sums.in_number s.sums
 is_in_number s phase.TheVariants.Constraint = sums.in_number s.sums
 is_in_number s _ = false
 
--- whether a byte is kept, or given to the machine of sums where it may ask for memory
+-- whether a byte is stored, or given to the machine of sums, which may allocate at it
 abbrev pub asks : OpbState → ℕ → Move → Bool
 asks s b (BeginTail n c) = true
 asks s b (Keep c) = true

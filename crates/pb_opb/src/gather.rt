@@ -1,4 +1,4 @@
-//! Puts the statements of an instance together.
+//! Gathers the statements of an instance into its value.
 
 ghost use Rattle.std.specs.Prelude.{◌≡◌, ◌+◌, ◌-◌, ◌^◌, ◌≤◌, IfOk, OnErr};
 
@@ -18,7 +18,7 @@ pub struct InstanceSoFar {
 impl InstanceSoFar {
     ghost use Rattle.pb_opb.specs.Gather.{nothing};
 
-    /// Before any statement.
+    /// The value before any statement.
     pub fn new(alloc: Global) -> Self
         ensures instance { result.instance ≡ nothing }
         ensures ended { result.ended ≡ 0 }
@@ -35,7 +35,7 @@ impl InstanceSoFar {
         }
     }
 
-    /// How many objectives and constraints there are with one more. More than `2^64 - 1` are in no memory.
+    /// How many objectives and constraints there are with one more. Memory cannot hold more than `2^64 - 1` of them.
     fn with_one(&self) -> Result<u64, AllocError>
         ensures count { IfOk result (λ ended. ended ≡ self.now.ended + 1) }
         ensures full { OnErr result (2 ^ 64 - 1 ≤ self.now.ended) }

@@ -3,17 +3,17 @@
 use pb_sums::{Linear, Term};
 use pb_text::{Bytes, Sequence};
 
-/// A comment, and where it stands.
+/// A comment and its position among the statements.
 #[derive(Drop)]
 pub struct Comment {
-    /// How many of the objective and the constraints ended before it.
+    /// How many statements ended before it, among the objective and the constraints.
     pub before: u64,
     /// The bytes between its `*` and its line feed.
     pub text: Bytes,
 }
 
-/// An instance in OPB, as written. White space is not kept, and a comment behind the last constraint is no part
-/// of it.
+/// An instance in OPB, as written. White space is not stored, and a comment after the last constraint is not part of
+/// it.
 #[derive(Drop)]
 pub struct Instance {
     /// The first count of the header, as declared. The second is the number of constraints.

@@ -9,18 +9,18 @@ pub fn instances_are_exact()
     ensures { ReadsInstances }
 {}
 
-/// A text spells one instance.
+/// A text is the text of one instance only.
 pub fn one_instance()
     ensures { OneInstance }
 {}
 
-/// In all instances whose texts begin with the same bytes, the statements that end within these are the same, at the
-/// same places.
+/// In all instances whose texts begin with the same bytes, the statements that end within these bytes are the same.
+/// Their positions are the same too.
 pub fn fixed_marks()
     ensures { FixedMarks }
 {}
 
-/// No instance is a front of another.
+/// No instance's text is a prefix of another's.
 pub fn no_front()
     ensures { NoFront }
 {}
@@ -30,22 +30,22 @@ pub fn larger_limits()
     ensures { LargerLimits }
 {}
 
-/// What is written of an instance that meets the rules spells that instance.
+/// The text that is written for an instance that meets the rules is a text of that instance.
 pub fn canonical_instance_spells()
     ensures { CanonicalInstance }
 {}
 
-/// What is written of an instance that meets the rules reads as no other instance.
+/// The text that is written for an instance that meets the rules reads back as no other instance.
 pub fn written_instance_reads_back()
     ensures { ReadsBack }
 {}
 
-/// What is read of an instance meets the rules, and its header declares as many constraints as there are.
+/// An instance that was read meets the rules, and its header declares as many constraints as there are.
 pub fn instances_are_values()
     ensures { InstanceValues }
 {}
 
-/// A machine keeps nothing beside its state, its limits and its allocator.
+/// A machine stores nothing but its state, its limits and its allocator.
 pub fn keeps_its_state()
     ensures { KeepsItsState }
 {}

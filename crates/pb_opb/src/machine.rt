@@ -17,8 +17,8 @@ use std::alloc::Global;
 use std::marker::Model;
 use std::mem;
 
-/// A machine that reads one instance, through the `;` of its last constraint, or through its first line where
-/// that declares none.
+/// A machine that reads one instance, through the `;` of its last constraint. If the first line declares no constraint,
+/// it reads that line only.
 #[derive(Drop)]
 pub struct OpbMachine {
     alloc: Global,
@@ -72,14 +72,14 @@ impl OpbMachine {
     ghost use Rattle.pb_opb.specs.Instances.{IsInstance};
     ghost use Rattle.pb_opb.specs.State.{opb, begin};
 
-    /// A machine before an instance, which accepts exactly the instances under the limits. It takes no memory.
+    /// A machine before an instance, which accepts exactly the instances under the limits. It allocates nothing.
     pub fn new(alloc: Global, limits: Limits) -> Self
         ensures accepts { (items : List (Item OpbEvent)) → Accepts opb result items ↔ IsInstance (largest limits) (top_of limits) items }
-        // What is read by it is read of the instances.
+        // Whatever `Reads` says of this machine, it says of the instances.
         ensures reads { (longest : ℕ) (input used : List ℕ) (marks : List (Spanned OpbEvent)) (place : Place) (done : Bool) (stop : Option Stop)
             → Reads (Accepts opb result) longest input used marks place done stop
             → Reads (IsInstance (largest limits) (top_of limits)) longest input used marks place done stop }
-        // It asks for memory only at a byte of a tail or a comment, at one of a name, and at one that ends a literal.
+        // It may allocate only at a byte of a tail or a comment, at one of a name, and at one that ends a literal.
         ensures asks { (used : List ℕ) (b : ℕ) → MayAsk opb result used b → AsksOnly (IsInstance (largest limits) (top_of limits)) (Asks (top_of limits)) used b }
         ensures begins { result ≡ begin (largest limits) (top_of limits) }
         ensures between { opb.begun result ≡ false }
@@ -193,7 +193,8 @@ impl OpbMachine {
     ghost use Rattle.pb_text.specs.Automaton.{Goes, IsState, Runs};
     ghost use Rattle.pb_opb.specs.State.{opb, keeps_line};
 
-    /// Takes a byte where none is kept and no statement ends, as far as that is soon told, and answers whether it did.
+    /// Takes a byte that is not stored and ends no statement, as far as this is cheap to decide. Returns whether it
+    /// took the byte.
     fn advance(&mut self, byte: u8) -> bool
         ensures { Goes opb self.old byte result self.new }
     {
@@ -213,12 +214,13 @@ impl OpbMachine {
         }
     }
 
-    /// Keeps the bytes at the front that stand before a line feed, and answers how many, or keeps none where memory ran out.
+    /// Stores the bytes before the first line feed and returns how many. If memory runs out, it stores none and returns
+    /// `None`.
     fn keep_line(&mut self, piece: &[u8]) -> Option<usize>
         requires { keeps_line self.old.phase ≡ true }
         ensures bound { IfSome result (λ n. n ≤ length piece.now) }
         ensures runs { IfSome result (λ n. Runs opb self.old (take n piece.now) self.new) }
-        // It stops only where the line does.
+        // It stops only at a line feed or at the end of the piece.
         ensures stops { IfSome result (λ n. n < length piece.now → get_or piece.now n 0 ≡ 10) }
         ensures none { result ≡ None → self.new ≡ self.old }
         ensures state { IsState opb self.new }
@@ -232,7 +234,7 @@ impl OpbMachine {
     }
 }
 
-/// Where so many constraints are to come.
+/// The phase with this many constraints to come.
 fn phase_owing(may: bool, owed: u64) -> Phase
     ensures { result ≡ phase_owing may owed }
 {
@@ -253,7 +255,7 @@ fn owed_after(phase: Phase, owed: u64) -> u64
     }
 }
 
-/// The statement that a sum or a linear text is.
+/// The statement for a sum or a linear text.
 fn statement_of(event: SumEvent) -> OpbEvent
     ensures { result ≡ statement_of event }
 {

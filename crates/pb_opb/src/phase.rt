@@ -12,9 +12,9 @@ pub enum Field {
 pub enum Phase {
     /// Nothing.
     Start,
-    /// What stands before a field's word, and perhaps blanks.
+    /// The text before a field's word, and perhaps blanks.
     BeforeWord(Field),
-    /// So many bytes of a field's word.
+    /// This many bytes of a field's word.
     Word(Field, usize),
     /// A field's word, and perhaps blanks.
     BeforeCount(Field),
@@ -22,11 +22,11 @@ pub enum Phase {
     Count(Field, u64),
     /// The header's counts, and bytes of its tail.
     Tail,
-    /// A whole statement, and perhaps white space. An objective may come, or not.
+    /// A whole statement, and perhaps white space. The flag says whether an objective may still come.
     Between(bool),
-    /// The star of a comment, and bytes of it. An objective may come after it, or not.
+    /// The star of a comment, and bytes of it. The flag says whether an objective may come after it.
     Comment(bool),
-    /// So many bytes of `min:`.
+    /// This many bytes of `min:`.
     Min(usize),
     /// `min:`, and perhaps white space.
     AfterMin,
@@ -34,20 +34,20 @@ pub enum Phase {
     Objective,
     /// A part of a constraint.
     Constraint,
-    /// All.
+    /// The whole instance.
     Done,
 }
 
 /// What a machine does with a byte.
 #[derive(Clone, Copy, Drop)]
 pub enum Move {
-    /// Goes on.
+    /// Continues.
     To(Phase),
-    /// Keeps the count of variables.
+    /// Stores the count of variables.
     Declare(u64),
-    /// Keeps the count of constraints, and a first byte of the tail.
+    /// Stores the count of constraints, and the first byte of the tail.
     BeginTail(u64, u8),
-    /// Keeps a byte of a tail or a comment.
+    /// Stores a byte of a tail or a comment.
     Keep(u8),
     /// Ends a header without a tail.
     EndHeader(u64),

@@ -1,15 +1,11 @@
 //! Reads a whole instance.
 
-ghost use Rattle.std.specs.Prelude.{◌≡◌, ◌<◌, None, IfOk};
-ghost use Rattle.pb_text.specs.Asking.{AsksOnly};
+ghost use Rattle.std.specs.Prelude.{◌≡◌, ◌<◌, None, IfErr, IfOk};
 ghost use Rattle.pb_text.specs.Blank.{IsInReach};
 ghost use Rattle.pb_text.specs.Limits.{largest, top_of};
-ghost use Rattle.pb_text.specs.Pulling.{faults_after};
-ghost use Rattle.pb_text.specs.ValueRead.{ReadsValue, GivesValue, WantsMemory};
-ghost use Rattle.pb_opb.specs.Asking.{Asks};
-ghost use Rattle.pb_opb.specs.Gather.{MayKeep};
-ghost use Rattle.pb_opb.specs.Instances.{IsInstance};
-ghost use Rattle.pb_opb.specs.Values.{IsValueOf};
+ghost use Rattle.pb_text.specs.Pulling.{OfGiven, faults_after};
+ghost use Rattle.pb_text.specs.Stopping.{IsShown};
+ghost use Rattle.pb_opb.specs.Reading.{ReadsInstance};
 
 use crate::gather::InstanceSoFar;
 use crate::instance::Instance;
@@ -17,31 +13,32 @@ use crate::machine::OpbMachine;
 use pb_text::{BYTE_LIMIT, Limits, Source, Spanned, Stop, read_whole};
 use std::alloc::Global;
 
-/// Reads the instance that begins the input, and takes the bytes of its spelling alone: through the `;` of its last
-/// constraint, or through its first line where that declares none.
+/// Reads the instance that begins the input, and takes only the bytes of its text. The text ends with the `;` of the
+/// last constraint, or with the first line if that line declares no constraint.
 ///
-/// A stop names the first byte that no spelling under the limits has there (`Byte`, or `TooLarge` for a further digit
-/// of a number), the end of the input (`Ended`), the byte at offset `2^40` (`TooLong`), a fault of the source
-/// (`Read`), or where memory ran out (`Memory`).
+/// A stop gives a position and a reason. `Byte`: the first byte that no text under the limits has there. `TooLarge`:
+/// the same for a further digit of a number. `Ended`: the end of the input. `TooLong`: the byte at offset `2^40`.
+/// `Read`: a fault of the source. `Memory`: out of memory.
 pub fn read_instance<S: Source>(
     alloc: Global,
     input: &mut S,
     limits: Limits,
 ) -> Result<Spanned<Instance>, Stop>
-    ensures reads { ReadsValue (IsInstance (largest limits) (top_of limits)) BYTE_LIMIT IsValueOf (S.left input.old) result (S.left input.new) }
-    // Of any source, a file too: what was read is a spelling of the bytes that its calls have given.
-    ensures given { GivesValue (IsInstance (largest limits) (top_of limits)) BYTE_LIMIT IsValueOf (S.history input.old) result (S.history input.new) }
-    // Memory runs out only at a byte of a tail, a comment or a name, at one that ends a literal, and behind a statement
-    // that is to be kept.
-    ensures memory { WantsMemory (IsInstance (largest limits) (top_of limits)) BYTE_LIMIT (AsksOnly (IsInstance (largest limits) (top_of limits)) (Asks (top_of limits))) MayKeep (S.left input.old) result (S.left input.new) }
+    // `Memory` comes only at a byte of a tail, comment or name, at one that ends a literal, or after a statement to be
+    // stored.
+    ensures reads { ReadsInstance (largest limits) (top_of limits) BYTE_LIMIT (S.left input.old) result (S.left input.new) }
+    // For any source, also a file: the contract holds for the bytes that the source's calls have given.
+    ensures given { OfGiven (λ left rest. ReadsInstance (largest limits) (top_of limits) BYTE_LIMIT left result rest) (S.history input.old) (S.history input.new) }
+    // A rejected byte is the one that the source has shown. The input ends only if the source has shown its end.
+    ensures shown { IfErr result (λ s. IsShown (S.shown input.new) (S.ended input.new) s.why) }
     ensures past { IfOk result (λ m. IsInReach m.past) }
-    // `Read` comes only where the source failed.
+    // `Read` comes only if the source failed.
     ensures faults { S.faults input.new ≡ faults_after None result (S.faults input.old) }
 {
     read_instance_within(alloc, input, BYTE_LIMIT, limits)
 }
 
-/// The same, but it also stops as `TooLong` at a statement that has not ended within its first `longest` bytes. The
+/// The same, but it also stops with `TooLong` at a statement that has not ended within its first `longest` bytes. The
 /// header, each comment, the objective and each constraint are statements.
 pub fn read_instance_within<S: Source>(
     alloc: Global,
@@ -50,14 +47,15 @@ pub fn read_instance_within<S: Source>(
     limits: Limits,
 ) -> Result<Spanned<Instance>, Stop>
     requires { 0 < longest }
-    ensures reads { ReadsValue (IsInstance (largest limits) (top_of limits)) longest IsValueOf (S.left input.old) result (S.left input.new) }
-    // Of any source, a file too: what was read is a spelling of the bytes that its calls have given.
-    ensures given { GivesValue (IsInstance (largest limits) (top_of limits)) longest IsValueOf (S.history input.old) result (S.history input.new) }
-    // Memory runs out only at a byte of a tail, a comment or a name, at one that ends a literal, and behind a statement
-    // that is to be kept.
-    ensures memory { WantsMemory (IsInstance (largest limits) (top_of limits)) longest (AsksOnly (IsInstance (largest limits) (top_of limits)) (Asks (top_of limits))) MayKeep (S.left input.old) result (S.left input.new) }
+    // `Memory` comes only at a byte of a tail, comment or name, at one that ends a literal, or after a statement to be
+    // stored.
+    ensures reads { ReadsInstance (largest limits) (top_of limits) longest (S.left input.old) result (S.left input.new) }
+    // For any source, also a file: the contract holds for the bytes that the source's calls have given.
+    ensures given { OfGiven (λ left rest. ReadsInstance (largest limits) (top_of limits) longest left result rest) (S.history input.old) (S.history input.new) }
+    // A rejected byte is the one that the source has shown. The input ends only if the source has shown its end.
+    ensures shown { IfErr result (λ s. IsShown (S.shown input.new) (S.ended input.new) s.why) }
     ensures past { IfOk result (λ m. IsInReach m.past) }
-    // `Read` comes only where the source failed.
+    // `Read` comes only if the source failed.
     ensures faults { S.faults input.new ≡ faults_after None result (S.faults input.old) }
 {
     let machine = OpbMachine::new(alloc, limits);

@@ -1,4 +1,4 @@
-//! What a machine does with a byte, by what it has read last.
+//! What a machine does with a byte, by its phase.
 
 ghost use Rattle.std.specs.Prelude.{◌≡◌, ℕ, ◌+◌, ◌*◌, ◌-◌, ◌<◌, ◌≤◌, ◌^◌, length};
 ghost use Rattle.pb_opb.specs.Machine.{word_of, spell, count, behind_count, plan};
@@ -19,7 +19,7 @@ fn word_of(field: Field) -> &'static [u8]
     }
 }
 
-/// The next byte of a word, of which some were read.
+/// The move for the next byte of a word, of which some bytes were read.
 fn spell(word: &[u8], read: usize, byte: u8, more: Phase, whole: Phase) -> Move
     requires { read < length word.now }
     ensures { result ≡ spell word.now read byte more whole }
@@ -30,7 +30,7 @@ fn spell(word: &[u8], read: usize, byte: u8, more: Phase, whole: Phase) -> Move
     Move::To(if read + 1 == word.len() { whole } else { more })
 }
 
-/// The next digit of a count.
+/// The move for the next digit of a count.
 fn count(top: u64, field: Field, value: u64, byte: u8) -> Move
     requires top { top < 2 ^ 63 }
     requires value { value ≤ top }
@@ -46,7 +46,7 @@ fn count(top: u64, field: Field, value: u64, byte: u8) -> Move
     }
 }
 
-/// What may stand behind the digits of a count.
+/// The move for a byte after the digits of a count.
 fn behind_count(top: u64, field: Field, value: u64, byte: u8) -> Move
     requires value { value ≤ top }
     ensures plan { result ≡ behind_count field value byte }
@@ -98,7 +98,7 @@ pub fn plan(top: u64, phase: Phase, byte: u8) -> Move
     }
 }
 
-/// The next byte of `min:`, of which some were read.
+/// The move for the next byte of `min:`, of which some bytes were read.
 fn spell_min(read: usize, byte: u8) -> Move
     requires { (0 < read) × (read < 4) }
     ensures plan { result ≡ plan 0 (Phase.Min read) byte }

@@ -1,8 +1,9 @@
 //! The rules that an instance meets.
 
+ghost use Rattle.pb_text.specs.Blank.{IsInLine};
 ghost use Rattle.std.specs.Prelude.{◌≡◌, ◌<◌, ◌≤◌, ◌↔◌, IsTrue, length};
 ghost use Rattle.pb_text.specs.Limits.{largest, top_of};
-ghost use Rattle.pb_opb.specs.Instances.{IsTail, IsInLine};
+ghost use Rattle.pb_opb.specs.Instances.{IsTail};
 ghost use Rattle.pb_opb.specs.Values.{IsObjective, AreLinears, AreComments, IsInstanceValue};
 
 use crate::instance::{Comment, Instance};
@@ -22,7 +23,7 @@ fn is_in_line(bytes: &[u8]) -> bool
     true
 }
 
-/// Whether the bytes may stand behind the counts of a header: none, or a blank and then no line feed.
+/// Whether the bytes may follow the counts of a header: none, or a blank and then no line feed.
 fn is_tail(bytes: &[u8]) -> bool
     ensures { IsTrue result ↔ IsTail bytes.now }
 {
@@ -32,7 +33,7 @@ fn is_tail(bytes: &[u8]) -> bool
     }
 }
 
-/// Whether there is no objective, or one of a sum within the limits in front of some constraint.
+/// Whether there is no objective, or one whose sum is within the limits and which comes before some constraint.
 fn objective_is_value(
     objective: &Option<Sequence<Term>>,
     constraints: &[Linear],
@@ -58,14 +59,14 @@ fn are_linears(constraints: &[Linear], limits: Limits) -> bool
     true
 }
 
-/// Whether a comment stands after at least so many statements and before the last one, in a line.
+/// Whether a comment comes after at least this many statements and before the last one, in one line.
 fn comment_is_value(comment: &Comment, least: u64, statements: u64) -> bool
     ensures { IsTrue result ↔ (least ≤ comment.now.before) × (comment.now.before < statements) × IsInLine comment.now.text }
 {
     least <= comment.before && comment.before < statements && is_in_line(comment.text.as_slice())
 }
 
-/// Whether the comments stand in order before the last of so many statements, each in a line.
+/// Whether the comments come in order before the last of this many statements, each in one line.
 fn are_comments(comments: &[Comment], statements: u64) -> bool
     ensures { IsTrue result ↔ AreComments 0 statements comments.now }
 {
@@ -86,10 +87,11 @@ fn counts_are_within(instance: &Instance, top: u64) -> bool
     instance.variables <= top && instance.constraints.len() as u64 <= top
 }
 
-/// Whether the instance has a spelling under the limits: its sums and constraints are within them, as are the count
-/// of variables and the number of constraints; there is no objective without a constraint; the tail is empty, or a
-/// blank and then no line feed; no comment holds a line feed, and the comments stand in order, each before the last
-/// constraint.
+/// Whether the instance has a text under the limits:
+/// - its sums and constraints are within them, as are the count of variables and the number of constraints;
+/// - there is no objective without a constraint;
+/// - the tail is empty, or a blank and then no line feed;
+/// - no comment holds a line feed, and the comments come in order, each before the last constraint.
 pub fn instance_is_value(instance: &Instance, limits: Limits) -> bool
     ensures { IsTrue result ↔ IsInstanceValue (largest limits) (top_of limits) instance.now }
 {

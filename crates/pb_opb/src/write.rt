@@ -60,7 +60,7 @@ pub fn write_event<S: Sink>(event: &OpbEvent, out: &mut S) -> Result<(), Failed>
     }
 }
 
-/// How many comments at the front stand before the statement of this number.
+/// How many comments at the start of the list come before the statement with this number.
 fn count_due(comments: &[Comment], statement: u64) -> usize
     ensures count { result ≡ due statement comments.now }
     ensures within { result ≤ length comments.now }
@@ -71,7 +71,7 @@ fn count_due(comments: &[Comment], statement: u64) -> usize
         .count()
 }
 
-/// Writes a comment behind a line feed.
+/// Writes a line feed and a comment.
 fn write_comment_line<S: Sink>(comment: &Comment, out: &mut S) -> Result<(), Failed>
     ensures { Writes S.contents S.faults out.old (10 ∷ 42 ∷ comment.now.text) result out.new }
 {
@@ -79,7 +79,7 @@ fn write_comment_line<S: Sink>(comment: &Comment, out: &mut S) -> Result<(), Fai
     write_comment(comment.text.as_slice(), out)
 }
 
-/// Writes the comments, each behind a line feed.
+/// Writes the comments, each after a line feed.
 fn write_comments<S: Sink>(comments: &[Comment], out: &mut S) -> Result<(), Failed>
     ensures { Writes S.contents S.faults out.old (led_lines (comment_events comments.now)) result out.new }
 {
@@ -89,7 +89,7 @@ fn write_comments<S: Sink>(comments: &[Comment], out: &mut S) -> Result<(), Fail
     Ok(())
 }
 
-/// Writes a constraint behind a line feed.
+/// Writes a line feed and a constraint.
 fn write_line<S: Sink>(linear: &Linear, out: &mut S) -> Result<(), Failed>
     ensures { Writes S.contents S.faults out.old (10 ∷ linear_bytes linear.now) result out.new }
 {
@@ -97,8 +97,8 @@ fn write_line<S: Sink>(linear: &Linear, out: &mut S) -> Result<(), Failed>
     write_linear(linear, out)
 }
 
-/// Writes the constraints, each behind a line feed, from the one of this number on, and before each the comments
-/// that are due.
+/// Writes the constraints from the one with this number on, each after a line feed. The comments that are due come
+/// before each.
 fn write_constraints<S: Sink>(
     first: u64,
     comments: &[Comment],
@@ -118,7 +118,7 @@ fn write_constraints<S: Sink>(
     Ok(())
 }
 
-/// Writes the objective and the constraints, each behind a line feed, and before each the comments that are due.
+/// Writes the objective and the constraints, each after a line feed. The comments that are due come before each.
 fn write_all<S: Sink>(
     terms: &[Term],
     comments: &[Comment],
@@ -134,7 +134,7 @@ fn write_all<S: Sink>(
     write_constraints(1, later, constraints, out)
 }
 
-/// Writes what stands behind the counts of the header and its tail.
+/// Writes what follows the counts of the header and its tail.
 fn write_body<S: Sink>(instance: &Instance, out: &mut S) -> Result<(), Failed>
     ensures { Writes S.contents S.faults out.old (10 ∷ lines (body_events instance.now)) result out.new }
 {
@@ -147,8 +147,8 @@ fn write_body<S: Sink>(instance: &Instance, out: &mut S) -> Result<(), Failed>
     }
 }
 
-/// Writes the canonical spelling of the instance: each statement in one line, and no line feed behind the last one
-/// but that of the header. A comment whose number is not below that of the statements is not written.
+/// Writes the canonical text of the instance: one line for each statement. There is no line feed after the last line,
+/// except after that of the header. A comment whose number is not below the number of statements is not written.
 pub fn write_instance<S: Sink>(instance: &Instance, out: &mut S) -> Result<(), Failed>
     ensures { Writes S.contents S.faults out.old (instance_bytes instance.now) result out.new }
 {

@@ -1,4 +1,4 @@
--- Where a proof asks for memory, said of a statement, its bytes so far and the next one.
+-- Where reading a proof may allocate, in terms of a statement, its bytes so far and the next byte.
 use Rattle.std.specs.Prelude.{◌≡◌, ℕ, false, List, [], ◌∷◌, ◌++◌, IsTrue, ◌⊎◌, Some}
 use Rattle.pb_text.specs.Classes.{is_digit, is_name_byte}
 use Rattle.pb_text.specs.Languages.{Language, ◌⋅◌, Bytes, Blanks1}
@@ -10,19 +10,19 @@ use Rattle.pb_proof.specs.declared.conclusion.Conclusion.TheVariants.{Sat, Bound
 use Rattle.pb_proof.specs.declared.statement.Statement.{Statement}
 use Rattle.pb_proof.specs.declared.statement.Statement.TheVariants.{Pol, Rup, Soli, Solx, Delete, Conclude}
 
--- The next byte ends a number: it stands behind a digit, and is none.
+-- The next byte ends a number: it comes after a digit and is not a digit.
 abbrev pub EndsNumber : List ℕ → ℕ → Type 0
 EndsNumber text b = (d : ℕ) × EndsIn text (d ∷ []) × IsTrue (is_digit d) × (is_digit b ≡ false)
 
--- The next byte is `+`, or stands behind an `s` and is no byte of a name.
+-- The next byte is `+`, or it comes after an `s` and is not a byte of a name.
 abbrev pub AsksOperator : List ℕ → ℕ → Type 0
 AsksOperator text b = (b ≡ 43) ⊎ (EndsIn text (115 ∷ []) × (is_name_byte b ≡ false))
 
--- a byte of a name, one behind a literal or a number, or an operator
+-- a byte of a name, a byte after a literal or a number, or an operator
 abbrev pub AsksWord : List ℕ → ℕ → Type 0
 AsksWord text b = AsksLiteral text b ⊎ EndsNumber text b ⊎ AsksOperator text b
 
--- behind the `:` before literals that are shown
+-- after the `:` before literals that are given
 abbrev pub AsksShown : List ℕ → ℕ → Type 0
 AsksShown text b = (claim : List ℕ) × (shown : List ℕ) × (text ≡ claim ++ 58 ∷ shown) × AsksLiteral shown b
 
@@ -31,7 +31,7 @@ AsksClaim (Sat (Some literals)) text b = AsksShown text b
 AsksClaim (Bounds lower id upper (Some literals)) text b = AsksShown text b
 AsksClaim _ text b = ⊥
 
--- behind the first word of a statement
+-- after the first word of a statement
 abbrev pub AsksBehind : Statement → List ℕ → ℕ → Type 0
 AsksBehind (Pol ws) text b = AsksWord text b
 AsksBehind (Rup c) text b = AsksLiteral text b
@@ -41,7 +41,7 @@ AsksBehind (Delete ids) text b = EndsNumber text b
 AsksBehind (Conclude c) text b = AsksClaim c text b
 AsksBehind _ text b = ⊥
 
--- the first word of a statement that may ask
+-- the first word of a statement that may allocate
 abbrev pub FirstWord : Statement → Language
 FirstWord (Pol ws) = Bytes pol_word
 FirstWord (Rup c) = Bytes rup_word

@@ -1,6 +1,6 @@
 -- The one text that is written for a proof.
 use Rattle.std.specs.Fmt.{signed_decimal}
-use Rattle.std.specs.Prelude.{ℕ, ℤ, List, [], ◌∷◌, ◌++◌, Option, Some, None, decimal}
+use Rattle.std.specs.Prelude.{ℕ, ℤ, List, [], ◌∷◌, ◌++◌, Option, Some, None, decimal, codes}
 use Rattle.pb_sums.specs.Sums.{literal_bytes}
 use Rattle.pb_sums.specs.Canonical.{linear_bytes}
 use Rattle.pb_sums.specs.declared.Literal.{Literal}
@@ -22,11 +22,11 @@ literal_line l = literal_bytes l.negated l.name
 abbrev pub word_bytes : PolWord → List ℕ
 word_bytes (Id id) = signed_decimal id
 word_bytes (Axiom literal) = literal_line literal
-word_bytes Add = 43 ∷ []
-word_bytes (Multiply k) = signed_decimal k ++ (32 ∷ 42 ∷ [])
-word_bytes (Divide k) = signed_decimal k ++ (32 ∷ 100 ∷ [])
-word_bytes Saturate = 115 ∷ []
-word_bytes (Weaken name) = name ++ (32 ∷ 119 ∷ [])
+word_bytes Add = codes "+"
+word_bytes (Multiply k) = signed_decimal k ++ codes " *"
+word_bytes (Divide k) = signed_decimal k ++ codes " d"
+word_bytes Saturate = codes "s"
+word_bytes (Weaken name) = name ++ codes " w"
 
 -- each with a space before it
 unfoldable pub listed_bytes : {A : Type 0} → (A → List ℕ) → List A → List ℕ
@@ -37,12 +37,12 @@ abbrev pub bound_bytes : Bound → List ℕ
 bound_bytes (Finite z) = signed_decimal z
 bound_bytes Infinite = inf_word
 
--- ` : ` and the id, where there is one
+-- ` : ` and the id, if there is one
 abbrev pub id_shown_bytes : Option ℤ → List ℕ
 id_shown_bytes None = []
 id_shown_bytes (Some id) = 32 ∷ 58 ∷ 32 ∷ signed_decimal id
 
--- ` :` and the literals, where they are given
+-- ` :` and the literals, if they are given
 abbrev pub shown_bytes : Option (List Literal) → List ℕ
 shown_bytes None = []
 shown_bytes (Some ls) = 32 ∷ 58 ∷ listed_bytes literal_line ls
@@ -54,7 +54,7 @@ claim_bytes (Sat shown) = sat_word ++ shown_bytes shown
 claim_bytes (Bounds lower id upper shown) =
     bounds_word ++ (32 ∷ (bound_bytes lower ++ (id_shown_bytes id ++ (32 ∷ (bound_bytes upper ++ shown_bytes shown)))))
 
--- the number behind `f`, where there is one
+-- the number after `f`, if there is one
 abbrev pub count_bytes : Option ℕ → List ℕ
 count_bytes None = []
 count_bytes (Some n) = 32 ∷ decimal n
@@ -72,7 +72,7 @@ statement_bytes Output = output_word ++ (32 ∷ none_word)
 statement_bytes (Conclude c) = conclusion_word ++ (32 ∷ claim_bytes c)
 statement_bytes End = end_word ++ (32 ∷ (pseudo_word ++ (32 ∷ proof_word)))
 
--- lines with a line feed between two
+-- lines with a line feed between consecutive ones
 abbrev pub lines : List Statement → List ℕ
 lines [] = []
 lines (s ∷ []) = statement_bytes s

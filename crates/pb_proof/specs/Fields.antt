@@ -1,4 +1,4 @@
--- What the machines of proofs keep.
+-- What the machines for proofs store.
 use Rattle.std.specs.Prelude.{◌≡◌}
 use Rattle.pb_text.specs.Limits.{largest, top_of}
 use Rattle.pb_proof.specs.Line.Count.{CountState}
@@ -16,7 +16,7 @@ use Rattle.pb_proof.specs.declared.line.claim.ClaimMachine.TheInside.{Inside as 
 use Rattle.pb_proof.specs.declared.line.pol.PolMachine.TheInside.{Inside as PolFields}
 use Rattle.pb_proof.specs.declared.machine.ProofMachine.TheInside.{Inside as ProofFields}
 
--- the states that their fields are
+-- the states that their fields make up
 abbrev pub count_state : CountFields → CountState
 count_state m = record { top = m.top; phase = m.phase }
 
@@ -38,7 +38,7 @@ pol_state m = record { limit = m.limit; top = m.top; work = record { words = m.w
 abbrev pub proof_state : ProofFields → ProofState
 proof_state m = record { limit = largest m.limits; top = top_of m.limits; phase = m.phase; line = m.line }
 
--- Each keeps nothing beside its state, and the allocator, the limits and the vector of words where it has them.
+-- Each machine stores nothing besides its state and, if it has them, the allocator, the limits and the vector of words.
 abbrev pub CountKeeps : Type 0
 CountKeeps = (a b : CountFields) → count_state a ≡ count_state b → a ≡ b
 

@@ -7,22 +7,22 @@ use Rattle.pb_proof.specs.Proofs.{IsProof}
 use Rattle.pb_proof.specs.Machine.State.{proofs, begin}
 use Rattle.pb_proof.specs.declared.statement.Statement.{Statement}
 
--- What a new machine accepts are the proofs.
+-- A new machine accepts exactly the proofs.
 abbrev pub ReadsProofs : Type 0
 ReadsProofs = (limit top : ℕ) (items : List (Item Statement)) → Accepts proofs (begin limit top) items ↔ IsProof limit top items
 
--- A text spells one proof.
+-- A text is the text of at most one proof.
 abbrev pub OneProof : Type 0
 OneProof = IsOneText IsProof
 
--- In all spellings that begin with a front, the marks that end within it are the same.
+-- In all texts that begin with the same prefix, the spans that end within it are the same.
 abbrev pub FixedMarks : Type 0
 FixedMarks = FixesMarks IsProof
 
--- No proof is a front of another.
+-- No proof is a prefix of another.
 abbrev pub NoFront : Type 0
 NoFront = HasNoFront IsProof
 
--- A proof stays one under larger limits.
+-- A proof under limits is a proof under larger limits.
 abbrev pub LargerLimits : Type 0
 LargerLimits = Widens IsProof

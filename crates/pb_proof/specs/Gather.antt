@@ -1,11 +1,11 @@
--- A proof as its statements come.
+-- A proof, built from its statements one at a time.
 use Rattle.std.specs.Prelude.{Bool, true, false, IsTrue, List, [], ◌∷◌, ◌++◌, None}
 use Rattle.pb_proof.specs.declared.conclusion.Conclusion.TheVariants.{NoClaim}
 use Rattle.pb_proof.specs.declared.proof.Proof.{Proof}
 use Rattle.pb_proof.specs.declared.statement.Statement.{Statement}
 use Rattle.pb_proof.specs.declared.statement.Statement.TheVariants.{Header, F, Output, Conclude, End}
 
--- the proof with one statement more
+-- the proof with one more statement
 abbrev pub with : Proof → Statement → Proof
 with v Header = v
 with v (F count) = record v { count = count }
@@ -14,7 +14,7 @@ with v (Conclude conclusion) = record v { conclusion = conclusion }
 with v End = v
 with v step = record v { steps = v.steps ++ step ∷ [] }
 
--- Whether to keep a statement may ask for memory: only steps are kept one after another.
+-- Whether storing a statement may allocate: only steps are stored in a list.
 abbrev pub asks : Statement → Bool
 asks Header = false
 asks (F count) = false
@@ -23,7 +23,7 @@ asks (Conclude conclusion) = false
 asks End = false
 asks step = true
 
--- whether to keep a statement behind others may ask for memory
+-- whether storing a statement after others may allocate
 abbrev pub MayKeep : List Statement → Statement → Type 0
 MayKeep statements s = IsTrue (asks s)
 

@@ -14,15 +14,16 @@ takes (Divide divisor) = 1
 takes Saturate = 1
 takes (Weaken name) = 1
 
--- From n expressions on, each word finds what it takes and leaves one more, and one expression is left at the end.
+-- Starting with n expressions, each word finds those that it takes and leaves one more.
+-- One expression is left at the end.
 abbrev pub Leaves : ℕ → List PolWord → Type 0
 Leaves n [] = n ≡ 1
 Leaves n (w ∷ ws) = (takes w ≤ n) × Leaves (n + 1 - takes w) ws
 
--- The words of an expression tell it.
+-- The words of an expression determine it.
 abbrev pub WordsTell : Type 0
 WordsTell = (a b : Tree) → words a ≡ words b → a ≡ b
 
--- Words are those of one expression exactly where they leave one.
+-- Words are those of one expression if and only if they leave one.
 abbrev pub WordsLeaveOne : Type 0
 WordsLeaveOne = (ws : List PolWord) → IsPostfix ws ↔ Leaves 0 ws

@@ -8,6 +8,7 @@ pub mod Line
 pub mod Lines
 pub mod Machine
 pub mod Order
+pub mod Reading
 pub mod Postfix
 pub mod Proofs
 pub mod ValueLaws

@@ -1,4 +1,4 @@
--- The machines of what stands behind the first word of a statement.
+-- The line machines: they read the rest of a statement after its first word.
 pub mod ByteKind
 pub mod Claim
 pub mod ClaimState

@@ -1,5 +1,5 @@
 -- The statements of a proof, and their texts.
-use Rattle.std.specs.Prelude.{◌≡◌, ℕ, ℤ, pos, ◌<◌, ◌≤◌, Bool, true, false, List, [], ◌∷◌, length, ◌⊎◌, Option, Some, None}
+use Rattle.std.specs.Prelude.{◌≡◌, ℕ, ℤ, pos, ◌<◌, ◌≤◌, Bool, true, false, List, [], ◌∷◌, length, ◌⊎◌, Option, Some, None, codes}
 use Rattle.pb_text.specs.Languages.{Language, ◌⋅◌, Empty, Byte, Bytes, Blanks0, Blanks1}
 use Rattle.pb_text.specs.Numbers.{Digits, Number, Count, signed}
 use Rattle.pb_sums.specs.Sums.{IsName, SpellsLiteral, SpellsLinear}
@@ -18,73 +18,68 @@ use Rattle.pb_proof.specs.declared.statement.Statement.{Statement}
 use Rattle.pb_proof.specs.declared.statement.Statement.TheVariants.{Header, F, Pol, Rup, Soli, Solx, Delete, Output, Conclude, End}
 
 -- The fixed words.
--- `pseudo-Boolean`, `proof`, `version` and `2.0`
 abbrev pub pseudo_word : List ℕ
-pseudo_word = 112 ∷ 115 ∷ 101 ∷ 117 ∷ 100 ∷ 111 ∷ 45 ∷ 66 ∷ 111 ∷ 111 ∷ 108 ∷ 101 ∷ 97 ∷ 110 ∷ []
+pseudo_word = codes "pseudo-Boolean"
 
 abbrev pub proof_word : List ℕ
-proof_word = 112 ∷ 114 ∷ 111 ∷ 111 ∷ 102 ∷ []
+proof_word = codes "proof"
 
 abbrev pub version_word : List ℕ
-version_word = 118 ∷ 101 ∷ 114 ∷ 115 ∷ 105 ∷ 111 ∷ 110 ∷ []
+version_word = codes "version"
 
 abbrev pub two_word : List ℕ
-two_word = 50 ∷ 46 ∷ 48 ∷ []
+two_word = codes "2.0"
 
--- `f`, `pol`, `rup`, `soli` and `solx`
 abbrev pub f_word : List ℕ
-f_word = 102 ∷ []
+f_word = codes "f"
 
 abbrev pub pol_word : List ℕ
-pol_word = 112 ∷ 111 ∷ 108 ∷ []
+pol_word = codes "pol"
 
 abbrev pub rup_word : List ℕ
-rup_word = 114 ∷ 117 ∷ 112 ∷ []
+rup_word = codes "rup"
 
 abbrev pub soli_word : List ℕ
-soli_word = 115 ∷ 111 ∷ 108 ∷ 105 ∷ []
+soli_word = codes "soli"
 
 abbrev pub solx_word : List ℕ
-solx_word = 115 ∷ 111 ∷ 108 ∷ 120 ∷ []
+solx_word = codes "solx"
 
--- `del` and `id`
 abbrev pub del_word : List ℕ
-del_word = 100 ∷ 101 ∷ 108 ∷ []
+del_word = codes "del"
 
 abbrev pub id_word : List ℕ
-id_word = 105 ∷ 100 ∷ []
+id_word = codes "id"
 
--- `output`, `conclusion` and `end`
 abbrev pub output_word : List ℕ
-output_word = 111 ∷ 117 ∷ 116 ∷ 112 ∷ 117 ∷ 116 ∷ []
+output_word = codes "output"
 
 abbrev pub conclusion_word : List ℕ
-conclusion_word = 99 ∷ 111 ∷ 110 ∷ 99 ∷ 108 ∷ 117 ∷ 115 ∷ 105 ∷ 111 ∷ 110 ∷ []
+conclusion_word = codes "conclusion"
 
 abbrev pub end_word : List ℕ
-end_word = 101 ∷ 110 ∷ 100 ∷ []
+end_word = codes "end"
 
--- `NONE`, `UNSAT`, `SAT`, `BOUNDS` and `INF`
 abbrev pub none_word : List ℕ
-none_word = 78 ∷ 79 ∷ 78 ∷ 69 ∷ []
+none_word = codes "NONE"
 
 abbrev pub unsat_word : List ℕ
-unsat_word = 85 ∷ 78 ∷ 83 ∷ 65 ∷ 84 ∷ []
+unsat_word = codes "UNSAT"
 
 abbrev pub sat_word : List ℕ
-sat_word = 83 ∷ 65 ∷ 84 ∷ []
+sat_word = codes "SAT"
 
 abbrev pub bounds_word : List ℕ
-bounds_word = 66 ∷ 79 ∷ 85 ∷ 78 ∷ 68 ∷ 83 ∷ []
+bounds_word = codes "BOUNDS"
 
 abbrev pub inf_word : List ℕ
-inf_word = 73 ∷ 78 ∷ 70 ∷ []
+inf_word = codes "INF"
 
 -- blank* and a line feed
 abbrev pub Feed : Language
 Feed = Blanks0 ⋅ Byte 10
 
--- a line feed, with blanks and one `;` before it or not
+-- a line feed, with or without blanks and one `;` before it
 abbrev pub LineEnd : Language
 LineEnd = λ t. Feed t ⊎ (Blanks0 ⋅ Byte 59 ⋅ Feed) t
 
@@ -93,12 +88,12 @@ abbrev pub Listed : {A : Type 0} → (A → Language) → List A → Language
 Listed P [] = Empty
 Listed P (x ∷ xs) = Blanks1 ⋅ P x ⋅ Listed P xs
 
--- `-` where it is negative
+-- `-` if it is negative
 abbrev pub Minus : Bool → Language
 Minus true = Byte 45
 Minus false = Empty
 
--- an id: digits, and `-` before them where it is counted back
+-- an id: digits, and `-` before them if it counts back
 abbrev pub SpellsId : ℕ → ℤ → Language
 SpellsId top id = λ t. (negative : Bool) × (n : ℕ) × (0 < n) × (n ≤ top) × (id ≡ signed negative n) × (Minus negative ⋅ Digits n) t
 
@@ -115,7 +110,7 @@ abbrev pub SpellsShown : List Literal → Language
 SpellsShown [] = Byte 58
 SpellsShown (l ∷ ls) = Byte 58 ⋅ Blanks0 ⋅ SpellsLiteral l ⋅ Listed SpellsLiteral ls
 
--- nothing, or literals shown
+-- nothing, or `:` and literals
 abbrev pub Shown : Option (List Literal) → Language
 Shown None = Empty
 Shown (Some ls) = Blanks0 ⋅ SpellsShown ls
@@ -126,7 +121,7 @@ module _ (limit top : ℕ) where
   IdShown None = Empty
   IdShown (Some id) = Blanks0 ⋅ Byte 58 ⋅ Blanks0 ⋅ SpellsId top id
 
-  -- a word of an expression; a factor stands before `*` or `d`, and a name before `w`
+  -- a word of an expression; a factor comes before `*` or `d`, and a name before `w`
   abbrev pub SpellsWord : PolWord → Language
   SpellsWord (Id id) = SpellsId top id
   SpellsWord (Axiom literal) = SpellsLiteral literal
@@ -143,7 +138,7 @@ module _ (limit top : ℕ) where
   SpellsConclusion (Bounds lower id upper shown) =
       Bytes bounds_word ⋅ Blanks1 ⋅ SpellsBound limit lower ⋅ IdShown id ⋅ Blanks1 ⋅ SpellsBound limit upper ⋅ Shown shown
 
-  -- What stands behind the first word of a statement.
+  -- The texts after the first word of a statement.
   abbrev pub SpellsCount : Option ℕ → Language
   SpellsCount None = LineEnd
   SpellsCount (Some n) = Blanks1 ⋅ Count top n ⋅ LineEnd
@@ -163,7 +158,7 @@ module _ (limit top : ℕ) where
   abbrev pub SpellsClaim : Conclusion → Language
   SpellsClaim c = Blanks1 ⋅ SpellsConclusion c ⋅ LineEnd
 
-  -- A statement from its first word through its line feed, and the closing words without one.
+  -- A statement from its first word through its line feed. The closing words have no line feed.
   abbrev pub SpellsStatement : Statement → Language
   SpellsStatement Header =
       Bytes pseudo_word ⋅ Blanks1 ⋅ Bytes proof_word ⋅ Blanks1 ⋅ Bytes version_word ⋅ Blanks1 ⋅ Bytes two_word ⋅ Feed

@@ -1,4 +1,4 @@
--- The machine of proofs: what it does with one byte, and its states.
+-- The machine for proofs: what it does with one byte, and its states.
 pub mod State
 pub mod Transition
 pub mod Words

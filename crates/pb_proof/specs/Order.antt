@@ -8,7 +8,7 @@ use Rattle.pb_proof.specs.declared.machine.phase.Stage.TheVariants.{Opening, For
 use Rattle.pb_proof.specs.declared.statement.Statement.{Statement}
 use Rattle.pb_proof.specs.declared.statement.Statement as statement
 
--- where a statement may stand, and what may come behind it
+-- the stage of a statement, and the stage after it
 abbrev pub stage_of : Statement → Stage
 stage_of statement.TheVariants.Header = Opening
 stage_of (statement.TheVariants.F count) = Formula
@@ -23,13 +23,13 @@ stage_after (statement.TheVariants.Conclude c) = Closing
 stage_after statement.TheVariants.End = Complete
 stage_after _ = Steps
 
--- what may stand before a statement
+-- what may come before a statement
 abbrev pub GapAt : Stage → List ℕ → Type 0
 GapAt Opening gap = gap ≡ []
 GapAt _ gap = IsGap gap
 
 module _ (limit top : ℕ) where
-  -- the statements from a stage on
+  -- the statements from a stage to the end
   abbrev pub IsOrdered : Stage → List (Item Statement) → Type 0
   IsOrdered at [] = at ≡ Complete
   IsOrdered at (i ∷ rest) =

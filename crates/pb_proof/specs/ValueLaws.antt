@@ -6,7 +6,7 @@ use Rattle.pb_text.specs.Whole.{events_at, events_of}
 use Rattle.pb_text.specs.declared.Place.{Place}
 use Rattle.pb_text.specs.declared.Spanned.{Spanned}
 use Rattle.pb_text.specs.declared.Stop.{Stop}
-use Rattle.pb_text.specs.ValueRead.{IsRead}
+use Rattle.pb_text.specs.Whole.{IsRead}
 use Rattle.pb_proof.specs.Lines.{SpellsStatement}
 use Rattle.pb_proof.specs.Proofs.{statements_of, IsProof, IsProofOf}
 use Rattle.pb_proof.specs.Values.{IsStatementValue, IsProofValue}
@@ -14,12 +14,12 @@ use Rattle.pb_proof.specs.Canonical.{proof_bytes}
 use Rattle.pb_proof.specs.declared.proof.Proof.{Proof}
 use Rattle.pb_proof.specs.declared.statement.Statement.{Statement}
 
--- The canonical text of a proof that meets the rules is a spelling of that proof.
+-- The canonical text of a proof that meets the rules is a text of that proof.
 abbrev pub CanonicalProof : Type 0
 CanonicalProof = (limit top : ℕ) (v : Proof) → limit < 2 ^ 127 → top < 2 ^ 63 → IsProofValue limit top v →
     (items : List (Item Statement)) × IsProof limit top items × (bytes_of items ≡ proof_bytes v) × IsProofOf (events_of items) v
 
--- A statement that is spelled meets the rules, and so does a proof.
+-- A statement that has a text meets the rules, and so does a proof.
 abbrev pub StatementValues : Type 0
 StatementValues = (limit top : ℕ) (s : Statement) (text : List Letter) → SpellsStatement limit top s text → IsStatementValue limit top s
 
@@ -27,7 +27,7 @@ abbrev pub ProofValues : Type 0
 ProofValues = (limit top : ℕ) (items : List (Item Statement)) (v : Proof) → IsProof limit top items → IsProofOf (events_of items) v →
     IsProofValue limit top v
 
--- The first statements of a proof, in order, or all of them; they and the proof meet the rules.
+-- The first statements of a proof, in order, or all of them. They and the proof meet the rules.
 pub record BeginProof (limit top : ℕ) (statements : List Statement) (all : Bool) : Type 0 where
   pub value : Proof
   pub rest : List Statement
@@ -36,16 +36,16 @@ pub record BeginProof (limit top : ℕ) (statements : List Statement) (all : Boo
   pub each : All (IsStatementValue limit top) statements
   pub rules : IsProofValue limit top value
 
--- What was read of a proof begins one, and is a whole one where the read is done.
+-- The statements read are the first ones of a proof, and all of them if the read is done.
 abbrev pub ReadStatements : Type 0
 ReadStatements = (limit top longest : ℕ) (input used : List ℕ) (marks : List (Spanned Statement)) (place : Place) (done : Bool) (stop : Option Stop) →
     Reads (IsProof limit top) longest input used marks place done stop → BeginProof limit top (events_at marks) done
 
--- Statements are those of one proof at most.
+-- Statements are those of at most one proof.
 abbrev pub OneValue : Type 0
 OneValue = (statements : List Statement) (v w : Proof) → IsProofOf statements v → IsProofOf statements w → v ≡ w
 
--- What is written of a proof that meets the rules is read as that proof alone.
+-- The canonical text of a proof that meets the rules is not read as any other proof.
 abbrev pub ReadsBack : Type 0
 ReadsBack = (limit top longest : ℕ) (v : Proof) (m : Spanned Proof) → limit < 2 ^ 127 → top < 2 ^ 63 → IsProofValue limit top v →
     IsRead (IsProof limit top) longest IsProofOf (proof_bytes v) m → m.event ≡ v

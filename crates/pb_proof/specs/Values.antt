@@ -16,12 +16,12 @@ use Rattle.pb_proof.specs.declared.proof.Proof.{Proof}
 use Rattle.pb_proof.specs.declared.statement.Statement.{Statement}
 use Rattle.pb_proof.specs.declared.statement.Statement.TheVariants.{Header, F, Pol, Rup, Soli, Solx, Delete, Output, Conclude, End}
 
--- where there is one, it meets the rule
+-- if there is one, it meets the rule
 abbrev pub IfGiven : {A : Type 0} → (A → Type 0) → Option A → Type 0
 IfGiven P None = Unit {0}
 IfGiven P (Some x) = P x
 
--- not 0, and of a magnitude of at most top
+-- not 0, with a magnitude of at most top
 abbrev pub IsId : ℕ → ℤ → Type 0
 IsId top id = (0 < nat_abs id) × (nat_abs id ≤ top)
 

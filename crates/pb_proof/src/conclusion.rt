@@ -1,4 +1,4 @@
-//! What a proof claims at its end.
+//! The conclusion of a proof.
 
 use pb_sums::Literal;
 use pb_text::Sequence;
@@ -11,17 +11,17 @@ pub enum Bound {
     Infinite,
 }
 
-/// The claim of a proof.
+/// The conclusion of a proof.
 #[derive(Drop)]
 pub enum Conclusion {
     /// Nothing is claimed.
     NoClaim,
-    /// There is no solution, by the constraint of that id where one is given.
+    /// There is no solution. If an id is given, this is by the constraint with that id.
     Unsat(Option<i64>),
-    /// There is a solution: the one of these literals, where they are given.
+    /// There is a solution: the one of these literals, if they are given.
     Sat(Option<Sequence<Literal>>),
-    /// The objective's least value lies between two bounds: the lower one by the constraint of that id, and the
-    /// upper one by the solution of these literals, where they are given.
+    /// The objective's least value lies between two bounds. If an id is given, the lower bound is by the constraint
+    /// with that id. If literals are given, the upper bound is by the solution of these literals.
     Bounds {
         lower: Bound,
         id: Option<i64>,

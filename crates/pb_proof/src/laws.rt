@@ -10,28 +10,28 @@ pub fn proofs_are_exact()
     ensures { ReadsProofs }
 {}
 
-/// A text spells one proof.
+/// A text is the text of at most one proof.
 pub fn one_proof()
     ensures { OneProof }
 {}
 
-/// In all proofs whose texts begin with the same bytes, the statements that end within these are the same, at the same
-/// places.
+/// In all proofs whose texts begin with the same bytes, the statements that end within these bytes are the same, at
+/// the same positions.
 pub fn fixed_marks()
     ensures { FixedMarks }
 {}
 
-/// No proof is a front of another.
+/// No proof is a prefix of another.
 pub fn no_front()
     ensures { NoFront }
 {}
 
-/// A proof under limits is the same proof under larger ones.
+/// A proof under limits is the same proof under larger limits.
 pub fn larger_limits()
     ensures { LargerLimits }
 {}
 
-/// A machine keeps nothing beside its state, its limits and its allocator.
+/// A machine stores nothing besides its state, its limits, its allocator and, for `pol`, its vector of words.
 pub fn keeps_its_state()
     ensures count { CountKeeps }
     ensures ids { IdsKeeps }

@@ -1,4 +1,4 @@
-//! Proofs in VeriPB 2.0, read one byte at a time and written.
+//! Reads VeriPB 2.0 proofs one byte at a time, and writes them.
 #![tactic(auto)]
 
 mod conclusion;

@@ -1,4 +1,4 @@
-//! The machines of what stands behind the first word of a statement.
+//! The line machines: they read the rest of a statement after its first word.
 
 mod byte_kind;
 mod claim;
@@ -18,21 +18,21 @@ use crate::line::literals::LiteralsMachine;
 use crate::line::pol::PolMachine;
 use crate::line::rup::RupMachine;
 
-/// A machine that reads what stands behind the first word of a statement, through the line feed.
+/// A line machine: it reads the rest of a statement after its first word, through the line feed.
 #[derive(Drop)]
 pub enum LineMachine {
-    /// Behind `f`.
+    /// After `f`.
     Count(CountMachine),
-    /// Behind `pol`.
+    /// After `pol`.
     Pol(PolMachine),
-    /// Behind `rup`.
+    /// After `rup`.
     Rup(RupMachine),
-    /// Behind `soli`.
+    /// After `soli`.
     Soli(LiteralsMachine),
-    /// Behind `solx`.
+    /// After `solx`.
     Solx(LiteralsMachine),
-    /// Behind `del id`.
+    /// After `del id`.
     Delete(IdsMachine),
-    /// Behind `conclusion`.
+    /// After `conclusion`.
     Conclusion(ClaimMachine),
 }

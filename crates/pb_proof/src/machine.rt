@@ -1,4 +1,4 @@
-//! The machine of proofs.
+//! The machine for proofs.
 
 ghost use Rattle.std.specs.Prelude.{◌≡◌, false, Option};
 ghost use Rattle.pb_text.specs.Limits.{largest, top_of};
@@ -46,7 +46,7 @@ impl Model for ProofMachine {
     }) };
 }
 
-/// Puts a machine, or none, in the place of another.
+/// Replaces a line machine, or none, by another, or by none.
 fn replace(line: &mut Option<LineMachine>, next: Option<LineMachine>)
     ensures { line.new ≡ next }
 {
@@ -66,15 +66,15 @@ impl ProofMachine {
     ghost use Rattle.pb_proof.specs.Proofs.{IsProof};
     ghost use Rattle.pb_proof.specs.Machine.State.{proofs, begin};
 
-    /// A machine before a proof, which accepts exactly the proofs under the limits. It takes no memory.
+    /// A machine at the start of a proof. It accepts exactly the proofs under the limits.
+    /// Creating it does not allocate.
     pub fn new(alloc: Global, limits: Limits) -> Self
         ensures accepts { (items : List (Item Statement)) → Accepts proofs result items ↔ IsProof (largest limits) (top_of limits) items }
-        // What is read by it is read of the proofs.
+        // What is read by this machine is read of the format of proofs.
         ensures reads { (longest : ℕ) (input used : List ℕ) (marks : List (Spanned Statement)) (place : Place) (done : Bool) (stop : Option Stop)
             → Reads (Accepts proofs result) longest input used marks place done stop
             → Reads (IsProof (largest limits) (top_of limits)) longest input used marks place done stop }
-        // It asks for memory only at a byte of a name or of an operator of `pol`, and at one that ends a literal, an id or a
-        // word of `pol`.
+        // It may allocate only at a byte of a name or `pol` operator, or at one that ends a literal, id or `pol` word.
         ensures asks { (used : List ℕ) (b : ℕ) → MayAsk proofs result used b → AsksOnly (IsProof (largest limits) (top_of limits)) Asks used b }
         ensures begins { result ≡ begin (largest limits) (top_of limits) }
         ensures between { proofs.begun result ≡ false }
@@ -129,7 +129,7 @@ impl ProofMachine {
         }
     }
 
-    /// Gives a byte to the machine behind the first word.
+    /// Gives a byte to the line machine.
     fn give(&mut self, kind: LineKind, byte: u8) -> Push<Statement>
         requires { plan self.old.phase byte ≡ Move.Give kind }
         ensures { Pushes proofs self.old byte result self.new }
@@ -156,7 +156,7 @@ impl ProofMachine {
     ghost use Rattle.pb_text.specs.Automaton.{IsState, Runs};
     ghost use Rattle.pb_proof.specs.Machine.State.{proofs};
 
-    /// Gives bytes at the front of a text to the machine behind the first word, where it has begun.
+    /// Gives bytes at the start of a text to the line machine, if there is one. Returns how many it took.
     fn give_front(&mut self, text: &[u8]) -> usize
         ensures bound { result ≤ length text.now }
         ensures runs { Runs proofs self.old (take result text.now) self.new }
@@ -170,7 +170,7 @@ impl ProofMachine {
         taken
     }
 
-    /// Takes the rest of the words that a statement begins with, where it stands at the front.
+    /// Takes the rest of the words that a statement begins with, if the text begins with that rest.
     #[inline(always)]
     fn take_words(&mut self, text: &[u8]) -> usize
         ensures bound { result ≤ length text.now }
@@ -197,7 +197,7 @@ impl ProofMachine {
         length
     }
 
-    /// Takes bytes at the front of a text that are soon taken together.
+    /// Takes bytes at the start of a text together, on a fast path. Returns how many it took.
     #[inline(always)]
     fn take_many(&mut self, text: &[u8]) -> usize
         ensures bound { result ≤ length text.now }

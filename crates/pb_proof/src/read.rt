@@ -1,16 +1,14 @@
 //! Reads a whole proof.
 
-ghost use Rattle.std.specs.Prelude.{false, ◌≡◌, ◌<◌, ◌↔◌, ℕ, List, None, IfOk};
-ghost use Rattle.pb_text.specs.Asking.{AsksOnly};
+ghost use Rattle.std.specs.Prelude.{false, ◌≡◌, ◌<◌, ◌↔◌, ℕ, List, None, IfErr, IfOk};
 ghost use Rattle.pb_text.specs.Automaton.{Accepts, MayAsk};
 ghost use Rattle.pb_text.specs.Blank.{IsInReach};
 ghost use Rattle.pb_text.specs.Limits.{largest, top_of};
-ghost use Rattle.pb_text.specs.Pulling.{faults_after};
+ghost use Rattle.pb_text.specs.Pulling.{OfGiven, faults_after};
 ghost use Rattle.pb_text.specs.Spelling.{Item};
-ghost use Rattle.pb_text.specs.ValueRead.{ReadsValue, GivesValue, WantsMemory};
-ghost use Rattle.pb_proof.specs.Asking.{Asks};
-ghost use Rattle.pb_proof.specs.Gather.{MayKeep};
-ghost use Rattle.pb_proof.specs.Proofs.{IsProof, IsProofOf};
+ghost use Rattle.pb_text.specs.Stopping.{IsShown};
+ghost use Rattle.pb_proof.specs.Proofs.{IsProof};
+ghost use Rattle.pb_proof.specs.Reading.{AsksInProof, ReadsProof};
 
 mod gather;
 
@@ -21,32 +19,33 @@ use crate::statement::Statement;
 use pb_text::{BYTE_LIMIT, Limits, Machine, Source, Spanned, Stop, read_whole};
 use std::alloc::Global;
 
-/// Reads the proof that begins the input, and takes the bytes of its spelling alone: through the last byte of
+/// Reads the proof at the start of the input, and takes only the bytes of its text: through the last byte of
 /// `end pseudo-Boolean proof`.
 ///
-/// A stop names the first byte that no spelling under the limits has there (`Byte`, or `TooLarge` for a further digit
-/// of a number), the end of the input (`Ended`), the byte at offset `2^40` (`TooLong`), a fault of the source
-/// (`Read`), or where memory ran out (`Memory`).
+/// A stop names the first byte that no text of a proof under the limits has there: `Byte`, or `TooLarge` for a
+/// further digit of a number. Or it names the end of the input (`Ended`) or the byte at offset `2^40` (`TooLong`). Or it
+/// names a fault of the source (`Read`), or the position at which memory ran out (`Memory`).
 pub fn read_proof<S: Source>(
     alloc: Global,
     input: &mut S,
     limits: Limits,
 ) -> Result<Spanned<Proof>, Stop>
-    ensures reads { ReadsValue (IsProof (largest limits) (top_of limits)) BYTE_LIMIT IsProofOf (S.left input.old) result (S.left input.new) }
-    // Of any source, a file too: what was read is a spelling of the bytes that its calls have given.
-    ensures given { GivesValue (IsProof (largest limits) (top_of limits)) BYTE_LIMIT IsProofOf (S.history input.old) result (S.history input.new) }
-    // Memory runs out only at a byte of a name or of an operator of `pol`, at one that ends a literal, an id or a word of
-    // `pol`, and behind a step, which is to be kept.
-    ensures memory { WantsMemory (IsProof (largest limits) (top_of limits)) BYTE_LIMIT (AsksOnly (IsProof (largest limits) (top_of limits)) Asks) MayKeep (S.left input.old) result (S.left input.new) }
+    // Memory runs out only at a byte that may allocate, or after a step, which is stored. A byte that may allocate
+    // belongs to a name or a `pol` operator, or ends a literal, an id or a `pol` word.
+    ensures reads { ReadsProof (largest limits) (top_of limits) BYTE_LIMIT (S.left input.old) result (S.left input.new) }
+    // For every source, including files: this is a result of reading the bytes that its calls have given.
+    ensures given { OfGiven (λ left rest. ReadsProof (largest limits) (top_of limits) BYTE_LIMIT left result rest) (S.history input.old) (S.history input.new) }
+    // A rejected byte is the one that the source has shown. The input has ended only if the source has shown its end.
+    ensures shown { IfErr result (λ s. IsShown (S.shown input.new) (S.ended input.new) s.why) }
     ensures past { IfOk result (λ m. IsInReach m.past) }
-    // `Read` comes only where the source failed.
+    // `Read` comes only if the source failed.
     ensures faults { S.faults input.new ≡ faults_after None result (S.faults input.old) }
 {
     read_proof_within(alloc, input, BYTE_LIMIT, limits)
 }
 
-/// The same, but it also stops as `TooLong` at a statement that has not ended within its first `longest` bytes. Each
-/// statement counts from its first word through its line feed, and the closing words through their last byte.
+/// Like `read_proof`, but it also stops with `TooLong` at a statement that has not ended within its first `longest`
+/// bytes. A statement counts from its first word through its line feed, the closing words through their last byte.
 pub fn read_proof_within<S: Source>(
     alloc: Global,
     input: &mut S,
@@ -54,21 +53,22 @@ pub fn read_proof_within<S: Source>(
     limits: Limits,
 ) -> Result<Spanned<Proof>, Stop>
     requires { 0 < longest }
-    ensures reads { ReadsValue (IsProof (largest limits) (top_of limits)) longest IsProofOf (S.left input.old) result (S.left input.new) }
-    // Of any source, a file too: what was read is a spelling of the bytes that its calls have given.
-    ensures given { GivesValue (IsProof (largest limits) (top_of limits)) longest IsProofOf (S.history input.old) result (S.history input.new) }
-    // Memory runs out only at a byte of a name or of an operator of `pol`, at one that ends a literal, an id or a word of
-    // `pol`, and behind a step, which is to be kept.
-    ensures memory { WantsMemory (IsProof (largest limits) (top_of limits)) longest (AsksOnly (IsProof (largest limits) (top_of limits)) Asks) MayKeep (S.left input.old) result (S.left input.new) }
+    // Memory runs out only at a byte that may allocate, or after a step, which is stored. A byte that may allocate
+    // belongs to a name or a `pol` operator, or ends a literal, an id or a `pol` word.
+    ensures reads { ReadsProof (largest limits) (top_of limits) longest (S.left input.old) result (S.left input.new) }
+    // For every source, including files: this is a result of reading the bytes that its calls have given.
+    ensures given { OfGiven (λ left rest. ReadsProof (largest limits) (top_of limits) longest left result rest) (S.history input.old) (S.history input.new) }
+    // A rejected byte is the one that the source has shown. The input has ended only if the source has shown its end.
+    ensures shown { IfErr result (λ s. IsShown (S.shown input.new) (S.ended input.new) s.why) }
     ensures past { IfOk result (λ m. IsInReach m.past) }
-    // `Read` comes only where the source failed.
+    // `Read` comes only if the source failed.
     ensures faults { S.faults input.new ≡ faults_after None result (S.faults input.old) }
 {
     let machine = ProofMachine::new(alloc, limits);
     read_by(alloc, input, machine, longest, limits)
 }
 
-/// Reads by a machine that accepts the proofs under the limits.
+/// Reads with a machine that accepts exactly the proofs under the limits.
 fn read_by<S: Source, M: Machine<Event = Statement> + Drop>(
     alloc: Global,
     input: &mut S,
@@ -77,13 +77,12 @@ fn read_by<S: Source, M: Machine<Event = Statement> + Drop>(
     limits: Limits,
 ) -> Result<Spanned<Proof>, Stop>
     requires accepts { (items : List (Item Statement)) → Accepts M.automaton machine items ↔ IsProof (largest limits) (top_of limits) items }
-    requires asks { (used : List ℕ) (b : ℕ) → MayAsk M.automaton machine used b → AsksOnly (IsProof (largest limits) (top_of limits)) Asks used b }
+    requires asks { (used : List ℕ) (b : ℕ) → MayAsk M.automaton machine used b → AsksInProof (largest limits) (top_of limits) used b }
     requires between { M.automaton.begun machine ≡ false }
     requires some { 0 < longest }
-    ensures reads { ReadsValue (IsProof (largest limits) (top_of limits)) longest IsProofOf (S.left input.old) result (S.left input.new) }
-    // Of any source, a file too: what was read is a spelling of the bytes that its calls have given.
-    ensures given { GivesValue (IsProof (largest limits) (top_of limits)) longest IsProofOf (S.history input.old) result (S.history input.new) }
-    ensures memory { WantsMemory (IsProof (largest limits) (top_of limits)) longest (AsksOnly (IsProof (largest limits) (top_of limits)) Asks) MayKeep (S.left input.old) result (S.left input.new) }
+    ensures reads { ReadsProof (largest limits) (top_of limits) longest (S.left input.old) result (S.left input.new) }
+    ensures given { OfGiven (λ left rest. ReadsProof (largest limits) (top_of limits) longest left result rest) (S.history input.old) (S.history input.new) }
+    ensures shown { IfErr result (λ s. IsShown (S.shown input.new) (S.ended input.new) s.why) }
     ensures past { IfOk result (λ m. IsInReach m.past) }
     ensures faults { S.faults input.new ≡ faults_after None result (S.faults input.old) }
 {

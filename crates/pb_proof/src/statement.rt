@@ -6,19 +6,19 @@ use crate::word::PolWord;
 use pb_sums::{Linear, Literal};
 use pb_text::Sequence;
 
-/// A statement of a proof in VeriPB 2.0, as it is read: a line from its first word through its line feed, and the
-/// closing words without one.
+/// A statement of a proof in VeriPB 2.0, as it is read: a line from its first word through its line feed. The closing
+/// words have no line feed.
 #[derive(Drop)]
 pub enum Statement {
     /// `pseudo-Boolean proof version 2.0`.
     Header,
-    /// `f`: the formula's constraints are loaded, of which there are so many where a number is given.
+    /// `f`: the formula's constraints are loaded. If a number is given, there are that many.
     F(Option<u64>),
     /// `pol`: a constraint by the rules of cutting planes, in postfix words.
     Pol(Sequence<PolWord>),
     /// `rup`: a constraint by reverse unit propagation.
     Rup(Linear),
-    /// `soli`: a solution, which the objective is to improve on.
+    /// `soli`: a solution, on which the objective has to improve.
     Soli(Sequence<Literal>),
     /// `solx`: a solution, which is excluded.
     Solx(Sequence<Literal>),
@@ -49,7 +49,7 @@ impl Statement {
         }
     }
 
-    /// The stage of a proof behind the statement, where it may come.
+    /// The stage of a proof after the statement, if the statement may come.
     pub fn stage_behind(&self) -> Stage
         ensures { result ≡ stage_after self.now }
     {

@@ -81,7 +81,7 @@ fn are_words(words: &[PolWord], limits: Limits) -> bool
     true
 }
 
-/// How many expressions are finished behind the word, where so many are before it.
+/// How many expressions are finished after the word, if `finished` of them are finished before it.
 fn finished_with(finished: usize, word: &PolWord) -> Option<usize>
     requires { finished + 1 < 2 ^ 64 }
     ensures { result ≡ finished_with finished word.now }
@@ -109,7 +109,7 @@ fn is_postfix(words: &[PolWord]) -> bool
     finished == 1
 }
 
-/// Whether there is no count, or one of at most `top`.
+/// Whether there is no count, or it is at most `top`.
 fn count_is_value(count: Option<u64>, top: u64) -> bool
     ensures { IsTrue result ↔ IfGiven (λ n. n ≤ top) count }
 {
@@ -140,7 +140,7 @@ fn shown_is_value(shown: &Option<Sequence<Literal>>) -> bool
     }
 }
 
-/// Whether the bound's magnitude is at most the limit, where it is finite.
+/// Whether the bound's magnitude is at most the limit, if the bound is finite.
 fn bound_is_value(bound: Bound, limit: u128) -> bool
     requires { limit < 2 ^ 127 }
     ensures { IsTrue result ↔ IsBound limit bound }
@@ -176,16 +176,16 @@ fn conclusion_is_value(conclusion: &Conclusion, limits: Limits) -> bool
     }
 }
 
-/// Whether the constraint may stand behind `rup`: its relation is `>=`, and it is within the limits.
+/// Whether the constraint may follow `rup`: its relation is `>=`, and it is within the limits.
 fn rup_is_value(goal: &Linear, limits: Limits) -> bool
     ensures { IsTrue result ↔ IsStatementValue (largest limits) (top_of limits) (Statement.Rup goal.now) }
 {
     goal.relation == Relation::AtLeast && linear_is_value(goal, limits)
 }
 
-/// Whether the statement has a spelling under the limits: its numbers are within them and its names those of the
-/// grammar, no id is 0, the words of a `Pol` are the postfix words of one expression, a `Delete` has an id, and the
-/// constraint of a `Rup` has `>=`.
+/// Whether the statement has a text under the limits. Its numbers have to be within them, and its names those of the
+/// grammar. No id may be 0, and a `Delete` needs an id. The words of a `Pol` have to be the postfix words of one
+/// expression, and the constraint of a `Rup` has to have `>=`.
 pub fn statement_is_value(statement: &Statement, limits: Limits) -> bool
     ensures { IsTrue result ↔ IsStatementValue (largest limits) (top_of limits) statement.now }
 {
@@ -201,7 +201,7 @@ pub fn statement_is_value(statement: &Statement, limits: Limits) -> bool
     }
 }
 
-/// Whether the statement may stand between `f` and `output`.
+/// Whether the statement may appear between `f` and `output`.
 fn is_step(statement: &Statement) -> bool
     ensures { IsTrue result ↔ IsStep statement.now }
 {
@@ -234,8 +234,8 @@ fn are_steps(steps: &[Statement], limits: Limits) -> bool
     true
 }
 
-/// Whether the proof has a spelling under the limits: its steps are of the kinds that a step may have, and they, the
-/// number of constraints and the conclusion meet the rules.
+/// Whether the proof has a text under the limits. Its steps have to be of the kinds that a step may have. The steps,
+/// the number of constraints and the conclusion have to meet the rules.
 pub fn proof_is_value(proof: &Proof, limits: Limits) -> bool
     ensures { IsTrue result ↔ IsProofValue (largest limits) (top_of limits) proof.now }
 {

@@ -5,7 +5,7 @@ use pb_sums::{Literal, Name};
 /// A word of a postfix expression of cutting planes.
 #[derive(Drop)]
 pub enum PolWord {
-    /// The constraint with an id, counted back from the newest one where it is negative.
+    /// The constraint with this id. A negative id counts back from the newest constraint.
     Id(i64),
     /// The axiom that a literal is at least 0.
     Axiom(Literal),
@@ -17,6 +17,6 @@ pub enum PolWord {
     Divide(i128),
     /// The last constraint with no coefficient above its degree.
     Saturate,
-    /// The last constraint without a variable.
+    /// The last constraint, weakened so that this variable is gone.
     Weaken(Name),
 }

@@ -1,4 +1,4 @@
-//! Canonical text.
+//! Writes the canonical text.
 
 ghost use Rattle.std.specs.Prelude.{◌≡◌, [], ◌∷◌, ◌++◌};
 ghost use Rattle.std.specs.Fmt.{signed_decimal};
@@ -13,7 +13,7 @@ use crate::word::PolWord;
 use pb_sums::{Linear, Literal, write_count, write_linear, write_literal, write_number};
 use pb_text::{Failed, Sequence, Sink, write_bytes};
 
-/// Writes a number, and then an operator behind a space.
+/// Writes a number, and then an operator with a space before it.
 fn write_factor<S: Sink>(factor: i128, operator: &[u8], out: &mut S) -> Result<(), Failed>
     ensures { Writes S.contents S.faults out.old (signed_decimal factor ++ operator.now) result out.new }
 {
@@ -100,7 +100,7 @@ fn write_bound<S: Sink>(bound: Bound, out: &mut S) -> Result<(), Failed>
     }
 }
 
-/// Writes a bound behind a space.
+/// Writes a space and then a bound.
 fn write_next_bound<S: Sink>(bound: Bound, out: &mut S) -> Result<(), Failed>
     ensures { Writes S.contents S.faults out.old (32 ∷ bound_bytes bound) result out.new }
 {
@@ -197,7 +197,7 @@ fn write_pol<S: Sink>(words: &[PolWord], out: &mut S) -> Result<(), Failed>
     write_words(words, out)
 }
 
-/// Writes a word, and the literals behind it.
+/// Writes a word, and the literals after it.
 fn write_listed<S: Sink>(word: &[u8], literals: &[Literal], out: &mut S) -> Result<(), Failed>
     ensures { Writes S.contents S.faults out.old (word.now ++ listed_bytes literal_line literals.now) result out.new }
 {
@@ -262,7 +262,7 @@ fn write_steps<S: Sink>(steps: &[Statement], out: &mut S) -> Result<(), Failed>
     Ok(())
 }
 
-/// Writes the canonical spelling of the proof: each statement in one line, and no line feed behind the last one.
+/// Writes the canonical text of the proof: each statement on one line, and no line feed after the last one.
 pub fn write_proof<S: Sink>(proof: &Proof, out: &mut S) -> Result<(), Failed>
     ensures { Writes S.contents S.faults out.old (proof_bytes proof.now) result out.new }
 {

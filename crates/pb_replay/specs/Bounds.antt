@@ -23,7 +23,7 @@ abbrev pub HasObjective : ℕ → List (List ℕ) → Option (List Term) → Sid
 HasObjective limit names objective side degree =
     found (λ o. objective ≡ Some o) NoObjective (λ o. normal_form limit names side (objective_with o degree) gives)
 
--- the live form that an id names; none where there is no id
+-- the live form with this id; none if there is no id
 abbrev pub IsNamed : List (Option Form) → Option ℤ → Option Form → Type 0
 IsNamed live None f = f ≡ None
 IsNamed live (Some i) f = (g : Form) × IsLive live i g × (f ≡ Some g)
@@ -32,12 +32,12 @@ IsNamed live (Some i) f = (g : Form) × IsLive live i g × (f ≡ Some g)
 abbrev pub Refutes : Option Form → Form → Type 0
 Refutes f goal = (g : Form) × (f ≡ Some g) × (IsContradiction g ⊎ SumIsContradiction g (negation_of goal))
 
--- what is answered of a lower bound, of each objective and whatever was logged
+-- the result for a lower bound, for each objective and whatever was logged
 abbrev pub Lower : Running → Bound → Option ℤ → Result Unit Fault → Type 0
 Lower r b id (Err e) = (e ≡ Memory) ⊎ ((logged : List Logged) (o : List Term) → IsBest logged r.best → (problem_of r).objective ≡ Some o → lower_bound (largest r.limits) (state_of r logged) o b id (gives (tt {0})) (Err e))
 Lower r b id (Ok u) = (logged : List Logged) (o : List Term) → IsBest logged r.best → (problem_of r).objective ≡ Some o → lower_bound (largest r.limits) (state_of r logged) o b id (gives (tt {0})) (Ok (tt {0}))
 
--- the bound is at most the best value, where there is one
+-- the bound is at most the best value, if there is one
 abbrev pub IsBelow : Option ℤ → ℤ → Type 0
 IsBelow None b = Unit {0}
 IsBelow (Some z) b = b ≤ℤ z
@@ -80,14 +80,14 @@ abbrev pub Upper : Running → Bound → Option (List NumberedLiteral) → Resul
 Upper r b given (Err e) = (e ≡ Memory) ⊎ ((logged : List Logged) → IsBest logged r.best → upper_of (problem_of r) logged b given (Err e))
 Upper r b given (Ok u) = (logged : List Logged) → IsBest logged r.best → upper_of (problem_of r) logged b given (Ok (tt {0}))
 
--- what is answered of the demand of a lower value than one that was logged, of each objective
+-- the result of requiring a lower value than a logged one, for each objective
 abbrev pub Demands : Running → ℤ → Result Unit Fault → Running → Type 0
 Demands old z (Ok _) new = (before : List Logged) (g : Logged) (o : List Term) → IsBest before old.best → g.value ≡ z → (problem_of old).objective ≡ Some o
     → IsBest (before ++ g ∷ []) new.best × normal_form (largest old.limits) old.names most (objective_with o (g.value -ℤ pos 1)) (added (top_of old.limits) (state_of old before) (before ++ g ∷ [])) (Ok (state_of new (before ++ g ∷ [])))
 Demands old z (Err e) new = (e ≡ Memory) ⊎ ((before : List Logged) (g : Logged) (o : List Term) → g.value ≡ z → (problem_of old).objective ≡ Some o
     → normal_form (largest old.limits) old.names most (objective_with o (g.value -ℤ pos 1)) (added (top_of old.limits) (state_of old before) (before ++ g ∷ [])) (Err e))
 
--- what is answered of both bounds, of each objective and whatever was logged: the lower one comes first
+-- the result for both bounds, for each objective and whatever was logged: the lower one comes first
 abbrev pub Both : Running → Bound → Option ℤ → Bound → Option (List NumberedLiteral) → Result Unit Fault → Type 0
 Both r lower id upper given (Ok u) = (logged : List Logged) (o : List Term) → IsBest logged r.best → (problem_of r).objective ≡ Some o
     → lower_bound (largest r.limits) (state_of r logged) o lower id (gives (tt {0})) (Ok (tt {0})) × upper_of (problem_of r) logged upper given (Ok (tt {0}))

@@ -19,7 +19,7 @@ use Rattle.pb_replay.specs.Problem.{Problem}
 use Rattle.pb_replay.specs.Propagation.{IsRup}
 use Rattle.pb_replay.specs.Replay.{State, Logged, Live, IsLive, Shown, normal_form, numbered}
 
--- what a conclusion claims, without how
+-- the verdict of a conclusion, without its justification
 abbrev pub verdict_of : Conclusion → Verdict
 verdict_of NoClaim = verdict.NoClaim
 verdict_of (Unsat id) = verdict.Unsat
@@ -39,12 +39,12 @@ has_contradiction live id = contradicted live id (gives tt)
 abbrev pub none_left : {A : Type 0} → State → Option ℤ → Answer A → Answer A
 none_left s id next = need (s.logged ≡ []) SolutionLogged (contradicted s.live id next)
 
--- goes on with the named constraint, where there is a name
+-- continues with the named constraint, if there is an id
 abbrev pub named : {A : Type 0} → List (Option Form) → Option ℤ → (Option Form → Answer A) → Answer A
 named live None next = next None
 named live (Some i) next = found (IsLive live i) (NoSuchId i) (λ f. next (Some f))
 
--- The objective with a degree: at least that, and by its other side at most that.
+-- The objective with a degree: at least the degree, and by its other side at most the degree.
 abbrev pub objective_with : List Term → ℤ → Linear
 objective_with terms degree = record { terms = terms; relation = AtLeast; degree = degree }
 

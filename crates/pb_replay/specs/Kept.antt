@@ -1,4 +1,4 @@
--- What a replay keeps, as a problem and a state
+-- What a replay stores, as a problem and a state
 use Rattle.std.specs.Prelude.{◌≡◌, ℕ, ℤ, zero, suc, ◌<◌, ◌≤◌, ◌≤ℤ◌, ◌⊎◌, false, if◌then◌else◌, is_some, List, [], ◌∷◌, ◌++◌, All, Contains, length, take, get_or, Option, Some, None, option_map, Result, Ok, Err}
 use Rattle.pb_text.specs.Limits.{largest, top_of}
 use Rattle.pb_text.specs.declared.Limits.{Limits}
@@ -22,7 +22,7 @@ abbrev pub IsBest : List Logged → Option ℤ → Type 0
 IsBest logged None = logged ≡ []
 IsBest logged (Some b) = ((g : Logged) × Contains logged g × (g.value ≡ b)) × ((g : Logged) → Contains logged g → b ≤ℤ g.value)
 
--- the form's variables are below that number
+-- the form's variables are below this number
 abbrev pub IsInside : ℕ → Form → Type 0
 IsInside n f = All (λ t. t.variable < n) f.terms
 
@@ -33,12 +33,12 @@ problem_of r = record { loaded = r.loaded.items; objective = option_map (λ c. c
 abbrev pub state_of : Running → List Logged → State
 state_of r logged = record { live = r.engine.forms; names = r.names; logged = logged; next = r.next; concluded = r.concluded }
 
--- the state once a statement's names have appeared
+-- the state after a statement's names have appeared
 abbrev pub with_mentioned : State → Statement → State
 with_mentioned s st = record s { names = with_names s.names (mentioned st) }
 
--- What an answer is of a statement that may come, and of any, whatever was logged with this best value. `Memory` may come
--- at each.
+-- The result of a statement that may come, and of any statement, whatever was logged with this best value. `Memory` is
+-- possible for each.
 abbrev pub Goes : Running → Statement → Result Unit Fault → Running → Type 0
 Goes old st (Ok _) new = (logged : List Logged) → IsBest logged old.best → (more : List Logged) × IsBest more new.best
     × Does (largest old.limits) (top_of old.limits) (problem_of old) (with_mentioned (state_of old logged) st) st (Ok (state_of new more))
@@ -51,25 +51,25 @@ Comes old st (Ok _) new = (logged : List Logged) → IsBest logged old.best → 
 Comes old st (Err e) new = (e ≡ Memory) ⊎ ((logged : List Logged) → IsBest logged old.best
     → Outcome (largest old.limits) (top_of old.limits) (problem_of old) (state_of old logged) st (Err e))
 
--- the same of a statement whose names have appeared already
+-- the same for a statement whose names have appeared already
 abbrev pub GoesAt : Running → Statement → Result Unit Fault → Running → Type 0
 GoesAt old st (Ok _) new = (logged : List Logged) → IsBest logged old.best → (more : List Logged) × IsBest more new.best
     × Does (largest old.limits) (top_of old.limits) (problem_of old) (state_of old logged) st (Ok (state_of new more))
 GoesAt old st (Err e) new = (e ≡ Memory) ⊎ ((logged : List Logged) → IsBest logged old.best
     → Does (largest old.limits) (top_of old.limits) (problem_of old) (state_of old logged) st (Err e))
 
--- the same of one form more
+-- the same for one more form
 abbrev pub Adding : Running → Form → Result Unit Fault → Running → Type 0
 Adding old form (Ok _) new = (before after : List Logged) → added (top_of old.limits) (state_of old before) after form (Ok (state_of new after))
 Adding old form (Err e) new = (e ≡ Memory) ⊎ ((before after : List Logged) → added (top_of old.limits) (state_of old before) after form (Err e))
 
--- the same of one form more, once a solution with this value was logged
+-- the same for one more form, once a solution with this value was logged
 abbrev pub Logs : Running → ℤ → Form → Result Unit Fault → Running → Type 0
 Logs old z form (Ok _) new = (before : List Logged) (g : Logged) → IsBest before old.best → g.value ≡ z
     → IsBest (before ++ g ∷ []) new.best × added (top_of old.limits) (state_of old before) (before ++ g ∷ []) form (Ok (state_of new (before ++ g ∷ [])))
 Logs old z form (Err e) new = (e ≡ Memory) ⊎ ((before : List Logged) (g : Logged) → added (top_of old.limits) (state_of old before) (before ++ g ∷ []) form (Err e))
 
--- what stays whatever is answered
+-- what stays the same, whatever the result
 pub record Keeps (old new : Running) : Type 0 where
   pub limits : new.limits ≡ old.limits
   pub own : new.own ≡ old.own
@@ -77,7 +77,7 @@ pub record Keeps (old new : Running) : Type 0 where
   pub objective : option_map (λ c. c.terms) new.objective ≡ option_map (λ c. c.terms) old.objective
   pub names : IsFront old.names new.names
 
--- the engine is not spent, has a variable for each name, and every live form lies within
+-- the engine is not spent, has a variable for each name, and every live form lies within these
 pub record IsLinked (r : Running) : Type 0 where
   pub ready : r.engine.spent ≡ false
   pub variables : r.engine.variables ≡ length r.names
@@ -96,12 +96,12 @@ pub record IsReady (r : Running) : Type 0 where
   pub linked : IsLinked r
   pub sound : (logged : List Logged) × IsBest logged r.best × IsSound (problem_of r) (state_of r logged)
 
--- what is true between statements: all of that until there is a fault, and of a fault that the name it tells is there
+-- what is true between statements: all of this until there is a fault; if a fault reports a name, the name exists
 pub record IsKept (r : Running) (fault : Option Fault) : Type 0 where
   pub ready : fault ≡ None → IsReady r
   pub told : (n : ℕ) → fault ≡ Some (NotTotal n) → n < length r.names
 
--- other names have appeared, and nothing else
+-- other names have appeared, and nothing else has changed
 pub record HasNamed (others : List (List ℕ)) (old new : Running) : Type 0 where
   pub names : new.names ≡ with_names old.names others
   pub forms : new.engine.forms ≡ old.engine.forms
@@ -109,7 +109,7 @@ pub record HasNamed (others : List (List ℕ)) (old new : Running) : Type 0 wher
   pub next : new.next ≡ old.next
   pub concluded : new.concluded ≡ old.concluded
 
--- the lesser of the best value, where there is one, and another
+-- the lesser of the best value, if there is one, and another
 abbrev pub IsBetter : Option ℤ → ℤ → ℤ → Type 0
 IsBetter None z r = r ≡ z
 IsBetter (Some b) z r = (r ≤ℤ b) × (r ≤ℤ z) × ((r ≡ b) ⊎ (r ≡ z))
@@ -124,7 +124,7 @@ pub record IsFirst (given : Limits) (r : Running) : Type 0 where
   pub variables : r.engine.variables ≡ length r.names
   pub visits : r.visits ≡ 0
 
--- what callers see of a replay; where there is a fault it is spent
+-- what callers see of a replay; after a fault it is spent
 pub record Replaying : Type 0 where
   pub limits : Limits
   pub problem : Problem
@@ -136,7 +136,7 @@ pub record Replaying : Type 0 where
   pub fault : Option Fault
   pub visits : ℕ
 
--- The state that it stands for. Of the logged solutions the best value alone is seen.
+-- The state that it represents. Of the logged solutions only the best value is seen.
 pub record StandsFor (r : Replaying) (s : State) : Type 0 where
   pub live : s.live ≡ r.live
   pub names : s.names ≡ r.names
@@ -152,12 +152,12 @@ verdict_at _ concluded = None
 abbrev pub verdict_in : Replaying → Option Verdict
 verdict_in r = if is_some r.fault then None else verdict_at r.next r.concluded
 
--- the live constraint of an id
+-- the live constraint with this id
 abbrev pub constraint_in : List (Option Form) → ℕ → Option Form
 constraint_in live zero = None
 constraint_in live (suc n) = get_or live n None
 
--- What a step of one that is not spent answers, in every state that it stands for. A fault may be want of memory.
+-- The result of a step of a replay that is not spent, in every state that it represents. Each fault may be out of memory.
 abbrev pub StepsAs : Replaying → Statement → Result Unit Fault → Replaying → Type 0
 StepsAs old st (Ok _) new = ((s : State) → StandsFor old s → (t : State) × StandsFor new t × Outcome (largest old.limits) (top_of old.limits) old.problem s st (Ok t)) × (new.fault ≡ None)
 StepsAs old st (Err e) new = ((e ≡ Memory) ⊎ ((s : State) → StandsFor old s → Outcome (largest old.limits) (top_of old.limits) old.problem s st (Err e))) × (new.fault ≡ Some e)

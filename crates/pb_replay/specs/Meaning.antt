@@ -14,7 +14,7 @@ use Rattle.pb_replay.specs.Problem.{Problem, objective_of, Solves, written_value
 use Rattle.pb_replay.specs.Propagation.{HoldAll}
 use Rattle.pb_replay.specs.Replay.{State, Live, value, by_name}
 
--- what a verdict means, of solutions S and their values w
+-- what a verdict means for solutions S and their values w
 module _ {A : Type 0} (S : A → Type 0) (w : A → ℤ) where
   abbrev pub HasNone : Type 0
   HasNone = (a : A) → S a → ⊥
@@ -33,11 +33,11 @@ module _ {A : Type 0} (S : A → Type 0) (w : A → ℤ) where
   MeansOf Sat = (a : A) × S a
   MeansOf (Bounds lower upper) = IsAtLeast lower × IsAtMost upper
 
--- what a verdict means of an instance as it is written: an assignment says which names are true
+-- what a verdict means for an instance as written: an assignment says which names are true
 abbrev pub MeansWritten : Instance → Verdict → Type 0
 MeansWritten i = MeansOf (Solves i) (written_value i)
 
--- the same of its forms: an assignment says which numbers of names are true
+-- the same for its forms: an assignment says which numbers of names are true
 abbrev pub IsSolution : Problem → (ℕ → Bool) → Type 0
 IsSolution v a = HoldAll a (Contains v.loaded)
 
@@ -53,17 +53,17 @@ pub data Accounted (v : Problem) (s : State) (a : ℕ → Bool) : Type 0 where
 abbrev pub Stands : Problem → State → Type 0
 Stands v s = (a : ℕ → Bool) → IsSolution v a → Accounted v s a
 
--- the same of an instance as it is written
+-- the same for an instance as written
 pub data AccountedWritten (i : Instance) (names : List (List ℕ)) (s : State) (a : List ℕ → Bool) : Type 0 where
   known_names : (g : Logged) → Contains s.logged g → ((name : List ℕ) → Contains names name → a name ≡ by_name s.names (assignment g.values) name) → AccountedWritten i names s a
   beaten_value : (o : List Term) → i.objective ≡ Some o → (g : Logged) → Contains s.logged g → g.value ≤ℤ written_value i a → AccountedWritten i names s a
   allowed_still : HoldAll (by_number s.names a) (Live s.live) → AccountedWritten i names s a
 
--- the first names stand in front of the second
+-- the first names are a prefix of the second
 abbrev pub IsFront : List (List ℕ) → List (List ℕ) → Type 0
 IsFront names all = (more : List (List ℕ)) × (all ≡ names ++ more)
 
--- what every state of a replay keeps
+-- what is true of every state of a replay
 pub record IsSound (v : Problem) (s : State) : Type 0 where
   pub stands : Stands v s
   pub names : IsFront v.names s.names
@@ -72,7 +72,7 @@ pub record IsSound (v : Problem) (s : State) : Type 0 where
   pub values : (g : Logged) → Contains s.logged g → g.value ≡ value v (assignment g.values)
   pub meant : (w : Verdict) → s.concluded ≡ Some w → Means v w
 
--- no name stands twice, and the objective's names are among them
+-- no name occurs twice, and the objective's names are among them
 pub record IsProblem (v : Problem) : Type 0 where
   pub distinct : AreDistinct v.names
   pub named : HasNames v.names (names_of (objective_of v.objective))

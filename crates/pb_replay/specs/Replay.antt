@@ -1,4 +1,4 @@
--- The state of a replay, and the parts of what statements do
+-- The state of a replay, and parts of what statements do
 use Rattle.std.specs.Prelude.{◌≡◌, ℕ, zero, suc, ◌+◌, ◌-◌, ◌<◌, nat_lt, ℤ, pos, negsuc, unsigned_abs, Bool, true, false, not, ◌⊎◌, if◌then◌else◌, List, [], ◌∷◌, ◌++◌, length, map, get_or, set, Contains, Option, Some, None, Ok}
 use Rattle.pb_sums.specs.declared.Literal.{Literal}
 use Rattle.pb_sums.specs.declared.Linear.{Linear}
@@ -18,12 +18,12 @@ use Rattle.pb_replay.specs.Answer.{Answer, gives, need, each_below, found, some,
 use Rattle.pb_replay.specs.Problem.{Problem, objective_of}
 use Rattle.pb_replay.specs.Propagation.{on, MeetsConflict, IsCompletion}
 
--- a solution: its values by the numbers of names, and that of the objective
+-- a solution: its values by the numbers of names, and the value of the objective
 pub record Logged : Type 0 where
   pub values : List Bool
   pub value : ℤ
 
--- The constraint with the id i stands at i - 1, so the newest id is the length. A name's number is its place.
+-- The constraint with id i is at index i - 1, so the newest id is the length. A name's number is its index.
 pub record State : Type 0 where
   pub live : List (Option Form)
   pub names : List (List ℕ)
@@ -45,14 +45,13 @@ value v a = true_sum (by_name v.names a) (objective_of v.objective)
 abbrev pub Live : List (Option Form) → Form → Type 0
 Live live f = Contains live (Some f)
 
--- where the id stands among so many, counted back from the newest where it is negative; their number where it was never
--- given
+-- the index of the id among so many; a negative id counts back from the newest; their number if the id was never given
 abbrev pub place : ℕ → ℤ → ℕ
 place newest (pos zero) = newest
 place newest (pos (suc n)) = n
 place newest (negsuc m) = if nat_lt m newest then newest - (m + 1) else newest
 
--- the id is that of the live form
+-- the live form has this id
 abbrev pub IsLive : List (Option Form) → ℤ → Form → Type 0
 IsLive live i f = get_or live (place (length live) i) None ≡ Some f
 
@@ -66,7 +65,7 @@ numbered names ls = map (numbered_one names) ls
 abbrev pub limited : ℕ → Form → Answer Form
 limited limit r = need (IsWithin limit r) Overflow (gives r)
 
--- the form of an expression; the fault is that of its first word whose own expression has none
+-- the form of an expression; the fault is that of its first word whose own expression has no form
 abbrev pub TreeForm : ℕ → List (List ℕ) → List (Option Form) → Tree → Answer Form
 TreeForm limit names live (Constraint id) = found (IsLive live id) (NoSuchId id) (λ f. gives f)
 TreeForm limit names live (True l) = gives (axiom_on (number_in names l.name) l.negated)
@@ -77,7 +76,7 @@ TreeForm limit names live (Divided a k) = after (TreeForm limit names live a) (�
 TreeForm limit names live (Saturated a) = after (TreeForm limit names live a) (λ f. gives (saturated f))
 TreeForm limit names live (Weakened a name) = after (TreeForm limit names live a) (λ f. gives (weakened (number_in names name) f))
 
--- goes on with the form of one side of a written constraint
+-- continues with the form of one side of a written constraint
 abbrev pub normal_form : {A : Type 0} → ℕ → List (List ℕ) → Side → Linear → (Form → Answer A) → Answer A
 normal_form limit names side linear next = need (Fits limit linear) Overflow (some (IsSideOf names side linear) next)
 
@@ -95,8 +94,8 @@ no_form = record { terms = []; degree = 0 }
 abbrev pub logged_of : Problem → List Bool → Logged
 logged_of v values = record { values = values; value = value v (assignment values) }
 
--- the values of a closed list, where they are a solution: each of so many names has one, and all constraints of the
--- instance hold
+-- the values of a closed list, if they are a solution: each of this many names has one, and all constraints of the instance
+-- hold
 abbrev pub Solution : Problem → ℕ → List NumberedLiteral → Answer Logged
 Solution v names list =
     each_below (HasValue list) names NotTotal
@@ -104,7 +103,7 @@ Solution v names list =
     each_below (λ k. Holds (assignment values) (get_or v.loaded k no_form)) (length v.loaded) (λ k. Violates (k + 1))
     (gives (logged_of v values))))
 
--- the completion of given literals over a set of forms, where no conflict is met and it is a solution
+-- the completion of given literals over a set of forms, if no conflict is met and it is a solution
 abbrev pub Completed : Problem → (Form → Type 0) → ℕ → List NumberedLiteral → Answer Logged
 Completed v forms names given =
     need (MeetsConflict forms given → ⊥) Conflict
@@ -120,11 +119,11 @@ pub record IsClause (given : List NumberedLiteral) (r : Form) : Type 0 where
   pub coefficients : (x : ℕ) (n : Bool) → total (only x n) r.terms ≡ (if on given x (not n) then 1 else 0)
   pub degree : r.degree ≡ 1
 
--- the ids one after the other
+-- deletes the ids in order
 abbrev pub Deleted : List (Option Form) → List ℤ → Answer (List (Option Form))
 Deleted live [] = gives live
 Deleted live (i ∷ is) = found (IsLive live i) (NoSuchId i) (λ f. Deleted (set live (place (length live) i) None) is)
 
--- one form more, and what is logged then
+-- one more form, and the solutions that are then logged
 abbrev pub added : ℕ → State → List Logged → Form → Answer State
 added top s logged r = need (length s.live < top) IdsSpent (gives (record s { live = s.live ++ (Some r ∷ []); logged = logged }))

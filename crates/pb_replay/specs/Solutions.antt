@@ -7,12 +7,12 @@ use Rattle.pb_replay.specs.Answer.{Answer, gives, each_below, some, after}
 use Rattle.pb_replay.specs.Problem.{Problem}
 use Rattle.pb_replay.specs.Replay.{Logged, no_form, logged_of}
 
--- each of so many names has this value
+-- each of this many names has this value
 pub record AreTotal (given : List (Option Bool)) (names : ℕ) (values : List Bool) : Type 0 where
   pub count : length values ≡ names
   pub each : (k : ℕ) → k < names → get_or given k None ≡ Some (get_or values k false)
 
--- the values, where each of so many names has one
+-- the values, if each of this many names has one
 abbrev pub Given : List (Option Bool) → ℕ → Answer (List Bool)
 Given given names = each_below (λ k. IsSome (get_or given k None)) names NotTotal (some (AreTotal given names) gives)
 

@@ -1,16 +1,19 @@
--- What each statement of a proof does to the state of a replay, or why it is refused
+-- What each statement of a proof does to the state of a replay, or why it is rejected
 use Rattle.std.specs.Prelude.{◌≡◌, ℕ, ◌≤◌, pos, ◌-ℤ◌, List, [], ◌∷◌, ◌++◌, length, map, Option, Some, None, Ok}
 use Rattle.pb_sums.specs.declared.Literal.{Literal}
+use Rattle.pb_sums.specs.declared.Term.{Term}
 use Rattle.pb_proof.specs.declared.PolWord.{PolWord}
 use Rattle.pb_proof.specs.declared.PolWord.TheVariants.{Axiom, Weaken}
 use Rattle.pb_proof.specs.declared.Conclusion.{Conclusion}
 use Rattle.pb_proof.specs.declared.Conclusion.TheVariants.{NoClaim, Unsat, Sat, Bounds}
+use Rattle.pb_proof.specs.declared.Stage.{Stage}
 use Rattle.pb_proof.specs.declared.Stage.TheVariants.{Formula, Steps, Claim, Closing, Complete}
 use Rattle.pb_proof.specs.declared.Statement.{Statement}
 use Rattle.pb_proof.specs.declared.Statement.TheVariants.{Header, F, Pol, Rup, Soli, Solx, Delete, Output, Conclude, End}
 use Rattle.pb_proof.specs.Order.{stage_of}
 use Rattle.pb_proof.specs.Postfix.{words}
 use Rattle.pb_normal.specs.declared.Side.TheVariants.{AtLeast as least, AtMost as most}
+use Rattle.pb_normal.specs.Constraints.{Fits}
 use Rattle.pb_normal.specs.Names.{with_names}
 use Rattle.pb_normal.specs.Written.{names_of}
 use Rattle.pb_replay.specs.declared.fault.Fault.TheVariants.{FormulaCount, NotImplied, NoObjective, IdsSpent, Order}
@@ -20,7 +23,7 @@ use Rattle.pb_replay.specs.Propagation.{IsRup}
 use Rattle.pb_replay.specs.Replay.{State, Live, TreeForm, normal_form, numbered, Completed, IsClause, Deleted, added}
 use Rattle.pb_replay.specs.Conclusions.{Concludes, objective_with, verdict_of}
 
--- the names that are written in literals, words and conclusions, as often as they are
+-- the names in literals, words and conclusions, as often as they are written
 abbrev pub literal_names : List Literal → List (List ℕ)
 literal_names ls = map (λ l. l.name) ls
 
@@ -39,7 +42,7 @@ conclusion_names (Sat shown) = shown_names shown
 conclusion_names (Bounds lower id upper shown) = shown_names shown
 conclusion_names _ = []
 
--- the names that a statement mentions, with a coefficient 0 and in a weakening too
+-- the names that a statement mentions, also those with coefficient 0 and those in a weakening
 abbrev pub mentioned : Statement → List (List ℕ)
 mentioned (Pol ws) = word_names ws
 mentioned (Rup linear) = names_of linear.terms
@@ -48,7 +51,7 @@ mentioned (Solx ls) = literal_names ls
 mentioned (Conclude c) = conclusion_names c
 mentioned _ = []
 
--- whether memory may be wanted for the statement
+-- whether the statement may allocate
 abbrev pub MayWant : Statement → Type 0
 MayWant Header = ⊥
 MayWant (Delete ids) = ⊥
@@ -64,7 +67,19 @@ IsCount None n = Unit {0}
 IsCount (Some m) n = m ≡ n
 
 module _ (limit top : ℕ) (v : Problem) where
-  -- what a statement does where it may come, once its names have appeared
+  -- what is tested, before anything is allocated, of a statement that may come
+  abbrev pub PassesFirst : Statement → Type 0
+  PassesFirst (F count) = IsCount count (length v.loaded) × (length v.loaded ≤ top)
+  PassesFirst (Rup linear) = Fits limit linear
+  PassesFirst (Soli given) = (o : List Term) × (v.objective ≡ Some o)
+  PassesFirst (Conclude (Bounds lower id upper shown)) = (o : List Term) × (v.objective ≡ Some o)
+  PassesFirst _ = Unit {0}
+
+  -- The statement may allocate at this stage: it may come, and passes what is tested first.
+  abbrev pub MayWantAt : Stage → Statement → Type 0
+  MayWantAt next st = (next ≡ stage_of st) × MayWant st × PassesFirst st
+
+  -- what a statement does if it may come, once its names have appeared
   abbrev pub Does : State → Statement → Answer State
   Does s Header = gives (record s { next = Formula })
   Does s (F count) =
@@ -93,7 +108,7 @@ module _ (limit top : ℕ) (v : Problem) where
   abbrev pub Outcome : State → Statement → Answer State
   Outcome s st = need (s.next ≡ stage_of st) Order (Does (record s { names = with_names s.names (mentioned st) }) st)
 
-  -- the statements are accepted one after the other
+  -- the statements are accepted in order
   abbrev pub Accepts : State → List Statement → State → Type 0
   Accepts s [] t = s ≡ t
   Accepts s (st ∷ sts) t = (u : State) × Outcome s st (Ok u) × Accepts u sts t

@@ -1,14 +1,14 @@
-//! Unit propagation over live forms by occurrence lists, with counted looks.
+//! Unit propagation over live forms by occurrence lists and by watched literals, with counted visits.
 
 pub mod assignment;
+pub mod clause;
+pub mod clauses;
 pub mod eager;
 pub mod engine;
-pub mod falling;
-pub mod kept;
 pub mod laws;
-pub mod links;
 pub mod literal;
 pub mod run;
 pub mod slots;
 pub mod store;
 pub mod term;
+pub mod walk;

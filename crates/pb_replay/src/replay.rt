@@ -6,10 +6,10 @@ ghost use Rattle.std.specs.Option.{option_copied};
 ghost use Rattle.pb_text.specs.Limits.{largest, top_of};
 ghost use Rattle.pb_proof.specs.Values.{IsStatementValue};
 ghost use Rattle.pb_replay.specs.Problem.{FitsAll, Opened};
-ghost use Rattle.pb_replay.specs.Replay.{first_state};
-ghost use Rattle.pb_replay.specs.Meaning.{IsFront, Means, MeansWritten};
+ghost use Rattle.pb_replay.specs.Replay.{State, first_state};
+ghost use Rattle.pb_replay.specs.Meaning.{IsFront, IsProblem, IsSound, Means, MeansWritten};
 ghost use Rattle.pb_replay.specs.Kept.{StandsFor, StepsAs, verdict_in, constraint_in};
-ghost use Rattle.pb_replay.specs.Statements.{MayWant};
+ghost use Rattle.pb_replay.specs.Statements.{MayWantAt};
 ghost use Rattle.pb_replay.specs.Visits.{LooksOf};
 ghost use Rattle.pb_replay.specs.declared.fault.Fault.{Fault as AFault};
 
@@ -53,8 +53,8 @@ impl Model for Replay {
 }
 
 impl Replay {
-    /// A replay that has taken no statement. It fails with `Overflow` where a constraint or the objective passes the limit,
-    /// and with `Memory` where memory runs out. The names are hashed by fixed keys: for names that come from strangers there
+    /// A replay before its first statement. It fails with `Overflow` if a constraint or the objective exceeds the limit,
+    /// and with `Memory` if memory runs out. The names are hashed with fixed keys. For names from untrusted sources there
     /// is `with_hasher`.
     pub fn new(alloc: Global, instance: &Instance, limits: Limits) -> Result<Replay, Fault>
         ensures opened { IfOk result (λ r. Opened (largest limits) instance.now (Ok r.problem)) }
@@ -63,13 +63,13 @@ impl Replay {
         ensures running { IfOk result (λ r. r.fault ≡ None) }
         ensures visits { IfOk result (λ r. r.visits ≡ 0) }
         ensures refused { IfErr result (λ e. (e ≡ Fault.Memory) ⊎ Opened (largest limits) instance.now (Err e)) }
-        // Overflow is decided before any memory is asked for.
+        // Overflow is decided before anything is allocated.
         ensures memory { result ≡ Err Fault.Memory → FitsAll (largest limits) instance.now }
     {
         Replay::with_hasher(alloc, HashKeys::Fixed, instance, limits)
     }
 
-    /// The same, where the names are hashed by these keys.
+    /// The same, with the names hashed with these keys.
     pub fn with_hasher(
         alloc: Global,
         keys: HashKeys,
@@ -82,7 +82,7 @@ impl Replay {
         ensures running { IfOk result (λ r. r.fault ≡ None) }
         ensures visits { IfOk result (λ r. r.visits ≡ 0) }
         ensures refused { IfErr result (λ e. (e ≡ Fault.Memory) ⊎ Opened (largest limits) instance.now (Err e)) }
-        // Overflow is decided before any memory is asked for.
+        // Overflow is decided before anything is allocated.
         ensures memory { result ≡ Err Fault.Memory → FitsAll (largest limits) instance.now }
     {
         match open(alloc, keys, instance, limits) {
@@ -94,7 +94,7 @@ impl Replay {
         }
     }
 
-    /// Takes the next statement. After a fault each call answers that fault.
+    /// Applies the next statement. After a fault each call returns that fault.
     pub fn step(&mut self, statement: &Statement) -> Result<(), Fault>
         requires { IsStatementValue (largest self.old.limits) (top_of self.old.limits) statement.now }
         ensures steps { self.old.fault ≡ None → StepsAs self.old statement.now result self.new }
@@ -102,7 +102,10 @@ impl Replay {
         ensures limits { self.new.limits ≡ self.old.limits }
         ensures problem { self.new.problem ≡ self.old.problem }
         ensures names { IsFront self.old.names self.new.names }
-        ensures memory { result ≡ Err Fault.Memory → (self.old.fault ≡ Some Fault.Memory) ⊎ MayWant statement.now }
+        // What can be tested without memory is reported first. It is the order, a number of constraints that is wrong or
+        // too large, a constraint that is too large, and a missing objective.
+        ensures memory { self.old.fault ≡ None → result ≡ Err Fault.Memory →
+            MayWantAt (largest self.old.limits) (top_of self.old.limits) self.old.problem self.old.next statement.now }
         ensures unvalued { (n : ℕ) → result ≡ Err (Fault.NotTotal n) → n < length self.old.names }
         ensures looks { self.old.fault ≡ None → LooksOf self.old.live self.old.names statement.now result self.old.visits self.new.visits }
     {
@@ -118,7 +121,15 @@ impl Replay {
         }
     }
 
-    /// What the proof has shown, once it has ended.
+    /// A replay that is not spent represents a sound state of its problem. A call makes this known to the caller.
+    pub fn tell_sound(&self)
+        ensures problem { self.now.fault ≡ None → IsProblem self.now.problem }
+        ensures sound { self.now.fault ≡ None → (s : State) × StandsFor self.now s × IsSound self.now.problem s }
+    {
+        let _fault = self.fault;
+    }
+
+    /// What the proof has shown, if it has ended.
     pub fn verdict(&self) -> Option<Verdict>
         ensures verdict { result ≡ verdict_in self.now }
         ensures means { IfSome result (λ w. Means self.now.problem w) }
@@ -133,7 +144,7 @@ impl Replay {
         }
     }
 
-    /// The live constraint of an id. After a fault it means nothing.
+    /// The live constraint with this id. After a fault the result has no meaning.
     pub fn constraint(&self, id: u64) -> Option<&Normal>
         ensures { option_copied result ≡ constraint_in self.now.live id }
     {
@@ -143,25 +154,33 @@ impl Replay {
         self.running.engine.form((id - 1) as usize)
     }
 
-    /// The newest id, 0 where none was given. After a fault it means nothing.
+    /// The newest id, or 0 if none was given. After a fault the result has no meaning.
     pub fn newest(&self) -> u64
         ensures { result ≡ length self.now.live }
     {
         self.running.engine.len() as u64
     }
 
-    /// The name with a number, also after a fault.
+    /// The name with this number, also after a fault.
     pub fn name_of(&self, number: usize) -> Option<&str>
         ensures { option_copied result ≡ slice_get self.now.names number }
     {
         self.running.names.name_of(number)
     }
 
-    /// How many times the last `rup` looked at a term or at its entry in a list of occurrences.
+    /// The number of visits of the last `rup`. Visits to entries of occurrence lists, to terms, and to watches and literals
+    /// of clauses are counted.
     pub fn visits(&self) -> u64
         ensures { result ≡ self.now.visits }
     {
         self.running.visits
+    }
+
+    /// The best value of the objective in a logged solution, if there is one.
+    pub fn best(&self) -> Option<i128>
+        ensures { result ≡ self.now.best }
+    {
+        self.running.best
     }
 
     /// The limits on numbers.

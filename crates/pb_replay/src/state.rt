@@ -1,4 +1,4 @@
-//! What a replay keeps.
+//! What a replay stores.
 
 pub(crate) mod find;
 pub(crate) mod literals;
@@ -20,19 +20,19 @@ use std::alloc::Global;
 pub(crate) struct Running {
     pub(crate) alloc: Global,
     pub(crate) limits: Limits,
-    /// The names of the instance, and behind them those that statements mentioned.
+    /// The names of the instance, and after them those that statements mentioned.
     pub(crate) names: Names,
     /// How many names the instance has.
     pub(crate) own: usize,
     pub(crate) loaded: Vec<Normal>,
-    /// The objective's terms. Its relation and degree mean nothing.
+    /// The objective's terms. Its relation and degree have no meaning.
     pub(crate) objective: Option<Linear>,
-    /// The live constraints, that with the id i at i - 1.
+    /// The live constraints. The one with id i is at index i - 1.
     pub(crate) engine: Engine,
     /// The least value of a logged solution.
     pub(crate) best: Option<i128>,
     pub(crate) next: Stage,
     pub(crate) concluded: Option<Verdict>,
-    /// How many looks the last `rup` took.
+    /// The number of visits of the last `rup`.
     pub(crate) visits: u64,
 }

@@ -4,8 +4,8 @@ ghost use Rattle.std.specs.Prelude.{◌≡◌, ◌↔◌, Err, IsTrue, OnOk};
 ghost use Rattle.pb_text.specs.Limits.{largest, top_of};
 ghost use Rattle.pb_proof.specs.Order.{stage_of};
 ghost use Rattle.pb_proof.specs.Values.{IsStatementValue};
-ghost use Rattle.pb_replay.specs.Kept.{Keeps, Goes, Comes, IsLinked, IsReady};
-ghost use Rattle.pb_replay.specs.Statements.{IsCount, MayWant};
+ghost use Rattle.pb_replay.specs.Kept.{Keeps, Goes, Comes, IsLinked, IsReady, problem_of};
+ghost use Rattle.pb_replay.specs.Statements.{IsCount, MayWant, MayWantAt, PassesFirst};
 ghost use Rattle.pb_replay.specs.Visits.{LooksOf, counted_from};
 
 mod bounds;
@@ -35,7 +35,7 @@ fn begin(running: &mut Running) -> Result<(), Fault>
     Ok(())
 }
 
-/// Whether the number after `f`, where there is one, is that of the constraints.
+/// Whether the number after `f`, if there is one, is that of the constraints.
 fn is_count(count: Option<u64>, number: u64) -> bool
     ensures { IsTrue result ↔ IsCount count number }
 {
@@ -52,6 +52,7 @@ fn load(running: &mut Running, count: Option<u64>) -> Result<(), Fault>
     ensures linked { OnOk result (IsLinked running.new) }
     ensures kept { Keeps running.old running.new }
     ensures visits { running.new.visits ≡ running.old.visits }
+    ensures memory { result ≡ Err Fault.Memory → PassesFirst (largest running.old.limits) (top_of running.old.limits) (problem_of running.old) (Statement.F count) }
 {
     let number = running.loaded.len() as u64;
     if !is_count(count, number) {
@@ -82,7 +83,7 @@ fn output(running: &mut Running) -> Result<(), Fault>
     Ok(())
 }
 
-/// The closing words.
+/// The end of the proof.
 fn end(running: &mut Running) -> Result<(), Fault>
     requires { IsReady running.old }
     ensures goes { Goes running.old Statement.End result running.new }
@@ -95,7 +96,7 @@ fn end(running: &mut Running) -> Result<(), Fault>
     Ok(())
 }
 
-/// Where the count of looks begins: a `rup` counts its own.
+/// The number from which visits are counted: a `rup` counts only its own.
 fn begin_count(statement: &Statement, visits: u64) -> u64
     ensures { result ≡ counted_from statement.now visits }
 {
@@ -105,7 +106,7 @@ fn begin_count(statement: &Statement, visits: u64) -> u64
     }
 }
 
-/// Whether the statement may come there.
+/// Whether the statement may come at this stage.
 fn is_due(next: Stage, statement: &Statement) -> bool
     ensures { IsTrue result ↔ (next ≡ stage_of statement.now) }
 {
@@ -121,7 +122,8 @@ fn carry_out(running: &mut Running, statement: &Statement) -> Result<(), Fault>
     ensures linked { OnOk result (IsLinked running.new) }
     ensures kept { Keeps running.old running.new }
     ensures looks { LooksOf running.old.engine.forms running.old.names statement.now result running.old.visits running.new.visits }
-    ensures memory { result ≡ Err Fault.Memory → MayWant statement.now }
+    ensures memory { result ≡ Err Fault.Memory →
+        MayWant statement.now × PassesFirst (largest running.old.limits) (top_of running.old.limits) (problem_of running.old) statement.now }
 {
     match statement {
         Statement::Header => begin(running),
@@ -137,7 +139,7 @@ fn carry_out(running: &mut Running, statement: &Statement) -> Result<(), Fault>
     }
 }
 
-/// Takes a statement.
+/// Applies a statement.
 pub(crate) fn take(running: &mut Running, statement: &Statement) -> Result<(), Fault>
     requires value { IsStatementValue (largest running.old.limits) (top_of running.old.limits) statement.now }
     requires ready { IsReady running.old }
@@ -145,7 +147,8 @@ pub(crate) fn take(running: &mut Running, statement: &Statement) -> Result<(), F
     ensures linked { OnOk result (IsLinked running.new) }
     ensures kept { Keeps running.old running.new }
     ensures looks { LooksOf running.old.engine.forms running.old.names statement.now result running.old.visits running.new.visits }
-    ensures memory { result ≡ Err Fault.Memory → MayWant statement.now }
+    ensures memory { result ≡ Err Fault.Memory →
+        MayWantAt (largest running.old.limits) (top_of running.old.limits) (problem_of running.old) running.old.next statement.now }
 {
     running.visits = begin_count(statement, running.visits);
     if !is_due(running.next, statement) {

@@ -6,21 +6,21 @@ use std::alloc::{AllocError, AllocFailed};
 /// Why a row could not be run.
 #[derive(Clone, Copy)]
 pub enum Broken {
-    /// The first word of its call calls nothing.
+    /// The first word of its call names no call.
     Call,
-    /// A word of its call is not known, or says nothing behind that first word.
+    /// A word of its call is unknown, or has no meaning after that first word.
     Word,
-    /// It has no input, and its call does not say `same`.
+    /// It has no input, and its call has no word `same`.
     NoInput,
-    /// It has an input, and its call says `same`.
+    /// It has an input, and its call has the word `same`.
     TwoInputs,
     /// A `\` has no meaning.
     Escape,
-    /// Its limits are none.
+    /// Its limits are not allowed.
     Limits,
-    /// Its input is no value to try the call on.
+    /// Its input is not a value that the call can take.
     Value,
-    /// It makes more calls of a reader or a writer than are tried in turn.
+    /// It calls a reader or a writer more often than calls are made to fail in turn.
     Calls,
     /// A file could not be read.
     File,

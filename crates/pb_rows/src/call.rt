@@ -1,5 +1,8 @@
 //! The words of a call.
 
+ghost use Rattle.std.specs.Prelude.{◌<◌, IfSome};
+
+use crate::accepted::accepts;
 use crate::broken::Broken;
 use crate::constraint::is_rule;
 use pb_sums::Part;
@@ -14,6 +17,7 @@ pub enum Verb {
     Feed,
     Stop,
     Read,
+    Pull,
     Fronts,
     Zeros,
     Judge,
@@ -37,9 +41,9 @@ pub enum Verb {
 pub enum Grammar {
     Opb,
     Proof,
-    /// Lines of a proof behind its header and its `f`.
+    /// Lines of a proof after its header and its `f`.
     Lines,
-    /// A sum, with white space or with blanks alone.
+    /// A sum, with white space or with blanks only.
     Sum(Part),
     /// One statement of a proof, as a value.
     Statement,
@@ -50,7 +54,7 @@ pub enum Grammar {
 pub enum Each {
     Neither,
     Read,
-    /// Those of the reader of the proof, where there are two readers.
+    /// Those of the reader of the proof, if there are two readers.
     ProofRead,
     Write,
 }
@@ -63,7 +67,8 @@ pub struct Call {
     pub has_blanks: bool,
     pub bits: u32,
     pub top: u64,
-    pub longest: u64,
+    /// The most bytes of a statement, if the call names a limit.
+    pub longest: Option<u64>,
     pub reader_fails: Option<u64>,
     pub proof_fails: Option<u64>,
     pub reader_most: usize,
@@ -74,7 +79,7 @@ pub struct Call {
     pub is_alone: bool,
     pub is_held: bool,
     pub has_spans: bool,
-    /// The place that a rest begins at.
+    /// The position at which a rest begins.
     pub behind: Place,
     /// How many statements are counted before memory runs out.
     pub room: u64,
@@ -90,7 +95,7 @@ impl Call {
             has_blanks: false,
             bits: 127,
             top: (1 << 63) - 1,
-            longest: BYTE_LIMIT,
+            longest: None,
             reader_fails: None,
             proof_fails: None,
             reader_most: usize::MAX,
@@ -108,6 +113,26 @@ impl Call {
         }
     }
 
+    /// The limit on the bytes of a statement, if there is one.
+    pub(crate) fn longest(&self) -> Option<u64>
+        ensures { IfSome result (λ n. 0 < n) }
+    {
+        match self.longest {
+            Some(longest) => Some(longest.max(1)),
+            None => None,
+        }
+    }
+
+    /// The same, with the largest one in place of none.
+    pub(crate) fn most(&self) -> u64
+        ensures { 0 < result }
+    {
+        match self.longest {
+            Some(longest) => longest.max(1),
+            None => BYTE_LIMIT,
+        }
+    }
+
     /// The limits that the call names.
     pub(crate) fn limits(&self) -> Result<Limits, Broken> {
         match Limits::new(self.bits, self.top) {
@@ -117,7 +142,7 @@ impl Call {
     }
 }
 
-/// The call that a line spells.
+/// The call on a line.
 pub(crate) fn call_of(line: &str) -> Result<Call, Broken> {
     let mut call = Call::new(verb_of(line)?);
     for word in line.split_whitespace().skip(1) {
@@ -126,16 +151,21 @@ pub(crate) fn call_of(line: &str) -> Result<Call, Broken> {
     Ok(call)
 }
 
-/// Sets what a word behind the verb says. A word that is left to the rows of the verb may set nothing.
+/// Sets what a word after the verb says, if the call accepts it. A word that is left to the rows of the verb sets nothing.
 fn take_word(call: &mut Call, word: &str) -> Result<(), Broken> {
-    let set = match word.split_once('=') {
-        Some((key, value)) => set(call, key, value),
-        None => set_word(call, word),
-    };
     if is_left(call.verb, word) {
-        Ok(())
-    } else {
-        set
+        return Ok(());
+    }
+    let (key, value) = match word.split_once('=') {
+        Some((key, value)) => (key, Some(value)),
+        None => (word, None),
+    };
+    if !accepts(call.verb, key) {
+        return Err(Broken::Word);
+    }
+    match value {
+        Some(value) => set(call, key, value),
+        None => set_word(call, word),
     }
 }
 
@@ -149,7 +179,7 @@ fn is_left(verb: Verb, word: &str) -> bool {
     }
 }
 
-/// What the first word of a line calls.
+/// The verb that is the first word of a line.
 fn verb_of(line: &str) -> Result<Verb, Broken> {
     match line.split_whitespace().next() {
         Some(word) => common_verb(word),
@@ -164,6 +194,7 @@ fn common_verb(word: &str) -> Result<Verb, Broken> {
         "feed" => Ok(Verb::Feed),
         "stop" => Ok(Verb::Stop),
         "read" => Ok(Verb::Read),
+        "pull" => Ok(Verb::Pull),
         "fronts" => Ok(Verb::Fronts),
         "zeros" => Ok(Verb::Zeros),
         "judge" => Ok(Verb::Judge),
@@ -190,7 +221,7 @@ fn other_verb(word: &str) -> Result<Verb, Broken> {
     }
 }
 
-/// Sets what a word without a value says. The word `same` is one of the row.
+/// Sets what a word without a value says. The word `same` belongs to the row.
 fn set_word(call: &mut Call, word: &str) -> Result<(), Broken> {
     match word {
         "same" => {}
@@ -207,16 +238,16 @@ fn set_word(call: &mut Call, word: &str) -> Result<(), Broken> {
 }
 
 fn set_flag(call: &mut Call, word: &str) -> Result<(), Broken> {
-    match (word, call.verb) {
-        ("normal", Verb::Tidy) => call.verb = Verb::TidyNormal,
-        ("blanks", _) => call.has_blanks = true,
-        ("each-read", _) => call.each = Each::Read,
-        ("each-proof-read", Verb::Check) => call.each = Each::ProofRead,
-        ("each-write", _) => call.each = Each::Write,
-        ("once", Verb::Checker) => call.is_once = true,
-        ("alone", Verb::Steps) => call.is_alone = true,
-        ("held", _) => call.is_held = true,
-        ("spans", _) => call.has_spans = true,
+    match word {
+        "normal" => call.verb = Verb::TidyNormal,
+        "blanks" => call.has_blanks = true,
+        "each-read" => call.each = Each::Read,
+        "each-proof-read" => call.each = Each::ProofRead,
+        "each-write" => call.each = Each::Write,
+        "once" => call.is_once = true,
+        "alone" => call.is_alone = true,
+        "held" => call.is_held = true,
+        "spans" => call.has_spans = true,
         _ => return Err(Broken::Word),
     }
     Ok(())
@@ -229,7 +260,7 @@ fn set(call: &mut Call, key: &str, value: &str) -> Result<(), Broken> {
     match key {
         "bits" => call.bits = bits_of(number)?,
         "top" => call.top = number,
-        "longest" => call.longest = number,
+        "longest" => call.longest = Some(number),
         "reader-fails" => call.reader_fails = Some(number),
         "proof-reader-fails" => call.proof_fails = Some(number),
         "reader-most" => call.reader_most = number as usize,

@@ -19,7 +19,7 @@ use std::str::FromStr;
 /// The line between an instance and a proof.
 const BETWEEN: &[u8] = b"&\n";
 
-/// A piece behind a proof, or behind its fault.
+/// A piece after a proof, or after its fault.
 const BEHIND: &[u8] = b"nonsense\n";
 
 /// The two inputs of a row.
@@ -33,7 +33,7 @@ pub(crate) fn inputs_of(text: &[u8]) -> Result<(&[u8], &[u8]), Broken> {
     Err(Broken::Value)
 }
 
-/// Checks a proof over two readers and a writer as the call says.
+/// Checks a proof over two readers and a writer, as the call says.
 pub(crate) fn run_check(alloc: Global, call: &Call, text: &[u8]) -> Result<Run, Broken> {
     let (instance, proof) = inputs_of(text)?;
     let (mut first, mut second) = (reader_of(call, instance), reader_of(call, proof));
@@ -51,7 +51,7 @@ pub(crate) fn run_check(alloc: Global, call: &Call, text: &[u8]) -> Result<Run, 
     Ok(Run::new(writer, told, calls))
 }
 
-/// Checks a proof, and tells `ok` or the line of the fault.
+/// Checks a proof, and reports `ok` or the line of the fault.
 fn check_both(
     alloc: Global,
     call: &Call,
@@ -60,7 +60,7 @@ fn check_both(
     out: &mut Over<FaultyWriter>,
 ) -> Result<Page, Broken> {
     let limits = call.limits()?;
-    let longest = Some(call.longest.max(1));
+    let longest = call.longest();
     let mut told = page(alloc);
     match check(alloc, instance, proof, out, longest, limits) {
         Ok(_) => write_bytes(b"ok\n", &mut told)?,
@@ -69,8 +69,8 @@ fn check_both(
     Ok(told)
 }
 
-/// Feeds a proof to a checker in one piece and, where the call does not say `once`, in pieces of 1, 2 and 37 bytes, and in
-/// two pieces with each cut. Answers the first that is not as wanted, or else the one of one piece.
+/// Feeds a proof to a checker in one piece. Unless the call says `once`, also feeds it in pieces of 1, 2 and 37 bytes,
+/// and in two pieces with each cut. Returns the first unexpected result, or else the one of one piece.
 pub(crate) fn run_checker(
     alloc: Global,
     call: &Call,
@@ -88,7 +88,7 @@ pub(crate) fn run_checker(
     }
 }
 
-/// The first answer to a proof in pieces that is not as wanted.
+/// The first unexpected result for a proof in pieces.
 fn first_odd(
     alloc: Global,
     call: &Call,
@@ -117,7 +117,7 @@ fn check_cut(alloc: Global, call: &Call, text: &[u8], cut: Cut) -> Result<Done, 
     let mut told = page(alloc);
     match opened(alloc, call, instance)? {
         Ok(replay) => {
-            let mut checker = Checker::new(alloc, replay, Some(call.longest.max(1)));
+            let mut checker = Checker::new(alloc, replay, call.longest());
             tell_checker(alloc, &mut checker, proof, cut, &mut told)?;
         }
         Err(_) => write_bytes(b"no replay\n", &mut told)?,
@@ -125,7 +125,7 @@ fn check_cut(alloc: Global, call: &Call, text: &[u8], cut: Cut) -> Result<Done, 
     Ok(answered(alloc, told))
 }
 
-/// Feeds a proof to a checker, and tells its answer.
+/// Feeds a proof to a checker, and reports its result.
 fn tell_checker(
     alloc: Global,
     checker: &mut Checker,
@@ -139,7 +139,7 @@ fn tell_checker(
     Ok(())
 }
 
-/// Feeds a proof piece by piece up to the first fault, and ends it where there was none.
+/// Feeds a proof piece by piece up to the first fault, and finishes it if there was none.
 fn feed_to_end(checker: &mut Checker, proof: &[u8], cut: Cut) -> Result<Verdict, CheckFault> {
     let (front, rest) = proof.split_at(cut.first.min(proof.len()));
     let _used = checker.feed(front)?;
@@ -149,8 +149,8 @@ fn feed_to_end(checker: &mut Checker, proof: &[u8], cut: Cut) -> Result<Verdict,
     checker.finish()
 }
 
-/// Makes the calls of a checker again that has ended: they are to answer its fault, or to use no byte of a piece and to
-/// answer the verdict, and the place is to stay. Tells where it is otherwise.
+/// Makes the calls of a finished checker again. They must return its fault; or use no byte of a piece, and return the
+/// verdict. The position must not change. Reports any difference.
 fn tell_again(
     checker: &mut Checker,
     end: Result<Verdict, CheckFault>,
@@ -173,7 +173,7 @@ fn tell_again(
     Ok(())
 }
 
-/// A replay over the instance of a row, where it opens.
+/// A replay over the instance of a row, if it opens.
 pub(crate) fn opened(
     alloc: Global,
     call: &Call,
@@ -182,7 +182,7 @@ pub(crate) fn opened(
     replay_of(alloc, instance, call.limits()?)
 }
 
-/// A replay over an instance under limits, where it opens.
+/// A replay over an instance under limits, if it opens.
 pub(crate) fn replay_of(
     alloc: Global,
     instance: &[u8],
@@ -221,7 +221,7 @@ fn tell_end(
     Ok(())
 }
 
-/// Writes the verdict in the words of its line.
+/// Writes the verdict as its line has it.
 pub(crate) fn tell_verdict<S: Sink>(verdict: Verdict, out: &mut S) -> Result<(), Failed> {
     match verdict {
         Verdict::NoClaim => write_bytes(b"verified NONE\n", out),

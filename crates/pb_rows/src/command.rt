@@ -10,7 +10,7 @@ use pb_text::{Failed, Limits, Over, Sink, write_bytes};
 use pb_tool::{ToolFault, show, status, tidy, write_fault};
 use std::alloc::Global;
 
-/// Runs a command over a reader and a writer as the call says.
+/// Runs a command over a reader and a writer, as the call says.
 pub(crate) fn run_command(alloc: Global, call: &Call, text: &[u8]) -> Result<Run, Broken> {
     let limits = call.limits()?;
     let mut reader = reader_of(call, text);
@@ -35,7 +35,7 @@ fn run_verb(
     out: &mut Over<FaultyWriter>,
     limits: Limits,
 ) -> Result<(), ToolFault> {
-    let longest = Some(call.longest.max(1));
+    let longest = call.longest();
     match call.verb {
         Verb::Show => show(alloc, input, out, longest, limits),
         Verb::TidyNormal => tidy(alloc, input, true, out, longest, limits),

@@ -12,7 +12,7 @@ use std::alloc::{AllocError, Global};
 /// Why a form was not made.
 #[derive(Clone, Copy)]
 enum NoForm {
-    /// A number passes the limit.
+    /// A number exceeds the limit.
     Overflow,
     /// The row cannot be run.
     Broken(Broken),
@@ -76,8 +76,8 @@ pub(crate) fn is_rule(word: &str) -> bool {
     )
 }
 
-/// Goes through the words of the call: a constraint of the instance, and rules from form to form. Writes the last, and
-/// answers the questions on the way.
+/// Runs the words of the call: a constraint of the instance, and rules that make one form from another. Writes the last
+/// form, and reports the answers to questions in between.
 pub(crate) fn run_forms(
     alloc: Global,
     call: &Call,
@@ -107,13 +107,13 @@ fn word_of(form: &Normal) -> &'static [u8] {
     }
 }
 
-/// A word up to its `=`, and its value.
+/// A word before its `=`, and its value.
 fn parted(word: &str) -> (&str, &str) {
     word.split_once('=').unwrap_or((word, ""))
 }
 
 impl Forms<'_> {
-    /// Writes the form that the rules of a line make, or tells that it overflows.
+    /// Writes the form that the rules of a line make, or reports that it overflows.
     fn tell_last(&mut self, line: &str, out: &mut Page, told: &mut Page) -> Result<(), Broken> {
         match self.last(line, told) {
             Ok(form) => {
@@ -138,14 +138,14 @@ impl Forms<'_> {
         Ok(form)
     }
 
-    /// The form behind a word, which may be a question on the one before.
+    /// The form after a word. The word may be a question about the form before it.
     fn behind(&mut self, form: Normal, word: &str, told: &mut Page) -> Result<Normal, NoForm> {
         let (rule, value) = parted(word);
         self.answer(&form, rule, value, told)?;
         self.next(form, rule, value)
     }
 
-    /// Answers a question on a form.
+    /// Reports the answer to a question about a form.
     fn answer(
         &mut self,
         form: &Normal,
@@ -169,7 +169,7 @@ impl Forms<'_> {
         Ok(())
     }
 
-    /// The form that a rule makes of this one; the same one where it is no rule.
+    /// The form that a rule makes of this one, or the same form if the word is no rule.
     fn next(&mut self, form: Normal, rule: &str, value: &str) -> Result<Normal, NoForm> {
         match rule {
             "at-least" => self.side(value, Side::AtLeast),
@@ -229,7 +229,7 @@ impl Forms<'_> {
     }
 }
 
-/// Whether a form holds at values by number, a letter `0` or `1` each.
+/// Whether a form holds at values by number, each given as a letter `0` or `1`.
 fn holds_at(alloc: Global, form: &Normal, value: &str) -> Result<bool, NoForm> {
     let values: Vec<bool> = value.bytes().map(|letter| letter == b'1').collect(alloc)?;
     let count = values.len();
@@ -268,7 +268,7 @@ fn negated(form: &Normal) -> Result<Normal, NoForm> {
     Ok(form.negation()?)
 }
 
-/// What has a name for a number.
+/// Something that has a name for a number.
 pub trait Named {
     fn text_of(&self, number: usize) -> Option<&str>;
 }

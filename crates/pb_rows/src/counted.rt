@@ -1,4 +1,4 @@
-//! Rows of a whole read from a reader, which is given back.
+//! Rows of a whole read from a reader, which is returned.
 
 use crate::broken::Broken;
 use crate::call::Call;
@@ -7,7 +7,7 @@ use pb_opb::{OpbEvent, OpbMachine};
 use pb_text::{Gather, read_from};
 use std::alloc::{AllocError, Global};
 
-/// How many statements were read, and for how many more there is room.
+/// How many statements were read, and how many more may be added.
 #[derive(Drop)]
 struct Counted {
     statements: u64,
@@ -31,14 +31,14 @@ impl Gather for Counted {
     }
 }
 
-/// Reads an instance and counts its statements, and tells the end and how many bytes were left to the reader.
+/// Reads an instance and counts its statements. Reports the end, and how many bytes were left in the reader.
 pub(crate) fn run_count(alloc: Global, call: &Call, text: &[u8]) -> Result<Done, Broken> {
     let machine = OpbMachine::new(alloc, call.limits()?);
     let nothing = Counted {
         statements: 0,
         room: call.room,
     };
-    let (read, left) = read_from(text, machine, call.longest.max(1), nothing);
+    let (read, left) = read_from(text, machine, call.most(), nothing);
     let mut told = page(alloc);
     match read {
         Ok(spanned) => {
@@ -47,6 +47,6 @@ pub(crate) fn run_count(alloc: Global, call: &Call, text: &[u8]) -> Result<Done,
         }
         Err(stop) => tell_end(Err(stop), &mut told)?,
     }
-    tell_count(left.len() as u64, b" left\n", &mut told)?;
+    tell_count(left.into_inner().len() as u64, b" left\n", &mut told)?;
     Ok(answered(alloc, told))
 }

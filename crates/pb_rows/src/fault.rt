@@ -1,4 +1,4 @@
-//! Rows of faults that no input makes.
+//! Rows of faults that no input causes.
 
 use crate::broken::Broken;
 use crate::command::tell_fault;
@@ -15,7 +15,7 @@ struct Parts {
     byte: u8,
 }
 
-/// Tells the line and the status of the fault that the words of the call name, as `fault byte=103 line=2 column=14`.
+/// Reports the line and the status of the fault that the words of the call name, as `fault byte=103 line=2 column=14`.
 pub(crate) fn run_fault(alloc: Global, line: &str) -> Result<Done, Broken> {
     let mut parts = Parts {
         input: Input::File,

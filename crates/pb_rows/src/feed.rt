@@ -38,7 +38,7 @@ impl Shown for SumEvent {
     }
 }
 
-/// How a feeder stood at the end of a text.
+/// The state of a feeder at the end of a text.
 #[derive(Clone, Copy)]
 pub struct End {
     pub end: Result<(), Stop>,
@@ -53,17 +53,17 @@ pub struct Cut {
     pub size: usize,
 }
 
-/// What stands before the text of an event.
+/// What comes before the text of an event.
 #[derive(Clone, Copy)]
-enum Shape {
-    /// The place of its first byte.
+pub(crate) enum Shape {
+    /// The position of its first byte.
     First,
-    /// The place of its first byte and the one behind its last.
+    /// The positions of its first byte and of the byte after its last.
     Span,
 }
 
 impl Shape {
-    fn of(call: &Call) -> Shape {
+    pub(crate) fn of(call: &Call) -> Shape {
         if call.has_spans {
             Shape::Span
         } else {
@@ -72,8 +72,8 @@ impl Shape {
     }
 }
 
-/// Feeds a text in one piece, in pieces of 1, 2 and 37 bytes, and in two pieces with each cut. Answers what the
-/// first gave that is not as wanted, or else the last.
+/// Feeds a text in one piece, in pieces of 1, 2 and 37 bytes, and in two pieces with each cut. Returns the first
+/// unexpected result, or else the last one.
 pub(crate) fn run_feed(
     alloc: Global,
     call: &Call,
@@ -147,7 +147,7 @@ pub(crate) fn feed_all(
     }
 }
 
-/// The spaces of a sum: white space, or blanks alone.
+/// The spaces of a sum: white space, or blanks only.
 fn spaces_of(call: &Call) -> Spaces {
     if call.has_blanks {
         Spaces::Blank
@@ -156,7 +156,7 @@ fn spaces_of(call: &Call) -> Spaces {
     }
 }
 
-/// Feeds a text to a machine behind a front whose events are not shown.
+/// Feeds a text to a machine after a prefix whose events are not shown.
 fn feed_machine<E: Shown + Drop, M: Machine<Event = E> + Drop>(
     machine: M,
     call: &Call,
@@ -167,7 +167,7 @@ fn feed_machine<E: Shown + Drop, M: Machine<Event = E> + Drop>(
 ) -> End
     requires between { M.automaton.begun machine ≡ false }
 {
-    let mut feeder = Feeder::within(machine, call.longest.max(1));
+    let mut feeder = Feeder::within(machine, call.most());
     take_front(&mut feeder, front);
     let fed = feed_pieces(&mut feeder, text, cut, Shape::of(call), out);
     End {
@@ -177,7 +177,7 @@ fn feed_machine<E: Shown + Drop, M: Machine<Event = E> + Drop>(
     }
 }
 
-/// Feeds a front, and shows no event of it.
+/// Feeds a prefix, and shows none of its events.
 fn take_front<E: Drop, M: Machine<Event = E>>(feeder: &mut Feeder<M>, front: &[u8]) {
     let mut rest = front;
     for _ in 0..front.len() {
@@ -188,7 +188,8 @@ fn take_front<E: Drop, M: Machine<Event = E>>(feeder: &mut Feeder<M>, front: &[u
     }
 }
 
-/// What a feeder answers at the end. One that stopped has to answer its stop again to each call, whatever it is fed.
+/// The result of a feeder at the end. A feeder that stopped must return its stop again for each call, whatever it is
+/// fed.
 fn end_of<E: Drop, M: Machine<Event = E>>(
     feeder: &mut Feeder<M>,
     fed: Result<(), Stop>,
@@ -240,8 +241,8 @@ fn feed_piece<E: Shown + Drop, M: Machine<Event = E>>(
     Ok(())
 }
 
-/// Writes the line of an event: the place of its first byte or both its places, and its text.
-fn show_one<E: Shown, S: Sink>(
+/// Writes the line of an event: the position of its first byte or both its positions, and its text.
+pub(crate) fn show_one<E: Shown, S: Sink>(
     spanned: &Spanned<E>,
     shape: Shape,
     out: &mut S,
@@ -254,7 +255,7 @@ fn show_one<E: Shown, S: Sink>(
     write_bytes(b"\n", out)
 }
 
-/// Writes the place of a first byte and the one behind a last byte, each with its offset.
+/// Writes the positions of a first byte and of the byte after a last one, each with its offset.
 fn write_span<S: Sink>(first: Place, past: Place, out: &mut S) -> Result<(), Failed> {
     write_place(first, out)?;
     tell_count(first.offset, b" to ", out)?;

@@ -8,8 +8,8 @@ use pb_text::write_bytes;
 use pb_tool::{Job, WordsFault, read_words};
 use std::alloc::Global;
 
-/// Reads the lines of the input as the words of a command line. Tells the job that they ask for; or else the kind of
-/// the answer and the exit status, and whether its text has the word that `shows=` asks for.
+/// Reads the lines of the input as the words of a command line. Reports the job that they ask for, or else the kind of
+/// the error and the exit status. With `shows=` it also reports whether the error's text has the given word.
 pub(crate) fn run_words(alloc: Global, line: &str, text: &[u8]) -> Result<Done, Broken> {
     let words: Vec<&str> = lines_of(text)?.lines().collect(alloc)?;
     let mut told = page(alloc);
@@ -45,18 +45,41 @@ fn tell_job(job: &Job, told: &mut Page) -> Result<(), Broken> {
         Job::Check {
             instance,
             proof,
+            stats,
+            progress,
             longest,
             bits,
         } => {
-            write_bytes(b"check instance=", told)?;
-            write_bytes(instance.as_bytes(), told)?;
-            tell_name(b" proof=", proof, told)?;
+            tell_files(b"check instance=", instance.as_str(), proof, told)?;
+            tell_either(*stats, b" stats", b"", told)?;
+            tell_either(*progress, b" progress", b"", told)?;
+            tell_numbers(*longest, *bits, told)
+        }
+        Job::Trace {
+            instance,
+            proof,
+            longest,
+            bits,
+        } => {
+            tell_files(b"trace instance=", instance.as_str(), proof, told)?;
             tell_numbers(*longest, *bits, told)
         }
     }
 }
 
-/// Tells the name of a file behind a label, where there is one.
+/// Reports the names of an instance, after a label, and of a proof.
+fn tell_files(
+    label: &[u8],
+    instance: &str,
+    proof: &Option<String>,
+    told: &mut Page,
+) -> Result<(), Broken> {
+    write_bytes(label, told)?;
+    write_bytes(instance.as_bytes(), told)?;
+    tell_name(b" proof=", proof, told)
+}
+
+/// Reports the name of a file after a label, if there is a name.
 fn tell_name(label: &[u8], name: &Option<String>, told: &mut Page) -> Result<(), Broken> {
     if let Some(name) = name {
         write_bytes(label, told)?;
@@ -65,7 +88,7 @@ fn tell_name(label: &[u8], name: &Option<String>, told: &mut Page) -> Result<(),
     Ok(())
 }
 
-/// Tells the numbers of a job.
+/// Reports the numbers of a job.
 fn tell_numbers(longest: Option<u64>, bits: u32, told: &mut Page) -> Result<(), Broken> {
     if let Some(longest) = longest {
         write_bytes(b" longest=", told)?;
@@ -93,7 +116,7 @@ fn tell_error(
     Ok(())
 }
 
-/// What kind of answer it is, in words.
+/// The kind of an error, in words.
 fn kind_text(kind: ErrorKind) -> &'static [u8] {
     match kind {
         ErrorKind::DisplayHelp => b"help\n",

@@ -11,7 +11,8 @@ use pb_sums::{write_count, write_number};
 use pb_text::{Limits, write_bytes};
 use std::alloc::Global;
 
-/// Makes a value of the lines of the input and tells whether it meets the rules; of `judge statement`, of each line.
+/// Makes a value of the lines of the input, and reports whether it meets the rules. `judge statement` does so for each
+/// line.
 pub(crate) fn run_judge(alloc: Global, call: &Call, text: &[u8]) -> Result<Done, Broken> {
     let limits = call.limits()?;
     let lines = lines_of(text)?;
@@ -44,7 +45,7 @@ fn tell(is_value: bool, told: &mut Page) -> Result<(), Broken> {
     Ok(())
 }
 
-/// Tells the limits that a call names, or that there are none.
+/// Reports the limits that a call names, or that they are not allowed.
 pub(crate) fn run_limits(alloc: Global, call: &Call) -> Result<Done, Broken> {
     let mut told = page(alloc);
     match Limits::new(call.bits, call.top) {

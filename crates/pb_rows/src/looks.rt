@@ -1,4 +1,4 @@
-//! The looks of a proof's propagation, which a benchmark asks for: no row.
+//! The visits of a proof's propagation, for a benchmark. This is not a row.
 
 use crate::broken::Broken;
 use crate::check::replay_of;
@@ -9,15 +9,15 @@ use pb_sums::write_count;
 use pb_text::{Failed, Feeder, Limits, Sink, write_bytes};
 use std::alloc::Global;
 
-/// The statements that a replay was taken through, and the looks of all `rup`s among them.
+/// The statements that a replay was stepped through, and the visits of all `rup`s among them.
 #[derive(Clone, Copy)]
 struct Looks {
     statements: u64,
     looks: u64,
 }
 
-/// Takes a replay of an instance through the statements of a proof, each of which it has to accept, and writes how many
-/// these are and how many looks their `rup`s took.
+/// Steps a replay of an instance through the statements of a proof, each of which it must accept. Writes the number of
+/// the statements, and the number of visits that their `rup`s took.
 pub(crate) fn write_looks<S: Sink>(
     alloc: Global,
     instance: &[u8],
@@ -31,7 +31,7 @@ pub(crate) fn write_looks<S: Sink>(
     Ok(())
 }
 
-/// Takes a replay through the statements of a proof.
+/// Steps a replay through the statements of a proof.
 fn count_looks(alloc: Global, replay: &mut Replay, proof: &[u8]) -> Result<Looks, Broken> {
     let mut feeder = Feeder::new(ProofMachine::new(alloc, replay.limits()));
     let mut looks = Looks {
@@ -70,7 +70,7 @@ impl Looks {
         write_bytes(b" looks\n", out)
     }
 
-    /// Takes a replay through a statement, and adds its looks where it is a `rup`.
+    /// Steps a replay through a statement, and adds its visits if it is a `rup`.
     fn add(&mut self, replay: &mut Replay, statement: &Statement) -> Result<(), Broken> {
         if step_one(replay, statement)?.is_err() {
             return Err(Broken::Value);

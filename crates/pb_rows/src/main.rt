@@ -1,6 +1,7 @@
-//! Runs rows: calls of the library, with what each is to write and to answer.
+//! Runs rows: calls of the library, with their expected output and expected result.
 #![tactic(auto)]
 
+mod accepted;
 mod broken;
 mod call;
 mod check;
@@ -9,12 +10,12 @@ mod constraint;
 mod counted;
 mod fault;
 mod feed;
-mod first;
 mod job;
 mod judge;
 mod looks;
 mod name;
 mod page;
+mod pull;
 mod read;
 mod refuted;
 mod rest;
@@ -36,23 +37,23 @@ use std::process::ExitCode;
 use std::rt::{Env, Files};
 use std::{env, fs};
 
-/// The exit status where a row differs.
+/// The exit status if a row differs.
 const DIFFERS: u8 = 1;
 
-/// The exit status where the rows could not be read.
+/// The exit status if the rows could not be read.
 const FAILED: u8 = 3;
 
-/// The word that asks for a line before each row, so that one that does not end is known.
+/// The word that asks for a line before each row, so that a row that does not end can be found.
 const EACH: &str = "--each";
 
-/// The word that asks for the looks of a proof in place of rows. The files of an instance and of a proof of it stand behind it.
+/// The word that asks for the visits of a proof instead of rows. The files of an instance and of its proof follow it.
 const LOOKS: &str = "--looks";
 
 fn main(rt: HostRuntime) -> ExitCode {
     ExitCode::from(run(&rt, &mut rt.stderr()))
 }
 
-/// Runs the rows of all files and answers the exit status.
+/// Runs the rows of all files and returns the exit status.
 fn run<R: Env + Files + Print + AllocGlobal, E: Write>(rt: &R, errors: &mut E) -> u8 {
     if let Some((instance, proof)) = asks_for_looks(rt) {
         return match tell_looks(rt, instance.as_str(), proof.as_str()) {
@@ -70,7 +71,7 @@ fn run<R: Env + Files + Print + AllocGlobal, E: Write>(rt: &R, errors: &mut E) -
     }
 }
 
-/// The two files whose looks are asked for, where the first word asks for these.
+/// The two files whose visits are asked for, if the first word asks for visits.
 fn asks_for_looks<R: Env + AllocGlobal>(rt: &R) -> Option<(String, String)> {
     let mut words = env::args(rt).ok()?.skip(1);
     if words.next()?.as_str() != LOOKS {
@@ -79,7 +80,7 @@ fn asks_for_looks<R: Env + AllocGlobal>(rt: &R) -> Option<(String, String)> {
     Some((words.next()?, words.next()?))
 }
 
-/// Tells the looks of a proof, both files by their names.
+/// Reports the visits of a proof. Both files are given by name.
 fn tell_looks<R: Files + Print + AllocGlobal>(
     rt: &R,
     instance: &str,
@@ -111,7 +112,7 @@ fn run_files<R: Env + Files + AllocGlobal, E: Write>(
     Ok(count)
 }
 
-/// Runs the rows of the file that a word names, or notes that each row is to be told.
+/// Runs the rows of the file that a word names, or notes that each row is to be reported.
 fn run_word<R: Files + AllocGlobal, E: Write>(
     rt: &R,
     word: &str,

@@ -7,7 +7,7 @@ use pb_sums::is_name;
 use pb_text::write_bytes;
 use std::alloc::Global;
 
-/// Tells of each line whether it is a name.
+/// Reports for each line whether it is a name.
 pub(crate) fn run_names(alloc: Global, text: &[u8]) -> Result<Done, Broken> {
     let mut told = page(alloc);
     for line in lines_of(text)?.lines() {
@@ -16,8 +16,8 @@ pub(crate) fn run_names(alloc: Global, text: &[u8]) -> Result<Done, Broken> {
     Ok(answered(alloc, told))
 }
 
-/// Numbers names: a line `x1` finds the number of the name or gives it one, `? x1` finds it, and `# 0` finds the name
-/// of a number. Tells each answer, and last how many names there are.
+/// Numbers names. A line `x1` finds the number of the name or gives it one. A line `? x1` only finds it, and `# 0`
+/// finds the name of a number. Reports each result, and finally how many names there are.
 pub(crate) fn run_numbers(alloc: Global, text: &[u8]) -> Result<Done, Broken> {
     let lines = lines_of(text)?;
     let mut told = page(alloc);
@@ -55,7 +55,7 @@ fn tell_name(names: &Names, number: &str, told: &mut Page) -> Result<(), Broken>
     Ok(())
 }
 
-/// An input that is text.
+/// The text of an input that is text.
 pub(crate) fn lines_of(text: &[u8]) -> Result<&str, Broken> {
     match str::from_utf8(text) {
         Ok(lines) => Ok(lines),

@@ -1,4 +1,4 @@
-//! What a call wrote and answered.
+//! The output and the result of a call.
 
 use pb_sums::write_count;
 use pb_text::doubles::FaultyWriter;
@@ -6,14 +6,14 @@ use pb_text::{Failed, Over, Sink, Stop, write_bytes};
 use pb_tool::{Input, ToolFault, write_fault};
 use std::alloc::Global;
 
-/// A sink over memory.
+/// A sink in memory.
 pub type Page = Over<FaultyWriter>;
 
 pub(crate) fn page(alloc: Global) -> Page {
     Over::new(FaultyWriter::new(Vec::new(alloc)))
 }
 
-/// What a call wrote, and what it answered.
+/// What a call wrote, and its result.
 #[derive(Drop)]
 pub struct Done {
     pub written: Vec<u8>,
@@ -27,12 +27,12 @@ pub(crate) fn finished(written: Page, answer: Page) -> Done {
     }
 }
 
-/// What a call answered that writes nothing.
+/// The result of a call that writes nothing.
 pub(crate) fn answered(alloc: Global, answer: Page) -> Done {
     finished(page(alloc), answer)
 }
 
-/// Whether two calls wrote and answered the same.
+/// Whether two calls have the same output and the same result.
 pub(crate) fn is_same(found: &Done, wanted: &Done) -> bool {
     found.written.as_slice() == wanted.written.as_slice()
         && found.answer.as_slice() == wanted.answer.as_slice()
@@ -51,7 +51,7 @@ fn tell_stop<S: Sink>(stop: Stop, out: &mut S) -> Result<(), Failed> {
     write_fault(&ToolFault::Text { input, stop }, out)
 }
 
-/// Writes a count and a word behind it.
+/// Writes a count and a word after it.
 pub(crate) fn tell_count<S: Sink>(count: u64, word: &[u8], out: &mut S) -> Result<(), Failed> {
     write_count(count, out)?;
     write_bytes(word, out)

@@ -3,8 +3,8 @@
 use crate::broken::Broken;
 use crate::call::{Call, Grammar};
 use crate::page::{Done, Page, finished, page, tell_count, tell_end};
-use pb_opb::{instance_is_value, read_instance_within, write_instance};
-use pb_proof::{proof_is_value, read_proof_within, write_proof};
+use pb_opb::{instance_is_value, read_instance, read_instance_within, write_instance};
+use pb_proof::{proof_is_value, read_proof, read_proof_within, write_proof};
 use pb_text::{Failed, Limits, Over, Place, Sink, Stop, write_bytes};
 use std::alloc::Global;
 
@@ -17,7 +17,7 @@ struct Left {
     left: usize,
 }
 
-/// Reads a value, writes its canonical text, and tells how many bytes were taken and left.
+/// Reads a value, writes its canonical text, and reports how many bytes were taken and left.
 pub(crate) fn run_read(alloc: Global, call: &Call, text: &[u8]) -> Result<Done, Broken> {
     let limits = call.limits()?;
     let mut out = page(alloc);
@@ -31,9 +31,18 @@ pub(crate) fn run_read(alloc: Global, call: &Call, text: &[u8]) -> Result<Done, 
     Ok(finished(out, told))
 }
 
-fn read_opb(alloc: Global, text: &[u8], longest: u64, limits: Limits, out: &mut Page) -> Left {
+fn read_opb(
+    alloc: Global,
+    text: &[u8],
+    longest: Option<u64>,
+    limits: Limits,
+    out: &mut Page,
+) -> Left {
     let mut source = Over::new(text);
-    let read = read_instance_within(alloc, &mut source, longest.max(1), limits);
+    let read = match longest {
+        Some(longest) => read_instance_within(alloc, &mut source, longest.max(1), limits),
+        None => read_instance(alloc, &mut source, limits),
+    };
     let left = source.into_inner().len();
     match read {
         Ok(spanned) => {
@@ -46,9 +55,18 @@ fn read_opb(alloc: Global, text: &[u8], longest: u64, limits: Limits, out: &mut 
     }
 }
 
-fn read_veri(alloc: Global, text: &[u8], longest: u64, limits: Limits, out: &mut Page) -> Left {
+fn read_veri(
+    alloc: Global,
+    text: &[u8],
+    longest: Option<u64>,
+    limits: Limits,
+    out: &mut Page,
+) -> Left {
     let mut source = Over::new(text);
-    let read = read_proof_within(alloc, &mut source, longest.max(1), limits);
+    let read = match longest {
+        Some(longest) => read_proof_within(alloc, &mut source, longest.max(1), limits),
+        None => read_proof(alloc, &mut source, limits),
+    };
     let left = source.into_inner().len();
     match read {
         Ok(spanned) => {

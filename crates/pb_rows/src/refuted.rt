@@ -3,11 +3,11 @@
 use crate::broken::Broken;
 use crate::check::inputs_of;
 use crate::command::tell_fault;
-use crate::first::is_refuted;
 use crate::page::{Done, answered, page, tell_either};
+use pb_examples::is_refuted;
 use std::alloc::Global;
 
-/// Tells whether a proof shows that an instance has no solution, or the line of the fault.
+/// Reports whether a proof shows that an instance has no solution, or the line of the fault.
 pub(crate) fn run_refuted(alloc: Global, text: &[u8]) -> Result<Done, Broken> {
     let (instance, proof) = inputs_of(text)?;
     let mut told = page(alloc);

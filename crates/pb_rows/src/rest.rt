@@ -7,7 +7,7 @@ use crate::turns::reader_of;
 use pb_text::{BYTE_LIMIT, Over, rest_is_blank};
 use std::alloc::Global;
 
-/// Reads the input as the rest behind the place of the call, and tells its end and how many bytes were left.
+/// Reads the input as the rest after the position of the call. Reports its end and how many bytes were left.
 pub(crate) fn run_rest(alloc: Global, call: &Call, text: &[u8]) -> Result<Done, Broken> {
     let behind = call.behind;
     let is_far = behind.line > BYTE_LIMIT + 1 || behind.column > BYTE_LIMIT + 1;

@@ -19,7 +19,7 @@ enum Input {
     Own,
 }
 
-/// A row: its file, the line of its call, its input, and what it is to write and to answer.
+/// A row: its file, the line of its call, its input, its expected output and its expected result.
 #[derive(Drop)]
 pub struct Row<'a> {
     pub file: &'a str,
@@ -27,13 +27,13 @@ pub struct Row<'a> {
     pub call: &'a str,
     pub input: Vec<u8>,
     pub wanted: Done,
-    /// Why a line of it could not be read.
+    /// Why one of its lines could not be read.
     broken: Option<Broken>,
     source: Input,
 }
 
 impl<'a> Row<'a> {
-    /// No row.
+    /// A row that has not begun.
     pub(crate) fn new(alloc: Global, file: &'a str) -> Row<'a> {
         Row {
             file,
@@ -49,7 +49,7 @@ impl<'a> Row<'a> {
         }
     }
 
-    /// Why the row cannot be run, if it cannot.
+    /// The reason why the row cannot be run, if there is one.
     pub(crate) fn fault(&self) -> Result<(), Broken> {
         match (self.broken, self.source) {
             (Some(broken), _) => Err(broken),
@@ -58,7 +58,7 @@ impl<'a> Row<'a> {
         }
     }
 
-    /// Notes whether a line was added.
+    /// Notes whether a line could be added.
     pub(crate) fn note(&mut self, added: Result<(), Broken>) {
         if let Err(broken) = added {
             self.broken = Some(broken);
@@ -79,7 +79,7 @@ impl<'a> Row<'a> {
         };
     }
 
-    /// Begins a row by a line: its call alone, or its call, its input and the lines of its answer with ` | ` between.
+    /// Begins a row with a line: its call only, or its call, its input and the lines of its result, separated by ` | `.
     pub(crate) fn begin_line(&mut self, number: u64, line: &'a str) -> Result<(), Broken> {
         let mut parts = line.split(" | ");
         self.begin(number, parts.next().unwrap_or(""));
@@ -99,7 +99,7 @@ impl<'a> Row<'a> {
         add_line(&mut self.input, line)
     }
 
-    /// Lets go of the input of the row before.
+    /// Clears the input of the row before, if this row has none yet.
     fn own_input(&mut self) -> Result<(), Broken> {
         match self.source {
             Input::Own => {}

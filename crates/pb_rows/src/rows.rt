@@ -11,6 +11,7 @@ use crate::job::run_words;
 use crate::judge::{run_judge, run_limits};
 use crate::name::{run_names, run_numbers};
 use crate::page::{Done, is_same};
+use crate::pull::run_pull;
 use crate::read::run_read;
 use crate::refuted::run_refuted;
 use crate::rest::run_rest;
@@ -31,12 +32,12 @@ pub struct Count {
     pub differ: u64,
 }
 
-/// Of which rows a line is written.
+/// For which rows a line is written.
 #[derive(Clone, Copy)]
 pub enum Told {
-    /// Of those that differ.
+    /// For those that differ.
     Differing,
-    /// Of each, before it is run, and of those that differ.
+    /// For each row, before it is run, and for those that differ.
     Each,
 }
 
@@ -71,7 +72,7 @@ pub(crate) fn run_rows<S: Sink>(
     end_row(alloc, &row, told, count, out)
 }
 
-/// Adds a line to a row, unless it begins one.
+/// Adds a line to a row, unless the line begins a row.
 fn is_kept(row: &mut Row<'_>, line: &str) -> bool {
     if line.is_empty() || line.starts_with('#') {
         return true;
@@ -114,7 +115,7 @@ fn end_row<S: Sink>(
     write_found(&found, out)
 }
 
-/// Writes what a row gave that is not as wanted, or why it was not run.
+/// Writes the unexpected result of a row, or the reason why it was not run.
 fn write_found<S: Sink>(found: &Result<Done, Broken>, out: &mut S) -> Result<(), Failed> {
     match found {
         Ok(done) => {
@@ -164,6 +165,7 @@ fn run_call(alloc: Global, call: &Call, row: &Row<'_>) -> Result<Done, Broken> {
         }
         Verb::Feed | Verb::Stop => run_feed(alloc, call, text, &row.wanted),
         Verb::Read => run_read(alloc, call, text),
+        Verb::Pull => run_pull(alloc, call, text),
         Verb::Fronts | Verb::Zeros => run_sweep(alloc, call, text),
         Verb::Judge => run_judge(alloc, call, text),
         Verb::Forms => run_forms(alloc, call, row.call, text),

@@ -1,9 +1,9 @@
-//! What the text of a row spells.
+//! The bytes that the text of a row stands for.
 
 use crate::broken::Broken;
 use itoa::Buffer;
 
-/// Adds what a line spells, and a line feed unless it ends in a `\`. A blank before it does not count.
+/// Adds the bytes of a line, and a line feed unless the line ends in a `\`. A blank at its start is skipped.
 pub(crate) fn add_line(bytes: &mut Vec<u8>, line: &str) -> Result<(), Broken> {
     let line = line.strip_prefix(' ').unwrap_or(line);
     match line.strip_suffix('\\') {
@@ -16,7 +16,7 @@ pub(crate) fn add_line(bytes: &mut Vec<u8>, line: &str) -> Result<(), Broken> {
     }
 }
 
-/// Adds what a text spells: what stands between `\[COUNT:` and `\]` is added so often.
+/// Adds the bytes of a text: the part between `\[COUNT:` and `\]` is added COUNT times.
 pub(crate) fn add_text(bytes: &mut Vec<u8>, text: &str) -> Result<(), Broken> {
     let mut parts = text.split("\\[");
     if let Some(front) = parts.next() {
@@ -46,7 +46,8 @@ fn add_group(bytes: &mut Vec<u8>, group: &str) -> Result<(), Broken> {
     Ok(())
 }
 
-/// Adds what a text without groups spells, where `\#` is the number of the turn, counted from 0, and `\+` the next one.
+/// Adds the bytes of a text without groups, in which `\#` is the number of the turn, counted from 0, and `\+` the next
+/// number.
 fn add_turn(bytes: &mut Vec<u8>, text: &str, turn: u32) -> Result<(), Broken> {
     let mut parts = text.split('\\');
     if let Some(part) = parts.next() {
@@ -64,14 +65,15 @@ fn add_turn(bytes: &mut Vec<u8>, text: &str, turn: u32) -> Result<(), Broken> {
     Ok(())
 }
 
-/// Adds a number and what stands behind it.
+/// Adds a number and the text after it.
 fn add_number(bytes: &mut Vec<u8>, number: u32, rest: &str) -> Result<(), Broken> {
     bytes.extend_from_slice(Buffer::new().format(number).as_bytes())?;
     bytes.extend_from_slice(rest.as_bytes())?;
     Ok(())
 }
 
-/// Adds what stands behind a `\`: `t`, `r`, `n`, `s` for a tab, a return, a line feed and a `\`, or two digits of a byte.
+/// Adds the text after a `\`: `t`, `r`, `n`, `s` for a tab, a return, a line feed and a `\`, or two hexadecimal digits
+/// of a byte.
 fn add_escaped(bytes: &mut Vec<u8>, part: &str) -> Result<(), Broken> {
     let (code, rest) = match part.split_at_checked(2) {
         Some(pair) => pair,

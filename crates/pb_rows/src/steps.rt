@@ -15,7 +15,8 @@ use pb_tool::ToolFault;
 use std::alloc::Global;
 use std::str::FromStr;
 
-/// What a proof has at least before its `f`, before its steps and its output, its conclusion, and its closing words.
+/// The least that a proof has before its `f`; before its steps and its output; before its conclusion; and before its
+/// closing words.
 const HEADER: &[u8] = b"pseudo-Boolean proof version 2.0\n";
 
 pub const BEFORE_STEPS: &[u8] = b"pseudo-Boolean proof version 2.0\nf\n";
@@ -30,10 +31,10 @@ impl Named for Replay {
     }
 }
 
-/// Steps a replay over the instance through the statements of a proof, whose header is not written in the row, or with
-/// `alone` through those of the lines, each read by itself. Writes the constraints that are live then, each behind its id,
-/// and tells the verdict if there is one, or the first refusal; with `looks-least` and `looks-most` whether the looks of
-/// the last `rup` lie between these.
+/// Steps a replay over the instance through the statements of a proof, whose header is not in the row. With `alone`
+/// each line is read by itself. Writes the constraints that are live at the end, each after its id. Reports the verdict
+/// if there is one, or the first fault. With `looks-least` and `looks-most` it reports whether the visits of the last
+/// `rup` are in that range.
 pub(crate) fn run_steps(alloc: Global, call: &Call, text: &[u8]) -> Result<Done, Broken> {
     let (instance, lines) = inputs_of(text)?;
     let mut told = page(alloc);
@@ -67,7 +68,7 @@ fn statements_of(
     }
 }
 
-/// The statements of a proof that begins with a front and goes on with lines.
+/// The statements of a proof that begins with a prefix and continues with lines.
 fn read_behind(
     alloc: Global,
     call: &Call,
@@ -93,7 +94,7 @@ fn read_behind(
     Ok(statements)
 }
 
-/// The statement of each line, read by itself, so that they may stand in any order.
+/// The statement of each line, read by itself, so that the lines may be in any order.
 fn each_alone(alloc: Global, call: &Call, lines: &str) -> Result<Vec<Spanned<Statement>>, Broken> {
     let mut statements = Vec::new(alloc);
     let mut number = 0u64;
@@ -106,7 +107,7 @@ fn each_alone(alloc: Global, call: &Call, lines: &str) -> Result<Vec<Spanned<Sta
     Ok(statements)
 }
 
-/// The statement of a line, read behind the least that a proof has before it.
+/// The statement of a line, read after the least that a proof has before it.
 fn alone(alloc: Global, call: &Call, line: &str) -> Result<Spanned<Statement>, Broken> {
     let front = front_of(line);
     let text = ended(alloc, line)?;
@@ -122,7 +123,7 @@ fn ended(alloc: Global, line: &str) -> Result<Vec<u8>, Broken> {
     Ok(text)
 }
 
-/// The last of the statements, which has to begin behind the bytes of a front.
+/// The last of the statements, which must begin after the bytes of a prefix.
 fn last_of(
     mut statements: Vec<Spanned<Statement>>,
     front: u64,
@@ -144,7 +145,7 @@ fn front_of(line: &str) -> &'static [u8] {
     }
 }
 
-/// Steps through each statement, and answers the first that is refused.
+/// Steps through each statement, and returns the first fault and its position.
 fn step_all(
     replay: &mut Replay,
     statements: &[Spanned<Statement>],
@@ -168,7 +169,7 @@ pub(crate) fn step_one(
     Ok(replay.step(statement))
 }
 
-/// Writes each live constraint behind its id.
+/// Writes each live constraint after its id.
 fn write_live(replay: &Replay, out: &mut Page) -> Result<(), Broken> {
     for id in 1..replay.newest().saturating_add(1) {
         if let Some(form) = replay.constraint(id) {
@@ -188,7 +189,7 @@ fn tell_state(replay: &Replay, told: &mut Page) -> Result<(), Broken> {
     Ok(())
 }
 
-/// Tells a refusal, which the replay is to answer again, and then shows no verdict.
+/// Reports a fault. The replay must return it again and show no verdict.
 fn tell_refusal(
     alloc: Global,
     replay: &mut Replay,
@@ -204,7 +205,7 @@ fn tell_refusal(
     Ok(())
 }
 
-/// The name that has no value, where that is the fault.
+/// The name that has no value, if that is the fault.
 fn unvalued(alloc: Global, replay: &Replay, fault: Fault) -> Result<String, Broken> {
     if let Fault::NotTotal(number) = fault
         && let Some(name) = replay.name_of(number)

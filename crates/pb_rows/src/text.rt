@@ -7,7 +7,7 @@ use crate::turns::writer_of;
 use pb_text::{Over, write_bytes};
 use std::alloc::Global;
 
-/// Writes the input as one text, and tells its end and how often the writer was called.
+/// Writes the input as one text. Reports its end, and how often the writer was called.
 pub(crate) fn run_write(alloc: Global, call: &Call, text: &[u8]) -> Result<Done, Broken> {
     let mut out = Over::new(writer_of(alloc, call));
     let is_written = write_bytes(text, &mut out).is_ok();

@@ -1,4 +1,4 @@
-//! Rows of `show`, `tidy` and `check`, and of their calls of readers and the writer, of which each fails in turn.
+//! Rows of `show`, `tidy` and `check`. Each call of a reader or the writer can be made to fail in turn.
 
 use crate::broken::Broken;
 use crate::call::{Call, Each, Verb};
@@ -9,13 +9,13 @@ use pb_text::doubles::{FaultyReader, FaultyWriter};
 use pb_text::{Failed, Place, Sink, write_bytes};
 use std::alloc::Global;
 
-/// The line and the status of a writer that fails.
+/// The line and the status for a writer that fails.
 const UNWRITTEN: &[u8] = b"output: write fault\nstatus 3\n";
 
 /// More calls than a row makes.
 const CALLS: u64 = 100_000;
 
-/// How often a reader or a writer was called, and the place behind the bytes that a reader has given.
+/// How often a reader or a writer was called, and the position after the bytes that a reader has given.
 #[derive(Clone, Copy)]
 pub struct Calls {
     count: u64,
@@ -41,7 +41,7 @@ impl Calls {
     }
 }
 
-/// The place behind a text.
+/// The position after a text.
 fn behind(text: &[u8]) -> Place {
     let mut place = Place::START;
     for byte in text {
@@ -56,7 +56,7 @@ fn behind(text: &[u8]) -> Place {
     place
 }
 
-/// What a run wrote and answered, and the calls of that reader or of the writer which fails in turn.
+/// The output and the result of a run. Also the calls of the reader or the writer that fails in turn.
 #[derive(Drop)]
 pub struct Run {
     done: Done,
@@ -75,7 +75,7 @@ impl Run {
     }
 }
 
-/// A reader as the call says, but for the call that fails.
+/// A reader as the call says, without the call that fails.
 pub(crate) fn reader_of<'a>(call: &Call, text: &'a [u8]) -> FaultyReader<'a> {
     let mut reader = FaultyReader::new(text);
     reader.most = call.reader_most;
@@ -90,9 +90,9 @@ pub(crate) fn writer_of(alloc: Global, call: &Call) -> FaultyWriter {
     writer
 }
 
-/// Runs a call, or runs it with each call of a reader or the writer failing, up to the first run that makes no such call.
-/// That one is to give what is wanted, and the others the fault, behind a front of what is wanted; it answers the first
-/// that does not.
+/// Runs a call. Or runs it with each call of a reader or the writer failing in turn, up to the first run that makes no
+/// such call. That run must give what is expected; the others must give the fault, after a prefix of what is expected.
+/// Returns the first run that does not.
 pub(crate) fn run_turns(
     alloc: Global,
     call: &Call,
@@ -125,7 +125,7 @@ fn run_once(alloc: Global, call: &Call, text: &[u8]) -> Result<Run, Broken> {
     }
 }
 
-/// The call, of which a read or a write fails.
+/// The call in which a read or a write fails.
 fn failing(call: &Call, number: u64) -> Call {
     let mut failing = *call;
     match call.each {
@@ -137,7 +137,8 @@ fn failing(call: &Call, number: u64) -> Call {
     failing
 }
 
-/// Whether it is the fault at its place, behind a front of what is wanted: where a read fails, only `show` has written.
+/// Whether it is the fault at its position, after a prefix of the expected output. If a read fails, only `show` may
+/// have written.
 fn is_fault(alloc: Global, call: &Call, run: &Run, wanted: &Done) -> Result<bool, Broken> {
     let mut told = page(alloc);
     tell_failed(call, run.calls.place, &mut told)?;
@@ -150,7 +151,7 @@ fn is_fault(alloc: Global, call: &Call, run: &Run, wanted: &Done) -> Result<bool
     Ok(is_front && run.done.answer.as_slice() == fault.as_slice())
 }
 
-/// Writes the line and the status of the fault where a read or a write fails.
+/// Writes the line and the status of the fault of a read or a write that fails.
 fn tell_failed<S: Sink>(call: &Call, place: Place, out: &mut S) -> Result<(), Failed> {
     if let Each::Write = call.each {
         return write_bytes(UNWRITTEN, out);
@@ -170,7 +171,7 @@ fn input_of(call: &Call) -> &'static [u8] {
     }
 }
 
-/// What a run gave that is not as wanted, and which call failed in it.
+/// The unexpected result of a run, and which call failed in it.
 fn tell_turn(alloc: Global, done: Done, number: u64) -> Result<Done, Broken> {
     let mut told = page(alloc);
     write_bytes(done.answer.as_slice(), &mut told)?;

@@ -1,4 +1,4 @@
-//! Values that a row spells part by part, also those that no text of the formats spells.
+//! Values that a row gives part by part, also values that have no text in the formats.
 
 use crate::broken::Broken;
 use pb_opb::{Comment, Instance};
@@ -78,9 +78,11 @@ pub(crate) fn proof_of(alloc: Global, lines: &str) -> Result<Proof, Broken> {
     Ok(proof)
 }
 
-/// The statement of a line: as in a proof, but that any words, ids and names may stand anywhere, a factor is spelled
-/// `*3` or `d3`, a weakening `w:x1`, a `rup` has an empty sum, and conclusions are `unsat`, `sat` and `bounds LOWER ID
-/// UPPER`, with `-` for no id.
+/// The statement of a line, as in a proof, with these differences:
+/// - any words, ids and names are allowed anywhere;
+/// - a factor is written `*3` or `d3`, and a weakening `w:x1`;
+/// - a `rup` has an empty sum;
+/// - conclusions are `unsat`, `sat` and `bounds LOWER ID UPPER`, with `-` for no id.
 pub(crate) fn statement_of(alloc: Global, line: &str) -> Result<Statement, Broken> {
     let (key, value) = parted(line);
     match key {
@@ -227,7 +229,7 @@ fn bytes_of(alloc: Global, digits: &str) -> Result<Bytes, Broken> {
     Ok(Bytes::from_vec(bytes))
 }
 
-/// A word, and what stands behind the blank after it.
+/// A word, and the text after the blank that follows it.
 fn parted(line: &str) -> (&str, &str) {
     line.split_once(' ').unwrap_or((line, ""))
 }

@@ -1,16 +1,19 @@
--- Where a machine of sums asks, the next byte is one of a name, or ends a literal. Offered to other crates.
-use Rattle.std.proofs.Common.{◌≡◌, ℕ, ◌+◌, ◌*◌, Bool, true, false, ◌||◌, List, [], ◌∷◌, ◌++◌, refl, sym, ap, subst, ◌∙◌, append_assoc, append-nil, inl, inr}
+-- If a machine of sums may allocate, the next byte is in a name, or ends a literal. Offered to other crates.
+use Rattle.std.proofs.Common.{◌≡◌, ℕ, ◌+◌, ◌*◌, Bool, true, false, ◌||◌, List, [], ◌∷◌, ◌++◌, refl, sym, ap, subst, ◌∙◌, append_assoc, append-nil, inl, inr, ◌⊎◌}
 use Rattle.std.proofs.lemmas.Bool.{false≢true, cond_both}
 use Rattle.std.specs.Prelude.{IsTrue, Option, Some, None, nat_le, nat_eq}
-use Rattle.pb_text.specs.Automaton.{Next, Go, End, Refuse}
+use Rattle.pb_text.specs.Asking.{AsksOnly}
+use Rattle.pb_text.specs.Automaton.{Next, Go, End, Refuse, MayAsk, Reads}
 use Rattle.pb_text.specs.Classes.{is_digit, is_letter, is_name_byte}
 use Rattle.pb_text.specs.Spelling.{Letter, bytes}
 use Rattle.pb_text.proofs.ByteTests.{letter_name}
-use Rattle.pb_text.proofs.Walking.{Walks}
+use Rattle.pb_text.proofs.Asked as asked
+use Rattle.pb_text.proofs.Booleans.{never}
+use Rattle.pb_text.proofs.Walking.{Walks, reads_behind}
 use Rattle.pb_text.proofs.Languages.{each-append}
 use Rattle.pb_sums.specs.Asking.{EndsIn, IsNameFront, InName, AsksLiteral}
 use Rattle.pb_sums.specs.Machine.{act, plan, digits, number, behind, kind, symbol, letter_at, is_numeric, flushed, adds, is_more}
-use Rattle.pb_sums.specs.State.{SumState, sums, first, over, asks}
+use Rattle.pb_sums.specs.State.{SumState, sums, first, over, asks, IsOneText}
 use Rattle.pb_sums.specs.Sums.{IsName, is_space, allows, reads_sums}
 use Rattle.pb_sums.specs.declared.grammar.Spaces.{Spaces}
 use Rattle.pb_sums.specs.declared.grammar.Part.{Part}
@@ -24,11 +27,12 @@ use Rattle.pb_sums.specs.declared.phase.Phase as phase
 use Rattle.pb_sums.specs.declared.phase.Move.{Move}
 use Rattle.pb_sums.specs.declared.phase.Move.TheVariants.{To, Begin, Add, EndSum, EndLinear, Stop}
 use Rattle.pb_sums.proofs.LiteralFronts.{IsFirst, name-append, first-append}
+use Rattle.pb_sums.proofs.States.{accepts_one, ended-last, goes-midway, nothing-after}
 
 abbrev IsNameByte : ℕ → Type 0
 IsNameByte e = IsTrue (is_name_byte e)
 
--- a name in hand, and a byte more
+-- a name being read, and one more byte
 pub name_further : (name : List ℕ) (b : ℕ) → IsName name → IsTrue (is_name_byte b) → IsNameFront (name ++ b ∷ [])
 name_further [] b h k = absurd h
 name_further (x ∷ []) b h k = absurd h
@@ -51,12 +55,12 @@ ends_one text b = (text, refl)
 pub ends_behind : (before text end : List ℕ) → EndsIn text end → EndsIn (before ++ text) end
 ends_behind before text end (front, e) = (before ++ front, ap (λ (x : List ℕ). before ++ x) e ∙ sym (append_assoc before front end))
 
--- what asks in a text asks behind other bytes
+-- what may allocate in a text may allocate after other bytes
 pub asks_behind : (before text : List ℕ) (b : ℕ) → AsksLiteral text b → AsksLiteral (before ++ text) b
 asks_behind before text b (inl (name, e, h)) = inl (name, ends_behind before text name e, h)
 asks_behind before text b (inr (name, e, h, k)) = inr (name, ends_behind before text name e, h, k)
 
--- behind a whole name
+-- after a whole name
 pub at_name : (text name : List ℕ) (b : ℕ) → EndsIn text name → IsName name → AsksLiteral text b
 at_name text name b e h = by_test (is_name_byte b) refl
   where
@@ -64,7 +68,7 @@ at_name text name b e h = by_test (is_name_byte b) refl
     by_test true t = inl (name, e, name_further name b h t)
     by_test false t = inr (name, e, h, t)
 
--- what a kind says of its byte
+-- what a kind says about its byte
 abbrev Means : Kind → ℕ → Type 0
 Means (Start c) b = (c ≡ b) × IsTrue (is_letter c)
 Means (Inner c) b = (c ≡ b) × IsTrue (is_name_byte c)
@@ -89,13 +93,13 @@ means spaces l =
     cond_both (is_letter l.byte) _ _ P (λ e. (refl, e)) (λ _.
     cond_both (is_name_byte l.byte) _ _ P (λ e. (refl, e)) (λ _. symbol_means l.byte))))
 
--- a name is in hand
+-- a name is being read
 abbrev is_naming : Phase → Bool
 is_naming (phase.TheVariants.First z negated) = true
 is_naming (phase.TheVariants.More z negated) = true
 is_naming _ = false
 
--- A name begins with a letter, goes on with its bytes, and is in hand only then.
+-- A name begins with a letter and continues with name bytes. It is being read only then.
 abbrev Fits : Phase → ℕ → Move → Type 0
 Fits p b (To q) = is_naming q ≡ false
 Fits p b (Begin (phase.TheVariants.First z negated) c) = (c ≡ b) × IsTrue (is_letter c)
@@ -154,7 +158,7 @@ module _ (want : Part) (limit b : ℕ) where
   plan_fits phase.TheVariants.Empty Space m = refl
   plan_fits _ _ m = tt
 
--- the text ends in the name in hand
+-- the text ends in the name being read
 abbrev Holds : Phase → List ℕ → List ℕ → Type 0
 Holds (phase.TheVariants.First z negated) name text = EndsIn text name × IsFirst name
 Holds (phase.TheVariants.More z negated) name text = EndsIn text name × IsName name
@@ -218,7 +222,7 @@ by_move p name text b EndSum h e k = absurd (false≢true e)
 by_move p name text b (EndLinear r z) h e k = absurd (false≢true e)
 by_move p name text b Stop h e k = absurd (false≢true e)
 
--- the machine adds to a name, or a whole name is in hand
+-- the machine adds to a name, or a whole name has been read
 by_either : (p : Phase) (name text : List ℕ) (b : ℕ) (m : Move) → Fits p b m → (adds m || is_more p) ≡ true → Holds p name text → AsksLiteral text b
 by_either p name text b m f h k = by_adds (adds m) refl h
   where
@@ -230,7 +234,7 @@ by_either p name text b m f h k = by_adds (adds m) refl h
     by_adds true e g = inl (by_move p name text b m f e k)
     by_adds false e g = more p g k
 
--- Before a text it asks for nothing.
+-- Before a text, it does not allocate.
 begins_plain : (want : Part) (limit : ℕ) (k : Kind) → adds (plan want limit phase.TheVariants.Start k) ≡ false
 begins_plain want limit Space = cond_both (reads_sums want) _ _ (λ m. adds m ≡ false) (λ _. refl) (λ _. refl)
 begins_plain want limit Plus = refl
@@ -244,8 +248,35 @@ begins_plain want limit _ = refl
 pub first_asks_nothing : (spaces : Spaces) (part : Part) (limit b : ℕ) → asks (first spaces part limit) b ≡ false
 first_asks_nothing spaces part limit b = rw (begins_plain part limit (kind spaces (letter_at true b))) refl
 
--- Behind a part of a text that is read, where the machine asks.
+-- After a part of a text that is read, if the machine may allocate.
 pub sums_asked : (spaces : Spaces) (part : Part) (limit : ℕ) (t : List Letter) (s : SumState) (b : ℕ) → Walks sums (first spaces part limit) t s → asks s b ≡ true → AsksLiteral (bytes t) b
 sums_asked spaces part limit t s b w h =
     by_either s.work.phase s.work.name (bytes t) b (plan s.part s.limit s.work.phase (kind s.spaces (letter_at (is_numeric s.work.phase) b))) (fits s b) h
     (walked t (first spaces part limit) s [] tt w)
+
+-- after an event, the text is complete
+ends_done : (t : List Letter) (s next : SumState) (e : SumEvent) → Reads sums s t e next → sums.done next ≡ true
+ends_done [] s next e r = absurd r
+ends_done (l ∷ []) s next e r = subst (λ (x : SumState). sums.done x ≡ true) (sym (ended-last s next l.byte e r.0)) refl
+ends_done (l ∷ k ∷ t) s next e (mid, g, o, n, r) = ends_done (k ∷ t) mid next e r
+
+-- If a new machine may allocate at a byte, each text that continues with the byte has it in a literal, or after one.
+module _ (spaces : Spaces) (part : Part) (limit : ℕ) where
+  abbrev Idle : SumState → Type 0
+  Idle s = (s ≡ first spaces part limit) ⊎ (sums.done s ≡ true)
+
+  abbrev Asks : SumEvent → List ℕ → ℕ → Type 0
+  Asks e text b = AsksLiteral text b
+
+  texts : (at s next : SumState) (front rest : List Letter) (l : Letter) (e : SumEvent) → Idle at → Walks sums at front s → Reads sums s (l ∷ rest) e next
+      → IsTrue (sums.asks s l.byte) → Asks e (bytes front) l.byte
+  texts at s next front rest l e (inl f) w r a = sums_asked spaces part limit front s l.byte (subst (λ (x : SumState). Walks sums x front s) f w) a
+  texts at s next front rest l e (inr d) w r a = absurd (nothing-after spaces part limit at (front ++ l ∷ rest) e next d (reads_behind sums front (l ∷ rest) at s next e w r))
+
+  pub asks_one : (used : List ℕ) (b : ℕ) → MayAsk sums (first spaces part limit) used b → AsksOnly (IsOneText spaces limit part) Asks used b
+  asks_one used b (state, lead, a) items more h e =
+      asked.asks_within sums Idle Asks (record {
+        gaps = λ s next c i g o. never (sums.begun next) (goes-midway s next c g) o;
+        ends = λ s next t f i r. inr (ends_done t s next f r);
+        texts = texts;
+      }) (first spaces part limit) used b (inl refl) state lead a items more ((accepts_one spaces part limit items).1 h) e

@@ -1,4 +1,4 @@
--- The state behind a space.
+-- The state after a space.
 use Rattle.std.proofs.Common.{◌≡◌, ℕ, true, List, refl, subst, Some, None}
 use Rattle.pb_text.specs.Automaton.{IsState}
 use Rattle.pb_text.specs.Numbers.{signed}

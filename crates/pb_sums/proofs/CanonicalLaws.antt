@@ -1,4 +1,4 @@
--- The canonical text of a value spells it. Offered to other crates.
+-- The canonical text of a value is a text of that value. Offered to other crates.
 use Rattle.std.proofs.Common.{◌≡◌, ℕ, suc, ◌^◌, ◌<◌, ◌≤◌, List, [], ◌∷◌, ◌++◌, refl, ap, arith, inl, inr, append_assoc, ◌∙◌, true, false}
 use Rattle.std.specs.Fmt.{signed_decimal}
 use Rattle.std.specs.Prelude.{ℤ, pos, negsuc, nat_abs, decimal}

@@ -36,7 +36,7 @@ module _ (spaces : Spaces) (want : Part) (limit : ℕ) where
   abbrev go : N → List Letter → N
   go = run (on_letter spaces want limit)
 
-  -- a test may stand outside
+  -- a test can be moved outside
   act-cond : (ys xs : List Term) (name : List ℕ) (b : Bool) (m : Move) → act ys xs name (cond b m Stop) ≡ cond b (act ys xs name m) Refuse
   act-cond ys xs name true m = refl
   act-cond ys xs name false m = refl
@@ -206,7 +206,7 @@ module _ (spaces : Spaces) (want : Part) (limit : ℕ) where
       ∙ first-run z false xs b c bs h.0.1)
 
   -- terms
-  -- the last term is in hand
+  -- the last term is still being read
   abbrev Held : List Term → N → Type 0
   Held zs n = (xs : List Term) × (x : Term) × (zs ≡ xs ++ x ∷ []) × (n ≡ at_name xs (phase.TheVariants.More x.coefficient x.literal.negated) x.literal.name)
 
@@ -266,7 +266,7 @@ module _ (spaces : Spaces) (want : Part) (limit : ℕ) where
       takes_then (on_letter spaces want limit) (Opens None []) (Held (x ∷ [])) (Held (x ∷ xs)) (SpellsTerm spaces limit x) (SpellsFurther spaces limit xs)
       (term-run [] x) (further-run (x ∷ []) xs) n t (subst (λ y. Opens None [] y) (sym e) opens-start) h
 
-  -- what may stand behind the terms
+  -- what may follow the terms
   abbrev Follows : List Term → N → Type 0
   Follows xs n = (k : Kind) → IsOfBehind k → moves n k ≡ out_behind xs k
 

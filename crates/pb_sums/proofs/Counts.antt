@@ -1,4 +1,4 @@
--- What is kept grows by one unit a byte at most. Offered to other crates.
+-- What is stored grows by at most one unit per byte. Offered to other crates.
 use Rattle.std.proofs.Common.{◌≡◌, ℕ, ◌+◌, ◌-◌, ◌^◌, ◌<◌, ◌≤◌, min, take, get_or, List, [], ◌∷◌, ◌++◌, length, sym, ap, subst, arith, ◌∙◌}
 use Rattle.std.proofs.lemmas.List.{length-append, take_more}
 use Rattle.pb_text.specs.Automaton.{Go}
@@ -84,7 +84,7 @@ pub letter-grows : (spaces : Spaces) (want : Part) (limit : ℕ) (w v : Work) (k
     → potential v ≤ potential w + 1
 letter-grows spaces want limit w v k e = act-grows w.phase k w.terms w.name (plan want limit w.phase k) v (plan-sane want limit w.phase k) e
 
--- a count that stays at its largest
+-- a count that saturates
 pub counted : (u n c m r : ℕ) → c ≡ min u (2 ^ 64 - 1) → m ≡ min (n + 1) (2 ^ 64 - 1) → r ≡ min (c + m) (2 ^ 64 - 1) → r ≡ min (u + (1 + n)) (2 ^ 64 - 1)
 counted u n c m r e f g = omega arith
 

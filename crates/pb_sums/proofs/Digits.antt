@@ -1,4 +1,4 @@
--- Numbers that are taken in one go, and the run that they are.
+-- Numbers that are taken at once, and the run that they form.
 use Rattle.std.proofs.Common.{◌≡◌, ℕ, ◌+◌, ◌-◌, ◌*◌, ◌<◌, ◌≤◌, Bool, true, false, List, [], ◌∷◌, ◌++◌, take, drop, length, Option, refl, sym, subst, ap, arith, ◌∙◌, ◌==◌}
 use Rattle.std.proofs.lemmas.Bool.{eqb-true, le-leb}
 use Rattle.std.proofs.lemmas.List.{length-take-le}
@@ -68,7 +68,7 @@ module _ (spaces : Spaces) (part : Part) (limit : ℕ) (xs : List Term) where
   number-run p r negative [] s h i l = absurd (omega arith)
   number-run p r negative (b ∷ text) s h i l = digits-run p r negative 0 b text s h l
 
-  -- the states in which a sign may stand
+  -- the states in which a sign may appear
   abbrev begins_unread : Phase → Bool
   begins_unread phase.TheVariants.Start = true
   begins_unread phase.TheVariants.Between = true
@@ -117,7 +117,7 @@ module _ (spaces : Spaces) (part : Part) (limit : ℕ) (xs : List Term) where
   )
   signed-run p negative (b ∷ c ∷ sign) text e s h i l = absurd s
 
-  -- the same, or the digits behind a sign that was read
+  -- the same, or the digits after a sign that was read
   digits-behind : (p : Phase) (negative : Bool) (text : List ℕ) (i : ℕ) (digits : List ℕ) → begins_number p ≡ true → HasSign (sign_read p) text i negative → AreDigits digits
       → 0 < length digits → value_from 0 digits ≤ limit
       → Runs sums (at p) (take i text ++ digits) (at (phase.TheVariants.Digits (role p) negative (value_from 0 digits)))
@@ -128,7 +128,7 @@ module _ (spaces : Spaces) (part : Part) (limit : ℕ) (xs : List Term) where
   digits-behind (phase.TheVariants.Operator r) negative text i digits e s h k l = signed-run (phase.TheVariants.Operator r) negative (take i text) digits refl s.0 h k l
   digits-behind _ negative text i digits e s h k l = cc e
 
--- a number, where one may begin, or its digits
+-- a number, if one may begin, or its digits
 pub number_runs : (spaces : Spaces) (part : Part) (limit : ℕ) (xs : List Term) (name : List ℕ) (p : Phase) (r : Option Relation) (negative : Bool) (text : List ℕ) (i j v : ℕ)
     → begins_number p ≡ true → name ≡ [] → r ≡ role p → HasSign (sign_read p) text i negative → AreDigits (take j (take (length text - i) (drop i text)))
     → v ≡ value_from 0 (take j (take (length text - i) (drop i text))) → j ≤ length (take (length text - i) (drop i text)) → (j ≡ 0 → ⊥) → v ≤ limit

@@ -1,4 +1,4 @@
--- Rules that each term of a list meets.
+-- Rules that each term of a list satisfies.
 use Rattle.std.proofs.Common.{◌≡◌, ℕ, zero, suc, ◌+◌, ◌<◌, Bool, true, false, List, [], ◌∷◌, ◌++◌, length, take, get_or, sym, subst, arith, ◌∙◌, ◌↔◌}
 use Rattle.std.specs.Prelude.{IsTrue}
 use Rattle.std.proofs.lemmas.List.{take_more}
@@ -14,7 +14,7 @@ terms_at limit [] i d h e = absurd (omega arith)
 terms_at limit (x ∷ xs) zero d h e = e.0
 terms_at limit (x ∷ xs) (suc i) d h e = terms_at limit xs i d (omega arith) e.1
 
--- a test of each term, as far as a place
+-- a test of each term, up to an index
 pub one_passes : (limit own : ℕ) (xs : List Term) (i : ℕ) (d x : Term) (r : Bool) → i < length xs → own ≡ limit → x ≡ get_or xs i d → IsTrue r ↔ IsTerm own x → r ≡ true
     → AreTerms limit (take i xs) → AreTerms limit (take (i + 1) xs)
 one_passes limit own xs i d x r h e f g t k =

@@ -26,8 +26,8 @@ use Rattle.std.specs.Prelude.{nat_le, Option, Some, None}
 use Rattle.pb_sums.specs.declared.values.SumEvent as event
 use Rattle.pb_sums.specs.declared.phase.Phase as phase
 
--- What the plan for a phase and a kind says of the state that it leads to: the byte was a digit of a number exactly
--- where the state is in a number, the text has begun, and a literal is in hand where a name has; only `;` ends a text.
+-- What the plan for a phase and a kind says about the next state. The byte was a digit of a number if and only if the
+-- state is in a number. The text has begun. If a name has begun, a literal is being read. Only `;` ends a text.
 abbrev pub is_digit_kind : Kind → Bool
 is_digit_kind (Digit d) = true
 is_digit_kind _ = false
@@ -187,7 +187,7 @@ module _ (want : Part) (limit : ℕ) where
   numeral-of s c Other m = inr refl
   numeral-of s c _ m = inl (ap (λ x. x.numeral) m)
 
-  -- Behind a letter: in a number exactly where it is a digit of one, and within a text.
+  -- After a letter: in a number if and only if the letter is a digit of one, and within a text.
   pub gone : (s : Spaces) (w w' : Work) (c : Letter) → on_letter s want limit w c ≡ Go w' → (is_in_number w'.phase ≡ c.numeral) × (is_midway w'.phase ≡ true)
   gone s w w' c e =
       let ys : List Term = flushed w.phase w.terms w.name in
@@ -205,7 +205,7 @@ module _ (want : Part) (limit : ℕ) where
   end-sane ph k ys xs name (Add q b) v w h e = go_or_end (record { terms = xs; name = name ++ b ∷ []; phase = q }) v w e
   end-sane ph k ys xs name Stop v w h e = refuse_or_end v w e
 
-  -- A text ends with a `;`, which is no digit, and then nothing is kept.
+  -- A text ends with a `;`, which is no digit, and then nothing is stored.
   pub ended : (s : Spaces) (w w' : Work) (v : SumEvent) (c : Letter) → on_letter s want limit w c ≡ End v w' → (c.numeral ≡ false) × (w' ≡ finished)
   ended s w w' v c e =
       let f : (kind s c ≡ Semicolon) × (w' ≡ finished) =

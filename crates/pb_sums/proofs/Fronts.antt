@@ -1,4 +1,4 @@
--- What stands before a state: the text that the machine has read is a part of the grammar.
+-- What comes before a state: the text that the machine has read is a part of the grammar.
 use Rattle.pb_text.proofs.Languages.{none_yet, regroup, regroup3, behind_it, nil_first}
 use Rattle.pb_sums.specs.Sums.{Spaces1, SpellsTerm, SpellsFurther, SpellsSum}
 use Rattle.pb_sums.specs.declared.grammar.Spaces.{Spaces}
@@ -28,7 +28,7 @@ module _ (spaces : Spaces) (limit : ℕ) where
       let T : Language = SpellsTerm spaces limit x in
       behind_it A (F ⋅ S ⋅ T) (SpellsFurther spaces limit (zs ++ x ∷ [])) p (further-append zs x) (regroup3 A F S T p h)
 
-  -- what stands before a further term
+  -- what comes before a further term
   abbrev pub Before : List Term → Language
   Before [] = Empty
   Before (x ∷ xs) = SpellsSum spaces limit (x ∷ xs) ⋅ Spaces1 spaces limit

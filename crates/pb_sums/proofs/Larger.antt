@@ -1,4 +1,4 @@
--- A spelling stays one where numbers may be larger. Offered to other crates.
+-- A text of a value remains one if numbers may be larger. Offered to other crates.
 use Rattle.std.proofs.Common.{ℕ, ◌≤◌, List, [], ◌∷◌}
 use Rattle.pb_text.specs.Languages.{Language, ◌⋅◌, Byte}
 use Rattle.pb_text.specs.Numbers.{Number}
@@ -17,7 +17,7 @@ module _ (spaces : Spaces) (small large : ℕ) (h : small ≤ large) where
   abbrev Grows : (ℕ → Language) → Type 0
   Grows P = (t : List Letter) → P small t → P large t
 
-  -- a part that has numbers, and then one that may have some
+  -- a part that has numbers, followed by one that may have some
   grows_then : (P Q : ℕ → Language) → Grows P → Grows Q → Grows (λ n. P n ⋅ Q n)
   grows_then P Q f g t k = each_side (P small) (P large) (Q small) (Q large) f g t k
 

@@ -1,4 +1,4 @@
--- What the kind of a letter says of the letter, and the other way round.
+-- What the kind of a letter says about the letter, and conversely.
 use Rattle.pb_sums.specs.Machine.{Work, Outcome, move, kind, kind_of_plain, kind_of_numeral, symbol}
 use Rattle.pb_sums.specs.declared.grammar.Part.{Part}
 use Rattle.pb_sums.specs.Sums.{is_space}
@@ -15,7 +15,7 @@ use Rattle.std.proofs.lemmas.Bool.{eqb-true, cond_both}
 use Rattle.std.proofs.lemmas.Bool.Decides.{nat_tests}
 use Rattle.std.specs.Prelude.{IsTrue, nat_eq}
 
--- what a kind says of its letter
+-- what a kind says about its letter
 abbrev pub Means : Spaces → Kind → Letter → Type 0
 Means s Space c = (c ≡ unmarked c.byte) × IsTrue (is_space s c.byte)
 Means s (Digit d) c = (c ≡ digit d) × (d < 10)

@@ -1,4 +1,4 @@
--- Names that are taken in one go, and the run that they are.
+-- Names that are taken at once, and the run that they form.
 use Rattle.std.proofs.Common.{◌≡◌, ℕ, ℤ, ◌≤◌, Bool, true, false, List, [], ◌∷◌, ◌++◌, length, get_or, Some, refl, sym, ap, subst, arith, ◌∙◌, ◌⊎◌, inl, inr, append-nil, append_assoc}
 use Rattle.std.specs.Prelude.{IsTrue}
 use Rattle.pb_text.specs.Automaton.{Go, IsState, Runs}
@@ -21,7 +21,7 @@ module _ (spaces : Spaces) (part : Part) (limit : ℕ) (xs : List Term) where
   abbrev at : List ℕ → Phase → SumState
   at name p = record { spaces = spaces; part = part; limit = limit; work = record { terms = xs; name = name; phase = p } }
 
-  -- a byte of a name behind its first two
+  -- a byte of a name after its first two
   more-on : (name : List ℕ) (z : ℤ) (negated : Bool) (b : ℕ) (k : Kind) → (k ≡ Start b) ⊎ (k ≡ Inner b)
       → over (at name (phase.TheVariants.More z negated)) (move part limit xs name (phase.TheVariants.More z negated) k) ≡ Go (at (name ++ b ∷ []) (phase.TheVariants.More z negated))
   more-on name z negated b k (inl e) = ap (λ x. over (at name (phase.TheVariants.More z negated)) (move part limit xs name (phase.TheVariants.More z negated) x)) e
@@ -38,7 +38,7 @@ module _ (spaces : Spaces) (part : Part) (limit : ℕ) (xs : List Term) where
         (more-run (name ++ b ∷ []) z negated text h.1),
   )
 
-  -- bytes of a name behind its first two
+  -- bytes of a name after its first two
   pub more_runs : (name new : List ℕ) (p : Phase) (text : List ℕ) → is_more p ≡ true → Each (λ b. IsTrue (is_name_byte b)) text → new ≡ name ++ text
       → Runs sums (at name p) text (at new p)
   more_runs name new (phase.TheVariants.More z negated) text e h f = subst (λ n. Runs sums (at name (phase.TheVariants.More z negated)) text (at n (phase.TheVariants.More z negated))) (sym f) (more-run name z negated text h)

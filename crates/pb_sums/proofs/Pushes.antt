@@ -1,4 +1,4 @@
--- A push does what was planned.
+-- A push does what the plan says.
 use Rattle.std.proofs.Common.{◌≡◌, ℕ, ℤ, Bool, true, false, ◌||◌, ◌&&◌, List, [], ◌∷◌, ◌++◌, refl, sym, ap, subst, ◌∙◌}
 use Rattle.std.specs.Prelude.{IsTrue, if◌then◌else◌}
 use Rattle.pb_text.specs.Automaton.{Go, End, Refuse, Admits, IsState, Pushes}
@@ -47,14 +47,14 @@ module _ (s : Spaces) (w : Part) (limit : ℕ) (xs : List Term) (name : List ℕ
   pub moved : n ≡ is_numeric p → k ≡ kind s (letter_at n b) → m ≡ plan w limit p k → sums.step state b ≡ over state (act (flushed p xs name) xs name m)
   moved e f g = ap (λ x. over state (act (flushed p xs name) xs name x)) (planned e f g)
 
-  -- memory is asked for at a byte of a name or one that ends a literal, and only where the byte is taken
+  -- a push may allocate at a byte of a name or one that ends a literal, and only if the byte is taken
   pub wants : n ≡ is_numeric p → k ≡ kind s (letter_at n b) → m ≡ plan w limit p k → IsTaken m → (adds m || is_more p) ≡ true → IsTrue (asks state b) × Admits sums state b
   wants e f g t a = (
     ap (λ x. adds x || is_more p) (planned e f g) ∙ a,
     admits state b (over state (act (flushed p xs name) xs name m)) (moved e f g) (taken-acts state (flushed p xs name) xs name m t),
   )
 
-  -- what is not planned is refused
+  -- what the plan does not allow is rejected
   refuses-by : (d : Bool) → d ≡ (is_in_number p && is_digit b) → (answer : Push SumEvent) → answer ≡ (if d then push.Large else push.No)
       → n ≡ is_numeric p → k ≡ kind s (letter_at n b) → Stop ≡ plan w limit p k → Pushes sums state b answer state
   refuses-by true h answer a e f g = subst (λ (x : Push SumEvent). Pushes sums state b x state) (sym a) (ap (λ x. over state (act (flushed p xs name) xs name x)) (planned-stop e f g), sym h, refl)
@@ -93,7 +93,7 @@ pub ends_linear : (s : Spaces) (w : Part) (limit : ℕ) (xs ys zs : List Term) (
     sums.step (state s w limit xs name p b n k (EndLinear r z)) b ≡ End (event.TheVariants.Linear (record { terms = ys; relation = r; degree = z })) (standing s w limit zs new q)
 ends_linear s w limit xs ys zs name new p q b n k r z e f g i j l m = rw (i, j, l, m) (moved s w limit xs name p b n k (EndLinear r z) e f g)
 
--- it is in order, and a state
+-- it satisfies `IsInOrder`, and is a state
 pub ended_order : (limit : ℕ) (xs : List Term) (name : List ℕ) (p : Phase) → xs ≡ [] → name ≡ [] → p ≡ phase.TheVariants.Done → IsInOrder limit (record { terms = xs; name = name; phase = p })
 ended_order limit xs name p e f g = rw g (tt, λ h. (e, f))
 

@@ -1,4 +1,4 @@
--- Texts that are kept in place.
+-- Texts that are stored inline.
 use Rattle.std.proofs.Common.{ℕ, zero, suc, ◌+◌, ◌<◌, List, [], ◌∷◌, take, set, get_or, length, sym, subst, arith}
 use Rattle.std.specs.Prelude.{IsTrue}
 use Rattle.std.specs.Str.{IsUtf8}
@@ -23,11 +23,11 @@ each-ascii [] h i = none-ascii i
 each-ascii (b ∷ bs) h zero = name_ascii b h.0
 each-ascii (b ∷ bs) h (suc i) = each-ascii bs h.1 i
 
--- bytes of a name are a text
+-- bytes of a name are UTF-8
 pub name_utf8 : (bs : List ℕ) → Each (λ b. IsTrue (is_name_byte b)) bs → IsUtf8 bs
 name_utf8 bs h = IsUtf8-from_ascii bs (each-ascii bs h)
 
--- so is a text and an ASCII byte behind it
+-- so is a text followed by an ASCII byte
 pub longer_utf8 : (bytes : List ℕ) (n b : ℕ) → n < length bytes → b < 128 → IsUtf8 (take n bytes) → IsUtf8 (take (n + 1) (set bytes n b))
 longer_utf8 bytes n b h l u =
     subst IsUtf8 (sym (take_more_set bytes n b h)) (IsUtf8-append (take n bytes) (b ∷ []) u (IsUtf8-from_ascii (b ∷ []) (one-ascii b l)))

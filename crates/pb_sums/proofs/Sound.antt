@@ -1,4 +1,4 @@
--- A machine has read a front of the grammar: one lemma for each step that goes on.
+-- A machine has read a prefix of a text of the grammar: one lemma for each step that continues.
 use Rattle.pb_sums.proofs.Fronts.{IsCons, cons-append, Before, sum-append}
 use Rattle.pb_sums.proofs.LiteralFronts.{first-append, name-append, FirstOf, LiteralOf, name-bytes}
 use Rattle.pb_sums.proofs.LetterKinds.{on_letter, Means, kind-means}
@@ -106,7 +106,7 @@ module _ (spaces : Spaces) (want : Part) (limit : ℕ) where
       (λ e. (e, next (SpellsSum spaces limit ys ⋅ S0) (Byte 59) p c i (ap (λ x. x ∷ []) m)))
   behind-sound ys xs name _ c p m h i = tt
 
-  -- a literal that is whole ends its term
+  -- a literal that is complete ends its term
   term-ends : (z : ℤ) (negated : Bool) (name : List ℕ) (xs : List Term) (p : List Letter) → (Weighted z xs ⋅ LiteralOf negated name) p →
       SpellsSum spaces limit (xs ++ term z negated name ∷ []) p
   term-ends z negated name xs p h =
@@ -157,7 +157,7 @@ module _ (spaces : Spaces) (want : Part) (limit : ℕ) where
   between-sum : (xs : List Term) (p : List Letter) → (SpellsSum spaces limit xs ⋅ S1) p → (SpellsSum spaces limit xs ⋅ S0) p
   between-sum xs p h = behind_it (SpellsSum spaces limit xs) S1 S0 p (some-many IsSpace) h
 
-  -- space goes on, and begins
+  -- space continues, and begins
   s0-grown : (P : Language) (c : Letter) (p : List Letter) → Means spaces Space c → (P ⋅ S0) p → (P ⋅ S0) (p ++ c ∷ [])
   s0-grown P c p m h = grown P S0 S0 p c (many-grown IsSpace c.byte c m.0 m.1) h
 
@@ -232,7 +232,7 @@ module _ (spaces : Spaces) (want : Part) (limit : ℕ) where
       (h.1, next (SpellsSum spaces limit xs ⋅ S0) (Byte 59) p c i (ap (λ x. x ∷ []) m))
   sound _ xs name k c p m h = tt
 
-  -- What the machine ends with is spelled by the text.
+  -- The text is a text of the value that the machine ends with.
   pub reads_only : (t : List Letter) (e : SumEvent) → run (on_letter spaces want limit) (Go fresh) t ≡ End e finished → Spells spaces limit want e t
   reads_only t e h =
       subst (λ n. On n t) h

@@ -20,7 +20,7 @@ use Rattle.pb_sums.proofs.Flags.{gone, ended}
 use Rattle.pb_sums.proofs.Links.{midway-not-done, reads_grammar, reads_something}
 use Rattle.pb_sums.proofs.Counts.{potential, letter-grows}
 
--- Where the automaton goes on, and where it ends.
+-- When the automaton continues, and when it ends.
 gone-from : (s next : SumState) (b : ℕ) (n : Outcome) → step s.spaces s.part s.limit s.work b ≡ n → over s n ≡ Go next
     → (v : Work) × (next ≡ with_work s v) × (step s.spaces s.part s.limit s.work b ≡ Go v)
 gone-from s next b (Go v) e h = (v, sym (one_state (with_work s v) next h), e)
@@ -88,7 +88,7 @@ stopped s h b =
     ap (λ m. over s (act (flushed s.work.phase s.work.terms s.work.name) s.work.terms s.work.name m))
     (done-stops s.part s.limit s.work.phase (kind s.spaces (letter_at (is_numeric s.work.phase) b)) h)
 
--- a machine of sums is one of one text
+-- a machine of sums is a machine of one text
 abbrev ended_state : SumState → SumState
 ended_state s = with_work s finished
 
@@ -136,7 +136,7 @@ module _ (spaces : Spaces) (part : Part) (limit : ℕ) where
   no-gap s at [] h = (refl, h)
   no-gap s at (b ∷ gap) (mid, e, f, h) = never (sums.begun mid) (goes-midway s mid b e) f
 
-  nothing-after : (s : SumState) (text : List Letter) (e : SumEvent) (after : SumState) → sums.done s ≡ true → Reads sums s text e after → ⊥
+  pub nothing-after : (s : SumState) (text : List Letter) (e : SumEvent) (after : SumState) → sums.done s ≡ true → Reads sums s text e after → ⊥
   nothing-after s [] e after d h = h
   nothing-after s (l ∷ []) e after d h = refuse_or_end e after (sym (stopped s d l.byte) ∙ h.0)
   nothing-after s (l ∷ k ∷ text) e after d (mid, h, b, m, r) = refuse_or_go mid (sym (stopped s d l.byte) ∙ h)
@@ -172,7 +172,7 @@ module _ (spaces : Spaces) (part : Part) (limit : ℕ) where
   pub first_is_state : IsState sums begin
   first_is_state = is_state begin (tt, λ e. (refl, refl))
 
--- a state on the way through a text is in order
+-- a state on the way through a text satisfies `IsInOrder`
 pub midway_order : (limit : ℕ) (xs : List Term) (name : List ℕ) (q : Phase) → PhaseFits limit q → is_midway q ≡ true → IsInOrder limit (record { terms = xs; name = name; phase = q })
 midway_order limit xs name q h i = (h, λ e. never (is_midway q) i e)
 

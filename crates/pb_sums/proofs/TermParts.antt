@@ -1,4 +1,4 @@
--- Whole terms that are taken in one go, and the run that they are.
+-- Whole terms that are taken at once, and the run that they form.
 use Rattle.std.proofs.Common.{◌≡◌, ℕ, ℤ, ◌+◌, ◌<◌, ◌≤◌, Bool, true, false, List, [], ◌∷◌, ◌++◌, take, get_or, length, Option, Some, None, refl, sym, subst, arith}
 use Rattle.std.specs.Prelude.{IsTrue, Result, Ok, Err, is_ok, is_err, if◌then◌else◌}
 use Rattle.pb_text.specs.Automaton.{Go, IsState, Runs}

@@ -38,15 +38,15 @@ module _ (spaces : Spaces) (want : Part) (limit : ℕ) where
   abbrev go : N → List Letter → N
   go = run (on_letter spaces want limit)
 
-  -- What the first state accepts is the grammar.
+  -- The first state accepts exactly the grammar.
   pub exact : (t : List Letter) (e : SumEvent) → G e t ↔ (go (Go fresh) t ≡ End e finished)
   exact t e = (reads_each spaces want limit t e, reads_only spaces want limit t e)
 
-  -- A text spells one value.
+  -- A text has at most one value.
   pub one_value : (t : List Letter) (e f : SumEvent) → G e t → G f t → e ≡ f
   one_value t e f g h = end-same e f finished finished (sym (reads_each spaces want limit t e g) ∙ reads_each spaces want limit t f h)
 
-  -- No spelling is a front of another.
+  -- No text of a value is a proper prefix of another.
   pub no_front : (t u : List Letter) (e f : SumEvent) → G e t → G f (t ++ u) → u ≡ []
   no_front t [] e f g h = refl
   no_front t (c ∷ u) e f g h =
@@ -54,11 +54,11 @@ module _ (spaces : Spaces) (want : Part) (limit : ℕ) where
       let j : ◌≡◌ {A = N} Refuse (End f finished) = ap (λ n. go n (c ∷ u)) (sym (reads_each spaces want limit t e g)) ∙ i in
       cc
 
-  -- Each state but the last one accepts a text.
+  -- Each state except the last one accepts a text.
   abbrev Alive : N → Type 0
   Alive n = (t : List Letter) × (e : SumEvent) × (go n t ≡ End e finished)
 
-  -- a text in front
+  -- a text prepended
   before : (n m : N) (a : List Letter) → go n a ≡ m → Alive m → Alive n
   before n m a h (t, e, i) = (a ++ t, e, run-append (on_letter spaces want limit) n a t ∙ (ap (λ x. go x t) h ∙ i))
 
@@ -79,7 +79,7 @@ module _ (spaces : Spaces) (want : Part) (limit : ℕ) where
   alive-greater : (xs : List Term) → Alive (to xs phase.TheVariants.Greater)
   alive-greater xs = before (to xs phase.TheVariants.Greater) (to xs (phase.TheVariants.Operator AtLeast)) (unmarked 61 ∷ []) refl (alive-operator xs AtLeast)
 
-  -- what may stand behind terms can be ended
+  -- what may follow terms can be completed
   alive-behind : (xs : List Term) (n : N) (w : Part) (zs : List Term) (name : List ℕ) → go n (unmarked 59 ∷ []) ≡ act xs zs name (behind w Semicolon) → go n (unmarked 62 ∷ []) ≡ act xs zs name (behind w Greater) → Alive n
   alive-behind xs n part.TheVariants.Sum zs name h i = (unmarked 59 ∷ [], event.TheVariants.Sum xs, h)
   alive-behind xs n part.TheVariants.Linear zs name h i = before n (to xs phase.TheVariants.Greater) (unmarked 62 ∷ []) i (alive-greater xs)

@@ -1,4 +1,4 @@
--- What is spelled within a limit is within it. Offered to other crates.
+-- The value of a text under a limit is within that limit. Offered to other crates.
 use Rattle.std.proofs.Common.{ℕ, zero, suc, ◌≤◌, List, [], ◌∷◌, Bool, true, false, subst, sym}
 use Rattle.std.specs.Prelude.{ℤ, nat_abs}
 use Rattle.pb_text.specs.Spelling.{Letter}

@@ -33,14 +33,14 @@ further_at xs i d h =
     ∙ (further-append (take i xs) (drop i xs)
     ∙ ap (λ z. further_bytes (take i xs) ++ z) (ap further_bytes (drop-cons xs i d h) ∙ further-cons (get_or xs i d) (drop (suc i) xs)))
 
--- a front of the terms, and the others
+-- a prefix of the terms, and the others
 pub further_split : (xs : List Term) (n : ℕ) → further_bytes xs ≡ further_bytes (take n xs) ++ further_bytes (drop n xs)
 further_split xs n = ap further_bytes (sym (take-append-drop n xs)) ∙ further-append (take n xs) (drop n xs)
 
 pub further_past : (xs : List Term) (n : ℕ) → length xs ≤ n → further_bytes (drop n xs) ≡ []
 further_past xs n h = ap further_bytes (drop_all n xs h) ∙ further_none
 
--- the terms from one on
+-- the terms from an index on
 pub further_from : (xs : List Term) (i : ℕ) (x : Term) → 0 < i → i ≤ length xs → x ≡ get_or xs (i - 1) x →
     further_bytes (drop (i - 1) xs) ≡ (32 ∷ term_bytes x) ++ further_bytes (drop i xs)
 further_from xs i x some within e =
@@ -54,7 +54,7 @@ pub sum_parts : (xs : List Term) (d : Term) → 0 < length xs → sum_bytes xs �
 sum_parts [] d h = absurd (omega arith)
 sum_parts (x ∷ xs) d h = refl
 
--- what stands behind a sum
+-- what follows a sum
 pub head_front : (xs : List Term) (t : List ℕ) → (y : List ℕ) × (head_bytes xs ++ t ≡ sum_bytes xs ++ y)
 head_front [] t = (t, refl)
 head_front (x ∷ xs) t = (32 ∷ t, append_assoc (sum_bytes (x ∷ xs)) (32 ∷ []) t)

@@ -1,6 +1,6 @@
 -- The one text that is written for a value.
 use Rattle.std.specs.Fmt.{signed_decimal}
-use Rattle.std.specs.Prelude.{ℕ, suc, ◌≤◌, List, [], ◌∷◌, ◌++◌, ℤ, pos, negsuc, nat_abs, decimal}
+use Rattle.std.specs.Prelude.{ℕ, suc, ◌≤◌, List, [], ◌∷◌, ◌++◌, ℤ, pos, negsuc, nat_abs, decimal, codes}
 use Rattle.pb_text.specs.Spelling.{Letter, plain, digits_of}
 use Rattle.pb_text.specs.Languages.{unmarked}
 use Rattle.pb_text.specs.declared.Place.{Place}
@@ -40,18 +40,18 @@ abbrev pub sum_bytes : List Term → List ℕ
 sum_bytes [] = []
 sum_bytes (x ∷ xs) = term_bytes x ++ further_bytes xs
 
--- a sum and, where it has a term, a space
+-- a sum, and a space if it has a term
 abbrev pub head_bytes : List Term → List ℕ
 head_bytes [] = []
 head_bytes (x ∷ xs) = sum_bytes (x ∷ xs) ++ (32 ∷ [])
 
 abbrev pub operator_bytes : Relation → List ℕ
-operator_bytes AtLeast = 62 ∷ 61 ∷ []
-operator_bytes Equal = 61 ∷ []
+operator_bytes AtLeast = codes ">="
+operator_bytes Equal = codes "="
 
--- the degree has digits, and `-` before them where it is negative
+-- the degree is its digits, after a `-` if it is negative
 abbrev pub linear_bytes : Linear → List ℕ
-linear_bytes c = head_bytes c.terms ++ (operator_bytes c.relation ++ (32 ∷ (signed_decimal c.degree ++ (32 ∷ 59 ∷ []))))
+linear_bytes c = head_bytes c.terms ++ (operator_bytes c.relation ++ (32 ∷ (signed_decimal c.degree ++ codes " ;")))
 
 -- a line, `:`, a column and a space
 abbrev pub place_bytes : Place → List ℕ

@@ -8,3 +8,4 @@ pub mod Canonical
 pub mod Statements
 pub mod Names
 pub mod TermParts
+pub mod Fields

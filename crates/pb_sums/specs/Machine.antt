@@ -40,11 +40,11 @@ kind_of_numeral b = cond (is_digit b) (Digit (b - 48)) Other
 abbrev pub kind : Spaces → Letter → Kind
 kind spaces c = cond c.numeral (kind_of_numeral c.byte) (kind_of_plain spaces c.byte)
 
--- the letter of a byte where digits are those of a number, or of a name
+-- the letter of a byte, if digits are those of a number (numeric) or of a name
 abbrev pub letter_at : Bool → ℕ → Letter
 letter_at numeric b = record { byte = b; numeral = numeric && is_digit b }
 
--- the states in which digits are those of a number, and those behind such a digit
+-- the states in which digits are those of a number, and those after such a digit
 abbrev pub is_numeric : Phase → Bool
 is_numeric phase.TheVariants.Start = true
 is_numeric (phase.TheVariants.Signed role negative) = true
@@ -57,7 +57,7 @@ abbrev pub is_in_number : Phase → Bool
 is_in_number (phase.TheVariants.Digits role negative n) = true
 is_in_number _ = false
 
--- the states within a text: something has been read, and not all
+-- the states within a text: something has been read, but not everything
 abbrev pub is_midway : Phase → Bool
 is_midway phase.TheVariants.Start = false
 is_midway phase.TheVariants.Done = false
@@ -67,7 +67,7 @@ abbrev pub is_done : Phase → Bool
 is_done phase.TheVariants.Done = true
 is_done _ = false
 
--- What a machine keeps: the terms so far, the name in hand, and what it has read last.
+-- What a machine stores: the terms so far, the name being read, and what it has read last.
 pub record Work : Type 0 where
   pub terms : List Term
   pub name : List ℕ
@@ -91,7 +91,7 @@ at_name xs p name = Go (record { terms = xs; name = name; phase = p })
 abbrev pub to : List Term → Phase → Outcome
 to xs p = at_name xs p []
 
--- The plan for a phase and a kind.
+-- The action for a phase and a kind.
 abbrev pub digits : ℕ → Option Relation → Bool → ℕ → ℕ → Move
 digits limit role negative n d = cond (nat_le (10 * n + d) limit) (To (phase.TheVariants.Digits role negative (10 * n + d))) Stop
 
@@ -102,7 +102,7 @@ number limit role Minus = To (phase.TheVariants.Signed role true)
 number limit role (Digit d) = digits limit role false 0 d
 number limit role _ = Stop
 
--- what may stand behind the terms
+-- what may follow the terms
 abbrev pub behind : Part → Kind → Move
 behind want Greater = cond (allows want AtLeast) (To phase.TheVariants.Greater) Stop
 behind want Equals = cond (allows want Equal) (To (phase.TheVariants.Operator Equal)) Stop
@@ -153,7 +153,7 @@ act ys xs name EndSum = End (event.TheVariants.Sum ys) finished
 act ys xs name (EndLinear r z) = End (event.TheVariants.Linear (record { terms = ys; relation = r; degree = z })) finished
 act ys xs name Stop = Refuse
 
--- with the term whose literal is whole
+-- with the term whose literal is complete
 abbrev pub flushed : Phase → List Term → List ℕ → List Term
 flushed (phase.TheVariants.More z negated) xs name = xs ++ term z negated name ∷ []
 flushed _ xs name = xs
@@ -164,7 +164,7 @@ move want limit xs name p k = act (flushed p xs name) xs name (plan want limit p
 abbrev pub step : Spaces → Part → ℕ → Work → ℕ → Outcome
 step spaces want limit w b = move want limit w.terms w.name w.phase (kind spaces (letter_at (is_numeric w.phase) b))
 
--- What every machine keeps of its numbers and of the bytes of its names.
+-- The invariants of every machine for its numbers and the bytes of its names.
 abbrev pub KindFits : Kind → Type 0
 KindFits (Digit d) = d < 10
 KindFits (Start b) = b < 128
@@ -181,7 +181,7 @@ MoveFits limit (Begin p b) = PhaseFits limit p × (is_midway p ≡ true) × (b <
 MoveFits limit (Add p b) = PhaseFits limit p × (is_midway p ≡ true) × (b < 128)
 MoveFits limit _ = Unit {0}
 
--- whether memory may be asked for: a byte of a name, or one that ends a literal
+-- whether a byte may allocate: one of a name, or one that ends a literal
 abbrev pub is_more : Phase → Bool
 is_more (phase.TheVariants.More z negated) = true
 is_more _ = false

@@ -1,4 +1,4 @@
--- The bytes of a name, in place or in memory.
+-- The bytes of a name, stored inline or allocated.
 use Rattle.std.specs.Prelude.{ℕ, List, string_bytes}
 use Rattle.pb_sums.specs.declared.name.Kept.{Kept}
 use Rattle.pb_sums.specs.declared.name.Kept.TheVariants.{Short, Long}

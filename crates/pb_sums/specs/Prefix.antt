@@ -1,4 +1,4 @@
--- Names and numbers at the front of a text.
+-- Names and numbers at the start of a text.
 use Rattle.std.specs.Prelude.{◌≡◌, ◌≢◌, ◌⊎◌, ◌<◌, ◌≤◌, ℕ, ℤ, ◌+◌, ◌-◌, Bool, IsTrue, true, false, List, [], ◌∷◌, Option, Some, None, length, take, drop, get_or}
 use Rattle.pb_text.specs.Classes.{is_letter, is_name_byte}
 use Rattle.pb_text.specs.Digits.{HasDigits}
@@ -35,27 +35,27 @@ abbrev pub sign_read : Phase → Option Bool
 sign_read (phase.TheVariants.Signed r negative) = Some negative
 sign_read _ = None
 
--- the state behind a number and space
+-- the state after a number and space
 abbrev pub behind_number : Option Relation → ℤ → Phase
 behind_number None z = phase.TheVariants.Gap z
 behind_number (Some r) z = phase.TheVariants.Tail r z
 
--- a relation may stand behind terms and space
+-- a relation may follow terms and space
 abbrev pub begins_relation : Phase → Bool
 begins_relation phase.TheVariants.Between = true
 begins_relation _ = false
 
--- No relation that the part allows stands at the front.
+-- The text does not begin with a relation that the part allows.
 abbrev pub LacksRelation : Part → List ℕ → Type 0
 LacksRelation part text = (r : Relation) → allows part r ≡ true → take (length (operator_bytes r)) text ≢ operator_bytes r
 
--- the state behind a name, where one may begin
+-- the state after a name, if one may begin
 abbrev pub behind_name : Phase → Option Phase
 behind_name (phase.TheVariants.Gap z) = Some (phase.TheVariants.More z false)
 behind_name (phase.TheVariants.Tilde z) = Some (phase.TheVariants.More z true)
 behind_name _ = None
 
--- the state behind a space, where one often stands
+-- the state after a space, in the states where one is common
 abbrev pub behind_space : Phase → Option Phase
 behind_space (phase.TheVariants.Digits None negative n) = Some (phase.TheVariants.Gap (signed negative n))
 behind_space (phase.TheVariants.Digits (Some r) negative n) = Some (phase.TheVariants.Tail r (signed negative n))
@@ -70,21 +70,21 @@ behind_space _ = None
 abbrev pub behind : ℕ → List ℕ → List ℕ
 behind i text = take (length text - i) (drop i text)
 
--- So many bytes of a sign stand at the front, and no more: none where it was read.
+-- The sign at the start of the text has exactly n bytes: none if it was already read.
 abbrev pub HasSign : Option Bool → List ℕ → ℕ → Bool → Type 0
 HasSign (Some read) text n negative = (n ≡ 0) × (negative ≡ read)
 HasSign None text n negative = IsSign negative (take n text) × (n ≡ 0 → 0 < length text → (get_or text 0 0 ≢ 43) × (get_or text 0 0 ≢ 45))
 
--- No number with a space behind it stands at the front, or a large one.
+-- The text does not begin with a number and a space after it, or the number is large.
 abbrev pub LacksNumber : ℕ → Option Bool → List ℕ → Type 0
 LacksNumber limit read text = (i : ℕ) × (negative : Bool) × HasSign read text i negative × (n : ℕ) × (value : ℕ) × HasDigits (behind i text) n value
     × ((n ≡ 0) ⊎ (limit < value) ⊎ (length text ≤ i + n) ⊎ (get_or text (i + n) 0 ≢ 32))
 
--- So many bytes of a name stand at the front, and no more.
+-- The text begins with exactly n name bytes.
 abbrev pub HasNameBytes : List ℕ → ℕ → Type 0
 HasNameBytes text n = (n ≤ length text) × Each (λ b. IsTrue (is_name_byte b)) (take n text) × (n < length text → is_name_byte (get_or text n 0) ≡ false)
 
--- No literal of two bytes or more stands at the front, or one with a long name.
+-- The text does not begin with a literal whose name has at least two bytes, or that name is long.
 abbrev pub LacksLiteral : List ℕ → Type 0
 LacksLiteral text = (i : ℕ) × (i ≤ 1) × (i ≡ 0 → 0 < length text → get_or text 0 0 ≢ 126) × (i ≡ 1 → get_or text 0 0 ≡ 126)
     × (n : ℕ) × HasNameBytes (behind i text) n × ((n < 2) ⊎ (is_letter (get_or (behind i text) 0 0) ≡ false) ⊎ (22 < n))

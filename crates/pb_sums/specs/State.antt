@@ -11,7 +11,7 @@ use Rattle.pb_sums.specs.declared.grammar.Part.{Part}
 use Rattle.pb_sums.specs.declared.phase.Phase.{Phase}
 use Rattle.pb_sums.specs.declared.phase.Phase as phase
 
--- what a machine reads, the largest magnitude of its numbers, and what it keeps
+-- what a machine reads, the largest magnitude of its numbers, and what it stores
 pub record SumState : Type 0 where
   pub spaces : Spaces
   pub part : Part
@@ -21,7 +21,7 @@ pub record SumState : Type 0 where
 abbrev pub with_work : SumState → Work → SumState
 with_work s w = record { spaces = s.spaces; part = s.part; limit = s.limit; work = w }
 
--- before a text, and after it
+-- the states before a text and after it
 abbrev pub first : Spaces → Part → ℕ → SumState
 first spaces part limit = record { spaces = spaces; part = part; limit = limit; work = fresh }
 
@@ -33,7 +33,7 @@ over s (Go w) = Go (with_work s w)
 over s (End e w) = End e (with_work s w)
 over s Refuse = Refuse
 
--- whether the byte is one of a name, or may end a literal
+-- whether the byte is in a name, or may end a literal
 abbrev pub asks : SumState → ℕ → Bool
 asks s b = adds (plan s.part s.limit s.work.phase (kind s.spaces (letter_at (is_numeric s.work.phase) b))) || is_more s.work.phase
 
@@ -42,13 +42,13 @@ abbrev pub units : List Term → ℕ
 units [] = 0
 units (x ∷ xs) = 1 + length x.literal.name + units xs
 
--- a literal is kept from the first byte of its name on
+-- a literal counts as stored from the first byte of its name on
 abbrev pub in_hand : Phase → ℕ
 in_hand (phase.TheVariants.First z negated) = 1
 in_hand (phase.TheVariants.More z negated) = 1
 in_hand _ = 0
 
--- the byte before a name, which leaves room for the literal with its first byte
+-- at a byte before a name, room for the literal, which comes with the first byte of the name
 abbrev pub ready : Phase → ℕ
 ready (phase.TheVariants.Gap z) = 1
 ready (phase.TheVariants.Tilde z) = 1
@@ -57,7 +57,7 @@ ready _ = 0
 abbrev pub all_units : Work → ℕ
 all_units w = units w.terms + in_hand w.phase + length w.name
 
--- the automaton: the count of what is kept stays at its largest
+-- the automaton: the count of what is stored saturates
 abbrev pub sums : Automaton SumState SumEvent
 sums = record {
   step = λ s b. over s (step s.spaces s.part s.limit s.work b);
@@ -69,7 +69,7 @@ sums = record {
   spent = λ s. all_units s.work + ready s.work.phase;
 }
 
--- What a machine keeps of its state: a number in hand is within the limit, and before a text and after it nothing is kept.
+-- The invariant of a machine: a number being read is within the limit, and nothing is stored before a text and after it.
 abbrev pub IsInOrder : ℕ → Work → Type 0
 IsInOrder limit w = PhaseFits limit w.phase × (is_midway w.phase ≡ false → (w.terms ≡ []) × (w.name ≡ []))
 

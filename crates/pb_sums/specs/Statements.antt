@@ -12,7 +12,7 @@ use Rattle.pb_sums.specs.declared.values.SumEvent.{SumEvent}
 use Rattle.pb_sums.specs.declared.grammar.Spaces.{Spaces}
 use Rattle.pb_sums.specs.declared.grammar.Part.{Part}
 
--- What a new machine reads is the grammar, and then it has ended.
+-- A new machine reads exactly the grammar, and then it has ended.
 abbrev pub ReadsGrammar : Type 0
 ReadsGrammar = (spaces : Spaces) (part : Part) (limit : ℕ) (text : List Letter) (event : SumEvent) (after : SumState) →
     Reads sums (first spaces part limit) text event after ↔ (Spells spaces limit part event text × (after ≡ last spaces part limit))
@@ -25,26 +25,26 @@ EndsLast = (state after : SumState) (text : List Letter) (event : SumEvent) → 
 abbrev pub EachReads : Type 0
 EachReads = (state : SumState) → sums.done state ≡ false → (text : List Letter) × (event : SumEvent) × (after : SumState) × Reads sums state text event after
 
--- A state in order is one of a machine.
+-- A state with `IsInOrder` is a state of a machine.
 abbrev pub EachIsState : Type 0
 EachIsState = (state : SumState) → IsInOrder state.limit state.work → IsState sums state
 
--- A text spells one value.
+-- A text has at most one value.
 abbrev pub OneValue : Type 0
 OneValue = (spaces : Spaces) (part : Part) (limit : ℕ) (text : List Letter) (e f : SumEvent) →
     Spells spaces limit part e text → Spells spaces limit part f text → e ≡ f
 
--- No spelling is a front of another.
+-- No text of a value is a proper prefix of another.
 abbrev pub NoFront : Type 0
 NoFront = (spaces : Spaces) (part : Part) (limit : ℕ) (text more : List Letter) (e f : SumEvent) →
     Spells spaces limit part e text → Spells spaces limit part f (text ++ more) → more ≡ []
 
--- A spelling stays one under larger limits.
+-- A text of a value remains one under larger limits.
 abbrev pub LargerLimits : Type 0
 LargerLimits = (spaces : Spaces) (part : Part) (small large : ℕ) (text : List Letter) (event : SumEvent) → small ≤ large →
     Spells spaces small part event text → Spells spaces large part event text
 
--- The canonical text of a value spells it.
+-- The canonical text of a value is a text of that value.
 abbrev pub CanonicalLinear : Type 0
 CanonicalLinear = (spaces : Spaces) (limit : ℕ) (c : Linear) → limit < 2 ^ 127 → IsLinear limit c → SpellsLinear spaces limit c (linear_text c)
 

@@ -1,5 +1,5 @@
 -- Names, terms, sums and linear texts.
-use Rattle.std.specs.Prelude.{ℕ, Bool, true, false, List, [], ◌∷◌, IsTrue, ◌&&◌, ◌||◌, nat_eq}
+use Rattle.std.specs.Prelude.{ℕ, Bool, true, false, List, [], ◌∷◌, IsTrue, ◌&&◌, ◌||◌, nat_eq, codes}
 use Rattle.pb_text.specs.Classes.{is_blank, is_letter, is_name_byte}
 use Rattle.pb_text.specs.Languages.{Language, ◌⋅◌, Empty, Byte, Bytes, Each, Many, Some}
 use Rattle.pb_text.specs.Numbers.{Number}
@@ -17,11 +17,11 @@ abbrev pub takes_line_feeds : Spaces → Bool
 takes_line_feeds White = true
 takes_line_feeds Blank = false
 
--- a blank or, among the whites, a line feed
+-- a blank, or for `White` also a line feed
 abbrev pub is_space : Spaces → ℕ → Bool
 is_space spaces b = is_blank b || (nat_eq b 10 && takes_line_feeds spaces)
 
--- a letter, and then one or more bytes of names
+-- a letter followed by one or more name bytes
 abbrev pub IsName : List ℕ → Type 0
 IsName [] = ⊥
 IsName (b ∷ []) = ⊥
@@ -68,13 +68,13 @@ module _ (spaces : Spaces) (limit : ℕ) where
   SpellsSum [] = Empty
   SpellsSum (x ∷ xs) = SpellsTerm x ⋅ SpellsFurther xs
 
-  -- a sum and, where it has a term, space
+  -- a sum, and optional space if it has a term
   abbrev pub Head : List Term → Language
   Head [] = Empty
   Head (x ∷ xs) = SpellsSum (x ∷ xs) ⋅ Spaces0
 
   abbrev pub Operator : Relation → Language
-  Operator AtLeast = Bytes (62 ∷ 61 ∷ [])
+  Operator AtLeast = Bytes (codes ">=")
   Operator Equal = Byte 61
 
   abbrev pub SpellsLinear : Linear → Language

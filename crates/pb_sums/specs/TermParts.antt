@@ -1,4 +1,4 @@
--- Parts of a term at the front of a text, and what a machine does over them, whatever it reads.
+-- Parts of a term at the start of a text, and what a machine does with them, whatever it reads.
 use Rattle.std.specs.Prelude.{◌≡◌, ℕ, ℤ, Bool, true, false, List, [], ◌∷◌, None}
 use Rattle.pb_text.specs.Automaton.{Runs}
 use Rattle.pb_sums.specs.Prefix.{role, behind_number}
@@ -25,12 +25,12 @@ IsTilde true text = text ≡ 126 ∷ []
 abbrev pub standing : Spaces → Part → ℕ → List Term → List ℕ → Phase → SumState
 standing spaces part limit xs name p = record { spaces = spaces; part = part; limit = limit; work = record { terms = xs; name = name; phase = p } }
 
--- a number and a space behind it, from this state
+-- a number and a space after it, from this state
 abbrev pub IsSpacedNumber : ℕ → Phase → List ℕ → ℤ → Type 0
 IsSpacedNumber limit p text z = (spaces : Spaces) (part : Part) (xs : List Term) →
     Runs sums (standing spaces part limit xs [] p) text (standing spaces part limit xs [] (behind_number (role p) z))
 
--- a literal behind a coefficient
+-- a literal after a coefficient
 abbrev pub IsLiteral : List ℕ → Literal → Type 0
 IsLiteral text l = (spaces : Spaces) (part : Part) (limit : ℕ) (xs : List Term) (z : ℤ) →
     Runs sums (standing spaces part limit xs [] (phase.TheVariants.Gap z)) text (standing spaces part limit xs l.name (phase.TheVariants.More z l.negated))

@@ -64,7 +64,7 @@ fn plain_kind(spaces: Spaces, byte: u8) -> Kind
     symbol(byte)
 }
 
-/// The kind of a byte where digits are those of a number, or of a name.
+/// The kind of a byte. Digits are digits of a number if `numeric`, and otherwise of a name.
 #[inline(always)]
 pub fn kind(spaces: Spaces, numeric: bool, byte: u8) -> Kind
     ensures kind { result ≡ kind spaces (letter_at numeric byte) }

@@ -1,5 +1,6 @@
 //! The laws of the grammar and of the machine.
 
+ghost use Rattle.pb_sums.specs.Fields.{NameKeeps, ShortKeeps};
 ghost use Rattle.pb_sums.specs.Kept.{KeepsItsState};
 ghost use Rattle.pb_sums.specs.Statements.{ReadsGrammar, EndsLast, EachReads, EachIsState, OneValue, NoFront, LargerLimits, CanonicalLinear, CanonicalSum, CanonicalBytes};
 
@@ -11,29 +12,35 @@ pub fn sums_are_exact()
     ensures state { EachIsState }
 {}
 
-/// A text spells one value.
+/// A text has at most one value.
 pub fn one_value()
     ensures { OneValue }
 {}
 
-/// No spelling is a front of another.
+/// No text of a value is a proper prefix of another.
 pub fn no_front()
     ensures { NoFront }
 {}
 
-/// A spelling under limits spells the same under larger ones.
+/// A text of a value under some limits is a text of the same value under larger ones.
 pub fn larger_limits()
     ensures { LargerLimits }
 {}
 
-/// The canonical text of a value within the limits spells it, and it is what the writers write.
+/// The canonical text of a value within the limits is a text of that value, and it is what the writers write.
 pub fn canonical_spells()
     ensures linear { CanonicalLinear }
     ensures sum { CanonicalSum }
     ensures bytes { CanonicalBytes }
 {}
 
-/// A machine keeps nothing beside its state and its allocator.
+/// A machine stores only its state and its allocator.
 pub fn keeps_its_state()
     ensures { KeepsItsState }
+{}
+
+/// A name stores only its text, and a short text only its length, its 22 bytes and its allocator.
+pub fn names_keep_their_texts()
+    ensures names { NameKeeps }
+    ensures short { ShortKeeps }
 {}

@@ -53,7 +53,7 @@ impl Model for SumMachine {
     ghost invariant = { λ m. (m.limit < 2 ^ 127) × IsInOrder m.limit (record { terms = m.terms; name = m.name; phase = m.phase }) };
 }
 
-/// Ends the term whose literal is whole.
+/// Ends the term whose literal is complete, if there is one.
 #[inline(always)]
 fn flush(
     alloc: Global,
@@ -84,7 +84,7 @@ fn flush(
     Ok(())
 }
 
-/// Ends the text: gives its terms, and keeps nothing.
+/// Ends the text: returns its terms, and stores nothing of it.
 #[inline(always)]
 fn finish(
     alloc: Global,
@@ -101,7 +101,7 @@ fn finish(
     Ok(mem::replace(terms, Sequence::new(alloc)))
 }
 
-/// The answer to a byte that is not grammatical.
+/// The result for a byte that is not grammatical.
 fn refusal(phase: Phase, byte: u8) -> Push<SumEvent>
     ensures { result ≡ (if is_in_number phase && is_digit byte then Push.Large else Push.No) }
 {
@@ -112,7 +112,7 @@ fn refusal(phase: Phase, byte: u8) -> Push<SumEvent>
     }
 }
 
-/// How many literals there are, and bytes of their names. The count stays at its largest.
+/// The number of literals plus the number of bytes of their names. The count saturates.
 pub fn count_units(terms: &[Term]) -> usize
     ensures { result ≡ min (units terms.now) (2 ^ 64 - 1) }
 {
@@ -125,12 +125,17 @@ pub fn count_units(terms: &[Term]) -> usize
 }
 
 impl SumMachine {
+    ghost use Rattle.pb_text.specs.Asking.{AsksOnly};
+    ghost use Rattle.pb_text.specs.Automaton.{MayAsk};
+    ghost use Rattle.pb_sums.specs.Asking.{AsksLiteral};
     ghost use Rattle.pb_sums.specs.State.{sums, first, IsOneText};
 
-    /// A machine before its text. It takes no memory.
+    /// A machine before its text. It does not allocate.
     pub fn new(alloc: Global, spaces: Spaces, part: Part, limits: Limits) -> Self
         ensures begins { result ≡ first spaces part (largest limits) }
         ensures format { (items : List (Item SumEvent)) → Accepts sums result items ↔ IsOneText spaces (largest limits) part items }
+        // It may allocate only at a byte of a name, and at one that ends a literal.
+        ensures asks { (used : List ℕ) (b : ℕ) → MayAsk sums result used b → AsksOnly (IsOneText spaces (largest limits) part) (λ _ text next. AsksLiteral text next) used b }
         ensures between { sums.begun result ≡ false }
         ensures state { IsState sums result }
     {
@@ -145,7 +150,7 @@ impl SumMachine {
         }
     }
 
-    /// Begins again, for this part. It takes no memory.
+    /// Starts again, for this part. It does not allocate.
     pub fn restart(&mut self, part: Part)
         ensures begins { self.new ≡ first self.old.spaces part self.old.limit }
         ensures state { IsState sums self.new }
@@ -163,7 +168,7 @@ impl SumMachine {
     ghost use Rattle.pb_sums.specs.Prefix.{LacksNumber, LacksRelation, begins_number, begins_relation, sign_read};
     ghost use Rattle.pb_sums.specs.State.{sums};
 
-    /// Takes a whole term and a space behind it, where a term may begin, or what is left of one behind its sign.
+    /// If a term may begin, takes a whole term and a space after it. After the sign of a term, takes the rest and the space.
     #[inline(always)]
     fn take_term(&mut self, text: &[u8]) -> usize
         ensures bound { result ≤ length text.now }
@@ -195,13 +200,13 @@ impl SumMachine {
         number + length + 1
     }
 
-    /// Takes a relation, and a space behind it if there is one, where terms and space stand before.
+    /// After terms and space, takes a relation, and a space after it if there is one.
     #[inline(always)]
     fn take_relation(&mut self, text: &[u8]) -> usize
         ensures bound { result ≤ length text.now }
         ensures runs { Runs sums self.old (take result text.now) self.new }
         ensures state { IsState sums self.new }
-        // It passes over one only where a name is in hand.
+        // It leaves one untaken only if a name is stored.
         ensures none { result ≡ 0 → begins_relation self.old.work.phase ≡ true → self.old.work.name ≡ [] → LacksRelation self.old.part text.now }
     {
         let _ = self.is_done();
@@ -218,7 +223,7 @@ impl SumMachine {
         length
     }
 
-    /// Takes a whole term, a relation or a coefficient, where they may begin.
+    /// Takes a whole term, a relation or a coefficient, if they may begin.
     #[inline(always)]
     fn take_start(&mut self, text: &[u8]) -> usize
         ensures bound { result ≤ length text.now }
@@ -236,7 +241,7 @@ impl SumMachine {
         self.take_numeral(text)
     }
 
-    /// Takes a number with a space behind it, or else its digits, where they may begin.
+    /// Takes a number with a space after it, or otherwise its digits, if they may begin.
     #[inline(always)]
     fn take_numeral(&mut self, text: &[u8]) -> usize
         ensures bound { result ≤ length text.now }
@@ -250,13 +255,13 @@ impl SumMachine {
         self.take_number(text)
     }
 
-    /// Takes a number that is small and a space behind it, where a number may begin.
+    /// Takes a small number and a space after it, if a number may begin.
     #[inline(always)]
     fn take_spaced_number(&mut self, text: &[u8]) -> usize
         ensures bound { result ≤ length text.now }
         ensures runs { Runs sums self.old (take result text.now) self.new }
         ensures state { IsState sums self.new }
-        // It passes over one only where a name is in hand.
+        // It leaves one untaken only if a name is stored.
         ensures none { result ≡ 0 → begins_number self.old.work.phase ≡ true → self.old.work.name ≡ [] → LacksNumber self.old.limit (sign_read self.old.work.phase) text.now }
     {
         let _ = self.is_done();
@@ -270,7 +275,7 @@ impl SumMachine {
         length
     }
 
-    /// Takes a number that is small, where one may begin.
+    /// Takes a small number, if one may begin.
     #[inline(always)]
     fn take_number(&mut self, text: &[u8]) -> usize
         ensures bound { result ≤ length text.now }
@@ -291,7 +296,7 @@ impl SumMachine {
         sign + count
     }
 
-    /// Takes a name of two bytes or more, where one may begin.
+    /// Takes a name of at least two bytes, if one may begin.
     #[inline(always)]
     fn take_name(&mut self, text: &[u8]) -> usize
         ensures bound { result ≤ length text.now }
@@ -314,7 +319,7 @@ impl SumMachine {
         length
     }
 
-    /// Takes bytes of a name behind its first two.
+    /// Takes bytes of a name after its first two.
     #[inline(always)]
     fn take_more(&mut self, text: &[u8]) -> usize
         requires { is_more self.old.work.phase ≡ true }
@@ -336,7 +341,7 @@ impl SumMachine {
         length
     }
 
-    /// Takes a space, where one often stands.
+    /// Takes a space, in the phases where one is common.
     #[inline(always)]
     fn take_space(&mut self) -> bool
         ensures goes { Goes sums self.old 32 result self.new }
@@ -353,7 +358,7 @@ impl SumMachine {
         true
     }
 
-    /// Takes the word at the front, if it is soon taken.
+    /// Takes the word at the start of the text, if that is fast.
     #[inline(always)]
     fn take_word(&mut self, text: &[u8]) -> usize
         ensures bound { result ≤ length text.now }

@@ -10,14 +10,14 @@ use std::alloc::{AllocError, Global};
 use std::fmt;
 use std::marker::Model;
 
-/// Where the text of a name is kept.
+/// Where the text of a name is stored.
 #[derive(Drop)]
 pub enum Kept {
     Short(ShortText),
     Long(String),
 }
 
-/// A name, which contracts see as the list of its bytes. A name of few bytes takes no memory.
+/// A name, which contracts see as the list of its bytes. A short name does not allocate.
 #[derive(Drop)]
 pub struct Name {
     kept: Kept,
@@ -33,7 +33,7 @@ impl Model for Name {
 }
 
 impl Name {
-    /// The empty name, which takes no memory.
+    /// The empty name, which does not allocate.
     #[inline(always)]
     pub fn new(alloc: Global) -> Name
         ensures { result ≡ [] }
@@ -43,7 +43,7 @@ impl Name {
         }
     }
 
-    /// The name that a string spells, which it keeps.
+    /// The name with the text of this string, which it stores.
     pub fn from_string(text: String) -> Name
         ensures { result ≡ string_bytes text }
     {
@@ -52,10 +52,10 @@ impl Name {
         }
     }
 
-    /// The name that a text spells. Memory is wanted for more than 22 bytes alone.
+    /// The name with this text. It may allocate only for more than 22 bytes.
     pub fn from_text(alloc: Global, text: &str) -> Result<Name, AllocError>
         ensures text { IfOk result (λ name. name ≡ text.now) }
-        // A short name takes no memory.
+        // A short name does not allocate.
         ensures short { length text.now ≤ 22 → is_ok result ≡ true }
     {
         if text.len() <= SHORT {
@@ -69,7 +69,7 @@ impl Name {
         })
     }
 
-    /// The name at the front of a text.
+    /// The name of the first `len` bytes of a text.
     #[inline(always)]
     pub(crate) fn from_front(alloc: Global, text: &[u8], len: usize) -> Result<Name, AllocError>
         requires within { len ≤ length text.now }
@@ -80,11 +80,11 @@ impl Name {
         if len <= SHORT {
             return Ok(Name::short_front(alloc, text, len));
         }
-        // It is a text, as is required.
+        // These bytes are UTF-8, as required.
         Name::from_text(alloc, unsafe { str::from_utf8_unchecked(&text[..len]) })
     }
 
-    /// The short name at the front of a text. It takes no memory.
+    /// The short name of the first `len` bytes of a text. It does not allocate.
     #[inline(always)]
     pub(crate) fn short_front(alloc: Global, text: &[u8], len: usize) -> Name
         requires short { len ≤ 22 }
@@ -129,7 +129,7 @@ impl Name {
         }
     }
 
-    /// Adds an ASCII byte at the end. Where memory ran out the name is unchanged.
+    /// Appends an ASCII byte. If out of memory, the name is unchanged.
     pub fn push(&mut self, byte: u8) -> Result<(), AllocError>
         requires { byte < 128 }
         ensures { self.new ≡ (if is_ok result then self.old ++ byte ∷ [] else self.old) }
@@ -147,7 +147,7 @@ impl Name {
         Ok(())
     }
 
-    /// Adds a text at the end. Where memory ran out the name is unchanged.
+    /// Appends a text. If out of memory, the name is unchanged.
     pub fn push_str(&mut self, text: &str) -> Result<(), AllocError>
         ensures { self.new ≡ (if is_ok result then self.old ++ text.now else self.old) }
     {
@@ -160,7 +160,7 @@ impl Name {
     }
 }
 
-/// The string of a text and an ASCII byte.
+/// The string of a text followed by an ASCII byte.
 fn with_byte(front: &ShortText, byte: u8) -> Result<String, AllocError>
     requires { byte < 128 }
     ensures { IfOk result (λ all. string_bytes all ≡ front.now ++ byte ∷ []) }
@@ -170,7 +170,7 @@ fn with_byte(front: &ShortText, byte: u8) -> Result<String, AllocError>
     Ok(all)
 }
 
-/// The string of a text and another.
+/// The string of a text followed by another.
 fn with_text(front: &ShortText, text: &str) -> Result<String, AllocError>
     ensures { IfOk result (λ all. string_bytes all ≡ front.now ++ text.now) }
 {

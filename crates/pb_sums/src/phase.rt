@@ -1,8 +1,8 @@
-//! What a machine knows of the text so far, and what a byte is to it.
+//! What a machine knows about the text so far, and the kinds of bytes.
 
 use crate::values::Relation;
 
-/// What a byte is to a sum.
+/// The kind of a byte in a sum.
 #[derive(Clone, Copy)]
 pub enum Kind {
     Space,
@@ -10,7 +10,7 @@ pub enum Kind {
     Digit(u8),
     /// A byte that may begin a name.
     Start(u8),
-    /// Another byte that a name may hold.
+    /// Another byte that a name may contain.
     Inner(u8),
     Tilde,
     Plus,
@@ -21,12 +21,12 @@ pub enum Kind {
     Other,
 }
 
-/// What has been read last.
+/// What was read last.
 #[derive(Clone, Copy)]
 pub enum Phase {
     /// Nothing.
     Start,
-    /// The sign of a coefficient, or of the degree behind a relation.
+    /// The sign of a coefficient, or of the degree after a relation.
     Signed(Option<Relation>, bool),
     /// Digits with this value.
     Digits(Option<Relation>, bool, u128),
@@ -36,7 +36,7 @@ pub enum Phase {
     Tilde(i128),
     /// The first byte of a name.
     First(i128, bool),
-    /// Two bytes of a name or more.
+    /// At least two bytes of a name.
     More(i128, bool),
     /// A term and space.
     Between,
@@ -48,14 +48,14 @@ pub enum Phase {
     Tail(Relation, i128),
     /// Space, and no term.
     Empty,
-    /// All.
+    /// The whole text.
     Done,
 }
 
 /// What a machine does with a byte.
 #[derive(Clone, Copy)]
 pub enum Move {
-    /// Goes on. A literal that is whole ends its term.
+    /// Continues. A literal that is complete ends its term.
     To(Phase),
     /// Begins a name with a byte.
     Begin(Phase, u8),

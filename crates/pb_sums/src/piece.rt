@@ -7,10 +7,10 @@ ghost use Rattle.pb_sums.specs.Canonical.{weight_bytes};
 use itoa::{Buffer, write_digits};
 use std::marker::Model;
 
-/// The most bytes of a piece.
+/// The maximum length of a piece, in bytes.
 pub const ROOM: usize = 192;
 
-/// A text of at most `ROOM` bytes, which grows at its front. Contracts see it as the list of its bytes.
+/// A text of at most `ROOM` bytes, which grows at its start. Contracts see it as the list of its bytes.
 #[derive(Drop)]
 pub struct Piece {
     bytes: [u8; ROOM],
@@ -47,7 +47,7 @@ impl Piece {
         &self.bytes[self.start..]
     }
 
-    /// How many bytes more the piece has room for.
+    /// How many more bytes the piece has room for.
     #[inline]
     pub fn room(&self) -> usize
         ensures { result + length self.now ≡ ROOM }
@@ -55,7 +55,7 @@ impl Piece {
         self.start
     }
 
-    /// Puts a byte before the others.
+    /// Prepends a byte.
     #[inline]
     pub fn put(&mut self, byte: u8)
         requires { length self.old < ROOM }
@@ -65,7 +65,7 @@ impl Piece {
         self.bytes[self.start] = byte;
     }
 
-    /// Puts a text before the others.
+    /// Prepends a text.
     #[inline]
     pub fn put_text(&mut self, text: &[u8])
         requires { length text.now + length self.old ≤ ROOM }
@@ -76,7 +76,7 @@ impl Piece {
         self.bytes[self.start..end].copy_from_slice(text);
     }
 
-    /// Puts the digits of a count before the others.
+    /// Prepends the digits of a count.
     #[inline]
     pub fn put_count(&mut self, count: u64)
         requires { 20 + length self.old ≤ ROOM }
@@ -86,7 +86,7 @@ impl Piece {
         self.start = write_digits(count, &mut self.bytes, self.start);
     }
 
-    /// Puts the digits of a number before the others.
+    /// Prepends the digits of a number.
     #[inline]
     fn put_digits(&mut self, number: u128)
         requires { 39 + length self.old ≤ ROOM }
@@ -99,7 +99,7 @@ impl Piece {
         }
     }
 
-    /// The same for a number past 64 bits.
+    /// The same for a number of more than 64 bits.
     #[cold]
     fn put_wide(&mut self, number: u128)
         requires { 39 + length self.old ≤ ROOM }
@@ -110,7 +110,7 @@ impl Piece {
         self.put_text(buffer.format(number).as_bytes());
     }
 
-    /// Puts a number before the others: digits, and `-` before them where it is negative.
+    /// Prepends a number: its digits, after a `-` if it is negative.
     #[inline]
     pub fn put_number(&mut self, value: i128)
         requires { 40 + length self.old ≤ ROOM }
@@ -123,7 +123,7 @@ impl Piece {
         }
     }
 
-    /// Puts a weight before the others: a sign and digits.
+    /// Prepends a coefficient: a sign and digits.
     #[inline]
     pub fn put_weight(&mut self, value: i128)
         requires { 40 + length self.old ≤ ROOM }

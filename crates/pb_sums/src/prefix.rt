@@ -1,4 +1,4 @@
-//! Names and signs at the front of a text.
+//! Names and signs at the start of a text.
 
 ghost use Rattle.std.specs.Prelude.{◌<◌, ◌≤◌, ◌≡◌, IsTrue, IfSome, None, true, false, take, length, get_or};
 ghost use Rattle.pb_text.specs.Classes.{is_name_byte};
@@ -12,12 +12,12 @@ use crate::transition::allows;
 use crate::values::Relation;
 use pb_text::bytes::is_name_byte;
 
-/// How many bytes of a name stand at the front.
+/// The number of name bytes at the start of the text.
 #[inline(always)]
 pub fn name_prefix(text: &[u8]) -> usize
     ensures bound { result ≤ length text.now }
     ensures name { Each (λ b. IsTrue (is_name_byte b)) (take result text.now) }
-    // It stops only where the name does.
+    // It stops only where the name ends.
     ensures stops { result < length text.now → is_name_byte (get_or text.now result 0) ≡ false }
 {
     for (i, byte) in text.iter().enumerate() {
@@ -28,7 +28,7 @@ pub fn name_prefix(text: &[u8]) -> usize
     text.len()
 }
 
-/// The length of the sign of a number at the front, if it was not read before, and whether it is a minus.
+/// The length of the sign at the start of the text, or 0 if it was already read, and whether it is a minus.
 #[inline(always)]
 pub fn sign_prefix(read: Option<bool>, text: &[u8]) -> (usize, bool)
     ensures bound { result.0 ≤ length text.now }
@@ -40,7 +40,7 @@ pub fn sign_prefix(read: Option<bool>, text: &[u8]) -> (usize, bool)
     }
 }
 
-/// The length of the sign at the front, and whether it is a minus.
+/// The length of the sign at the start of the text, and whether it is a minus.
 #[inline(always)]
 fn sign_front(text: &[u8]) -> (usize, bool)
     ensures bound { result.0 ≤ length text.now }
@@ -56,7 +56,7 @@ fn sign_front(text: &[u8]) -> (usize, bool)
     }
 }
 
-/// The relation at the front, where the part allows it, and its length.
+/// The relation at the start of the text, if the part allows it, and its length.
 #[inline(always)]
 pub fn relation_prefix(part: Part, text: &[u8]) -> Option<(usize, Relation)>
     ensures bound { IfSome result (λ r. r.0 ≤ length text.now) }

@@ -6,10 +6,10 @@ ghost use Rattle.std.specs.Str.{IsUtf8};
 use std::alloc::Global;
 use std::marker::Model;
 
-/// The most bytes of a text that is kept in place.
+/// The maximum length of a text that is stored inline, in bytes.
 pub const SHORT: usize = 22;
 
-/// A text of at most `SHORT` bytes, kept in place. Contracts see it as the list of its bytes.
+/// A text of at most `SHORT` bytes, stored inline. Contracts see it as the list of its bytes.
 #[derive(Drop)]
 pub struct ShortText {
     alloc: Global,
@@ -42,7 +42,7 @@ impl ShortText {
         }
     }
 
-    /// The text at the front of a block.
+    /// The text of the first `len` bytes of a block.
     #[inline(always)]
     pub fn from_block(alloc: Global, block: &[u8; SHORT], len: usize) -> ShortText
         requires within { len ≤ 22 }
@@ -56,7 +56,7 @@ impl ShortText {
         }
     }
 
-    /// The text at the front of another.
+    /// The text of the first `len` bytes of another.
     #[inline(always)]
     pub fn from_front(alloc: Global, text: &[u8], len: usize) -> ShortText
         requires short { len ≤ 22 }
@@ -67,11 +67,11 @@ impl ShortText {
         if let Some(block) = text.first_chunk::<SHORT>() {
             return ShortText::from_block(alloc, block, len);
         }
-        // It is a text, as is required.
+        // These bytes are UTF-8, as required.
         ShortText::from_text(alloc, unsafe { str::from_utf8_unchecked(&text[..len]) })
     }
 
-    /// The text that a `str` spells, where it has room for it.
+    /// The text of a `str` of at most `SHORT` bytes.
     pub fn from_text(alloc: Global, text: &str) -> ShortText
         requires { length text.now ≤ 22 }
         ensures { result ≡ text.now }
@@ -85,7 +85,7 @@ impl ShortText {
         }
     }
 
-    /// The same text once more.
+    /// A copy of the text.
     #[inline(always)]
     pub fn again(&self) -> ShortText
         ensures { result ≡ self.now }
@@ -116,11 +116,11 @@ impl ShortText {
     pub fn as_str(&self) -> &str
         ensures { result.now ≡ self.now }
     {
-        // Its bytes are those of a text, as its invariant says.
+        // Its bytes are UTF-8, by its invariant.
         unsafe { str::from_utf8_unchecked(&self.bytes[..self.len as usize]) }
     }
 
-    /// Adds an ASCII byte at the end where there is room for it, and answers whether there was.
+    /// Appends an ASCII byte if there is room for it, and returns whether there was.
     #[inline(always)]
     #[tactic(auto, using(crate::proofs::Shorts::longer_utf8))]
     pub fn push(&mut self, byte: u8) -> bool

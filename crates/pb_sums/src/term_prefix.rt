@@ -1,4 +1,4 @@
-//! Parts of a term at the front of a text.
+//! Parts of a term at the start of a text.
 
 ghost use Rattle.std.specs.Prelude.{◌≡◌, ◌≢◌, ◌≤◌, ◌<◌, ◌^◌, IfSome, None, true, get_or, length, take};
 ghost use Rattle.pb_sums.specs.Prefix.{LacksLiteral, LacksNumber, begins_number, sign_read};
@@ -26,7 +26,7 @@ pub fn begins_term(phase: Phase) -> bool
     }
 }
 
-/// The length of the `~` at the front, and whether there is one.
+/// The length of the `~` at the start of the text, and whether there is one.
 #[inline(always)]
 pub fn tilde_prefix(text: &[u8]) -> (usize, bool)
     ensures bound { result.0 ≤ length text.now }
@@ -44,7 +44,7 @@ pub fn tilde_prefix(text: &[u8]) -> (usize, bool)
     }
 }
 
-/// A number and a space behind it at the front, and their length, where they are soon read.
+/// A number and a space after it at the start of the text, and their length, if they are fast to read.
 #[inline(always)]
 pub fn spaced_number_prefix(limit: u128, phase: Phase, text: &[u8]) -> Option<(usize, i128)>
     requires room { limit < 2 ^ 127 }
@@ -66,7 +66,7 @@ pub fn spaced_number_prefix(limit: u128, phase: Phase, text: &[u8]) -> Option<(u
     Some((end + 1, signed(negative, magnitude)))
 }
 
-/// A literal at the front, and its length, where it is soon read and takes no memory.
+/// A literal at the start of the text, and its length, if it is fast to read and does not allocate.
 #[inline(always)]
 pub fn literal_prefix(alloc: Global, text: &[u8]) -> Option<(usize, Literal)>
     ensures bound { IfSome result (λ r. r.0 ≤ length text.now) }

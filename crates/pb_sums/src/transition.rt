@@ -11,7 +11,7 @@ use crate::phase::{Kind, Move, Phase};
 use crate::values::Relation;
 use pb_text::decimal::{next_digit, signed};
 
-/// Whether digits are those of a number.
+/// Whether digits in this phase are digits of a number.
 pub fn is_numeric(phase: Phase) -> bool
     ensures { result ≡ is_numeric phase }
 {
@@ -25,7 +25,7 @@ pub fn is_numeric(phase: Phase) -> bool
     }
 }
 
-/// Whether the byte before is a digit of a number.
+/// Whether the last byte is a digit of a number.
 pub fn is_in_number(phase: Phase) -> bool
     ensures { result ≡ is_in_number phase }
 {
@@ -45,7 +45,7 @@ pub fn is_done(phase: Phase) -> bool
     }
 }
 
-/// Whether two bytes of a name were read, or more.
+/// Whether at least two bytes of a name were read.
 pub fn is_more(phase: Phase) -> bool
     ensures { result ≡ is_more phase }
 {
@@ -65,7 +65,7 @@ pub fn begins_number(phase: Phase) -> bool
     }
 }
 
-/// The relation that a number stands behind, if any.
+/// The relation before a number, if any.
 pub fn role(phase: Phase) -> Option<Relation>
     ensures { result ≡ role phase }
 {
@@ -76,7 +76,7 @@ pub fn role(phase: Phase) -> Option<Relation>
     }
 }
 
-/// Whether the sign that was read last is a minus, if it is a sign.
+/// If a sign was read last, whether it is a minus.
 pub fn sign_read(phase: Phase) -> Option<bool>
     ensures { result ≡ sign_read phase }
 {
@@ -86,7 +86,7 @@ pub fn sign_read(phase: Phase) -> Option<bool>
     }
 }
 
-/// Whether terms and space stand before, behind which a relation may.
+/// Whether terms and space were read last, after which a relation may follow.
 pub fn begins_relation(phase: Phase) -> bool
     ensures { result ≡ begins_relation phase }
 {
@@ -96,7 +96,7 @@ pub fn begins_relation(phase: Phase) -> bool
     }
 }
 
-/// Where the machine is behind a number and space.
+/// The phase after a number and space.
 pub fn behind_number(role: Option<Relation>, value: i128) -> Phase
     ensures { result ≡ behind_number role value }
 {
@@ -106,7 +106,7 @@ pub fn behind_number(role: Option<Relation>, value: i128) -> Phase
     }
 }
 
-/// Where the machine is behind a name, where one may begin.
+/// The phase after a name, if one may begin.
 pub fn behind_name(phase: Phase) -> Option<Phase>
     ensures { result ≡ behind_name phase }
 {
@@ -117,7 +117,7 @@ pub fn behind_name(phase: Phase) -> Option<Phase>
     }
 }
 
-/// Where the machine is behind a space, where one often stands.
+/// The phase after a space, in the phases where one is common.
 #[inline(always)]
 pub fn behind_space(phase: Phase) -> Option<Phase>
     requires { PhaseFits (2 ^ 127 - 1) phase }
@@ -206,7 +206,7 @@ fn behind(part: Part, kind: Kind) -> Move
     }
 }
 
-/// What a machine does with a kind of byte. It asks for no memory.
+/// What a machine does with a kind of byte. It does not allocate.
 #[inline(always)]
 pub fn plan(part: Part, limit: u128, phase: Phase, kind: Kind) -> Move
     requires room { limit < 2 ^ 127 }

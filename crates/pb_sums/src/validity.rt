@@ -1,4 +1,4 @@
-//! The rules that a value of the grammar meets.
+//! The rules for a value of the grammar.
 
 ghost use Rattle.std.specs.Prelude.{◌≡◌, ◌<◌, ◌≤◌, ◌^◌, ◌↔◌, IsTrue, nat_abs};
 ghost use Rattle.pb_text.specs.Classes.{is_name_byte};
@@ -22,7 +22,7 @@ fn are_name_bytes(bytes: &[u8]) -> bool
     true
 }
 
-/// Whether the text is a name: a letter, and then one or more bytes of names.
+/// Whether the text is a name: a letter followed by one or more name bytes.
 pub fn is_name(text: &str) -> bool
     ensures { IsTrue result ↔ IsName text.now }
 {
@@ -57,7 +57,7 @@ pub fn sum_is_value(terms: &[Term], limits: Limits) -> bool
     true
 }
 
-/// The same of its terms, and whether the degree's magnitude is within the limits.
+/// The same for its terms, and whether the magnitude of the degree is within the limits.
 pub fn linear_is_value(linear: &Linear, limits: Limits) -> bool
     ensures { IsTrue result ↔ IsLinear (largest limits) linear.now }
 {

@@ -24,7 +24,7 @@ impl Clone for Literal {
     }
 }
 
-/// A weighted literal.
+/// A literal with its coefficient.
 #[derive(Debug, Drop, PartialEq)]
 pub struct Term {
     pub coefficient: i128,
@@ -49,7 +49,7 @@ pub enum Relation {
     Equal,
 }
 
-/// A constraint as written: repeated names and zero coefficients stay.
+/// A constraint as written: repeated names and zero coefficients are preserved.
 #[derive(Debug, Drop, PartialEq)]
 pub struct Linear {
     pub terms: Sequence<Term>,

@@ -11,16 +11,16 @@ use crate::piece::{Piece, ROOM};
 use crate::values::{Linear, Literal, Relation, Term};
 use pb_text::{Failed, Place, Sink, write_bytes};
 
-/// The most bytes of a name that are written in one piece with what stands before it.
+/// The maximum number of bytes of a name that are written in one piece with the text before it.
 const FRONT: usize = 48;
 
-/// The most bytes of a term without its name, with a space before it.
+/// The maximum length of a term without its name but with a space before it, in bytes.
 const LONGEST: usize = 43;
 
-/// The most terms of a piece.
+/// The maximum number of terms of a piece.
 const BATCH: usize = 8;
 
-/// Writes a number: digits, and `-` before them where it is negative.
+/// Writes a number: its digits, after a `-` if it is negative.
 pub fn write_number<S: Sink>(value: i128, out: &mut S) -> Result<(), Failed>
     ensures { Writes S.contents S.faults out.old (signed_decimal value) result out.new }
 {
@@ -38,7 +38,7 @@ pub fn write_count<S: Sink>(value: u64, out: &mut S) -> Result<(), Failed>
     write_bytes(piece.as_bytes(), out)
 }
 
-/// Writes a place: its line, `:`, its column and a space.
+/// Writes a position: its line, `:`, its column and a space.
 pub fn write_place<S: Sink>(place: Place, out: &mut S) -> Result<(), Failed>
     ensures { Writes S.contents S.faults out.old (place_bytes place) result out.new }
 {
@@ -50,7 +50,7 @@ pub fn write_place<S: Sink>(place: Place, out: &mut S) -> Result<(), Failed>
     write_bytes(piece.as_bytes(), out)
 }
 
-/// The front of a name that fits a piece, and the rest, which most names do not have.
+/// The prefix of a name that fits in a piece, and the rest, which is empty for most names.
 fn split_name(name: &Name) -> (&[u8], &[u8])
     ensures short { length result.0.now ≤ FRONT }
     ensures whole { name.now ≡ result.0.now ++ result.1.now }
@@ -59,7 +59,7 @@ fn split_name(name: &Name) -> (&[u8], &[u8])
     bytes.split_at(bytes.len().min(FRONT))
 }
 
-/// Puts the front of a literal before the others: `~` where it is negated, and the front of its name.
+/// Prepends the start of a literal: `~` if it is negated, and the prefix of its name.
 fn put_literal(negated: bool, front: &[u8], piece: &mut Piece)
     requires { 1 + length front.now + length piece.old ≤ ROOM }
     ensures { piece.new ≡ literal_bytes negated front.now ++ piece.old }
@@ -70,7 +70,7 @@ fn put_literal(negated: bool, front: &[u8], piece: &mut Piece)
     }
 }
 
-/// Puts the front of a term before the others: all of it but the rest of its name.
+/// Prepends the start of a term: all of it except the rest of its name.
 fn put_term(term: &Term, front: &[u8], piece: &mut Piece)
     requires { 42 + length front.now + length piece.old ≤ ROOM }
     ensures text { piece.new ≡ (weight_bytes term.now.coefficient ++ (32 ∷ literal_bytes term.now.literal.negated front.now)) ++ piece.old }
@@ -89,7 +89,7 @@ fn write_both<S: Sink>(piece: &Piece, rest: &[u8], out: &mut S) -> Result<(), Fa
     write_bytes(rest, out)
 }
 
-/// Writes a literal: its name, and `~` before it where it is negated.
+/// Writes a literal: its name, after a `~` if it is negated.
 pub fn write_literal<S: Sink>(literal: &Literal, out: &mut S) -> Result<(), Failed>
     ensures { Writes S.contents S.faults out.old (literal_bytes literal.now.negated literal.now.name) result out.new }
 {
@@ -128,7 +128,7 @@ fn write_each<S: Sink>(terms: &[Term], out: &mut S) -> Result<(), Failed>
     Ok(())
 }
 
-/// Puts a term and a space in front of it before the others, where it surely fits, and answers whether it did.
+/// Prepends a space and a term if they surely fit, and returns whether it did.
 fn put_further_term(term: &Term, piece: &mut Piece) -> bool
     ensures { piece.new ≡ (if result then (32 ∷ term_bytes term.now) ++ piece.old else piece.old) }
 {
@@ -141,7 +141,7 @@ fn put_further_term(term: &Term, piece: &mut Piece) -> bool
     true
 }
 
-/// Puts terms before the others, the last one first, as far as they fit, and answers how many are left.
+/// Prepends terms, the last one first, as long as they fit, and returns how many are left.
 fn put_further(terms: &[Term], piece: &mut Piece) -> usize
     ensures within { result ≤ length terms.now }
     ensures text { piece.new ≡ further_bytes (drop result terms.now) ++ piece.old }
@@ -153,7 +153,7 @@ fn put_further(terms: &[Term], piece: &mut Piece) -> usize
     left
 }
 
-/// Writes terms, the last of them in one piece.
+/// Writes terms, the last ones in one piece.
 fn write_batch<S: Sink>(terms: &[Term], out: &mut S) -> Result<(), Failed>
     ensures { Writes S.contents S.faults out.old (further_bytes terms.now) result out.new }
 {

@@ -1,4 +1,4 @@
--- Where a state stands to its text is what a read of the text owes.
+-- A state with `Stands` for its text gives what a read of the text must give.
 use Rattle.std.proofs.Common.{min, ◌-◌, ◌≡◌, ◌≢◌, ℕ, ◌+◌, ◌<◌, ◌≤◌, List, [], ◌∷◌, ◌++◌, length, take, nat_le, Bool, cond, IsTrue, Option, Some, None, refl, sym, ap, ◌∙◌, append_assoc, arith, length-append, subst, ◌⊎◌, inl, inr, eq-or-lt_of_le, le-leb}
 use Rattle.std.proofs.Math.Seq.{take-append_seam}
 use Rattle.std.proofs.lemmas.List.{append_cancel_left, append-nil, nil_from_length}
@@ -16,7 +16,7 @@ use Rattle.pb_text.proofs.Languages.{bytes-append}
 use Rattle.pb_text.proofs.Lists.{length-bytes}
 use Rattle.pb_text.proofs.Follows.{no_letters}
 
--- marks that have ended stay
+-- spans that have ended remain
 ended_stay : {E : Type 0} (n : ℕ) (marks : List (Spanned E)) → EndBy n marks → ended_within n marks ≡ marks
 ended_stay n [] h = refl
 ended_stay n (m ∷ marks) h =
@@ -30,7 +30,7 @@ past_text : (before gap : List ℕ) (text : List Letter) → (place_after (befor
 past_text before gap text =
     place_after-offset (before ++ (gap ++ bytes text)) ∙ omega (arith, length-append before (gap ++ bytes text), length-append gap (bytes text), length-bytes text)
 
--- marks after the text go
+-- spans after the text are left out
 later_go : {E : Type 0} (n : ℕ) (first : Option Place) (before : List ℕ) (later : List (Item E)) → n < length before → ended_within n (marks_since first before later) ≡ []
 later_go n first before [] h = refl
 later_go n first before (i ∷ rest) h =
@@ -127,7 +127,7 @@ module _ {E : Type 0} (format rest : List (Item E) → Type 0) (letters : List L
         let over : Overruns longest (length (bytes letters)) (marks ++ marks_since first (bytes letters) o.0) = subst (λ (x : List (Spanned E)). Overruns longest (length (bytes letters)) x) o.2.marks_are (full v.0 v.1 v.2) in
         since_fits longest some first (bytes letters) o.0 lt' (Overruns-split longest (length (bytes letters)) marks (marks_since first (bytes letters) o.0) (subst (λ (k : ℕ). EndBy k marks) (sym n) follows.ended) over)
 
-    -- a statement that has begun runs on past the end of what was read
+    -- a statement that has begun continues past the end of what was read
     runs_on : (p : Place) → length (bytes letters) ≡ p.offset + longest → (later : List (Item E)) → rest later → (rest [] → ⊥) → Overruns longest (length (bytes letters)) (marks_since (Some p) (bytes letters) later)
     runs_on p e [] r never = absurd (never r)
     runs_on p e (i ∷ items) r never =

@@ -1,4 +1,5 @@
--- Where an automaton asks, the next byte of any spelling stands in a statement at a place that asks. Offered to other crates.
+-- If an automaton may allocate, the next byte of any text is in a statement, at a position that may allocate. Offered to
+-- other crates.
 use Rattle.std.proofs.Common.{◌≡◌, ℕ, List, [], ◌∷◌, ◌++◌, true, false, IsTrue, Some, refl, sym, ap, ap₂, ◌∙◌, subst, append_assoc, append-nil, ◌⊎◌, inl, inr}
 use Rattle.std.proofs.lemmas.Bool.{false≢true}
 use Rattle.pb_text.specs.Automaton.{Automaton, Next, Go, End, Skips, Reads, Accepts, behind, Leads}
@@ -27,7 +28,7 @@ module _ {S E : Type 0} (m : Automaton S E) where
   ended : (x : Next S E) (e : E) (mid new : S) → behind m x ≡ Some mid → x ≡ End e new → mid ≡ new
   ended x e mid new h f = let k : behind m (End e new) ≡ Some mid = subst (λ (y : Next S E). behind m y ≡ Some mid) f h in cc
 
-  -- What is to be known of the automaton: of the states between statements, and of those within one.
+  -- What must be known of the automaton: of the states between statements, and of those within one.
   module _ (Idle : S → Type 0) (Asks : E → List ℕ → ℕ → Type 0) where
     pub record IsAsked : Type 0 where
       pub gaps : (s next : S) (b : ℕ) → Idle s → m.step s b ≡ Go next → m.begun next ≡ false → Idle next × (m.asks s b ≡ false)
@@ -49,7 +50,7 @@ module _ {S E : Type 0} (m : Automaton S E) where
           let r = in_gap gap mid at behind_it used (known.gaps s mid c i g o).0 k (subst (λ (x : S). Leads m x used state) one l) (tail c d (gap ++ behind_it) (used ++ b ∷ more) e) in
           (r.0, put d c used (gap ++ r.0) same r.1, r.2, r.3, r.4)
 
-      -- the byte is one of the text, or stands behind it
+      -- the byte is in the text, or comes after it
       abbrev InText : List Letter → List ℕ → List ℕ → E → S → List ℕ → Type 0
       InText t before used e after behind_it =
           ((later : List ℕ) × (bytes t ≡ used ++ b ∷ later) × Asks e (before ++ used) b)
@@ -117,7 +118,7 @@ module _ {S E : Type 0} (m : Automaton S E) where
           let t = in_text j.text [] at at after j.event (bytes_of rest) g.0 g.3 refl r g.2 g.4 in
           first_item j rest used g.0 after g.1 t (λ behind_it x y. asked rest after behind_it (known.ends at after j.text j.event g.3 r) a x y)
 
-    -- behind these bytes of what a state accepts
+    -- after these bytes of what a state accepts
     pub asks_within : IsAsked → (start : S) (used : List ℕ) (b : ℕ) → Idle start → (state : S) → Leads m start used state → IsTrue (m.asks state b)
         → (items : List (Item E)) (more : List ℕ) → Accepts m start items → bytes_of items ≡ used ++ b ∷ more → IsWithin Asks items used b
     asks_within known start used b i state l a items more h e = asked known state b more a items start used i h l e

@@ -49,7 +49,7 @@ module _ {S E : Type 0} (m : Automaton S E) (longest : ℕ) (start : S) where
   halts_more state end letters left more Read c h = tt
   halts_more state end letters left more Memory c h = (h.0, h.1 ++ more, ap (λ (x : List ℕ). x ++ more) h.2, h.3, h.4, h.5)
 
-  -- where it stands with another rest and another stop
+  -- `Stands` with another rest and another stop
   moved : (old : S) (input input' : List ℕ) (marks : List (Spanned E)) (place : Place) (first : Option Place) (stop stop' : Option Stop) (left : List ℕ)
       → (s : Stands m longest start input marks old place first stop) → input' ≡ bytes s.letters ++ left → Waits m old (end_of longest first) s.letters left place stop'
       → Stands m longest start input' marks old place first stop'
@@ -79,7 +79,7 @@ module _ {S E : Type 0} (m : Automaton S E) (longest : ℕ) (start : S) where
     longer : (stop : Option Stop) (s : Stands m longest start input marks old place first stop) (more : List ℕ) → input ++ more ≡ bytes s.letters ++ (s.left ++ more)
     longer stop s more = ap (λ (x : List ℕ). x ++ more) s.input_is ∙ append_assoc (bytes s.letters) s.left more
 
-    -- more input changes nothing where the machine is complete or stopped
+    -- more input changes nothing if the machine is complete or stopped
     pub stands_more : (more : List ℕ) (stop : Option Stop) → IsOpen stop → (stop ≡ None → m.done old ≡ true) → Stands m longest start input marks old place first stop → Stands m longest start (input ++ more) marks old place first stop
     stands_more more stop c done s =
         moved old input (input ++ more) marks place first stop stop (s.left ++ more) s (longer stop s more) (waits_more (end_of longest first) s.letters s.left more stop c done s.waits)

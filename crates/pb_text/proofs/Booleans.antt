@@ -1,4 +1,4 @@
--- A test is not both, and what a sum of tests gives. Offered to other crates.
+-- A test is not both true and false, and what a disjunction of tests gives. Offered to other crates.
 use Rattle.std.proofs.Common.{◌≡◌, Bool, true, false, ◌||◌, refl}
 
 pub never : {A : Type 0} (b : Bool) → b ≡ true → b ≡ false → A

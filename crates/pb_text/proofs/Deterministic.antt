@@ -1,4 +1,5 @@
--- A text spells one row of statements, and where nothing may follow a complete one, none is a front of another. Offered to other crates.
+-- A text has at most one list of statements. If nothing may follow a complete text, none is a proper prefix of another.
+-- Offered to other crates.
 use Rattle.std.proofs.Common.{◌≡◌, ℕ, List, [], ◌∷◌, ◌++◌, true, false, IsTrue, refl, sym, ap, ap₂, ◌∙◌, subst}
 use Rattle.std.proofs.lemmas.List.{append-nil}
 use Rattle.pb_text.specs.Spelling.{Letter, Item, bytes_of}
@@ -22,7 +23,7 @@ module _ {S E : Type 0} (m : Automaton S E) where
   abbrev Same : List (Item E) → List (Item E) → List ℕ → Type 0
   Same items items' more = (items ≡ items') × (more ≡ [])
 
-  -- nothing may follow what is complete
+  -- nothing may follow a complete text
   abbrev pub Closes : Type 0
   Closes = (s : S) → IsTrue (m.done s) → (b : ℕ) → m.step s b ≡ Refuse
 
@@ -127,7 +128,7 @@ module _ {S E : Type 0} (m : Automaton S E) where
     nothing_read s _ items' more (InText l d text x rest next h o n a) k e g = not_empty l.byte _ e
     nothing_read s _ items' more (AtLast l x rest next h n a) k e g = not_empty l.byte _ e
 
-    -- Where one accepted text is a front of another, both are the same statements.
+    -- If one accepted text is a prefix of another, both are the same statements.
     pub one_front : (bs : List ℕ) → Known bs
     one_front [] s items items' more h k e g = nothing_read s items items' more (first_of m s items h) (first_of m s items' k) e g
     one_front (b ∷ bs) s items items' more h k e g =

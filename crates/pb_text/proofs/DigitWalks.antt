@@ -11,7 +11,7 @@ ten_pos zero = omega arith
 ten_pos (suc k) = rw (pow-succ' 10 k) (omega (arith, ten_pos k))
 
 module _ {S E : Type 0} (m : Automaton S E) (at : ℕ → S) (limit : ℕ) where
-  -- A digit leads from one value to the next, as far as the limit.
+  -- A digit leads from one value to the next, up to the limit.
   pub record TakesDigits : Type 0 where
     pub more : (n d : ℕ) → d < 10 → 10 * n + d ≤ limit → m.step (at n) (48 + d) ≡ Go (at (10 * n + d))
     pub begun : (n : ℕ) → m.begun (at n) ≡ true

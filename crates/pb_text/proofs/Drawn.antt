@@ -1,4 +1,4 @@
--- The parts of a pull, one after another.
+-- The consecutive parts of a pull.
 use Rattle.std.proofs.Common.{◌≡◌, ℕ, List, [], ◌++◌, Option, Some, None, Result, Ok, Err, sym, ap, ◌∙◌, subst, length-append, append-nil, append_assoc, arith}
 use Rattle.pb_text.specs.Feeding.{marks_taken, StandsAt}
 use Rattle.pb_text.specs.Pouring.{Pours}

@@ -1,4 +1,4 @@
--- A feeder is its parts: what else it keeps follows from them, and facts have one proof.
+-- A feeder is determined by its parts: its other fields follow from them, and facts have one proof.
 use Rattle.std.proofs.Common.{◌≡◌, ℕ, ◌+◌, ◌<◌, ◌≤◌, Option, sym, ap, ap₂, ◌∙◌, subst}
 use Rattle.std.proofs.Math.Bridge.{le_prop}
 use Rattle.std.proofs.Math.Nat.{ℕ_set}

@@ -1,4 +1,4 @@
--- In any spelling that begins with a front, the marks that end within it are the same. Offered to other crates.
+-- In all texts that begin with the same prefix, the spans that end within it are the same. Offered to other crates.
 use Rattle.std.proofs.Common.{◌≡◌, ℕ, ◌+◌, List, [], ◌∷◌, ◌++◌, length, nat_le, true, false, cond, Option, Some, None, refl, sym, ap, ◌∙◌, subst, arith, length-append}
 use Rattle.pb_text.specs.Spelling.{Letter, Item, bytes_of, place_after, place_or, marks_since}
 use Rattle.pb_text.specs.Reading.{ended_within, HasFixedMarks}
@@ -13,7 +13,7 @@ use Rattle.pb_text.proofs.Lists.{mark, gap_advances, letter_advances, last_advan
 use Rattle.pb_text.proofs.Residual.{PutGap, PutLetter, PutLast, First, Nothing, InGap, InText, AtLast, first_of, has_text}
 
 module _ {S E : Type 0} (m : Automaton S E) where
-  -- what is accepted behind the first byte
+  -- what is accepted after the first byte
   data Moved (s : S) (b : ℕ) (items : List (Item E)) (more : List ℕ) : Type 0 where
     Between : (next : S) (later : List (Item E)) → m.step s b ≡ Go next → m.begun next ≡ false → PutGap b later items → Accepts m next later → bytes_of later ≡ more → Moved s b items more
     Within : (next : S) (later : List (Item E)) (l : Letter) → l.byte ≡ b → m.step s b ≡ Go next → m.begun next ≡ true → PutLetter l later items → Accepts m next later → bytes_of later ≡ more → Moved s b items more
@@ -32,11 +32,11 @@ module _ {S E : Type 0} (m : Automaton S E) where
       let byte : l.byte ≡ b = head l.byte b _ more e in
       Last next rest l x byte (ap (m.step s) (sym byte) ∙ h) refl a (tail l.byte b _ more e)
 
-  -- a mark more in front
+  -- one more span prepended
   with_mark : (n : ℕ) (q : Spanned E) (xs ys : List (Spanned E)) → ended_within n xs ≡ ended_within n ys → ended_within n (q ∷ xs) ≡ ended_within n (q ∷ ys)
   with_mark n q xs ys h = ap (λ (z : List (Spanned E)). cond (nat_le q.past.offset n) (q ∷ z) z) h
 
-  -- what is known of shorter fronts
+  -- what is known of shorter prefixes
   abbrev Known : List ℕ → Type 0
   Known front = (s : S) (first : Option Place) (before : List ℕ) (items items' : List (Item E)) (rest rest' : List ℕ) (n : ℕ) → Accepts m s items → Accepts m s items' → bytes_of items ≡ front ++ rest → bytes_of items' ≡ front ++ rest' → n ≡ length before + length front
       → ended_within n (marks_since first before items) ≡ ended_within n (marks_since first before items')
@@ -45,7 +45,7 @@ module _ {S E : Type 0} (m : Automaton S E) where
     longer : n ≡ length (before ++ b ∷ []) + length front
     longer = omega (arith, is, length-append before (b ∷ []))
 
-    -- the marks behind the byte, where it is in a gap, in a statement, or its last
+    -- the spans after the byte, if it is in a gap, in a statement, or the last of one
     in_gap : (later all : List (Item E)) → PutGap b later all → marks_since first before all ≡ marks_since first (before ++ b ∷ []) later
     in_gap later all p = let l : Letter = record { byte = b; numeral = false } in (gap_advances l before first).marks_are later all (refl, p)
 

@@ -1,4 +1,4 @@
--- A state that follows a text follows it with one byte more.
+-- A state that follows a text leads to one that follows the text with one more byte.
 use Rattle.std.proofs.Common.{◌≡◌, ℕ, ◌<◌, ◌≤◌, List, [], ◌∷◌, ◌++◌, length, take, Option, refl, sym, ap, ◌∙◌, append_assoc, arith, length-append, subst, ◌⊎◌, inl, inr, eq-or-lt_of_le}
 use Rattle.std.proofs.Math.Seq.{take-length}
 use Rattle.std.proofs.lemmas.List.{append_cancel_left, append-nil, take-append-le}
@@ -14,7 +14,7 @@ pub EndBy-append : {E : Type 0} (n m : ℕ) (a b : List (Spanned E)) → EndBy n
 EndBy-append n m [] b h le k = k
 EndBy-append n m (x ∷ a) b h le k = (omega (arith, h.0), EndBy-append n m a b h.1 le k)
 
--- nothing follows where no letter does
+-- if no letter follows, nothing follows
 pub no_letters : {E : Type 0} (rest : List (Item E) → Type 0) → IsResidual rest → (later : List (Item E)) → rest later → length (letters_of later) ≡ 0 → later ≡ []
 no_letters rest state [] r e = refl
 no_letters rest state (i ∷ items) r e =
@@ -43,7 +43,7 @@ module _ {E : Type 0} (format old new : List (Item E) → Type 0) (put : List (I
       let e : l ∷ letters_of next.live.0 ≡ [] = sym (moves.letters_are next.live.0 back.0 back.1) ∙ ap letters_of empty in
       cc
 
-  -- no spelling is these bytes
+  -- these bytes are not a text of the format
   not_spelled : (items : List (Item E)) → format items → bytes_of items ≡ bytes letters → ⊥
   not_spelled items f e =
       let o = follows.onto items f ([], e ∙ sym (append-nil (bytes letters))) in

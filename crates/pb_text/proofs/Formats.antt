@@ -1,4 +1,4 @@
--- What is said of a read under a format, under a format with the same spellings. Offered to other crates.
+-- What holds of a read under a format also holds under a format with the same texts. Offered to other crates.
 use Rattle.std.proofs.Common.{ℕ, List, ◌∷◌, ◌++◌, Bool, true, false, Option, Some, None, [], inl, inr}
 use Rattle.pb_text.specs.Spelling.{Item}
 use Rattle.pb_text.specs.Reading.{Viable, IsFull, IsUnderWay, IsBad, Explains, IsSpelled, Answers, Reads}

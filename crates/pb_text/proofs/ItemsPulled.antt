@@ -1,4 +1,4 @@
--- An item of the events of a source, and the answer of the pull that it is.
+-- An item of the events of a source, and the result of its pull.
 use Rattle.std.proofs.Common.{◌≡◌, false, Option, Some, None, Result, Ok, Err, refl}
 use Rattle.std.specs.Option.{is_some, option_transpose}
 use Rattle.std.specs.Result.{result_transpose}

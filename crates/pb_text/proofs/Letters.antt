@@ -29,7 +29,7 @@ bytes_one_more bs b l e q h = ap (λ x. x ++ l ∷ []) h ∙ (ap (λ x. plain bs
 pub bytes_grown : (bs : List ℕ) (b : ℕ) (l : Letter) → l.numeral ≡ false → l.byte ≡ b → (q : List Letter) → Bytes bs q → Bytes (bs ++ b ∷ []) (q ++ l ∷ [])
 bytes_grown bs b l m e q h = bytes_one_more bs b l (as_unmarked l b m e) q h
 
--- a front of a word, and its next byte
+-- a prefix of a word, and its next byte
 pub word_grown : (w : List ℕ) (j : ℕ) (l : Letter) → j < length w → l.numeral ≡ false → l.byte ≡ slice_index w j → (q : List Letter)
     → Bytes (take j w) q → Bytes (take (j + 1) w) (q ++ l ∷ [])
 word_grown w j l h m e q r =
@@ -38,6 +38,6 @@ word_grown w j l h m e q r =
 pub word_whole : (w : List ℕ) (j : ℕ) (q : List Letter) → j ≡ length w → Bytes (take j w) q → Bytes w q
 word_whole w j q h r = subst (λ x. Bytes x q) (take_all j w (omega arith)) r
 
--- a place in a word that is not the last one, and the one behind it
+-- an index in a word that is not the last one, and the next index
 pub further : (k size : ℕ) → k < size → nat_eq (k + 1) size ≡ false → k + 1 < size
 further k size h e = grind (arith, nat_tests)

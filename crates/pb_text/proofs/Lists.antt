@@ -1,4 +1,4 @@
--- Lists, letters and marks. Offered to other crates.
+-- Lists, letters and spans. Offered to other crates.
 use Rattle.std.proofs.Common.{◌≡◌, ℕ, ◌+◌, ◌<◌, List, [], ◌∷◌, ◌++◌, length, take, drop, get_or, Bool, true, false, Option, Some, None, refl, sym, ap, ◌∙◌, append_assoc}
 use Rattle.std.proofs.lemmas.List.{length-map, append-nil, take_more, drop_more}
 use Rattle.pb_text.specs.Spelling.{Letter, Item, plain, bytes, letters_of, place_after, place_or, marks_since}
@@ -9,7 +9,7 @@ use Rattle.pb_text.specs.declared.place.Spanned.{Spanned}
 pub length-bytes : (ls : List Letter) → length (bytes ls) ≡ length ls
 length-bytes ls = length-map ls (λ (l : Letter). l.byte)
 
--- a list as its front, the element read at a place, and its rest
+-- a list as a prefix, the element read at an index, and the rest
 module _ {A : Type 0} (xs : List A) (i : ℕ) (d x : A) (lt : i < length xs) (e : x ≡ get_or xs i d) where
   pub take_read : take (i + 1) xs ≡ take i xs ++ x ∷ []
   take_read = take_more xs i d lt ∙ ap (λ (y : A). take i xs ++ y ∷ []) (sym e)
@@ -17,7 +17,7 @@ module _ {A : Type 0} (xs : List A) (i : ℕ) (d x : A) (lt : i < length xs) (e 
   pub drop_read : drop i xs ≡ x ∷ drop (i + 1) xs
   drop_read = drop_more xs i d lt ∙ ap (λ (y : A). y ∷ drop (i + 1) xs) (sym e)
 
--- how a letter moves the marks on
+-- how a letter advances the spans
 pub record Advances {E : Type 0} (put : List (Item E) → List (Item E) → Type 0) (l : Letter) (before : List ℕ) (first : Option Place) (new : List (Spanned E)) (first' : Option Place) : Type 0 where
   pub letters_are : (later items : List (Item E)) → put later items → letters_of items ≡ l ∷ letters_of later
   pub marks_are : (later items : List (Item E)) → put later items → marks_since first before items ≡ new ++ marks_since first' (before ++ l.byte ∷ []) later
@@ -54,7 +54,7 @@ letter_advances l before first = record {
   marks_are = λ later items h. put_letter_marks l before first later items h;
 }
 
--- the mark of a statement that ends with this letter
+-- the span of a statement that ends with this letter
 abbrev pub mark : {E : Type 0} → Option Place → List ℕ → ℕ → E → Spanned E
 mark first before b e = record { event = e; first = place_or first (place_after before); past = place_after (before ++ b ∷ []) }
 

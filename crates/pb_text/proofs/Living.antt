@@ -12,13 +12,13 @@ module _ {S E : Type 0} (m : Automaton S E) where
   abbrev pub ReadsOn : S → Type 0
   ReadsOn s = (text : List Letter) × (e : E) × (after : S) × Reads m s text e after
 
-  -- a byte before
+  -- one byte earlier
   pub reads_before : (s next : S) (b : ℕ) → m.step s b ≡ Go next → m.begun next ≡ true → ReadsOn next → ReadsOn s
   reads_before s next b goes inside (text, e, after, r) =
       let l : Letter = record { byte = b; numeral = m.in_number next } in
       (l ∷ text, e, after, longer m l text s next after e goes inside refl r)
 
-  -- A state from which a statement can be ended, and then the text.
+  -- A state from which a statement can be completed, and then the text.
   pub record IsAlive (s : S) : Type 0 where
     pub text : List Letter
     pub event : E
@@ -27,7 +27,7 @@ module _ {S E : Type 0} (m : Automaton S E) where
     pub rest : List (Item E)
     pub accepts : Accepts m after rest
 
-  -- a byte before, and one that ends a statement
+  -- one byte earlier, and a byte that ends a statement
   pub before : (s next : S) (b : ℕ) → m.step s b ≡ Go next → m.begun next ≡ true → IsAlive next → IsAlive s
   before s next b goes inside h = record {
     text = record { byte = b; numeral = m.in_number next } ∷ h.text;
@@ -52,7 +52,7 @@ module _ {S E : Type 0} (m : Automaton S E) where
   pub accepted : (s : S) → IsAlive s → (items : List (Item E)) × Accepts m s items
   accepted s h = (record { gap = []; text = h.text; event = h.event } ∷ h.rest, (s, h.after, refl, h.reads, h.accepts))
 
-  -- a byte before a state that is alive is admitted, and one that ends a statement
+  -- a byte that leads to an alive state is admitted, and so is one that ends a statement
   pub admits_before : (s next : S) (b : ℕ) → m.step s b ≡ Go next → m.begun next ≡ true → IsAlive next → Admits m s b
   admits_before s next b goes inside h = (
     record { gap = []; text = record { byte = b; numeral = m.in_number next } ∷ h.text; event = h.event } ∷ h.rest,
@@ -73,7 +73,7 @@ module _ {S E : Type 0} (m : Automaton S E) where
   gapless begins s at [] h = h
   gapless begins s at (b ∷ gap) (mid, g, o, h) = never (m.begun mid) (begins s mid b g) o
 
-  -- What is a state and not the last one reads on to an event.
+  -- A state that is not the last one can be continued to an event.
   pub reads_on : BeginsAtOnce → (s : S) → IsState m s → m.done s ≡ false → ReadsOn s
   reads_on begins s state d = by_items state.live.0 state.live.1
     where
@@ -82,7 +82,7 @@ module _ {S E : Type 0} (m : Automaton S E) where
       by_items (i ∷ rest) (at, after, g, r, a) =
           (i.text, i.event, after, subst (λ x. Reads m x i.text i.event after) (gapless begins s at i.gap g) r)
 
-  -- What is admitted goes on to an event.
+  -- What is admitted can be continued to an event.
   pub admitted_on : BeginsAtOnce → (s next : S) (b : ℕ) → m.step s b ≡ Go next → Admits m s b → ReadsOn next
   admitted_on begins s next b g (items, a, more, e) = by_first items (first_of m s items a) e
     where

@@ -1,4 +1,4 @@
--- The table of the bytes of names, held against the definition at each byte by computing. Offered to other crates.
+-- The table of name bytes, compared with the definition at each byte by computing. Offered to other crates.
 use Rattle.std.proofs.Common.{◌≡◌, ℕ, zero, suc, ◌<◌, Bool, true, false, ◌&&◌, not, nat_eq, get_or, List, refl, arith, inl, inr}
 use Rattle.std.specs.Bool.{beq}
 use Rattle.std.proofs.lemmas.Bool.{cases_eq}

@@ -1,4 +1,4 @@
--- A machine that has taken nothing, of a source that failed.
+-- A machine that has taken nothing, from a source that failed.
 use Rattle.std.proofs.Common.{◌≡◌, ℕ, ◌<◌, List, [], false, None, Some, sym, ap, ◌∙◌, subst}
 use Rattle.std.proofs.lemmas.List.{nil_from_length}
 use Rattle.pb_text.specs.Automaton.{Automaton, Accepts, IsState}

@@ -1,11 +1,12 @@
--- Machines of one text, which have begun with its first byte and ended with its last one: what holds of their states. Offered to other crates.
+-- Machines of one text, which begin with its first byte and end with its last one: what holds of their states. Offered to
+-- other crates.
 use Rattle.std.proofs.Common.{◌≡◌, ℕ, ◌+◌, ◌≤◌, Bool, true, false, List, [], ◌∷◌, refl, ap, ◌∙◌}
 use Rattle.pb_text.specs.Automaton.{Automaton, Next, Go, End, Refuse, Reads, Accepts, Admits, IsState}
 use Rattle.pb_text.specs.Spelling.{Letter, Item}
 use Rattle.pb_text.proofs.Booleans.{never}
 use Rattle.pb_text.proofs.Living.{ReadsOn, IsAlive, accepted, admits_before, admits_final}
 
--- Good is what such a machine keeps of its states, and last is the state behind the text.
+-- Good is an invariant of the states of such a machine, and last is the state after the text.
 module _ {S E : Type 0} (m : Automaton S E) (Good : S → Type 0) (last : S → S) where
   pub record IsOfOne : Type 0 where
     pub keeps : (s next : S) (b : ℕ) → Good s → m.step s b ≡ Go next → Good next
@@ -21,7 +22,7 @@ module _ {S E : Type 0} (m : Automaton S E) (Good : S → Type 0) (last : S → 
     pub bounds : (s : S) → m.kept s ≤ m.spent s
 
   module _ (h : IsOfOne) where
-    -- Behind the text the machine has ended.
+    -- After the text, the machine has ended.
     pub reads_last : (text : List Letter) (s : S) (e : E) (after : S) → Reads m s text e after → after ≡ last s
     reads_last [] s e after r = absurd r
     reads_last (l ∷ []) s e after (i, n) = h.ends s after l.byte e i

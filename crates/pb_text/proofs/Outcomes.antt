@@ -1,4 +1,5 @@
--- A byte has one outcome: a machine goes on to one state, or ends a statement with one event, or refuses. Offered to other crates.
+-- A byte has one outcome: a machine continues in one state, ends a statement with one event, or rejects the byte. Offered to
+-- other crates.
 use Rattle.std.proofs.Common.{◌≡◌}
 use Rattle.pb_text.specs.Automaton.{Next, Go, End, Refuse}
 
@@ -17,7 +18,7 @@ go_or_refuse u h = cc
 pub end_or_refuse : {S E A : Type 0} (e : E) (u : S) → ◌≡◌ {A = Next S E} (End e u) Refuse → A
 end_or_refuse e u h = cc
 
--- the same, the other way round
+-- the same, with the sides swapped
 pub refuse_or_go : {S E A : Type 0} (u : S) → ◌≡◌ {A = Next S E} Refuse (Go u) → A
 refuse_or_go u h = cc
 

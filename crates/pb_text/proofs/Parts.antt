@@ -6,7 +6,7 @@ use Rattle.pb_text.specs.declared.source.Failed.{Failed}
 use Rattle.pb_text.proofs.Writing.{writes_then, broke_more}
 
 module _ {S : Type 0} (contents : S → Option (List ℕ)) (faults : S → ℕ) where
-  -- a first part, and then the rest with what it answers
+  -- a first part, and then the rest with its result
   pub part_then : (a b c : S) (x y t : List ℕ) (r : Result Unit Failed) → t ≡ x ++ y → Wrote contents faults a x b → Writes contents faults b y r c → Writes contents faults a t r c
   part_then a b c x y t r e h k = subst (λ (z : List ℕ). Writes contents faults a z r c) (sym e) (writes_then contents faults a b c x y r h k)
 

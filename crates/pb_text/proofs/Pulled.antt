@@ -1,4 +1,4 @@
--- What a pull leaves of its source.
+-- What a pull leaves in its source.
 use Rattle.std.proofs.Common.{◌≡◌, ◌≢◌, ℕ, List, [], ◌∷◌, ◌++◌, Option, Some, None, refl, sym, ap, ◌∙◌, append_assoc, subst}
 use Rattle.std.specs.Io.KnownBytes.{Keeps, Consumes}
 use Rattle.pb_text.specs.Source.{StartWith, HaveEnded, LosesFirst, Lost}
@@ -22,7 +22,7 @@ lost_consumed None after taken c = tt
 lost_consumed (Some bytes) None taken c = absurd c
 lost_consumed (Some bytes) (Some rest) taken c = (rest, c, refl)
 
--- bytes taken after those that were taken
+-- bytes taken after earlier ones
 pub lost_both : (before now last : Option (List ℕ)) (taken more : List ℕ) → Lost before taken now → Lost now more last → Lost before (taken ++ more) last
 lost_both None now last taken more l k = tt
 lost_both (Some bytes) now last taken more l k =
@@ -47,7 +47,7 @@ loses b more None last e h = cc
 loses b more (Some []) last e h = cc
 loses b more (Some (c ∷ cs)) last e h = let same : cs ≡ more = cc in h ∙ ap (λ (x : List ℕ). Some x) same
 
--- one byte more is taken
+-- one more byte is taken
 pub lost_byte : (before : Option (List ℕ)) (taken : List ℕ) (now next last : Option (List ℕ)) (b : ℕ) → Lost before taken now → StartWith now b → Keeps now next → LosesFirst next last → Lost before (taken ++ b ∷ []) last
 lost_byte None taken now next last b l s k f = tt
 lost_byte (Some bytes) taken now next last b l s k f =
@@ -57,7 +57,7 @@ lost_byte (Some bytes) taken now next last b l s k f =
       loses b m.0 next last (kept l.0 now next l.2 k ∙ ap (λ (x : List ℕ). Some x) m.1) f,
     )
 
--- what was seen where the byte was not taken
+-- what was seen if the byte was not taken
 pub seen_byte : (before : Option (List ℕ)) (taken : List ℕ) (now next : Option (List ℕ)) (b : ℕ) → Lost before taken now → StartWith now b → Keeps now next → (more : List ℕ) × Took before taken (b ∷ more) next
 seen_byte None taken now next b l s k = ([], tt)
 seen_byte (Some bytes) taken now next b l s k =
@@ -71,7 +71,7 @@ seen_end (Some bytes) taken now next l h k =
     let none = ends l.0 now l.2 h in
     (l.1 ∙ ap (λ (x : List ℕ). taken ++ x) none, kept l.0 now next l.2 k ∙ ap (λ (x : List ℕ). Some x) none)
 
--- what is left where the source failed
+-- what is left if the source failed
 pub seen_rest : (before : Option (List ℕ)) (taken : List ℕ) (now next : Option (List ℕ)) → Lost before taken now → Keeps now next → (seen : List ℕ) × Took before taken seen next
 seen_rest None taken now next l k = ([], tt)
 seen_rest (Some bytes) taken now next l k = (l.0, (l.1, kept l.0 now next l.2 k))
@@ -81,7 +81,7 @@ pub seen_after : (before : Option (List ℕ)) (taken : List ℕ) (now : Option (
 seen_after None taken now l = ([], tt)
 seen_after (Some bytes) taken now l = (l.0, (l.1, l.2))
 
--- another cause than a reader that failed counts no fault
+-- a cause other than a failed reader counts no fault
 pub faults_with_other : (why : Why) (n : ℕ) → why ≢ Read → faults_with why n ≡ n
 faults_with_other (Byte b) n h = refl
 faults_with_other TooLarge n h = refl
@@ -90,6 +90,6 @@ faults_with_other TooLong n h = refl
 faults_with_other Read n h = absurd (h refl)
 faults_with_other Memory n h = refl
 
--- what the calls have given, with one byte more
+-- what the calls have given, with one more byte
 pub given_byte : (given taken mid shown last : List ℕ) (b : ℕ) → mid ≡ given ++ taken → shown ≡ mid → last ≡ shown ++ b ∷ [] → last ≡ given ++ (taken ++ b ∷ [])
 given_byte given taken mid shown last b h k l = l ∙ (ap (λ (x : List ℕ). x ++ b ∷ []) (k ∙ h) ∙ append_assoc given taken (b ∷ []))

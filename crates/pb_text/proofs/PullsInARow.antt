@@ -1,6 +1,6 @@
--- Pulls in a row are a read. Offered to other crates.
-use Rattle.std.proofs.Common.{◌≡◌, ℕ, List, [], ◌∷◌, ◌++◌, length, true, false, Option, Some, None, Result, Ok, Err, refl, sym, ap, ◌∙◌, subst, subst₂, append-nil, append_assoc, arith, length-append}
-use Rattle.pb_text.specs.Automaton.{Accepts}
+-- Consecutive pulls are a read. Offered to other crates.
+use Rattle.std.proofs.Common.{◌≡◌, ℕ, List, [], ◌∷◌, ◌++◌, length, true, false, IsTrue, Option, Some, None, Result, Ok, Err, refl, sym, ap, ◌∙◌, subst, subst₂, append-nil, append_assoc, arith, length-append}
+use Rattle.pb_text.specs.Automaton.{Accepts, Leads, MayAsk}
 use Rattle.pb_text.specs.Spelling.{bytes}
 use Rattle.pb_text.specs.Reading.{Reads}
 use Rattle.pb_text.specs.SpentBytes.{end_of}
@@ -15,9 +15,10 @@ use Rattle.pb_text.specs.declared.feeder.Feeder.{Feeder}
 use Rattle.pb_text.specs.declared.machine.Machine.{Ghosts}
 use Rattle.pb_text.proofs.Short.{place_after-offset}
 use Rattle.pb_text.proofs.Told.{stands_reads}
-use Rattle.pb_text.proofs.Wholes.{same_front, halted}
+use Rattle.std.proofs.lemmas.List.{append_cancel_left}
+use Rattle.pb_text.proofs.Wholes.{asking, same_front, halted}
 
--- what was taken before and what was taken now
+-- what was taken before, and what was taken now
 pub took_join : (a b c : Option (List ℕ)) (x y s t : List ℕ) → Took a x s b → Took b y t c → Took a (x ++ y) t c
 took_join None b c x y s t h k = tt
 took_join (Some all) b c x y s t h k =
@@ -35,7 +36,7 @@ module _ {M E : Type 0} {g : Ghosts M E} {given given' : List ℕ} (longest : �
     offset_is : new.place.offset ≡ length all
     offset_is = omega (arith, p.offset_is, h.offset_is, length-append h.used p.taken)
 
-    -- what the machine has taken is what was taken of the source
+    -- what the machine has taken is what was taken from the source
     letters_are : (input left : List ℕ) (after_marks : List (Spanned E)) (s : Stands g.automaton longest start input after_marks new.machine new.place new.first new.stop) → input ≡ all ++ left → bytes s.letters ≡ all
     letters_are input left after_marks s e =
         same_front (bytes s.letters) all s.left left (sym s.input_is ∙ e)
@@ -72,9 +73,14 @@ module _ {M E : Type 0} {g : Ghosts M E} {given given' : List ℕ} (longest : �
       let r' : Reads (Accepts g.automaton start) longest ((h.used ++ p.taken) ++ p.seen) (h.used ++ p.taken) marks stop.place false (Some stop) =
       subst₂ (λ (x y : List ℕ). Reads (Accepts g.automaton start) longest x y marks stop.place false (Some stop)) (sym (append_assoc h.used p.taken p.seen)) used
       (subst₂ (λ (q : Place) (o : Option Stop). Reads (Accepts g.automaton start) longest (h.used ++ (p.taken ++ p.seen)) (bytes s.letters) marks q false o) (sym w.1) halts r) in
-      record { used = h.used ++ p.taken; seen = p.seen; took = took (Err stop) p; reads = r' }
+      let left : s.left ≡ p.seen = append_cancel_left (h.used ++ p.taken) s.left p.seen (ap (λ (x : List ℕ). x ++ s.left) (sym used) ∙ (sym s.input_is ∙ sym (append_assoc h.used p.taken p.seen))) in
+      let may : (b : ℕ) → IsTrue (g.automaton.asks new.machine b) → MayAsk g.automaton start (h.used ++ p.taken) b =
+      (λ b k. (new.machine, subst (λ (x : List ℕ). Leads g.automaton start x new.machine) used s.leads, k)) in (
+        record { used = h.used ++ p.taken; seen = p.seen; took = took (Err stop) p; reads = r' },
+        asking g.automaton (MayAsk g.automaton start) new.machine (end_of longest new.first) s.letters (h.used ++ p.taken) p.seen s.left stop.why left may w.2,
+      )
 
-  -- what one pull more answers
+  -- the result of one more pull
   pub row : (result : Result (Option (Spanned E)) Stop) → Pulls longest start h.used marks old now result new after given given' → new.stop ≡ stop_of result → (result ≡ Ok None → is_complete new ≡ true)
       → ((m : Spanned E) → result ≡ Ok (Some m) → m.past ≡ new.place) → PullsOn longest start before marks result new after
   row (Ok (Some m)) p stop last past = row_event m p stop (past m refl)

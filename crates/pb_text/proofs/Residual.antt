@@ -1,4 +1,4 @@
--- What a state accepts after a byte is what it accepted before with that byte in front. Offered to other crates.
+-- A state accepts, after a byte, exactly what it accepted before with that byte prepended. Offered to other crates.
 use Rattle.std.proofs.Common.{◌≡◌, ◌≢◌, ℕ, List, [], ◌∷◌, Bool, true, false, IsTrue, refl, sym, ap, ap₂, ◌∙◌, subst}
 use Rattle.pb_text.specs.Spelling.{Letter, Item, bytes_of}
 use Rattle.pb_text.specs.Automaton.{Automaton, Go, End, Refuse, Skips, Reads, Accepts, IsState}
@@ -6,22 +6,22 @@ use Rattle.pb_text.proofs.FirstBytes.{head}
 use Rattle.pb_text.proofs.Outcomes.{one_state, one_end, go_or_end, go_or_refuse, end_or_refuse}
 use Rattle.pb_text.proofs.Booleans.{never}
 
--- the items are the later ones with a byte in front, in the first gap
+-- the items are the later ones with a byte prepended to the first gap
 abbrev pub PutGap : {E : Type 0} → ℕ → List (Item E) → List (Item E) → Type 0
 PutGap b [] items = ⊥
 PutGap b (i ∷ rest) items = items ≡ record { gap = b ∷ i.gap; text = i.text; event = i.event } ∷ rest
 
--- the items are the later ones with a letter in front, in the first statement's text
+-- the items are the later ones with a letter prepended to the text of the first statement
 abbrev pub PutLetter : {E : Type 0} → Letter → List (Item E) → List (Item E) → Type 0
 PutLetter l [] items = ⊥
 PutLetter l (i ∷ rest) items =
     (i.gap ≡ []) × (items ≡ record { gap = []; text = l ∷ i.text; event = i.event } ∷ rest)
 
--- the items are the later ones with a statement's last letter in front
+-- the items are the later ones with the last letter of a statement prepended
 abbrev pub PutLast : {E : Type 0} → Letter → E → List (Item E) → List (Item E) → Type 0
 PutLast l e later items = items ≡ record { gap = []; text = l ∷ []; event = e } ∷ later
 
--- in a statement or between two
+-- in a statement, or between two statements
 abbrev pub Put : {E : Type 0} → Bool → Letter → List (Item E) → List (Item E) → Type 0
 Put true l later items = PutLetter l later items
 Put false l later items = (l.numeral ≡ false) × PutGap l.byte later items
@@ -29,7 +29,7 @@ Put false l later items = (l.numeral ≡ false) × PutGap l.byte later items
 abbrev pub BeginsWith : {E : Type 0} → ℕ → List (Item E) → Type 0
 BeginsWith b items = (more : List ℕ) × (bytes_of items ≡ b ∷ more)
 
--- what may follow a byte is exactly what was accepted with that byte in front
+-- what may follow a byte is exactly what was accepted with that byte prepended
 pub record Takes {E : Type 0} (old : List (Item E) → Type 0) (put : List (Item E) → List (Item E) → Type 0) (b : ℕ) (new : List (Item E) → Type 0) : Type 0 where
   pub into : (later : List (Item E)) → new later → (items : List (Item E)) × put later items × old items
   pub onto : (items : List (Item E)) → old items → BeginsWith b items → (later : List (Item E)) × put later items × new later
@@ -38,15 +38,15 @@ pub record Takes {E : Type 0} (old : List (Item E) → Type 0) (put : List (Item
 abbrev pub Refuses : {E : Type 0} → (List (Item E) → Type 0) → ℕ → Type 0
 Refuses {E} accepts b = (items : List (Item E)) → accepts items → BeginsWith b items → ⊥
 
--- what holds of what a state accepts
+-- properties of what a state accepts
 pub record IsResidual {E : Type 0} (accepts : List (Item E) → Type 0) : Type 0 where
   pub live : (items : List (Item E)) × accepts items
   pub texts : (i : Item E) (rest : List (Item E)) → accepts (i ∷ rest) → i.text ≢ []
   pub ends : accepts [] → (items : List (Item E)) → accepts items → items ≡ []
 
 module _ {S E : Type 0} (m : Automaton S E) where
-  -- what the first byte of accepted items leads to: they are none, or it is one of the first gap, or a letter that
-  -- ends its statement or does not
+  -- The first byte of accepted items: there are no items, or it is in the first gap, or it is a letter. The letter ends its
+  -- statement or does not.
   pub data First (s : S) : List (Item E) → Type 0 where
     Nothing : IsTrue (m.done s) → First s []
     InGap : (b : ℕ) (gap : List ℕ) (text : List Letter) (e : E) (rest : List (Item E)) (next : S) → m.step s b ≡ Go next → m.begun next ≡ false → Accepts m next (record { gap = gap; text = text; event = e } ∷ rest) → First s (record { gap = b ∷ gap; text = text; event = e } ∷ rest)

@@ -1,4 +1,4 @@
--- What is known of a result of which it is known whether it is an error. Offered to other crates.
+-- What is known of a result, given whether it is an error. Offered to other crates.
 use Rattle.std.proofs.Common.{◌≡◌, true, false}
 use Rattle.std.specs.Prelude.{Result, OnOk, OnErr, is_ok, is_err, Ok, Err, if◌then◌else◌}
 

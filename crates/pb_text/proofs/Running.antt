@@ -1,4 +1,4 @@
--- Bytes of a statement, one after another. Offered to other crates.
+-- Consecutive bytes of a statement. Offered to other crates.
 use Rattle.std.proofs.Common.{◌≡◌, ◌≢◌, ℕ, suc, ap, ap₂, eqb-true, ◌+◌, ◌<◌, ◌≤◌, List, [], ◌∷◌, ◌++◌, length, take, get_or, Bool, true, false, cond, ◌==◌, Option, Some, None, refl, sym, subst, ◌∙◌, arith, append-nil, append_assoc}
 use Rattle.std.proofs.lemmas.List.{take_more}
 use Rattle.std.specs.Option.{is_some}
@@ -12,7 +12,7 @@ use Rattle.pb_text.specs.declared.place.Spanned.{Spanned}
 use Rattle.pb_text.proofs.Steps.{stands_go}
 
 module _ {S E : Type 0} (m : Automaton S E) where
-  -- one byte more
+  -- one more byte
   pub runs_more : (old : S) (text : List ℕ) (mid : S) (b : ℕ) (new : S) → Runs m old text mid → m.step mid b ≡ Go new → IsState m new → Runs m old (text ++ b ∷ []) new
   runs_more old [] mid b new same goes state = (new, subst (λ (x : S). m.step x b ≡ Go new) same goes, state, refl)
   runs_more old (c ∷ text) mid b new (next, first, is, rest) goes state = (next, first, is, runs_more next text mid b new rest goes state)
@@ -29,7 +29,7 @@ by_feed false p = refl
 next_offset : (p : Place) (b : ℕ) → (place_next p b).offset ≡ p.offset + 1
 next_offset p b = by_feed (b == 10) p
 
--- so many bytes are behind
+-- the offset grows by the number of bytes
 pub past_offset : (p : Place) (text : List ℕ) → (place_past p text).offset ≡ p.offset + length text
 past_offset p [] = omega arith
 past_offset p (b ∷ text) = past_offset (place_next p b) text ∙ omega (arith, next_offset p b)
@@ -42,7 +42,7 @@ by_feed_column : (feed : Bool) (p : Place) → (cond feed (let q : Place = recor
 by_feed_column true p = omega arith
 by_feed_column false p = omega arith
 
--- at most so many lines, and so many columns
+-- the line and the column each grow by at most the number of bytes
 pub past_line : (p : Place) (text : List ℕ) → (place_past p text).line ≤ p.line + length text
 past_line p [] = omega arith
 past_line p (b ∷ text) = omega (arith, past_line (place_next p b) text, by_feed_line (b == 10) p)
@@ -66,13 +66,13 @@ by_feed_or_not b h false e = e
 not_feed : (b : ℕ) → b ≢ 10 → (b == 10) ≡ false
 not_feed b h = by_feed_or_not b h (b == 10) refl
 
--- the place after bytes of one line
+-- the position after bytes of one line
 pub past_on_line : (p : Place) (text : List ℕ) → Each (λ b. b ≢ 10) text → place_past p text ≡ record { line = p.line; column = p.column + length text; offset = p.offset + length text }
 past_on_line p [] h = ap₂ (λ (x y : ℕ). let q : Place = record { line = p.line; column = x; offset = y } in q) (omega arith) (omega arith)
 past_on_line p (b ∷ text) h =
     ap (λ (q : Place). place_past q text) (by_no_feed (b == 10) p (not_feed b h.0)) ∙ (past_on_line (record { line = p.line; column = p.column + 1; offset = p.offset + 1 }) text h.1 ∙ further p (length text))
 
--- the place after the bytes of a piece up to one more
+-- the position after the bytes of a piece and one more byte
 pub past_more : (p : Place) (text : List ℕ) (b : ℕ) → place_past p (text ++ b ∷ []) ≡ place_next (place_past p text) b
 past_more p [] b = refl
 past_more p (c ∷ text) b = past_more (place_next p c) text b
@@ -84,12 +84,12 @@ module _ {S E : Type 0} (m : Automaton S E) where
   runs_unfinished old (b ∷ text) new state unfinished (mid, goes, is, rest) = runs_unfinished mid text new is (state.owes b mid goes) rest
 
 module _ {S E : Type 0} (m : Automaton S E) (longest : ℕ) (start : S) (marks : List (Spanned E)) where
-  -- a statement that was open stays open where it began
+  -- a statement that was open stays open, with the same beginning
   pub stays_open : (first : Option Place) (starts : Bool) (place : Place) → is_some first ≡ true → opened first starts place ≡ first
   stays_open (Some p) starts place e = refl
   stays_open None starts place e = cc e
 
-  -- bytes of the statement that has begun move what stands to the text
+  -- bytes of the statement that has begun preserve `Stands`, for the input extended by them
   pub stands_run : (old : S) (text : List ℕ) (new : S) (input : List ℕ) (place : Place) (first : Option Place) → Stands m longest start input marks old place first None
       → m.done old ≡ false → is_some first ≡ true → place.offset + length text ≤ end_of longest first → Runs m old text new
       → Stands m longest start (input ++ text) marks new (place_past place text) first None × (m.done new ≡ false)

@@ -6,7 +6,7 @@ use Rattle.pb_text.specs.Languages.{Language, ◌⋅◌}
 use Rattle.pb_text.specs.Spelling.{Letter}
 
 module _ {S E : Type 0} (step : S → Letter → Next S E) where
-  -- what comes of a text: nothing may follow an end
+  -- the outcome of a text: nothing may follow an end
   abbrev pub run : Next S E → List Letter → Next S E
   run n [] = n
   run (Go s) (c ∷ t) = run (step s c) t
@@ -24,7 +24,7 @@ module _ {S E : Type 0} (step : S → Letter → Next S E) where
   run-append (End v s) (c ∷ a) b = sym (run-refuse b)
   run-append Refuse (c ∷ a) b = sym (run-refuse b)
 
-  -- From each outcome of A a text of P leads to one of B.
+  -- From each outcome of A, a text of P leads to one of B.
   abbrev pub Takes : (Next S E → Type 0) → Language → (Next S E → Type 0) → Type 0
   Takes A P B = (n : Next S E) (t : List Letter) → A n → P t → B (run step n t)
 

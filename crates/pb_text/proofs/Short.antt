@@ -1,4 +1,4 @@
--- The bytes that statements have of a text. Offered to other crates.
+-- The bytes of a text that belong to statements. Offered to other crates.
 use Rattle.std.proofs.Common.{◌≡◌, ℕ, ◌-◌, ◌<◌, ◌≤◌, List, [], ◌∷◌, ◌++◌, length, Bool, cond, Option, Some, None, refl, ap, ◌∙◌, arith, length-append, inl, inr, le-leb}
 use Rattle.pb_text.specs.Spelling.{Item, bytes, place_after, marks_since}
 use Rattle.pb_text.specs.Reading.{AreShort, Overruns, open_bytes, byte_limit}
@@ -23,7 +23,7 @@ module _ {E : Type 0} (longest : ℕ) where
   AreShort-append n [] b h k = k
   AreShort-append n (m ∷ a) b h k = (h.0, AreShort-append n a b h.1 k)
 
-  -- the bytes of statements that have ended are none of those that come
+  -- statements that have ended have none of the bytes that follow
   pub AreShort-grown : (n k : ℕ) (marks : List (Spanned E)) → EndBy n marks → n ≤ k → AreShort longest n marks → AreShort longest k marks
   AreShort-grown n k [] e le h = tt
   AreShort-grown n k (m ∷ marks) e le h = (omega (arith, e.0, h.0), AreShort-grown n k marks e.1 le h.1)

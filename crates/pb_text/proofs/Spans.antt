@@ -1,14 +1,14 @@
--- Runs, one after another. Offered to other crates.
+-- Consecutive runs. Offered to other crates.
 use Rattle.std.proofs.Common.{◌≡◌, ℕ, ◌+◌, ◌-◌, List, [], ◌∷◌, ◌++◌, take, drop, length, sym, ap, subst, ◌∙◌, ◌<◌, get_or, append_assoc, length-drop}
 use Rattle.std.proofs.lemmas.List.{take_more}
 use Rattle.std.proofs.Math.Seq.{take-add, take-length}
 use Rattle.pb_text.specs.Automaton.{Automaton, Runs}
 
--- all that is left behind a place
+-- the whole rest after a position
 pub all_rest : (piece : List ℕ) (i : ℕ) → take (length piece - i) (drop i piece) ≡ drop i piece
 all_rest piece i = ap (λ n. take n (drop i piece)) (sym (length-drop i piece)) ∙ take-length (drop i piece)
 
--- the front of a piece, and then of the rest
+-- a prefix of a piece, followed by a prefix of the rest
 pub front_parts : (piece : List ℕ) (i j : ℕ) → take (i + j) piece ≡ take i piece ++ take j (take (length piece - i) (drop i piece))
 front_parts piece i j = take-add i j piece ∙ ap (λ (xs : List ℕ). take i piece ++ take j xs) (sym (all_rest piece i))
 
@@ -17,12 +17,12 @@ pub one_further : (input piece : List ℕ) (i : ℕ) → i < length piece → (i
 one_further input piece i h = append_assoc input (take i piece) (get_or piece i 0 ∷ []) ∙ ap (λ (x : List ℕ). input ++ x) (sym (take_more piece i 0 h))
 
 module _ {S E : Type 0} (m : Automaton S E) where
-  -- a run and then another
+  -- a run followed by another
   pub runs_join : (old : S) (xs : List ℕ) (mid : S) (ys : List ℕ) (new : S) → Runs m old xs mid → Runs m mid ys new → Runs m old (xs ++ ys) new
   runs_join old [] mid ys new same rest = subst (λ (s : S). Runs m s ys new) same rest
   runs_join old (b ∷ xs) mid ys new (next, first, is, more) rest = (next, first, is, runs_join next xs mid ys new more rest)
 
-  -- a run over the front of a piece, and then one over the front of the rest
+  -- a run over a prefix of a piece, followed by one over a prefix of the rest
   pub runs_further : (old : S) (piece : List ℕ) (i j : ℕ) (mid new : S) → Runs m old (take i piece) mid → Runs m mid (take j (take (length piece - i) (drop i piece))) new
       → Runs m old (take (i + j) piece) new
   runs_further old piece i j mid new first rest =

@@ -1,4 +1,4 @@
--- A byte that the machine is given moves what stands to the text.
+-- A byte that is given to the machine preserves `Stands`, for the input extended by it.
 use Rattle.std.proofs.Common.{◌≡◌, ◌≢◌, ℕ, ◌+◌, ◌<◌, ◌≤◌, List, [], ◌∷◌, ◌++◌, ap₂, length, Bool, true, false, IsTrue, Option, Some, None, is_some, refl, sym, ap, ◌∙◌, arith, length-append, subst, inl, inr}
 use Rattle.std.proofs.lemmas.List.{append-nil}
 use Rattle.std.proofs.lemmas.Bool.{false≢true}
@@ -23,12 +23,12 @@ last_numeral-snoc [] l = refl
 last_numeral-snoc (m ∷ []) l = refl
 last_numeral-snoc (m ∷ n ∷ ls) l = last_numeral-snoc (n ∷ ls) l
 
--- the place of the next byte is one of a byte that may be taken
+-- the position of the next byte is one where a byte may be taken
 pub before_end : (longest longest' end offset : ℕ) (first : Option Place) → longest ≡ longest' → end ≡ end_of longest first → offset ≤ end → offset ≢ end → offset < end_of longest' first
 before_end longest longest' end offset first e is le ne = omega (arith, is ∙ ap (λ (l : ℕ). end_of l first) e)
 
 module _ {S E : Type 0} (m : Automaton S E) where
-  -- one byte more
+  -- one more byte
   leads_more : (start : S) (text : List ℕ) (old : S) (b : ℕ) (new : S) → Leads m start text old → behind m (m.step old b) ≡ Some new → Leads m start (text ++ b ∷ []) new
   leads_more start [] old b new same taken = (new, subst (λ (x : S). behind m (m.step x b) ≡ Some new) same taken, refl)
   leads_more start (c ∷ text) old b new (mid, first, rest) taken = (mid, first, leads_more mid text old b new rest taken)
@@ -164,7 +164,7 @@ module _ {S E : Type 0} (m : Automaton S E) (longest : ℕ) (start old new : S) 
       moved (ap (behind m) ends) (n ∷ []) None (subst (λ (r : Spanned E). Follows (Accepts m start) (Accepts m new) (s.letters ++ letter ∷ []) (marks ++ r ∷ []) None) same k)
       state (sym out) (λ h. absurd (false≢true h)) (omega (arith, end_limit longest first, lt, offset_is)) (mark_fits first e (place_next place b) past_offset lt) (state.empties out)
 
-  -- a stop at the byte, the machine being where it was
+  -- a stop at the byte, with the machine unchanged
   stopped : (stop : Stop) → stop.place ≡ place → Halts m old (end_of longest first) s.letters (b ∷ []) stop.why → new ≡ old
       → Stands m longest start (input ++ b ∷ []) (marks ++ []) new place first (Some stop)
   stopped stop at halts same =

@@ -1,4 +1,4 @@
--- What a state that stands to its text says is what a read of the text owes.
+-- What a state with `Stands` for its text says is what a read of the text must give.
 use Rattle.std.proofs.Common.{◌≡◌, ℕ, ◌≤◌, List, [], ◌∷◌, ◌++◌, length, Bool, true, false, ◌&&◌, IsTrue, Option, Some, None, is_some, refl, sym, ap, ◌∙◌, append_assoc, arith, subst, inl, inr}
 use Rattle.std.proofs.lemmas.List.{append-nil}
 use Rattle.std.proofs.lemmas.Bool.{false≢true}
@@ -111,11 +111,11 @@ module _ {S E : Type 0} (m : Automaton S E) (longest : ℕ) (start : S) (input :
   answer true e = done_answer (sym e) stop s.waits
   answer false e = open_answer (sym e) stop s.waits
 
-  -- what a read owes
+  -- what a read must give
   pub stands_reads : (done : Bool) → done ≡ m.done state → Reads (Accepts m start) longest input (bytes s.letters) marks place done stop
   stands_reads done e = record { left = s.left; input_is = s.input_is; place_is = s.place_is; answer = answer done e }
 
-  -- as much is kept as there are bytes of a statement that has not ended
+  -- the number of bytes of a statement that has not ended
   pub stands_open : HasOpen (Accepts m start) (bytes s.letters) (begun_bytes (length s.letters) first)
   stands_open = has_open (Accepts m start) (Accepts m state) s.letters marks first s.follows rest (λ some d. unfinished (s.owed (by_first first some)) d)
     where

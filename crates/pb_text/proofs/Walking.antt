@@ -1,4 +1,4 @@
--- A machine on the way through a statement, and what it reads behind that. Offered to other crates.
+-- A machine on the way through a statement, and what it reads after that. Offered to other crates.
 use Rattle.std.proofs.Common.{◌≡◌, List, [], ◌∷◌, ◌++◌, true, false, refl, sym, subst, ◌∙◌, append_assoc}
 use Rattle.pb_text.specs.Automaton.{Automaton, Next, Go, End, Refuse, Reads}
 use Rattle.pb_text.specs.Languages.{Language, ◌⋅◌}
@@ -20,7 +20,7 @@ module _ {S E : Type 0} (m : Automaton S E) where
       → l.numeral ≡ m.in_number new → Walks s (a ++ l ∷ []) new
   walks_more a l s mid new w g i n = walks_then a (l ∷ []) s mid new w (new, g, i, n, refl)
 
-  -- one letter in front
+  -- one letter prepended
   pub longer : (l : Letter) (t : List Letter) (s mid after : S) (e : E) → m.step s l.byte ≡ Go mid → m.begun mid ≡ true → l.numeral ≡ m.in_number mid
       → Reads m mid t e after → Reads m s (l ∷ t) e after
   longer l [] s mid after e g i n r = absurd r
@@ -34,7 +34,7 @@ module _ {S E : Type 0} (m : Automaton S E) where
       → Reads m s (a ++ l ∷ []) e after
   ends_walk a l s mid after e w h n = reads_behind a (l ∷ []) s mid after e w (h, n)
 
-  -- the first letter leads to the same from two states
+  -- the first letter leads to the same outcome from two states
   pub same_first : (l : Letter) (t : List Letter) (s s' after : S) (e : E) → m.step s l.byte ≡ m.step s' l.byte → Reads m s' (l ∷ t) e after → Reads m s (l ∷ t) e after
   same_first l [] s s' after e h (r, n) = (h ∙ r, n)
   same_first l (k ∷ t) s s' after e h (mid, g, i, n, r) = (mid, h ∙ g, i, n, r)
@@ -46,7 +46,7 @@ module _ {S E : Type 0} (m : Automaton S E) where
   pub leads_then : (P Q : Language) (s mid new : S) → Leads s P mid → Leads mid Q new → Leads s (P ⋅ Q) new
   leads_then P Q s mid new f g t (a, b, e, h, k) = subst (λ x. Walks s x new) (sym e) (walks_then a b s mid new (f a h) (g b k))
 
-  -- What is known of the text before a state, where a text of Front leads to it, and of a whole one.
+  -- What is known of the text before a state, if a text of `Front` leads to it, and of a whole text.
   module _ (Front : S → Language) (Whole : E → S → Language) where
     abbrev pub On : Next S E → Letter → Language
     On (Go s) l p = m.begun s ≡ true → l.numeral ≡ m.in_number s → Front s p

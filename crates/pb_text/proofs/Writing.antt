@@ -1,4 +1,4 @@
--- Texts that are written one after another. Offered to other crates.
+-- Texts that are written consecutively. Offered to other crates.
 use Rattle.std.proofs.lemmas.List.{take_rest}
 use Rattle.std.proofs.Common.{◌≡◌, ℕ, ◌-◌, length, take, drop, take-append-drop, List, [], ◌++◌, Option, Some, None, Result, Ok, Err, refl, sym, ap, ◌∙◌, append_assoc, append-nil, subst}
 use Rattle.std.specs.Io.KnownBytes.{Appends, Keeps}
@@ -24,7 +24,7 @@ module _ {S : Type 0} (contents : S → Option (List ℕ)) (faults : S → ℕ) 
   pub writes_nothing : (s : S) → Writes contents faults s [] (Ok tt) s
   writes_nothing s = record { appends = Appends-nil (contents s); faults_are = refl }
 
-  -- one text, and then another with what it answers
+  -- one text, and then another with its result
   pub writes_then : (a b c : S) (x y : List ℕ) (r : Result Unit Failed) → Wrote contents faults a x b → Writes contents faults b y r c → Writes contents faults a (x ++ y) r c
   writes_then a b c x y (Ok u) h k = record {
     appends = Appends-append (contents a) (contents b) (contents c) x y h.appends k.appends;
@@ -48,7 +48,7 @@ module _ {S : Type 0} (contents : S → Option (List ℕ)) (faults : S → ℕ) 
     faults_are = h.faults_are;
   }
 
-  -- one more piece at the front of the rest
+  -- one more piece at the start of the rest
   pub piece_taken : (a b c : S) (text front rest : List ℕ) (n : ℕ) → text ≡ front ++ rest → Wrote contents faults a front b → Takes contents faults b rest (Ok n) c
       → (x : List ℕ) × (text ≡ x ++ take (length rest - n) (drop n rest)) × Wrote contents faults a x c
   piece_taken a b c text front rest n e h k = (

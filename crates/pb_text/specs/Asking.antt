@@ -1,9 +1,9 @@
--- Where memory may be asked for, said of spellings alone.
+-- Where a read may allocate, in terms of texts alone.
 use Rattle.std.specs.Prelude.{◌≡◌, ℕ, List, ◌∷◌, ◌++◌}
 use Rattle.pb_text.specs.Spelling.{Item, bytes, bytes_of}
 
--- Behind these bytes of a spelling the next one stands in a statement, at a place that asks: it is said of the
--- statement, its bytes so far and the next one.
+-- After these bytes of a text, the next one is in a statement, at a position that may allocate. `Asks` says this of the
+-- statement, its bytes so far and the next byte.
 pub record IsWithin {E : Type 0} (Asks : E → List ℕ → ℕ → Type 0) (items : List (Item E)) (used : List ℕ) (b : ℕ) : Type 0 where
   pub done : List (Item E)
   pub item : Item E
@@ -15,7 +15,7 @@ pub record IsWithin {E : Type 0} (Asks : E → List ℕ → ℕ → Type 0) (ite
   pub text_is : bytes item.text ≡ text ++ b ∷ more
   pub asks : Asks item.event text b
 
--- In each spelling that goes on with the byte behind these, it stands at a place that asks.
+-- In each text that continues with the byte after these, the byte is at a position that may allocate.
 abbrev pub AsksOnly : {E : Type 0} → (List (Item E) → Type 0) → (E → List ℕ → ℕ → Type 0) → List ℕ → ℕ → Type 0
 AsksOnly {E} format Asks used b =
     (items : List (Item E)) (more : List ℕ) → format items → bytes_of items ≡ used ++ b ∷ more → IsWithin Asks items used b

@@ -5,7 +5,7 @@ use Rattle.pb_text.specs.Spelling.{Letter, Item, bytes_of}
 use Rattle.pb_text.specs.declared.machine.Push.{Push}
 use Rattle.pb_text.specs.declared.machine.Push.TheVariants as push
 
--- After a byte the machine goes on, or has ended a statement with an event, or refuses the byte.
+-- After a byte, the machine continues, has ended a statement with an event, or rejects the byte.
 pub data Next (S E : Type 0) : Type 0 where
   Go : S → Next S E
   End : E → S → Next S E
@@ -19,11 +19,11 @@ pub record Automaton (S E : Type 0) : Type 0 where
   pub begun : S → Bool
   -- the byte that was taken last is a digit of a number
   pub in_number : S → Bool
-  -- the byte may ask for memory
+  -- the byte may allocate
   pub asks : S → ℕ → Bool
-  -- how much is kept
+  -- how much is stored
   pub kept : S → ℕ
-  -- how much could be kept: it grows by one a byte at most
+  -- how much could be stored: it grows by at most one per byte
   pub spent : S → ℕ
 
 module _ {S E : Type 0} (m : Automaton S E) where
@@ -39,7 +39,7 @@ module _ {S E : Type 0} (m : Automaton S E) where
   Reads old (l ∷ k ∷ text) e new =
       (mid : S) × (m.step old l.byte ≡ Go mid) × (m.begun mid ≡ true) × (l.numeral ≡ m.in_number mid) × Reads mid (k ∷ text) e new
 
-  -- What a state accepts: statements with gaps before them, and complete after the last one.
+  -- What a state accepts: statements with white space and comments before them, and complete after the last one.
   abbrev pub Accepts : S → List (Item E) → Type 0
   Accepts s [] = IsTrue (m.done s)
   Accepts s (i ∷ rest) = (at : S) × (after : S) × Skips s i.gap at × Reads at i.text i.event after × Accepts after rest
@@ -52,25 +52,25 @@ module _ {S E : Type 0} (m : Automaton S E) where
   pub record IsState (s : S) : Type 0 where
     -- some text may follow
     pub live : (items : List (Item E)) × Accepts s items
-    -- where nothing need follow, nothing may
+    -- if the text is complete, nothing may follow
     pub ends : IsTrue (m.done s) → (b : ℕ) → m.step s b ≡ Refuse
-    -- a statement is owed after each byte that ends none
+    -- after each byte that ends no statement, one must still end
     pub owes : (b : ℕ) (next : S) → m.step s b ≡ Go next → m.done next ≡ false
-    -- a statement that has begun goes on until its event, and then none has begun
+    -- a statement that has begun continues until its event, and then none has begun
     pub stays : m.begun s ≡ true → (b : ℕ) (next : S) → m.step s b ≡ Go next → m.begun next ≡ true
     pub closes : (b : ℕ) (e : E) (next : S) → m.step s b ≡ End e next → m.begun next ≡ false
-    -- a number is a part of a statement, and not its end
+    -- a number is part of a statement, and not its end
     pub plain : m.begun s ≡ false → m.in_number s ≡ false
-    -- at most a unit is kept for each byte of a statement, and nothing between two
+    -- at most one unit is stored for each byte of a statement, and nothing between two statements
     pub grows : (b : ℕ) (next : S) → m.step s b ≡ Go next → m.spent next ≤ m.spent s + 1
     pub bounds : m.kept s ≤ m.spent s
     pub empties : m.begun s ≡ false → m.spent s ≡ 0
 
-  -- the byte is a digit directly behind a digit of a number
+  -- the byte is a digit directly after a digit of a number
   abbrev pub is_large : S → ℕ → Bool
   is_large s b = m.in_number s && is_digit b
 
-  -- The machine answers this to the byte: the step, or nothing changes.
+  -- The result of the machine for the byte: the step, or nothing changes.
   abbrev pub Pushes : S → ℕ → Push E → S → Type 0
   Pushes old b push.Go new = m.step old b ≡ Go new
   Pushes old b (push.Event e) new = m.step old b ≡ End e new
@@ -78,7 +78,7 @@ module _ {S E : Type 0} (m : Automaton S E) where
   Pushes old b push.Large new = (m.step old b ≡ Refuse) × (is_large old b ≡ true) × (new ≡ old)
   Pushes old b push.Memory new = IsTrue (m.asks old b) × Admits old b × (new ≡ old)
 
-  -- The machine took the byte and goes on, or nothing changes.
+  -- The machine took the byte and continues, or nothing changes.
   abbrev pub Goes : S → ℕ → Bool → S → Type 0
   Goes old b true new = m.step old b ≡ Go new
   Goes old b false new = new ≡ old
@@ -88,12 +88,12 @@ module _ {S E : Type 0} (m : Automaton S E) where
   Closes old b (Some e) new = m.step old b ≡ End e new
   Closes old b None new = new ≡ old
 
-  -- Bytes lead from old to new, and the machine goes on after each.
+  -- Bytes lead from old to new, and the machine continues after each.
   abbrev pub Runs : S → List ℕ → S → Type 0
   Runs old [] new = new ≡ old
   Runs old (b ∷ text) new = (mid : S) × (m.step old b ≡ Go mid) × IsState mid × Runs mid text new
 
-  -- The state behind a byte that is taken.
+  -- The state after a byte that is taken.
   abbrev pub behind : Next S E → Option S
   behind (Go s) = Some s
   behind (End e s) = Some s
@@ -104,7 +104,7 @@ module _ {S E : Type 0} (m : Automaton S E) where
   Leads old [] new = new ≡ old
   Leads old (b ∷ text) new = (mid : S) × (behind (m.step old b) ≡ Some mid) × Leads mid text new
 
-  -- Behind these bytes the next one may ask for memory.
+  -- After these bytes, the next one may allocate.
   abbrev pub MayAsk : S → List ℕ → ℕ → Type 0
   MayAsk start used b = (state : S) × Leads start used state × IsTrue (m.asks state b)
 

@@ -1,11 +1,11 @@
--- What a source or sink over a reader or a writer keeps.
+-- What a source or sink over a reader or a writer stores.
 use Rattle.std.specs.Prelude.{ℕ, List, Option}
 use Rattle.pb_text.specs.declared.over.Over.{Over}
 
 abbrev pub inner_of : {T : Type 0} → Over T → T
 inner_of o = o.inner
 
--- how often it has failed
+-- how many times it has failed
 abbrev pub failures_of : {T : Type 0} → Over T → ℕ
 failures_of o = o.failures
 

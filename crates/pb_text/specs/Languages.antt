@@ -14,12 +14,12 @@ digit d = record { byte = 48 + d; numeral = true }
 abbrev pub Language : Type 1
 Language = List Letter → Type 0
 
--- a text of the one and then a text of the other
+-- a text of the first language followed by a text of the second
 infixl 20 ◌⋅◌
 abbrev pub ◌⋅◌ : Language → Language → Language
 ◌⋅◌ P Q = λ t. (a : List Letter) × (b : List Letter) × (t ≡ a ++ b) × P a × Q b
 
--- nothing
+-- the empty text
 abbrev pub Empty : Language
 Empty = λ t. t ≡ []
 

@@ -22,7 +22,8 @@ pub mod Source
 pub mod Spelling
 pub mod Standing
 pub mod Staying
-pub mod ValueRead
+pub mod Stopping
 pub mod NothingRead
 pub mod Whole
 pub mod Writing
+pub mod Fields

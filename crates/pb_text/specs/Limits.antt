@@ -2,7 +2,7 @@
 use Rattle.std.specs.Prelude.{ℕ, ◌-◌, ◌^◌, ◌<◌, ◌≤◌}
 use Rattle.pb_text.specs.declared.limits.Limits.{Limits}
 
--- numbers that are limits: bits, and a top
+-- numbers that are valid limits: bits, and a top
 abbrev pub AreLimits : ℕ → ℕ → Type 0
 AreLimits bits top = (31 ≤ bits) × (bits ≤ 127) × (1 ≤ top) × (top < 2 ^ 63) × (top < 2 ^ bits)
 

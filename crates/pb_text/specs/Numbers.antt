@@ -11,7 +11,7 @@ value (d ∷ ds) = d * 10 ^ length ds + value ds
 abbrev pub Digits : ℕ → Language
 Digits n = λ t. (d : ℕ) × (ds : List ℕ) × Each (λ e. e < 10) (d ∷ ds) × (t ≡ map digit (d ∷ ds)) × (n ≡ value (d ∷ ds))
 
--- a sign, `-` where it is negative
+-- a sign: `-` if negative, otherwise `+` or nothing
 abbrev pub Sign : Bool → Language
 Sign true = Byte 45
 Sign false = λ t. Empty t ⊎ Byte 43 t

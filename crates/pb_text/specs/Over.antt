@@ -4,14 +4,14 @@ use Rattle.std.specs.Io.KnownBytes.{Keeps}
 use Rattle.pb_text.specs.Source.{StartWith, HaveEnded}
 use Rattle.pb_text.specs.declared.source.Failed.{Failed}
 
--- The bytes that the reader tells to be left. A reader that has shown a byte and does not let it be taken tells none.
+-- The bytes that the reader reports as left. A reader that has shown a byte and does not let it be taken reports none.
 abbrev pub told : Option (List ℕ) → Option ℕ → Option ℕ → Option (List ℕ)
 told left limit None = left
 told left None (Some b) = left
 told left (Some zero) (Some b) = None
 told left (Some (suc n)) (Some b) = left
 
--- a reader that tells its bytes lets one be taken
+-- a reader that reports its bytes lets one be taken
 abbrev pub LetsOne : Option (List ℕ) → Option ℕ → Type 0
 LetsOne None limit = Unit {0}
 LetsOne (Some bytes) None = Unit {0}

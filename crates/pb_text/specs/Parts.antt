@@ -1,9 +1,9 @@
--- What a feeder keeps.
+-- What a feeder stores.
 use Rattle.std.specs.Prelude.{◌≡◌}
 use Rattle.pb_text.specs.declared.feeder.Feeder.{Feeder}
 use Rattle.pb_text.specs.declared.machine.Machine.{Ghosts}
 
--- Two feeders have the same machine, limit and stop, at the same place, with the same statement begun.
+-- Two feeders have the same machine, limit, stop, position and start of the current statement.
 pub record AreAlike {M E : Type 0} {g : Ghosts M E} (a b : Feeder M E g) : Type 0 where
   pub machine : a.machine ≡ b.machine
   pub place : a.place ≡ b.place
@@ -11,6 +11,6 @@ pub record AreAlike {M E : Type 0} {g : Ghosts M E} (a b : Feeder M E g) : Type 
   pub longest : a.longest ≡ b.longest
   pub stop : a.stop ≡ b.stop
 
--- It keeps nothing beside them.
+-- A feeder stores nothing else.
 abbrev pub KeepsItsParts : (M E : Type 0) (g : Ghosts M E) → Type 0
 KeepsItsParts M E g = (a b : Feeder M E g) → AreAlike a b → a ≡ b

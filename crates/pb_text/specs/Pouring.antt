@@ -6,13 +6,13 @@ use Rattle.pb_text.specs.declared.place.Spanned.{Spanned}
 use Rattle.pb_text.specs.declared.feeder.Feeder.{Feeder}
 use Rattle.pb_text.specs.declared.machine.Machine.{Ghosts}
 
--- the event that a call brought, if it brought one
+-- the event that a call returned, if any
 abbrev pub brought : {E F : Type 0} → Result (Option (Spanned E)) F → Option (Spanned E)
 brought (Ok event) = event
 brought (Err e) = None
 
--- The feeder was given these bytes, which the source has lost and its calls have given. Where an event came it ends with the
--- last of them, and else none does.
+-- The feeder was given these bytes, which were removed from the source and which its calls have given. If an event came,
+-- it ends with the last of them. Otherwise no event ends in them.
 pub record Pours {M E : Type 0} {g : Ghosts M E} (old : Feeder M E g) (before : Option (List ℕ)) (given : List ℕ) (event : Option (Spanned E)) (new : Feeder M E g) (after : Option (List ℕ)) (given' : List ℕ) : Type 0 where
   pub taken : List ℕ
   pub lost : Lost before taken after

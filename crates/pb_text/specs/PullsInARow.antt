@@ -1,7 +1,8 @@
--- Pulls in a row: what they have taken of a source together is a read of it.
+-- Consecutive pulls: together, what they have taken from a source is a read of it.
 use Rattle.std.specs.Prelude.{◌≡◌, ℕ, List, [], ◌∷◌, ◌++◌, length, Bool, true, false, Option, Some, None, Result, Ok, Err}
 use Rattle.pb_text.specs.Spelling.{Item}
-use Rattle.pb_text.specs.Automaton.{Accepts}
+use Rattle.pb_text.specs.Stopping.{IsAsking}
+use Rattle.pb_text.specs.Automaton.{Accepts, MayAsk}
 use Rattle.pb_text.specs.Reading.{Reads}
 use Rattle.pb_text.specs.Feeding.{StandsAt, place_of, halt_of}
 use Rattle.pb_text.specs.Pulling.{Took}
@@ -11,8 +12,8 @@ use Rattle.pb_text.specs.declared.place.Stop.{Stop}
 use Rattle.pb_text.specs.declared.feeder.Feeder.{Feeder}
 use Rattle.pb_text.specs.declared.machine.Machine.{Ghosts}
 
--- The feeder, which began with this machine, runs. It has answered these marks, and stands to the bytes that were
--- taken of the source.
+-- The feeder began with this machine and has not stopped. It was fed the bytes taken from the source, and has returned
+-- these spans.
 pub record HasPulled {M E : Type 0} {g : Ghosts M E} (longest : ℕ) (start : M) (before : Option (List ℕ)) (marks : List (Spanned E)) (f : Feeder M E g) (now : Option (List ℕ)) : Type 0 where
   pub used : List ℕ
   pub seen : List ℕ
@@ -22,14 +23,14 @@ pub record HasPulled {M E : Type 0} {g : Ghosts M E} (longest : ℕ) (start : M)
   pub running : halt_of f ≡ None
 
 module _ {E : Type 0} (format : List (Item E) → Type 0) (longest : ℕ) where
-  -- The bytes taken of the source are those used by a read that ended so: done, or stopped.
+  -- The bytes taken from the source are those used by a read that ended like this: done, or stopped.
   pub record TookAll (before after : Option (List ℕ)) (marks : List (Spanned E)) (place : Place) (done : Bool) (stop : Option Stop) : Type 0 where
     pub used : List ℕ
     pub seen : List ℕ
     pub took : Took before used seen after
     pub reads : Reads format longest (used ++ seen) used marks place done stop
 
-  -- The bytes taken of the source gave these marks so far, and the place behind them is this.
+  -- The bytes taken from the source gave these spans so far, and this is the position after them.
   pub record TookSoFar (before after : Option (List ℕ)) (marks : List (Spanned E)) (place : Place) : Type 0 where
     pub used : List ℕ
     pub seen : List ℕ
@@ -37,9 +38,10 @@ module _ {E : Type 0} (format : List (Item E) → Type 0) (longest : ℕ) where
     pub done : Bool
     pub reads : Reads format longest used used marks place done None
 
--- what the next pull of a row owes
+-- what the next of consecutive pulls must give
 abbrev pub PullsOn : {M E : Type 0} {g : Ghosts M E} → ℕ → M → Option (List ℕ) → List (Spanned E) → Result (Option (Spanned E)) Stop → Feeder M E g → Option (List ℕ) → Type 0
 PullsOn {g} longest start before marks (Ok (Some m)) f now =
     HasPulled longest start before (marks ++ m ∷ []) f now × TookSoFar (Accepts g.automaton start) longest before now (marks ++ m ∷ []) m.past
 PullsOn {g} longest start before marks (Ok None) f now = TookAll (Accepts g.automaton start) longest before now marks (place_of f) true None
-PullsOn {g} longest start before marks (Err s) f now = TookAll (Accepts g.automaton start) longest before now marks s.place false (Some s)
+PullsOn {g} longest start before marks (Err s) f now =
+    (all : TookAll (Accepts g.automaton start) longest before now marks s.place false (Some s)) × IsAsking (MayAsk g.automaton start) all.used all.seen s.why

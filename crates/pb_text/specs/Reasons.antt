@@ -1,11 +1,11 @@
--- The words of a place and of a stop.
+-- The text of a position and of a stop.
 use Rattle.std.specs.Prelude.{ℕ, ◌/◌, ◌%◌, List, [], ◌∷◌, ◌++◌, codes, decimal, slice_index}
 use Rattle.pb_text.specs.declared.place.Place.{Place}
 use Rattle.pb_text.specs.declared.place.Stop.{Stop}
 use Rattle.pb_text.specs.declared.place.Why.{Why}
 use Rattle.pb_text.specs.declared.place.Why.TheVariants as why
 
--- a place, as far as its colon and space
+-- a position, through its colon and space
 abbrev pub place_text : Place → List ℕ
 place_text place = codes "line " ++ decimal place.line ++ codes " column " ++ decimal place.column ++ codes ": "
 

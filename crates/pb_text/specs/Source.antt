@@ -1,5 +1,5 @@
--- What a source shows, and what is taken of it.
-use Rattle.std.specs.Prelude.{◌≡◌, ℕ, List, [], ◌∷◌, ◌++◌, Option, Some, None, Result, Ok, Err}
+-- What a source shows, and what is taken from it.
+use Rattle.std.specs.Prelude.{◌≡◌, ℕ, List, [], ◌∷◌, ◌++◌, Bool, true, false, Option, Some, None, Result, Ok, Err}
 use Rattle.std.specs.Io.KnownBytes.{Keeps}
 use Rattle.pb_text.specs.Writing.{one_more}
 use Rattle.pb_text.specs.declared.source.Failed.{Failed}
@@ -14,24 +14,24 @@ abbrev pub HaveEnded : Option (List ℕ) → Type 0
 HaveEnded None = Unit {0}
 HaveEnded (Some bytes) = bytes ≡ []
 
--- the first byte goes
+-- the first byte is removed
 abbrev pub LosesFirst : Option (List ℕ) → Option (List ℕ) → Type 0
 LosesFirst None new = Unit {0}
 LosesFirst (Some []) new = Unit {0}
 LosesFirst (Some (b ∷ rest)) new = new ≡ Some rest
 
-module _ {S : Type 0} (left : S → Option (List ℕ)) (shown : S → Option ℕ) (history : S → List ℕ) (faults : S → ℕ) where
-  -- a look at the next byte, which takes none
+module _ {S : Type 0} (left : S → Option (List ℕ)) (shown : S → Option ℕ) (ended : S → Bool) (history : S → List ℕ) (faults : S → ℕ) where
+  -- a peek at the next byte, which takes none
   abbrev pub Peeks : S → Result (Option ℕ) Failed → S → Type 0
-  Peeks old (Ok (Some b)) new = StartWith (left old) b × Keeps (left old) (left new) × (shown new ≡ Some b) × (faults new ≡ faults old) × (history new ≡ history old)
-  Peeks old (Ok None) new = HaveEnded (left old) × Keeps (left old) (left new) × (faults new ≡ faults old) × (history new ≡ history old)
-  Peeks old (Err e) new = Keeps (left old) (left new) × (faults new ≡ one_more (faults old)) × (history new ≡ history old)
+  Peeks old (Ok (Some b)) new = StartWith (left old) b × Keeps (left old) (left new) × (shown new ≡ Some b) × (faults new ≡ faults old) × (history new ≡ history old) × (ended new ≡ false)
+  Peeks old (Ok None) new = HaveEnded (left old) × Keeps (left old) (left new) × (faults new ≡ faults old) × (history new ≡ history old) × (ended new ≡ true)
+  Peeks old (Err e) new = Keeps (left old) (left new) × (faults new ≡ one_more (faults old)) × (history new ≡ history old) × (ended new ≡ false)
 
-  -- the byte that was shown goes, and its calls have given that one too
+  -- the byte that was shown is taken, and is added to the bytes that the calls have given
   abbrev pub Skips : S → S → Type 0
   Skips old new = LosesFirst (left old) (left new) × (faults new ≡ faults old) × ((b : ℕ) → shown old ≡ Some b → history new ≡ history old ++ b ∷ [])
 
--- a source has lost the bytes that were taken, where it tells them
+-- the bytes left in a source are those before without the taken ones, if it reports them
 abbrev pub Lost : Option (List ℕ) → List ℕ → Option (List ℕ) → Type 0
 Lost None taken now = Unit {0}
 Lost (Some bytes) taken now = (rest : List ℕ) × (bytes ≡ taken ++ rest) × (now ≡ Some rest)

@@ -1,4 +1,4 @@
--- Where the next byte is too long, and what was spent on a statement.
+-- The offset where the next byte is past the limit, and what was spent on a statement.
 use Rattle.std.specs.Prelude.{◌≡◌, ℕ, ◌+◌, ◌≤◌, min, Option, None, Some}
 use Rattle.pb_text.specs.Reading.{byte_limit}
 use Rattle.pb_text.specs.declared.place.Place.{Place}

@@ -3,7 +3,7 @@
 ghost use Rattle.std.specs.Prelude.{◌≡◌, ◌<◌, IsTrue};
 ghost use Rattle.pb_text.specs.Classes.{is_blank, is_white, is_digit, is_letter, is_name_byte};
 
-/// Each byte of a name at its own place, and a comma at every other place.
+/// Each name byte at its own index, and a comma at every other index.
 static NAME_BYTES: [u8; 256] = *b"\
     ,,,,,,,,,,,,,,,,,,,,,,,,,,,,,,,,\
     ,,,,,,,,,,,,,,,,0123456789,,,,,,\
@@ -46,7 +46,7 @@ pub fn is_letter(byte: u8) -> bool
     (b'A' <= byte && byte <= b'Z') || (b'a' <= byte && byte <= b'z')
 }
 
-/// Whether a name may hold the byte: an ASCII letter or digit, or one of `_[]{}^`.
+/// Whether a name may contain the byte: an ASCII letter or digit, or one of `_[]{}^`.
 #[inline(always)]
 pub fn is_name_byte(byte: u8) -> bool
     ensures byte { result ≡ is_name_byte byte }

@@ -3,10 +3,10 @@
 ghost use Rattle.std.specs.Prelude.{◌≡◌, ◌+◌, ◌*◌, ◌^◌, ◌<◌, ◌≤◌, MatchOption};
 ghost use Rattle.pb_text.specs.Numbers.{signed};
 
-/// Numbers below it leave room for a digit more, so they need no division.
+/// Numbers below this have room for one more digit, so they need no division.
 const SMALL: u128 = 1 << 60;
 
-/// The number with one digit more, where it is at most `limit`.
+/// The number with one more digit, or `None` if that is larger than `limit`.
 #[inline(always)]
 pub fn next_digit(limit: u128, number: u128, digit: u8) -> Option<u128>
     requires { digit < 10 }
@@ -26,7 +26,7 @@ pub fn next_digit(limit: u128, number: u128, digit: u8) -> Option<u128>
     Some(10 * number + digit)
 }
 
-/// The same for numbers of 64 bits.
+/// The same for 64-bit numbers.
 #[inline(always)]
 pub fn next_digit_u64(limit: u64, number: u64, digit: u8) -> Option<u64>
     requires { digit < 10 }
@@ -39,7 +39,7 @@ pub fn next_digit_u64(limit: u64, number: u64, digit: u8) -> Option<u64>
     Some(next as u64)
 }
 
-/// The number of this magnitude, below zero where it is negative.
+/// The number of this magnitude, with a minus sign if `negative`.
 #[inline(always)]
 pub fn signed(negative: bool, magnitude: u128) -> i128
     requires { magnitude < 2 ^ 127 }
@@ -49,7 +49,7 @@ pub fn signed(negative: bool, magnitude: u128) -> i128
     if negative { -value } else { value }
 }
 
-/// The same for numbers of 64 bits.
+/// The same for 64-bit numbers.
 #[inline(always)]
 pub fn signed_i64(negative: bool, magnitude: u64) -> i64
     requires { magnitude < 2 ^ 63 }

@@ -1,11 +1,11 @@
-//! Readers and writers over memory that fail, or give and take little: to try what a fault leaves.
+//! Readers and writers in memory that fail, or that give or take few bytes per call: to test the state after a fault.
 
 ghost use Rattle.std.specs.Prelude.{◌≡◌, None};
 
 use std::io::{self, BufRead, ErrorKind, Read, Write};
 
-/// A reader of bytes in memory. It shows at most `most` bytes a call, and fails at the call number `fails_at`,
-/// counted from 1 over all calls that read.
+/// A reader of bytes in memory. It shows at most `most` bytes per call. It fails at call number `fails_at`, counted
+/// from 1 over all calls that read.
 #[derive(Drop)]
 pub struct FaultyReader<'a> {
     pub left: &'a [u8],
@@ -15,7 +15,7 @@ pub struct FaultyReader<'a> {
 }
 
 impl<'a> FaultyReader<'a> {
-    /// A reader that shows all and does not fail.
+    /// A reader that shows all bytes and does not fail.
     pub fn new(bytes: &'a [u8]) -> Self
         ensures left { result.left.now ≡ bytes.now }
         ensures most { result.most ≡ usize.MAX }
@@ -30,7 +30,7 @@ impl<'a> FaultyReader<'a> {
         }
     }
 
-    /// Counts a call, and tells whether it is to fail.
+    /// Counts a call, and returns whether it must fail.
     fn fails(&mut self) -> bool {
         self.calls = self.calls.saturating_add(1);
         self.fails_at == Some(self.calls)
@@ -64,8 +64,7 @@ impl BufRead for FaultyReader<'_> {
     }
 }
 
-/// A writer to memory. It takes at most `most` bytes a call, and fails at the call number `fails_at`, counted
-/// from 1.
+/// A writer to memory. It takes at most `most` bytes per call. It fails at call number `fails_at`, counted from 1.
 #[derive(Drop)]
 pub struct FaultyWriter {
     pub taken: Vec<u8>,
@@ -75,7 +74,7 @@ pub struct FaultyWriter {
 }
 
 impl FaultyWriter {
-    /// A writer to the end of a vector, which takes all and does not fail.
+    /// A writer that appends to a vector. It takes all bytes and does not fail.
     pub fn new(taken: Vec<u8>) -> Self
         ensures taken { result.taken.items ≡ taken.items }
         ensures most { result.most ≡ usize.MAX }

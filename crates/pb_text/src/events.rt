@@ -11,8 +11,8 @@ use crate::place::{Place, Spanned, Stop};
 use crate::source::Source;
 use std::iter::FusedIterator;
 
-/// The events of a source in their order: each call is a `pull`. The first stop is its last item, and behind the last
-/// event, or a stop, it gives nothing more and does not ask the source.
+/// The events of a source in order: each call is a `pull`. The first stop is its last item. After the last event, or a
+/// stop, it yields nothing more and does not call the source.
 #[derive(Drop)]
 pub struct Events<'s, S, M: Machine> {
     source: &'s mut S,
@@ -20,7 +20,7 @@ pub struct Events<'s, S, M: Machine> {
 }
 
 impl<'s, S, M: Machine> Events<'s, S, M> {
-    /// The events that the feeder answers over the source.
+    /// The events that the feeder returns for the source.
     pub fn new(source: &'s mut S, feeder: Feeder<M>) -> Self
         ensures source { source_of result ≡ source.old }
         ensures feeder { feeder_of result ≡ feeder }
@@ -28,7 +28,7 @@ impl<'s, S, M: Machine> Events<'s, S, M> {
         Events { source, feeder }
     }
 
-    /// The place of the next byte.
+    /// The position of the next byte.
     pub fn place(&self) -> Place
         ensures { result ≡ place_of (feeder_of self.now) }
     {
@@ -39,7 +39,7 @@ impl<'s, S, M: Machine> Events<'s, S, M> {
 impl<S: Source, M: Machine + Drop> Iterator for Events<'_, S, M> {
     type Item = Result<Spanned<M::Event>, Stop>;
 
-    ghost next_gives = { Gives S.left S.history S.faults };
+    ghost next_gives = { Gives S.left S.shown S.ended S.history S.faults };
 
     ghost remaining = { most_left };
 

@@ -7,11 +7,11 @@ ghost use Rattle.pb_text.specs.NothingRead.{ReadsNothing, first_fault};
 use crate::machine::Machine;
 use crate::place::{Place, Stop, Why};
 
-/// Why a read by the machine stopped, of a source that failed before its first byte.
+/// The stop of a read by the machine, from a source that failed before its first byte.
 pub fn unread<M: Machine>(machine: &M) -> Stop
     requires between { M.automaton.begun machine.now ≡ false }
     ensures stop { result ≡ first_fault }
-    // It is the answer of a read of no byte, where the machine is owed one.
+    // It is the result of a read of no bytes, if the machine is not done.
     ensures reads { M.automaton.done machine.now ≡ false → (longest : ℕ) → 0 < longest
         → ReadsNothing (Accepts M.automaton machine.now) longest }
 {

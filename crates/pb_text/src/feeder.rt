@@ -1,17 +1,18 @@
-//! Takes a text in pieces.
+//! Reads a text in pieces.
 
 ghost use Rattle.std.specs.Prelude.{true, false, ◌≡◌, ◌≢◌, ℕ, Some, None, Ok, Err, ◌+◌, ◌-◌, ◌^◌, ◌<◌, ◌≤◌, List, [], ◌∷◌, ◌++◌, take, if◌then◌else◌, OnOk, OnErr, IfOk, IfErr, length, slice_get, is_some};
 ghost use Rattle.pb_text.specs.SpentBytes.{end_of};
 ghost use Rattle.pb_text.specs.Spelling.{place_next, place_or};
 ghost use Rattle.pb_text.specs.Standing.{opened};
+ghost use Rattle.pb_text.specs.Stopping.{IsShown};
 
 use crate::machine::{Machine, Push};
 use crate::place::{Place, Spanned, Stop, Why};
 
-/// The most bytes that are read of one input.
+/// The maximum number of bytes read from one input.
 pub const BYTE_LIMIT: u64 = 1 << 40;
 
-/// What a feed took: `used` bytes of the piece, and the event that ends with the last of them.
+/// What a feed took: `used` bytes of the piece, and the event that ends with the last of them, if any.
 #[derive(Drop)]
 pub struct Fed<E> {
     pub used: usize,
@@ -19,7 +20,7 @@ pub struct Fed<E> {
 }
 
 impl<E> Fed<E> {
-    /// What was taken where the last of `used` bytes ends an event.
+    /// What was taken if the last of `used` bytes ends an event.
     fn with_event(used: usize, event: Spanned<E>) -> Self
         ensures { result ≡ record { used = used; event = Some event } }
     {
@@ -30,7 +31,7 @@ impl<E> Fed<E> {
     }
 }
 
-/// Feeds a machine with a text, in whatever pieces it comes, and keeps no byte of it.
+/// Feeds a text to a machine, in whatever pieces it comes, and stores no byte of it.
 #[derive(Drop)]
 pub struct Feeder<M: Machine> {
     machine: M,
@@ -55,7 +56,7 @@ impl<M: Machine> Feeder<M> {
     ghost use Rattle.pb_text.specs.Reading.{Reads, EndsAs};
     ghost use Rattle.pb_text.specs.Feeding.{StandsAt, FeedsOnce, HoldsFew, WantsMemory, stop_of, marks_in, marks_taken, state_of, place_of, halt_of, is_complete};
 
-    /// A feeder of a machine that has begun no statement.
+    /// A feeder for a machine that has begun no statement.
     pub fn new(machine: M) -> Self
         requires between { M.automaton.begun machine ≡ false }
         ensures stands { StandsAt BYTE_LIMIT machine [] [] result }
@@ -90,7 +91,7 @@ impl<M: Machine> Feeder<M> {
     pub fn is_done(&self) -> bool
         ensures done { result ≡ is_complete self.now }
         ensures state { IsState M.automaton (state_of self.now) }
-        // The marks that were answered, the place, this answer and the stop are those of a read of the input.
+        // The spans that were returned, the position, this result and the stop are those of a read of the input.
         ensures reads { (longest : ℕ) (start : M) (input : List ℕ) (marks : List (Spanned M.Event))
             → StandsAt longest start input marks self.now
             → (used : List ℕ) × Reads (Accepts M.automaton start) longest input used marks (place_of self.now) result (halt_of self.now) }
@@ -98,7 +99,7 @@ impl<M: Machine> Feeder<M> {
         self.machine.is_done()
     }
 
-    /// The place of the next byte.
+    /// The position of the next byte.
     pub fn place(&self) -> Place
         ensures place { result ≡ place_of self.now }
         ensures reach { IsInReach result }
@@ -106,7 +107,7 @@ impl<M: Machine> Feeder<M> {
         self.place
     }
 
-    /// How much of the current statement is kept.
+    /// How much of the current statement is stored.
     pub fn held(&self) -> usize
         ensures kept { result ≡ M.automaton.kept (state_of self.now) }
         ensures few { (longest : ℕ) (start : M) (input : List ℕ) (marks : List (Spanned M.Event))
@@ -116,7 +117,7 @@ impl<M: Machine> Feeder<M> {
         self.machine.held()
     }
 
-    /// The input has ended: `Ok` where the text is complete, else `Ended`.
+    /// The input has ended: `Ok` if the text is complete, otherwise `Ended`.
     pub fn finish(&mut self) -> Result<(), Stop>
         ensures ends { (longest : ℕ) (start : M) (input : List ℕ) (marks : List (Spanned M.Event))
             → halt_of self.old ≡ None
@@ -138,22 +139,22 @@ impl<M: Machine> Feeder<M> {
         }
     }
 
-    /// Takes bytes of the piece up to the next event, or all of them. After a stop, and after the last event, it
-    /// takes none.
+    /// Takes bytes of the piece through the end of the next event, or all of them. After a stop, and after the last event,
+    /// it takes none.
     pub fn feed(&mut self, piece: &[u8]) -> Result<Fed<M::Event>, Stop>
-        // As the feeder stood to all the input before, it stands to that with these bytes.
+        // If `StandsAt` held for all earlier input, it holds for that input followed by these bytes.
         ensures feeds { FeedsOnce self.old piece.now result self.new }
         ensures stop { halt_of self.new ≡ stop_of result }
         ensures used { IfOk result (λ fed. ((place_of self.new).offset ≡ (place_of self.old).offset + fed.used) × (fed.used ≤ length piece.now)) }
         ensures again { (stop : Stop) → halt_of self.old ≡ Some stop → (result ≡ Err stop) × (self.new ≡ self.old) }
         ensures done { is_complete self.old ≡ true → halt_of self.old ≡ None
             → (result ≡ Ok (record { used = 0; event = None })) × (self.new ≡ self.old) }
-        // With an event it takes the bytes through that event's last, and one at least.
+        // With an event, it takes the bytes through the last one of that event, and at least one.
         ensures some { (fed : Fed M.Event) (event : Spanned M.Event) → result ≡ Ok fed → fed.event ≡ Some event → 0 < fed.used }
         ensures past { (fed : Fed M.Event) (event : Spanned M.Event) → result ≡ Ok fed → fed.event ≡ Some event → event.past ≡ place_of self.new }
-        // There is no reader that could fail.
+        // There is no reader that can fail.
         ensures unread { halt_of self.old ≡ None → IfErr result (λ stop. stop.why ≢ Why.Read) }
-        // Memory is wanted only at a byte that may ask for it.
+        // `Memory` comes only at a byte that may allocate.
         ensures memory { halt_of self.old ≡ None → IfErr result (λ stop. (b : ℕ)
             × (slice_get piece.now ((place_of self.new).offset - (place_of self.old).offset) ≡ Some b) × WantsMemory stop self.new b) }
     {
@@ -201,7 +202,7 @@ impl<M: Machine> Feeder<M> {
         stop
     }
 
-    /// Takes bytes at the front of a piece that are soon taken, through the end of a statement at most.
+    /// Takes a prefix of a piece that is fast to take, at most through the end of a statement.
     #[inline(always)]
     pub(crate) fn bite(&mut self, piece: &[u8]) -> Fed<M::Event>
         requires unfinished { is_complete self.old ≡ false }
@@ -228,7 +229,7 @@ impl<M: Machine> Feeder<M> {
         }
     }
 
-    /// Takes a byte that ends a statement, where that is done soon.
+    /// Takes a byte that ends a statement, if that is fast.
     #[inline(always)]
     fn closes(&mut self, byte: u8) -> Option<Spanned<M::Event>>
         requires unfinished { is_complete self.old ≡ false }
@@ -252,7 +253,7 @@ impl<M: Machine> Feeder<M> {
         }
     }
 
-    /// Takes bytes at the front of a piece that are soon taken, none of which ends a statement, and answers how many.
+    /// Takes a prefix of a piece that is fast to take and ends no statement. It returns the length of the prefix.
     #[inline(always)]
     pub(crate) fn run(&mut self, piece: &[u8]) -> usize
         requires unfinished { is_complete self.old ≡ false }
@@ -271,7 +272,7 @@ impl<M: Machine> Feeder<M> {
         entered + self.go_on(&piece[entered..])
     }
 
-    /// Takes bytes at the front of a piece through the first one of a statement, where none has begun, and answers how many.
+    /// If no statement has begun, takes a prefix of a piece, at most through the first byte of one. It returns the length.
     #[inline(always)]
     fn enter(&mut self, piece: &[u8]) -> usize
         requires unfinished { is_complete self.old ≡ false }
@@ -296,7 +297,7 @@ impl<M: Machine> Feeder<M> {
         used
     }
 
-    /// Takes a byte between two statements, or the first one of a statement, where that is done soon, and answers whether it did.
+    /// Takes a byte between two statements, or the first byte of one, if that is fast. It returns whether it did.
     #[inline(always)]
     fn goes(&mut self, byte: u8) -> bool
         requires unfinished { is_complete self.old ≡ false }
@@ -321,7 +322,7 @@ impl<M: Machine> Feeder<M> {
         true
     }
 
-    /// Takes bytes at the front of a piece as long as the statement goes on that has begun, and answers how many.
+    /// Takes a prefix of a piece while the statement that has begun continues. It returns the length of the prefix.
     #[inline(always)]
     fn go_on(&mut self, piece: &[u8]) -> usize
         requires unfinished { is_complete self.old ≡ false }
@@ -363,6 +364,7 @@ impl<M: Machine> Feeder<M> {
         ensures state { IsState M.automaton (state_of self.new) }
         ensures memory { IfErr result (λ stop. WantsMemory stop self.new byte) }
         ensures unread { IfErr result (λ stop. stop.why ≢ Why.Read) }
+        ensures shown { IfErr result (λ stop. IsShown (Some byte) false stop.why) }
     {
         if self.place.offset == self.end {
             return Err(self.halt(Why::TooLong));
@@ -382,7 +384,7 @@ impl<M: Machine> Feeder<M> {
 }
 
 impl<M: Machine> Feeder<M> {
-    /// Moves on behind a byte that ends no statement.
+    /// Advances past a byte that ends no statement.
     #[inline(always)]
     fn move_on(&mut self, starts: bool, byte: u8)
         requires room { self.old.place.offset < self.old.end }
@@ -397,7 +399,7 @@ impl<M: Machine> Feeder<M> {
         self.place = self.place.after(byte);
     }
 
-    /// Moves on behind the byte that ends a statement, and answers its event with its places.
+    /// Advances past the byte that ends a statement, and returns its event with its positions.
     #[inline(always)]
     fn mark(&mut self, event: M::Event, byte: u8) -> Spanned<M::Event>
         requires room { self.old.place.offset < self.old.end }
@@ -417,7 +419,7 @@ impl<M: Machine> Feeder<M> {
     }
 }
 
-/// Where the statement began that the next byte is in.
+/// The position where the statement of the next byte began, if the byte is in one.
 fn opened_at(first: Option<Place>, starts: bool, place: Place) -> Option<Place>
     ensures { result ≡ opened first starts place }
 {
@@ -428,7 +430,7 @@ fn opened_at(first: Option<Place>, starts: bool, place: Place) -> Option<Place>
     }
 }
 
-/// The offset at which the next byte is too long.
+/// The offset at which the next byte is past the limit.
 fn end_at(longest: u64, first: Option<Place>) -> u64
     ensures { result ≡ end_of longest first }
 {

@@ -1,11 +1,11 @@
-//! A list of bytes that only clauses read.
+//! A list of bytes that only contracts read.
 
 ghost use Rattle.std.specs.Prelude.{◌≡◌, ℕ, List, [], ◌++◌};
 ghost use Rattle.std.specs.Borrow.{ftrue};
 
 use std::marker::{Model, PhantomData};
 
-/// Bytes that were taken. It takes no memory, and its methods do nothing when they run.
+/// Bytes that were taken. It uses no memory, and its methods do nothing at run time.
 #[derive(Drop)]
 pub struct History {
     marker: PhantomData<u8>,
@@ -17,7 +17,7 @@ impl Model for History {
 }
 
 impl History {
-    /// No bytes.
+    /// The empty history.
     pub(crate) fn new() -> History
         ensures { result.bytes ≡ [] }
     {
@@ -26,7 +26,7 @@ impl History {
         }
     }
 
-    /// These bytes more.
+    /// Appends these bytes.
     pub(crate) fn note(&mut self, _bytes: &[u8])
         ensures { self.new.bytes ≡ self.old.bytes ++ _bytes.now }
     {}

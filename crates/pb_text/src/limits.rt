@@ -18,7 +18,7 @@ pub struct Limits {
 impl Limits {
     ghost use Rattle.pb_text.specs.Limits.{bits_of, top_of, largest, AreLimits};
 
-    /// Limits of so many bits, 31 to 127, and a top from 1 to the lesser of `2^63 - 1` and `2^bits - 1`.
+    /// Limits with `bits` from 31 to 127, and `top` from 1 to the smaller of `2^63 - 1` and `2^bits - 1`. Otherwise `None`.
     pub fn new(bits: u32, top: u64) -> Option<Limits>
         ensures valid { IsSome result ↔ AreLimits bits top }
         ensures bits { IfSome result (λ limits. bits_of limits ≡ bits) }
@@ -33,7 +33,7 @@ impl Limits {
         Some(Limits { bits, top })
     }
 
-    /// The widest limits: 127 bits, and `2^63 - 1`.
+    /// The widest limits: 127 bits, and a top of `2^63 - 1`.
     pub fn full() -> Limits
         ensures bits { bits_of result ≡ 127 }
         ensures top { top_of result ≡ 2 ^ 63 - 1 }
@@ -44,7 +44,7 @@ impl Limits {
         }
     }
 
-    /// The bits of a magnitude.
+    /// The number of bits of a magnitude.
     pub fn bits(self) -> u32
         ensures { result ≡ bits_of self }
     {

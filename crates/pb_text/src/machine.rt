@@ -1,9 +1,9 @@
-//! A machine that takes a text byte by byte.
+//! A machine that reads a text byte by byte.
 
 ghost use Rattle.std.specs.Prelude.{◌≡◌, ◌<◌, ◌≤◌, take, length};
 ghost use Rattle.pb_text.specs.Automaton.{Automaton, IsState, Pushes, Goes, Closes, Runs, begins};
 
-/// What a machine answers to a byte.
+/// The response of a machine to a byte.
 #[derive(Drop)]
 pub enum Push<E> {
     /// The byte was taken.
@@ -12,28 +12,28 @@ pub enum Push<E> {
     Event(E),
     /// No text that continues with this byte is grammatical. The machine is unchanged.
     No,
-    /// The same, and the byte is a digit directly behind a digit of a number.
+    /// The same, and the byte is a digit directly after a digit of a number.
     Large,
-    /// Memory ran out. The machine is unchanged.
+    /// Out of memory. The machine is unchanged.
     Memory,
 }
 
 /// A reader of a text, one byte at a time.
 ///
-/// What a machine accepts is said by its automaton alone: the states that bytes lead to, and the
-/// statements that end on the way. A machine keeps the statement that it is in, and nothing of those before.
+/// Its automaton alone says what a machine accepts: the states that bytes lead to, and the statements that end on the
+/// way. A machine stores the statement that it is in, and nothing of earlier ones.
 pub trait Machine {
     type Event;
 
     ghost automaton: { Automaton Self Self.Event };
 
-    /// Takes a byte, or answers why not and leaves the machine as it is.
+    /// Takes a byte, or returns why not and leaves the machine unchanged.
     fn push(&mut self, byte: u8) -> Push<Self::Event>
         ensures pushes { Pushes automaton self.old byte result self.new }
         ensures state { IsState automaton self.new };
 
-    /// Takes a byte where that is done soon: where it ends no statement, and no memory is refused. Else it
-    /// leaves the machine as it is, and `push` says why.
+    /// Takes a byte that ends no statement, if that is fast and no allocation is refused. Otherwise it leaves the machine
+    /// unchanged, and `push` says why.
     fn goes(&mut self, byte: u8) -> bool
         ensures goes { Goes automaton self.old byte result self.new }
         ensures state { IsState automaton self.new }
@@ -43,8 +43,8 @@ pub trait Machine {
         false
     }
 
-    /// Takes a byte that ends a statement, where that is done soon and no memory is refused, and answers the event. Else
-    /// it leaves the machine as it is, and `push` says why.
+    /// Takes a byte that ends a statement, if that is fast and no allocation is refused, and returns the event. Otherwise it
+    /// leaves the machine unchanged, and `push` says why.
     fn closes(&mut self, byte: u8) -> Option<Self::Event>
         ensures closes { Closes automaton self.old byte result self.new }
         ensures state { IsState automaton self.new }
@@ -54,8 +54,8 @@ pub trait Machine {
         None
     }
 
-    /// Takes the first byte of a piece as `goes` does, or more bytes at its front that are sooner taken together, as whole
-    /// names and numbers, and answers how many.
+    /// Takes the first byte of a piece as `goes` does, or a longer prefix that is faster to take at once. Such a prefix may be
+    /// a whole name or number. It returns the number of bytes taken.
     fn take_front(&mut self, piece: &[u8]) -> usize
         requires { 0 < length piece.now }
         ensures bound { result ≤ length piece.now }
@@ -65,8 +65,7 @@ pub trait Machine {
         if self.goes(piece[0]) { 1 } else { 0 }
     }
 
-    /// Takes bytes at the front of a piece as `goes` does, and answers how many. It may leave some that `goes` would
-    /// take.
+    /// Takes a prefix of a piece as `goes` does, and returns its length. It may leave bytes that `goes` would take.
     fn run(&mut self, piece: &[u8]) -> usize
         ensures bound { result ≤ length piece.now }
         ensures runs { Runs automaton self.old (take result piece.now) self.new }
@@ -93,7 +92,7 @@ pub trait Machine {
     fn starts(&self, byte: u8) -> bool
         ensures { result ≡ begins automaton self.now byte };
 
-    /// How much of the current statement is kept.
+    /// How much of the current statement is stored.
     fn held(&self) -> usize
         ensures { result ≡ automaton.kept self.now };
 }

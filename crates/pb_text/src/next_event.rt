@@ -6,6 +6,7 @@ ghost use Rattle.pb_text.specs.Standing.{IsOpen};
 ghost use Rattle.pb_text.specs.Feeding.{StandsAt, WantsMemory, stop_of, state_of, place_of, halt_of, is_complete};
 ghost use Rattle.pb_text.specs.Pulling.{Pulls, Draws, faults_after};
 ghost use Rattle.pb_text.specs.PullsInARow.{HasPulled, PullsOn};
+ghost use Rattle.pb_text.specs.Stopping.{IsShown};
 ghost use Rattle.pb_text.specs.declared.place.Spanned.{Spanned};
 ghost use Rattle.pb_text.specs.declared.place.Stop.{Stop};
 
@@ -14,8 +15,8 @@ use crate::machine::Machine;
 use crate::place::{Spanned, Stop, Why};
 use crate::source::{Failed, Source};
 
-/// The next event of the source, or `None` after the last one. It takes exactly the bytes used. Where the source
-/// has no more bytes it answers as `finish`. Once done or stopped it does not ask the source.
+/// The next event of the source, or `None` after the last one. It takes exactly the bytes used. If the source has no
+/// more bytes, it returns what `finish` would. Once done or stopped, it does not call the source.
 pub fn pull<S: Source, M: Machine>(
     source: &mut S,
     feeder: &mut Feeder<M>,
@@ -24,7 +25,7 @@ pub fn pull<S: Source, M: Machine>(
         → IsOpen (halt_of feeder.old)
         → StandsAt longest start input marks feeder.old
         → Pulls longest start input marks feeder.old (S.left source.old) result feeder.new (S.left source.new) (S.history source.old) (S.history source.new) }
-    // Pulls in a row are a read of what they have taken.
+    // Consecutive pulls are a read of what they have taken.
     ensures row { (longest : ℕ) (start : M) (before : Option (List ℕ)) (marks : List (Spanned M.Event))
         → HasPulled longest start before marks feeder.old (S.left source.old)
         → PullsOn longest start before marks result feeder.new (S.left source.new) }
@@ -36,10 +37,12 @@ pub fn pull<S: Source, M: Machine>(
     ensures last { result ≡ Ok None → is_complete feeder.new ≡ true }
     ensures onward { (event : Spanned M.Event) → result ≡ Ok (Some event) → (place_of feeder.old).offset < (place_of feeder.new).offset }
     ensures past { (event : Spanned M.Event) → result ≡ Ok (Some event) → event.past ≡ place_of feeder.new }
-    // `Read` is first answered only where the source failed in this call.
+    // `Read` is first returned only if the source failed in this call.
     ensures faults { S.faults source.new ≡ faults_after (halt_of feeder.old) result (S.faults source.old) }
-    // Memory is wanted only at a byte that may ask for it.
+    // `Memory` comes only at a byte that may allocate.
     ensures memory { halt_of feeder.old ≡ None → IfErr result (λ stop. (b : ℕ) × WantsMemory stop feeder.new b) }
+    // A rejected byte is the one that the source has shown. The input ends only if the source has shown its end.
+    ensures shown { halt_of feeder.old ≡ None → IfErr result (λ stop. IsShown (S.shown source.new) (S.ended source.new) stop.why) }
     ensures state { halt_of feeder.old ≡ None → IsState M.automaton (state_of feeder.new) }
 {
     if let Some(stop) = feeder.stopped() {
@@ -57,7 +60,7 @@ pub fn pull<S: Source, M: Machine>(
     }
 }
 
-/// Takes bytes at hand through the end of a statement at most, and where none ends there the byte behind them too.
+/// Takes available bytes, at most through the end of a statement. If none ends there, it also takes the next byte.
 #[inline(always)]
 fn draw<S: Source, M: Machine>(
     source: &mut S,
@@ -73,6 +76,7 @@ fn draw<S: Source, M: Machine>(
     ensures past { (event : Spanned M.Event) → result ≡ Ok (Some event) → event.past ≡ place_of feeder.new }
     ensures faults { S.faults source.new ≡ faults_after None result (S.faults source.old) }
     ensures memory { IfErr result (λ stop. (b : ℕ) × WantsMemory stop feeder.new b) }
+    ensures shown { IfErr result (λ stop. IsShown (S.shown source.new) (S.ended source.new) stop.why) }
     ensures state { IsState M.automaton (state_of feeder.new) }
 {
     match source.pour(feeder) {
@@ -82,7 +86,7 @@ fn draw<S: Source, M: Machine>(
     }
 }
 
-/// Takes the next byte of the source by itself.
+/// Takes only the next byte of the source.
 fn take_next<S: Source, M: Machine>(
     source: &mut S,
     feeder: &mut Feeder<M>,
@@ -97,6 +101,7 @@ fn take_next<S: Source, M: Machine>(
     ensures past { (event : Spanned M.Event) → result ≡ Ok (Some event) → event.past ≡ place_of feeder.new }
     ensures faults { S.faults source.new ≡ faults_after None result (S.faults source.old) }
     ensures memory { IfErr result (λ stop. (b : ℕ) × WantsMemory stop feeder.new b) }
+    ensures shown { IfErr result (λ stop. IsShown (S.shown source.new) (S.ended source.new) stop.why) }
     ensures state { IsState M.automaton (state_of feeder.new) }
 {
     let byte = match source.peek() {

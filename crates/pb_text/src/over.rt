@@ -14,12 +14,13 @@ use crate::sink::Sink;
 use crate::source::{Failed, Source};
 use std::io::{BufRead, Write};
 
-/// The bytes of a reader or a writer in order. It fails where a call of that failed, or a write took no byte; an
-/// interrupted call is a failure like any other, and nothing is tried again.
+/// The bytes of a reader or a writer in order. It fails if a call to the reader or writer failed, or if a write took no
+/// byte. An interrupted call is a failure like any other, and nothing is retried.
 #[derive(Drop)]
 pub struct Over<T> {
     inner: T,
     shown: Option<u8>,
+    ended: bool,
     failures: u64,
     history: History,
 }
@@ -36,6 +37,7 @@ impl<T> Over<T> {
         Over {
             inner,
             shown: None,
+            ended: false,
             failures: 0,
             history: History::new(),
         }
@@ -54,6 +56,8 @@ impl<T: BufRead> Source for Over<T> {
 
     ghost shown = { λ o. o.shown };
 
+    ghost ended = { λ o. o.ended };
+
     ghost history = { λ o. o.history.bytes };
 
     ghost faults = { λ o. o.failures };
@@ -62,10 +66,12 @@ impl<T: BufRead> Source for Over<T> {
         match next_of(&mut self.inner) {
             Ok(shown) => {
                 self.shown = shown;
+                self.ended = shown.is_none();
                 Ok(shown)
             }
             Err(Failed) => {
                 self.shown = None;
+                self.ended = false;
                 self.failures = self.failures.saturating_add(1);
                 Err(Failed)
             }
@@ -130,7 +136,7 @@ fn next_of<T: BufRead>(reader: &mut T) -> Result<Option<u8>, Failed>
     }
 }
 
-/// Feeds what a reader has at hand to a feeder, through the end of a statement at most, and takes that.
+/// Feeds the available bytes of a reader to a feeder, at most through the end of a statement, and takes them.
 #[inline(always)]
 fn pour_from<T: BufRead, M: Machine>(
     reader: &mut T,

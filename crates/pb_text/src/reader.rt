@@ -1,7 +1,9 @@
-//! Reads one whole spelling from a reader.
+//! Reads one whole text from a reader.
 
-ghost use Rattle.std.specs.Prelude.{false, ◌≡◌, ◌<◌};
+ghost use Rattle.std.specs.Prelude.{None, false, ◌≡◌, ◌<◌};
 ghost use Rattle.pb_text.specs.Automaton.{Accepts, MayAsk};
+ghost use Rattle.pb_text.specs.Kept.{failures_of, inner_of};
+ghost use Rattle.pb_text.specs.Pulling.{faults_after};
 ghost use Rattle.pb_text.specs.Whole.{ReadsWhole};
 
 use crate::machine::Machine;
@@ -10,19 +12,22 @@ use crate::place::{Spanned, Stop};
 use crate::whole::{Gather, read_whole};
 use std::io::BufRead;
 
-/// Reads one spelling of a machine's texts from a reader, as `read_whole` does, and gives the reader back. Where the
-/// reader tells its bytes, those that are left to it are the ones behind that spelling, or behind the last byte taken.
+/// Reads one text of a machine from a reader, as `read_whole` does. It also returns the source over the reader, which
+/// counts the failures of the reader. If the reader reports its bytes, those left are the ones after that text, or after
+/// the last byte taken.
 pub fn read_from<T: BufRead + Drop, M: Machine + Drop, G: Gather<Event = M::Event> + Drop>(
     reader: T,
     machine: M,
     longest: u64,
     empty: G,
-) -> (Result<Spanned<G>, Stop>, T)
+) -> (Result<Spanned<G>, Stop>, Over<T>)
     requires between { M.automaton.begun machine ≡ false }
     requires some { 0 < longest }
-    ensures reads { ReadsWhole (Accepts M.automaton machine) longest G.with empty (MayAsk M.automaton machine) G.asks (T.remaining reader) result.0 (T.remaining result.1) }
+    ensures reads { ReadsWhole (Accepts M.automaton machine) longest G.with empty (MayAsk M.automaton machine) G.asks (T.remaining reader) result.0 (T.remaining (inner_of result.1)) }
+    // `Read` comes only if the reader failed.
+    ensures faults { failures_of result.1 ≡ faults_after None result.0 0 }
 {
     let mut source = Over::new(reader);
     let read = read_whole(&mut source, machine, longest, empty);
-    (read, source.into_inner())
+    (read, source)
 }

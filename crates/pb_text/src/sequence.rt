@@ -23,7 +23,7 @@ impl<T> Model for Sequence<T> {
 }
 
 impl<T> Sequence<T> {
-    /// The empty list, which takes no memory.
+    /// The empty list, which does not allocate.
     pub fn new(alloc: Global) -> Self
         ensures { result ≡ [] }
     {
@@ -32,7 +32,7 @@ impl<T> Sequence<T> {
         }
     }
 
-    /// The list of a vector, which it keeps.
+    /// The list of the values of a vector, which it stores.
     pub fn from_vec(items: Vec<T>) -> Self
         ensures { result ≡ items.items }
     {
@@ -53,7 +53,7 @@ impl<T> Sequence<T> {
         self.items.as_slice()
     }
 
-    /// The values in turn.
+    /// Iterates over the values in order.
     pub fn iter(&self) -> Iter<'_, T>
         ensures rest { iter_rest result ≡ self.now }
         ensures bound { length (iter_rest result) < 2 ^ 64 }
@@ -62,7 +62,7 @@ impl<T> Sequence<T> {
         self.items.as_slice().iter()
     }
 
-    /// Adds a value at the end, or gives it back where memory ran out.
+    /// Appends a value, or returns it if out of memory.
     pub fn push(&mut self, value: T) -> Result<(), AllocFailed<T>>
         ensures items { self.new ≡ (if is_ok result then self.old ++ value ∷ [] else self.old) }
         ensures returned { IfErr result (λ failed. failed.value ≡ value) }
@@ -70,7 +70,7 @@ impl<T> Sequence<T> {
         self.items.push(value)
     }
 
-    /// How many values there are.
+    /// The number of values.
     pub fn len(&self) -> usize
         ensures { result ≡ length self.now }
     {
@@ -122,7 +122,7 @@ impl Model for Bytes {
 }
 
 impl Bytes {
-    /// The empty text, which takes no memory.
+    /// The empty text, which does not allocate.
     pub fn new(alloc: Global) -> Self
         ensures { result ≡ [] }
     {
@@ -131,7 +131,7 @@ impl Bytes {
         }
     }
 
-    /// The text of a vector, which it keeps.
+    /// The text of the bytes of a vector, which it stores.
     pub fn from_vec(bytes: Vec<u8>) -> Self
         ensures { result ≡ bytes.items }
     {
@@ -152,21 +152,21 @@ impl Bytes {
         self.bytes.as_slice()
     }
 
-    /// Adds a byte at the end. Where memory ran out the text is unchanged.
+    /// Appends a byte. If out of memory, the text is unchanged.
     pub fn push(&mut self, byte: u8) -> Result<(), AllocFailed<u8>>
         ensures { self.new ≡ (if is_ok result then self.old ++ byte ∷ [] else self.old) }
     {
         self.bytes.push(byte)
     }
 
-    /// Adds bytes at the end. Where memory ran out the text is unchanged.
+    /// Appends bytes. If out of memory, the text is unchanged.
     pub fn push_slice(&mut self, more: &[u8]) -> Result<(), AllocError>
         ensures { self.new ≡ (if is_ok result then self.old ++ more.now else self.old) }
     {
         self.bytes.extend_from_slice(more)
     }
 
-    /// How many bytes there are.
+    /// The number of bytes.
     pub fn len(&self) -> usize
         ensures { result ≡ length self.now }
     {

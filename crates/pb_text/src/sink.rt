@@ -7,23 +7,23 @@ use crate::source::Failed;
 
 /// A sink of bytes.
 pub trait Sink {
-    /// The bytes that it holds, where it tells them.
+    /// The bytes that it holds, if it reports them.
     ghost contents: { Self → Option (List ℕ) };
 
-    /// How often it has failed.
+    /// How many times it has failed.
     ghost faults: { Self → ℕ };
 
-    /// Takes bytes at the front of a piece, one at least, and answers how many. Where it fails it takes none.
+    /// Takes a prefix of a piece, at least one byte, and returns its length. If it fails, it takes none.
     fn take(&mut self, piece: &[u8]) -> Result<usize, Failed>
         requires { 0 < length piece.now }
         ensures { Takes contents faults self.old piece.now result self.new };
 
-    /// How often it has failed. The count stays at its largest, `2^64 - 1`.
+    /// How many times it has failed. The count saturates at `2^64 - 1`.
     fn failures(&self) -> u64
         ensures { result ≡ faults self.now };
 }
 
-/// Writes all of a text. After a fault the bytes that went out are a front of it.
+/// Writes all of a text. After a fault, the bytes written are a prefix of it.
 pub fn write_bytes<S: Sink>(text: &[u8], out: &mut S) -> Result<(), Failed>
     ensures { Writes S.contents S.faults out.old text.now result out.new }
 {

@@ -1,6 +1,6 @@
 //! Where bytes come from.
 
-ghost use Rattle.std.specs.Prelude.{◌≡◌, ◌∷◌, ℕ, List, Option, Some, None, codes, false, OnOk, OnErr};
+ghost use Rattle.std.specs.Prelude.{◌≡◌, ◌∷◌, ℕ, List, Bool, Option, Some, None, codes, false, OnOk, OnErr};
 ghost use Rattle.pb_text.specs.Automaton.{IsState};
 ghost use Rattle.pb_text.specs.Feeding.{state_of, halt_of, is_complete};
 ghost use Rattle.pb_text.specs.Pouring.{Pours, brought};
@@ -27,31 +27,34 @@ impl fmt::Display for Failed {
 
 impl Error for Failed {}
 
-/// A source of bytes, of which the next may be looked at.
+/// A source of bytes. Its next byte can be peeked at.
 pub trait Source {
-    /// The bytes that are left, where it tells them.
+    /// The bytes that are left, if it reports them.
     ghost left: { Self → Option (List ℕ) };
 
     /// The byte that a `peek` has shown and no `skip` has taken.
     ghost shown: { Self → Option ℕ };
 
-    /// The bytes that it has given: those that were taken of what its calls have shown.
+    /// Whether the last `peek` has shown the end.
+    ghost ended: { Self → Bool };
+
+    /// The bytes that it has given: of those that its calls have shown, the ones that were taken.
     ghost history: { Self → List ℕ };
 
-    /// How often it has failed.
+    /// How many times it has failed.
     ghost faults: { Self → ℕ };
 
     /// The next byte, or `None` at the end.
     fn peek(&mut self) -> Result<Option<u8>, Failed>
-        ensures { Peeks left shown history faults self.old result self.new };
+        ensures { Peeks left shown ended history faults self.old result self.new };
 
     /// Takes the byte that the last call, a `peek`, has shown.
     fn skip(&mut self)
         requires { (b : ℕ) × (shown self.old ≡ Some b) }
-        ensures { Skips left shown history faults self.old self.new };
+        ensures { Skips left shown ended history faults self.old self.new };
 
-    /// Feeds bytes at hand to a feeder, through the end of a statement at most, takes those, and answers the event that ends
-    /// there. It may take none, as it does where it is not written otherwise.
+    /// Feeds available bytes to a feeder, at most through the end of a statement, and takes them. It returns the event that
+    /// ends there, if any. It may take no bytes; the default implementation takes none.
     fn pour<M: Machine>(
         &mut self,
         feeder: &mut Feeder<M>,
@@ -70,7 +73,7 @@ pub trait Source {
         Ok(None)
     }
 
-    /// How often it has failed. The count stays at its largest, `2^64 - 1`.
+    /// How many times it has failed. The count saturates at `2^64 - 1`.
     fn failures(&self) -> u64
         ensures { result ≡ faults self.now };
 }

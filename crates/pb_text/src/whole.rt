@@ -1,10 +1,11 @@
-//! Reads one whole spelling.
+//! Reads one whole text.
 
-ghost use Rattle.std.specs.Prelude.{Bool, true, false, ◌≡◌, ◌<◌, None, IfOk, OnOk, OnErr, IsTrue};
+ghost use Rattle.std.specs.Prelude.{Bool, true, false, ◌≡◌, ◌<◌, None, IfErr, IfOk, OnOk, OnErr, IsTrue};
 ghost use Rattle.pb_text.specs.Automaton.{Accepts, MayAsk};
 ghost use Rattle.pb_text.specs.Blank.{IsInReach};
-ghost use Rattle.pb_text.specs.Pulling.{faults_after};
-ghost use Rattle.pb_text.specs.Whole.{ReadsWhole, ReadsGiven};
+ghost use Rattle.pb_text.specs.Pulling.{OfGiven, faults_after};
+ghost use Rattle.pb_text.specs.Stopping.{IsShown};
+ghost use Rattle.pb_text.specs.Whole.{ReadsWhole};
 
 use crate::feeder::Feeder;
 use crate::machine::Machine;
@@ -13,28 +14,27 @@ use crate::place::{Place, Spanned, Stop, Why};
 use crate::source::Source;
 use std::alloc::AllocError;
 
-/// A value that events are put together to.
+/// A value that collects events.
 pub trait Gather {
     type Event;
 
-    /// The value with an event more.
+    /// The value with one more event.
     ghost with: { Self → Self.Event → Self };
 
-    /// Whether to keep the event may ask for memory.
+    /// Whether storing the event may allocate.
     ghost asks: { Self → Self.Event → Bool } = { λ value event. true };
 
-    /// Adds an event. Where memory ran out the value is unchanged.
+    /// Adds an event. If out of memory, the value is unchanged.
     fn add(&mut self, event: Self::Event) -> Result<(), AllocError>
         ensures ok { OnOk result (self.new ≡ with self.old event) }
         ensures unchanged { OnErr result (self.new ≡ self.old) }
         ensures asking { OnErr result (IsTrue (asks self.old event)) };
 }
 
-/// Reads one spelling of a machine's texts and puts its events together, beginning with `empty`. It takes the
-/// bytes of that spelling alone.
+/// Reads one text of a machine and collects its events, starting with `empty`. It takes only the bytes of that text.
 ///
-/// A stop is that of the machine's feeder, where `Memory` comes only at a byte that may ask for it; `Memory` also
-/// comes where an event could not be kept, and then stands behind it.
+/// A stop is that of the machine's feeder, which reports `Memory` only at a byte that may allocate. `Memory` also comes
+/// if an event could not be stored; its position is then after that event.
 pub fn read_whole<S: Source, M: Machine + Drop, G: Gather<Event = M::Event> + Drop>(
     source: &mut S,
     machine: M,
@@ -44,10 +44,12 @@ pub fn read_whole<S: Source, M: Machine + Drop, G: Gather<Event = M::Event> + Dr
     requires between { M.automaton.begun machine ≡ false }
     requires some { 0 < longest }
     ensures reads { ReadsWhole (Accepts M.automaton machine) longest G.with empty (MayAsk M.automaton machine) G.asks (S.left source.old) result (S.left source.new) }
-    // Of any source, a file too: what was read is a spelling of the bytes that its calls have given.
-    ensures given { ReadsGiven (Accepts M.automaton machine) longest G.with empty (MayAsk M.automaton machine) G.asks (S.history source.old) result (S.history source.new) }
+    // For any source, also a file: what was read is a text of the bytes that its calls have given.
+    ensures given { OfGiven (λ left rest. ReadsWhole (Accepts M.automaton machine) longest G.with empty (MayAsk M.automaton machine) G.asks left result rest) (S.history source.old) (S.history source.new) }
+    // A rejected byte is the one that the source has shown. The input ends only if the source has shown its end.
+    ensures shown { IfErr result (λ s. IsShown (S.shown source.new) (S.ended source.new) s.why) }
     ensures past { IfOk result (λ m. IsInReach m.past) }
-    // `Read` comes only where the source failed.
+    // `Read` comes only if the source failed.
     ensures faults { S.faults source.new ≡ faults_after None result (S.faults source.old) }
 {
     let mut feeder = Feeder::within(machine, longest);

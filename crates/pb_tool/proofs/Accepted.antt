@@ -1,4 +1,4 @@
--- What a check owes of two sources, from what its parts owe.
+-- What a check of two sources ensures, from what its parts ensure.
 use Rattle.std.proofs.Common.{◌≡◌, ◌⊎◌, ℕ, ◌<◌, List, [], ◌++◌, length, get_or, true, Option, Some, None, Result, Ok, Err, refl, sym, ap, ◌∙◌, subst, inl, inr}
 use Rattle.std.specs.Prelude.{string_bytes}
 use Rattle.std.proofs.lemmas.List.{get_or_append_left}
@@ -9,20 +9,22 @@ use Rattle.pb_text.specs.Writing.{Wrote, Broke}
 use Rattle.pb_text.specs.declared.Limits.{Limits}
 use Rattle.pb_text.specs.declared.Place.{Place}
 use Rattle.pb_text.specs.declared.Spanned.{Spanned}
-use Rattle.pb_text.specs.ValueRead.{IsRead}
+use Rattle.pb_text.specs.Whole.{IsRead}
 use Rattle.pb_proof.specs.declared.Proof.{Proof}
 use Rattle.pb_proof.specs.declared.Statement.{Statement}
 use Rattle.pb_proof.specs.Proofs.{IsProofOf, statements_of}
 use Rattle.pb_replay.specs.Problem.{Problem}
 use Rattle.pb_replay.specs.Replay.{State, first_state}
 use Rattle.pb_replay.specs.Kept.{Replaying}
-use Rattle.pb_replay.specs.Statements.{Outcome, Accepts}
+use Rattle.pb_replay.specs.Laws.{UnvaluedMayWant}
+use Rattle.pb_replay.specs.Statements.{Outcome, Accepts, MayWantAt}
 use Rattle.pb_replay.specs.declared.fault.Fault.{Fault}
-use Rattle.pb_replay.specs.declared.fault.Fault.TheVariants.{Memory as no_memory}
+use Rattle.pb_replay.specs.declared.fault.Fault.TheVariants.{Memory as no_memory, NotTotal}
 use Rattle.pb_replay.specs.declared.fault.Fault.TheVariants as why
 use Rattle.pb_replay.specs.declared.verdict.Verdict.{Verdict}
 use Rattle.pb_tool.specs.Files.{IsVeri}
-use Rattle.pb_tool.specs.Runs.{IsNoReplay, IsReplayOf, IsToldAs, KeepsNames, Replays, Runs, faults_of_instance}
+use Rattle.pb_tool.specs.Checks.{KeepsNames}
+use Rattle.pb_tool.specs.Runs.{IsNoReplay, IsReplayOf, IsToldAs, Replays, Runs, faults_of_instance}
 use Rattle.pb_tool.specs.Verified.{ChecksFiles, IsAccepted, IsTold, IsVerified, verdict_line}
 use Rattle.pb_tool.specs.declared.checker.CheckFault.TheVariants as check
 use Rattle.pb_tool.specs.declared.fault.ToolFault.{ToolFault}
@@ -31,7 +33,7 @@ use Rattle.pb_tool.specs.declared.fault.Input.TheVariants.{File, Instance as of_
 use Rattle.pb_tool.proofs.Checked.{spelled_events}
 use Rattle.pb_tool.proofs.Given.{file_behind}
 
--- the name among those from before the statement
+-- the name is among those from before the statement
 names_front : (names all more : List (List ℕ)) (n : ℕ) → all ≡ names ++ more → n < length names → get_or all n [] ≡ get_or names n []
 names_front names all more n is lt = ap (λ (x : List (List ℕ)). get_or x n []) is ∙ get_or_append_left names more [] n lt
 
@@ -69,27 +71,28 @@ module _ (limits : Limits) (longest : ℕ) (v : Problem) (first : State) (before
         claimed,
       )
 
-  -- a refused statement, with the name that it tells
-  pub step_told : (after : Option (List ℕ)) (new : Replaying) (place : Place) (e : Fault) (f : ToolFault) → Runs limits longest v first before (Err (check.Step place e)) after new → IsToldAs new.names place e f → Replays limits longest v first before (Err f) after
-  step_told after new place e (Step at x name) (st, state, comes, why) (is, told) = (
+  -- a rejected statement, with the name that the fault gives
+  pub step_told : UnvaluedMayWant → (after : Option (List ℕ)) (new : Replaying) (place : Place) (e : Fault) (f : ToolFault) → Runs limits longest v first before (Err (check.Step place e)) after new → IsToldAs new.names place e f → Replays limits longest v first before (Err f) after
+  step_told law after new place e (Step at x name) (st, state, comes, why) (is, told) = (
     st,
     state,
     record { marks = comes.marks; last = comes.last; took = comes.took; begins_is = is ∙ comes.begins_is; statement = comes.statement; accepted = comes.accepted },
     reason told why,
   )
     where
-      reason : (x ≡ no_memory) ⊎ ((x ≡ e) × IsTold new.names e (string_bytes name))
-          → (e ≡ no_memory) ⊎ (Outcome (largest limits) (top_of limits) v state st (Err e) × KeepsNames state.names new.names e)
-          → (x ≡ no_memory) ⊎ (Outcome (largest limits) (top_of limits) v state st (Err x) × IsTold state.names x (string_bytes name))
-      reason (inl h) w = inl h
-      reason (inr (same, h)) (inl m) = inl (same ∙ m)
+      reason : ((x ≡ no_memory) × ((n : ℕ) × (e ≡ NotTotal n))) ⊎ ((x ≡ e) × IsTold new.names e (string_bytes name))
+          → ((e ≡ no_memory) × MayWantAt (largest limits) (top_of limits) v state.next st) ⊎ (Outcome (largest limits) (top_of limits) v state st (Err e) × KeepsNames state.names new.names e)
+          → ((x ≡ no_memory) × MayWantAt (largest limits) (top_of limits) v state.next st) ⊎ (Outcome (largest limits) (top_of limits) v state st (Err x) × IsTold state.names x (string_bytes name))
+      reason (inl (h, told)) (inl m) = inl (h, m.1)
+      reason (inl (h, (n, is))) (inr (out, kept)) = inl (h, law (largest limits) (top_of limits) v state st n (subst (λ (y : Fault). Outcome (largest limits) (top_of limits) v state st (Err y)) is out))
+      reason (inr (same, h)) (inl m) = inl (same ∙ m.0, m.1)
       reason (inr (same, h)) (inr (out, kept)) =
           inr (subst (λ (y : Fault). Outcome (largest limits) (top_of limits) v state st (Err y) × IsTold state.names y (string_bytes name)) (sym same) (out, told_before state.names new.names e (string_bytes name) kept h))
-  step_told after new place e (Text i s) h told = absurd told
-  step_told after new place e (Open i) h told = absurd told
-  step_told after new place e (Overflow i) h told = absurd told
-  step_told after new place e (Memory i) h told = absurd told
-  step_told after new place e Write h told = absurd told
+  step_told law after new place e (Text i s) h told = absurd told
+  step_told law after new place e (Open i) h told = absurd told
+  step_told law after new place e (Overflow i) h told = absurd told
+  step_told law after new place e (Memory i) h told = absurd told
+  step_told law after new place e Write h told = absurd told
 
 module _ (limits : Limits) (longest n : ℕ) (is : longest ≡ n) {W : Type 0} (contents : W → Option (List ℕ)) (faults : W → ℕ) (i i' p p' : Option (List ℕ)) (old new : W) where
   abbrev Checks : Result Verdict ToolFault → Type 0
@@ -134,7 +137,7 @@ module _ (limits : Limits) (longest n : ℕ) (is : longest ≡ n) {W : Type 0} (
         let (q, file, t, accepted, claimed) = here (Ok w) owed in
         subst (λ (m : ℕ). ChecksFiles limits m contents faults i p old (Err Write) i' p' new) is (h.instance, h.file, q, file, w, verified w q t accepted claimed, broke)
 
-    -- the proof was refused
+    -- the proof was rejected
     pub checked_refused : (f : ToolFault) → Owes (Err f) → new ≡ old → Checks (Err f)
     checked_refused f owed same = subst (λ (m : ℕ). ChecksFiles limits m contents faults i p old (Err f) i' p' new) is (by f (here (Err f) owed))
       where

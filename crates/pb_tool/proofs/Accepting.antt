@@ -1,4 +1,4 @@
--- Statements are accepted and refused in one way.
+-- Statements are accepted and rejected in one way.
 use Rattle.std.proofs.Common.{◌≡◌, ◌≢◌, ◌⊎◌, inl, inr, ℕ, List, [], ◌∷◌, ◌++◌, Bool, Option, Some, None, Result, Ok, Err, refl, sym, ap, ◌∙◌, subst}
 use Rattle.pb_text.specs.Limits.{largest, top_of}
 use Rattle.pb_text.specs.Reading.{HasFixedMarks, Reads}
@@ -19,13 +19,14 @@ use Rattle.pb_tool.specs.Verified.{ComesTo, IsRefusedStep, IsTold}
 use Rattle.pb_tool.proofs.Fronts.{Compared, two_fronts}
 use Rattle.pb_tool.proofs.OneRead.{Begins, marks_begin, so_far_reached}
 
--- ---- lists that go on
+-- ---- lists that continue others
 
 no_marks : {A : Type 0} (xs : List A) (x : A) (more : List A) → [] ≡ (xs ++ x ∷ []) ++ more → ⊥
 no_marks [] x more e = absurd cc
 no_marks (y ∷ xs) x more e = absurd cc
 
--- Two lists, of which the one with its last goes on as the other: the lasts stand at one place, or the second is further.
+-- Of two lists, the second with its last element begins with the first with its last. The last elements are at the same
+-- index, or that of the second comes later.
 ends_at : {A : Type 0} (xs ys : List A) (x y : A) (more : List A) → ys ++ y ∷ [] ≡ (xs ++ x ∷ []) ++ more → ((ys ≡ xs) × (y ≡ x)) ⊎ ((others : List A) × (ys ≡ (xs ++ x ∷ []) ++ others))
 ends_at [] [] x y more e = let same : y ≡ x = cc in inl (refl, same)
 ends_at [] (z ∷ ys) x y more e = let same : z ≡ x = cc in inr (ys, ap (λ (k : _). k ∷ ys) same)
@@ -39,7 +40,7 @@ ends_at (z ∷ xs) (w ∷ ys) x y more e =
     one_longer (inl (h, k)) same = inl (rw (h, same) refl, k)
     one_longer (inr (others, h)) same = inr (others, rw (h, same) refl)
 
--- ---- the name that a refusal tells
+-- ---- the name that a fault gives
 
 one_name : (names : List (List ℕ)) (e : Fault) (a b : List ℕ) → IsTold names e a → IsTold names e b → a ≡ b
 one_name names Memory a b told told' = told ∙ sym told'
@@ -72,14 +73,14 @@ module _ (single : OutcomesAreSingle) (limits : Limits) (v : Problem) where
   one_state [] s t u h k = sym h ∙ k
   one_state (st ∷ sts) s t u (a, o, h) (b, o', k) = one_state sts b t u (subst (λ (x : State). Leads x sts t) (one_next s st a b o o') h) k
 
-  -- what is accepted further on is not refused
+  -- a statement that is accepted later on is not rejected
   clash : (marks : List (Spanned Statement)) (m : Spanned Statement) (more : List (Spanned Statement)) (s t u : State) (e : Fault) → Leads s (events_at ((marks ++ m ∷ []) ++ more)) t → Leads s (events_at marks) u → Does u m.event (Err e) → ⊥
   clash [] m more s t u e (a, o, h) k x = ok_or_err (single (largest limits) (top_of limits) v s m.event (Ok a) (Err e) o (subst (λ (y : State). Does y m.event (Err e)) (sym k) x))
   clash (n ∷ marks) m more s t u e (a, o, h) (b, o', k) x =
       clash marks m more b t u e (subst (λ (y : State). Leads y (events_at ((marks ++ m ∷ []) ++ more)) t) (one_next s n.event a b o o') h) k x
 
   module _ (fixed : HasFixedMarks (IsVeri limits)) (longest : ℕ) (first : State) (input : List ℕ) where
-    -- Accepted statements of the text, with which each list of statements begins that is read so far.
+    -- Accepted statements of the text. Each list of statements that is read so far begins them.
     pub record Passed : Type 0 where
       pub marks : List (Spanned Statement)
       pub last : State
@@ -87,15 +88,15 @@ module _ (single : OutcomesAreSingle) (limits : Limits) (v : Problem) where
       pub begins : (used left : List ℕ) (others : List (Spanned Statement)) (place : Place) (done : Bool) → input ≡ used ++ left → Reads (IsVeri limits) longest used used others place done None → Begins others marks
 
     pub no_step : (after : Option (List ℕ)) (begins : Place) (e : Fault) (name : List ℕ) → Passed → IsRefusedStep limits longest v first (Some input) after begins e name → e ≢ Memory → ⊥
-    no_step after begins e name p (st, state, comes, inl h) d = d h
+    no_step after begins e name p (st, state, comes, inl h) d = d h.0
     no_step after begins e name p (st, state, comes, inr (out, named)) d =
         let t = comes.took in
         let (more, is) = p.begins t.used t.seen (comes.marks ++ comes.last ∷ []) comes.last.past t.done t.took.0 t.reads in
         clash comes.marks comes.last more first p.last state e (subst (λ (x : List (Spanned Statement)). Leads first (events_at x) p.last) is p.accepted) comes.accepted
         (subst (λ (x : Statement). Does state x (Err e)) (sym comes.statement) out)
 
-    -- ---- two refused statements
-    -- the statement that was refused
+    -- ---- two rejected statements
+    -- the statement that was rejected
     record Refused (after : Option (List ℕ)) (e : Fault) (name : List ℕ) (begins : Place) : Type 0 where
       statement : Statement
       state : State
@@ -104,12 +105,12 @@ module _ (single : OutcomesAreSingle) (limits : Limits) (v : Problem) where
       named : IsTold state.names e name
 
     refused : (after : Option (List ℕ)) (begins : Place) (e : Fault) (name : List ℕ) → IsRefusedStep limits longest v first (Some input) after begins e name → e ≢ Memory → Refused after e name begins
-    refused after begins e name (st, state, comes, inl h) d = absurd (d h)
+    refused after begins e name (st, state, comes, inl h) d = absurd (d h.0)
     refused after begins e name (st, state, comes, inr (out, named)) d =
         record { statement = st; state = state; comes = comes; out = subst (λ (x : Statement). Does state x (Err e)) (sym comes.statement) out; named = named }
 
     module _ (after after' : Option (List ℕ)) (e e' : Fault) (name name' : List ℕ) (begins begins' : Place) (r : Refused after e name begins) (r' : Refused after' e' name' begins') where
-      -- of two that lie in one text the second is the first
+      -- if both are in one text, the second is the first
       same_mark : (m : List ℕ) → r'.comes.took.used ≡ r.comes.took.used ++ m → (r'.comes.marks ≡ r.comes.marks) × (r'.comes.last ≡ r.comes.last)
       same_mark m p =
           let t = r.comes.took in

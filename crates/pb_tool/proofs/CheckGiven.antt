@@ -1,8 +1,10 @@
--- What a check owes of the bytes that a source's calls have given.
-use Rattle.std.proofs.Common.{◌≡◌, ℕ, List, [], ◌∷◌, ◌++◌, true, false, Option, Some, None, Result, Ok, Err, refl, sym, subst, append_assoc}
-use Rattle.pb_text.specs.Blank.{GivesBlank}
+-- What a check ensures for the bytes that the calls of a source have given.
+use Rattle.std.proofs.Common.{◌≡◌, ℕ, List, [], ◌∷◌, ◌++◌, true, false, Option, Some, None, Result, Ok, Err, sym, subst, append_assoc}
+use Rattle.pb_text.specs.Blank.{ReadsBlank}
 use Rattle.pb_text.specs.Limits.{largest, top_of}
+use Rattle.pb_text.specs.Pulling.{OfGiven}
 use Rattle.pb_text.specs.PullsInARow.{TookAll, TookSoFar}
+use Rattle.pb_text.specs.Stopping.{IsAsking}
 use Rattle.pb_text.specs.declared.Limits.{Limits}
 use Rattle.pb_text.specs.declared.Place.{Place}
 use Rattle.pb_text.specs.declared.Spanned.{Spanned}
@@ -13,13 +15,13 @@ use Rattle.pb_replay.specs.Problem.{Problem}
 use Rattle.pb_replay.specs.Meaning.{IsFront}
 use Rattle.pb_replay.specs.Replay.{State}
 use Rattle.pb_replay.specs.Kept.{Replaying, StandsFor, verdict_in}
+use Rattle.pb_replay.specs.Laws.{UnvaluedMayWant}
 use Rattle.pb_replay.specs.Statements.{Accepts}
 use Rattle.pb_replay.specs.declared.fault.Fault.{Fault}
 use Rattle.pb_replay.specs.declared.verdict.Verdict.{Verdict}
 use Rattle.pb_tool.specs.Checker.{IsAt, StepsFrom}
 use Rattle.pb_text.specs.Whole.{events_at}
-use Rattle.pb_tool.specs.Files.{IsVeri}
-use Rattle.pb_tool.specs.Given.{OfGiven}
+use Rattle.pb_tool.specs.Files.{AsksVeri, IsVeri}
 use Rattle.pb_tool.specs.Runs.{IsToldAs, Replays, Runs}
 use Rattle.pb_tool.specs.Verified.{BehindProof, InProof, IsAccepted, IsRefusedText}
 use Rattle.pb_tool.specs.declared.checker.CheckFault.{CheckFault}
@@ -30,62 +32,64 @@ use Rattle.pb_tool.specs.declared.fault.Input.TheVariants.{Proof as of_proof}
 use Rattle.pb_tool.proofs.Accepted.{step_told, whole_file}
 use Rattle.pb_text.proofs.Wholes.{given_both}
 use Rattle.pb_tool.proofs.GivenRow.{all_of}
+use Rattle.pb_tool.proofs.Checked.{TellsOld}
 use Rattle.pb_tool.proofs.Replayed as replayed
 
 module _ (limits : Limits) (longest : ℕ) (v : Problem) (first : State) where
-  -- the accepted statements of a proof, where the rest is another
+  -- the accepted statements of a proof, with another rest
   accepted_of : (used seen other : List ℕ) (place : Place) (last : State) → IsAccepted limits longest v first (Some (used ++ seen)) (Some seen) place true None last → IsAccepted limits longest v first (Some (used ++ other)) (Some other) place true None last
   accepted_of used seen other place last a = record { marks = a.marks; took = all_of (IsVeri limits) longest used seen other a.marks place a.took; accepted = a.accepted }
 
-  -- all that was accepted, where its last place is told otherwise
+  -- all that was accepted, with its last position given by an equal one
   pub moved : (left rest : Option (List ℕ)) (place at : Place) (w : Verdict) → place ≡ at → (t : State) × IsAccepted limits longest v first left rest place true None t × (t.concluded ≡ Some w) → (t : State) × IsAccepted limits longest v first left rest at true None t × (t.concluded ≡ Some w)
   moved left rest place at w same (last, accepted, claimed) = (last, subst (λ (p : Place). IsAccepted limits longest v first left rest p true None last) same accepted, claimed)
 
   module _ (before mid after : List ℕ) (new : Replaying) (ended : Verdict × Place) where
     -- a whole proof, and a blank rest
-    pub given_whole : OfGiven (λ left rest. Runs limits longest v first left (Ok ended) rest new) before mid → GivesBlank ended.1 mid (Ok tt) after → OfGiven (λ left rest. Replays limits longest v first left (Ok ended.0) rest) before after
-    given_whole (used, seen, e, (last, a, claimed)) (rest, f, blank, bound) = (
+    pub given_whole : OfGiven (λ left rest. Runs limits longest v first left (Ok ended) rest new) before mid → OfGiven (λ left rest. ReadsBlank ended.1 left (Ok tt) rest) mid after → OfGiven (λ left rest. Replays limits longest v first left (Ok ended.0) rest) before after
+    given_whole (used, seen, e, (last, a, claimed)) (rest, end, f, blank) = (
       used ++ rest,
-      [],
+      end,
       given_both before mid after used rest e f,
-      whole_file limits longest v first (Some ((used ++ rest) ++ [])) (Some (rest ++ [])) (Some []) ended.1 last ended.0
-          (subst (λ (x : List ℕ). IsAccepted limits longest v first (Some x) (Some (rest ++ [])) ended.1 true None last) (sym (append_assoc used rest [])) (accepted_of used seen (rest ++ []) ended.1 last a)) claimed
-          (rest, (refl, refl), blank, bound),
+      whole_file limits longest v first (Some ((used ++ rest) ++ end)) (Some (rest ++ end)) (Some end) ended.1 last ended.0
+          (subst (λ (x : List ℕ). IsAccepted limits longest v first (Some x) (Some (rest ++ end)) ended.1 true None last) (sym (append_assoc used rest end)) (accepted_of used seen (rest ++ end) ended.1 last a)) claimed
+          blank,
     )
 
     -- a whole proof, and a rest that is not blank
-    behind : (s : Stop) → OfGiven (λ left rest. Runs limits longest v first left (Ok ended) rest new) before mid → GivesBlank ended.1 mid (Err s) after → OfGiven (λ left rest. IsRefusedText limits longest v first left rest s) before after
-    behind s (used, seen, e, (last, a, claimed)) (rest, more, f, blank, at, stray) = (
+    behind : (s : Stop) → OfGiven (λ left rest. Runs limits longest v first left (Ok ended) rest new) before mid → OfGiven (λ left rest. ReadsBlank ended.1 left (Err s) rest) mid after → OfGiven (λ left rest. IsRefusedText limits longest v first left rest s) before after
+    behind s (used, seen, e, (last, a, claimed)) (rest, more, f, blank) = (
       used ++ rest,
       more,
       given_both before mid after used rest e f,
       subst (λ (x : List ℕ). IsRefusedText limits longest v first (Some x) (Some more) s) (sym (append_assoc used rest more))
-          (BehindProof (Some (rest ++ more)) ended.1 last ended.0 (accepted_of used seen (rest ++ more) ended.1 last a) claimed (rest, more, (refl, refl), blank, at, stray)),
+          (BehindProof (Some (rest ++ more)) ended.1 last ended.0 (accepted_of used seen (rest ++ more) ended.1 last a) claimed blank),
     )
 
-    pub given_behind : (s : Stop) (f : ToolFault) → f ≡ Text of_proof s → OfGiven (λ left rest. Runs limits longest v first left (Ok ended) rest new) before mid → GivesBlank ended.1 mid (Err s) after → OfGiven (λ left rest. Replays limits longest v first left (Err f) rest) before after
+    pub given_behind : (s : Stop) (f : ToolFault) → f ≡ Text of_proof s → OfGiven (λ left rest. Runs limits longest v first left (Ok ended) rest new) before mid → OfGiven (λ left rest. ReadsBlank ended.1 left (Err s) rest) mid after → OfGiven (λ left rest. Replays limits longest v first left (Err f) rest) before after
     given_behind s f is runs rest = subst (λ (x : ToolFault). OfGiven (λ left end. Replays limits longest v first left (Err x) end) before after) (sym is) (behind s runs rest)
 
   module _ (before after : List ℕ) (new : Replaying) (f : ToolFault) where
     -- a text that stopped
     pub given_text : (s : Stop) → f ≡ Text of_proof s → OfGiven (λ left rest. Runs limits longest v first left (Err (check.Text s)) rest new) before after → OfGiven (λ left rest. Replays limits longest v first left (Err f) rest) before after
-    given_text s is (given, seen, e, (last, accepted)) = (given, seen, e, subst (λ (x : ToolFault). Replays limits longest v first (Some (given ++ seen)) (Err x) (Some seen)) (sym is) (InProof last accepted))
+    given_text s is (given, seen, e, (last, accepted, asking)) = (given, seen, e, subst (λ (x : ToolFault). Replays limits longest v first (Some (given ++ seen)) (Err x) (Some seen)) (sym is) (InProof last accepted asking))
 
-    -- a refused statement, with the name that it tells
-    pub given_told : (place : Place) (e : Fault) → IsToldAs new.names place e f → OfGiven (λ left rest. Runs limits longest v first left (Err (check.Step place e)) rest new) before after → OfGiven (λ left rest. Replays limits longest v first left (Err f) rest) before after
-    given_told place e told (given, seen, is, runs) = (given, seen, is, step_told limits longest v first (Some (given ++ seen)) (Some seen) new place e f runs told)
+    -- a rejected statement, with the name that the fault gives
+    pub given_told : UnvaluedMayWant → (place : Place) (e : Fault) → IsToldAs new.names place e f → OfGiven (λ left rest. Runs limits longest v first left (Err (check.Step place e)) rest new) before after → OfGiven (λ left rest. Replays limits longest v first left (Err f) rest) before after
+    given_told law place e told (given, seen, is, runs) = (given, seen, is, step_told limits longest v first (Some (given ++ seen)) law (Some seen) new place e f runs told)
 
 -- ---- a run through the statements
 
 module _ (exact : ReadsProofs) (limits : Limits) (longest : ℕ) (before after : List ℕ) (v : Problem) (first : State) (r : Replaying) (marks : List (Spanned Statement))
     (led : (t : State) × StandsFor r t × Accepts (largest limits) (top_of limits) v first (events_at marks) t) (new : Replaying) where
-  pub given_stopped : (s : Stop) → OfGiven (λ left rest. TookAll (replayed.Taken limits) longest left rest marks s.place false (Some s)) before after → OfGiven (λ left rest. Runs limits longest v first left (Err (check.Text s)) rest new) before after
-  given_stopped s (given, seen, e, all) = (given, seen, e, (led.0, replayed.accepted exact limits longest (Some (given ++ seen)) (Some seen) v first r marks led s.place false (Some s) all))
+  pub given_stopped : ((used : List ℕ) (b : ℕ) → replayed.MayTake limits used b → AsksVeri limits used b) → (s : Stop)
+      → OfGiven (λ left rest. (all : TookAll (replayed.Taken limits) longest left rest marks s.place false (Some s)) × IsAsking (replayed.MayTake limits) all.used all.seen s.why) before after → OfGiven (λ left rest. Runs limits longest v first left (Err (check.Text s)) rest new) before after
+  given_stopped asks s (given, seen, e, all) = (given, seen, e, replayed.stopped exact limits longest (Some (given ++ seen)) (Some seen) v first r marks led asks s all)
 
   module _ (none : r.fault ≡ None) where
     pub given_ended : (place at : Place) (w : Verdict) → place ≡ at → Some w ≡ verdict_in r → OfGiven (λ left rest. TookAll (replayed.Taken limits) longest left rest marks place true None) before after → OfGiven (λ left rest. Runs limits longest v first left (Ok (w, at)) rest new) before after
     given_ended place at w same is (given, seen, e, all) = (given, seen, e, moved limits longest v first (Some (given ++ seen)) (Some seen) place at w same (replayed.ended exact limits longest (Some (given ++ seen)) (Some seen) v first r marks led none place w all is))
 
-    pub given_step : (m : Spanned Statement) → r.limits ≡ limits → r.problem ≡ v → (x : CheckFault) → ((now : Result State Fault) → IsAt r now → StepsFrom r.limits r.problem now m (Err x) new) → IsFront r.names new.names → replayed.TellsOld r x
+    pub given_step : (m : Spanned Statement) → r.limits ≡ limits → r.problem ≡ v → (x : CheckFault) → ((now : Result State Fault) → IsAt r now → StepsFrom r.limits r.problem now m (Err x) new) → IsFront r.names new.names → TellsOld r x
         → OfGiven (λ left rest. TookSoFar (replayed.Taken limits) longest left rest (marks ++ m ∷ []) m.past) before after → OfGiven (λ left rest. Runs limits longest v first left (Err x) rest new) before after
     given_step m limited problem x steps names old (given, seen, e, sofar) = (given, seen, e, replayed.refused_run exact limits longest (Some (given ++ seen)) (Some seen) v first r marks led none new m limited problem x steps names old sofar)

@@ -1,12 +1,12 @@
--- What a feed and a step leave of a checker.
-use Rattle.std.proofs.Common.{◌≡◌, ℕ, ◌+◌, ◌-◌, List, [], ◌∷◌, ◌++◌, length, take, drop, if◌then◌else◌, Bool, true, false, Option, Some, None, Result, Ok, Err, refl, sym, ap, ◌∙◌, subst, append-nil, append_assoc, take-append-drop, All}
+-- The state of a checker after a feed and a step.
+use Rattle.std.proofs.Common.{◌≡◌, ℕ, ◌+◌, ◌-◌, List, [], ◌∷◌, ◌++◌, length, take, drop, ◌<◌, if◌then◌else◌, Bool, true, false, Option, Some, None, Result, Ok, Err, refl, sym, ap, ◌∙◌, subst, append-nil, append_assoc, take-append-drop, All, ◌⊎◌, inl, inr}
 use Rattle.std.proofs.lemmas.List.Elements.{All-head, All-tail}
 use Rattle.pb_text.specs.Limits.{largest, top_of}
 use Rattle.pb_text.specs.Automaton.{Accepts as AcceptsBytes}
 use Rattle.pb_text.specs.Feeding.{StandsAt, FeedsOnce, place_of, halt_of, is_complete}
 use Rattle.pb_text.specs.SpentBytes.{end_of}
 use Rattle.pb_text.specs.Reading.{Reads, Explains, IsSpelled}
-use Rattle.pb_text.specs.Spelling.{Item, bytes, marks_since}
+use Rattle.pb_text.specs.Spelling.{Item, bytes}
 use Rattle.pb_text.specs.Standing.{Counts, Halts, Waits, IsOpen as IsOpenText}
 use Rattle.pb_text.specs.Whole.{events_at, events_of}
 use Rattle.pb_text.specs.declared.Fed.{Fed}
@@ -15,7 +15,7 @@ use Rattle.pb_text.specs.declared.Place.{Place}
 use Rattle.pb_text.specs.declared.Spanned.{Spanned}
 use Rattle.pb_text.specs.declared.Stop.{Stop}
 use Rattle.pb_text.specs.declared.place.Why.{Why}
-use Rattle.pb_text.specs.declared.place.Why.TheVariants.{Byte, TooLarge, Ended, TooLong, Read, Memory}
+use Rattle.pb_text.specs.declared.place.Why.TheVariants as reason
 use Rattle.pb_text.proofs.Formats as formats
 use Rattle.pb_text.proofs.Spans.{all_rest, front_parts}
 use Rattle.pb_proof.specs.Formats.{ReadsProofs}
@@ -27,23 +27,37 @@ use Rattle.pb_proof.specs.declared.Proof.{Proof}
 use Rattle.pb_proof.specs.declared.Statement.{Statement}
 use Rattle.pb_proof.specs.declared.Statement.TheVariants.{Header, F, Output, Conclude, End}
 use Rattle.pb_proof.specs.declared.Stage.{Stage}
-use Rattle.pb_replay.specs.Laws.{ReplaysHaveStates, WholeProofsConclude}
+use Rattle.pb_replay.specs.Laws.{WholeProofsConclude}
 use Rattle.pb_replay.specs.Problem.{Problem}
+use Rattle.pb_replay.specs.Meaning.{IsFront, IsSound}
 use Rattle.pb_replay.specs.Replay.{State}
 use Rattle.pb_replay.specs.Kept.{Replaying, StandsFor, StepsAs, verdict_at, verdict_in}
-use Rattle.pb_replay.specs.Statements.{Outcome, Accepts}
+use Rattle.pb_replay.specs.Statements.{Outcome, Accepts, MayWantAt}
 use Rattle.pb_replay.specs.declared.fault.Fault.{Fault}
+use Rattle.pb_replay.specs.declared.fault.Fault.TheVariants.{Memory, NotTotal}
 use Rattle.pb_replay.specs.declared.verdict.Verdict.{Verdict}
-use Rattle.std.proofs.Math.Seq.{take-length}
-use Rattle.std.proofs.lemmas.List.{length-drop}
 use Rattle.std.specs.Prelude.{IsSome, not, is_some}
 use Rattle.pb_text.proofs.Wholes.{marks_events}
 use Rattle.pb_tool.specs.Checker.{Checking, ProofFeeder, IsAt, IsRunning, Stands, StepsFrom, TextsAreRead}
-use Rattle.pb_tool.specs.Checks.{Checks, IsReplayed, Leads, Takes, Refuses}
+use Rattle.pb_tool.specs.Checks.{Checks, IsReplayed, KeepsNames, KeepsNamesOf, Leads, Takes, Refuses}
 use Rattle.pb_tool.specs.Pieces.{AnyCutting, bytes_to, ChecksAt, ChecksOnce, IsOpen, IsUnread, Feeds, WantsMemory, joined, fault_of, is_whole, place_in}
 use Rattle.pb_tool.specs.declared.checker.CheckFault.{CheckFault}
 use Rattle.pb_tool.specs.declared.checker.CheckFault.TheVariants.{Text, Step}
 use Rattle.pb_tool.proofs.Fronts.{no_front}
+
+abbrev pub failed : CheckFault → Result Unit CheckFault
+failed x = Err x
+
+-- a name that the fault gives by its number is one from before
+abbrev pub TellsOld : Replaying → CheckFault → Type 0
+TellsOld old x = (at : Place) (n : ℕ) → failed x ≡ failed (Step at (NotTotal n)) → n < length old.names
+
+-- a prefix of a prefix of a list of names is a prefix of it
+pub front_on : (a b c : List (List ℕ)) → IsFront a b → IsFront b c → IsFront a c
+front_on a b c (m, e) (n, f) = (m ++ n, f ∙ (ap (λ (x : List (List ℕ)). x ++ n) e ∙ append_assoc a m n))
+
+pub front_all : (a : List (List ℕ)) → IsFront a a
+front_all a = ([], sym (append-nil a))
 
 -- ---- one statement more
 module _ (limit top : ℕ) (v : Problem) where
@@ -68,7 +82,17 @@ pub stepped_ok : (old new : Replaying) (m : Spanned Statement) → (old.fault �
 stepped_ok old new m steps again (Ok s) at = took old.limits old.problem old new m refl refl (steps at.0) s at.1
 stepped_ok old new m steps again (Err e) at = absurd (let bad = again e at in cc bad)
 
--- ---- a statement that was read meets the rules
+-- a fault of a step
+pub stepped_err : (old new : Replaying) (m : Spanned Statement) (e : Fault) (x : CheckFault) → x ≡ Step m.first e → (old.fault ≡ None → StepsAs old m.event (Err e) new) → (old.fault ≡ None → e ≡ Memory → MayWantAt (largest old.limits) (top_of old.limits) old.problem old.next m.event)
+    → ((d : Fault) → old.fault ≡ Some d → e ≡ d) → (now : Result State Fault) → IsAt old now → StepsFrom old.limits old.problem now m (Err x) new
+stepped_err old new m e x is steps wants again (Ok s) at = (e, is, by (steps at.0).0)
+  where
+    by : (e ≡ Memory) ⊎ ((s : State) → StandsFor old s → Outcome (largest old.limits) (top_of old.limits) old.problem s m.event (Err e)) → Refuses old.limits old.problem (Ok s) m.event e
+    by (inl memory) = inl (memory, subst (λ (p : Stage). MayWantAt (largest old.limits) (top_of old.limits) old.problem p m.event) (sym at.1.next) (wants at.0 memory))
+    by (inr h) = inr (h s at.1)
+stepped_err old new m e x is steps wants again (Err d) at = (e, is, again d at)
+
+-- ---- a statement that was read meets the rules of a value
 last_of : (P : Statement → Type 0) (marks : List (Spanned Statement)) (m : Spanned Statement) → All P (events_at (marks ++ m ∷ [])) → P m.event
 last_of P [] m h = All-head P m.event [] h
 last_of P (n ∷ marks) m h = last_of P marks m (All-tail P n.event (events_at (marks ++ m ∷ [])) h)
@@ -77,7 +101,7 @@ pub last_is_value : ReadStatements → (limit top longest : ℕ) (input used : L
 last_is_value values limit top longest input used marks m place done r =
     last_of (IsStatementValue limit top) marks m (values limit top longest input used (marks ++ m ∷ []) place done None r).each
 
--- ---- what a read without a stop says of the bytes used alone
+-- ---- what a read without a stop says of the used bytes alone
 module _ (limit top longest : ℕ) where
   used_alone : (input used : List ℕ) (marks : List (Spanned Statement)) (place : Place) (done : Bool) → Reads (IsProof limit top) longest input used marks place done None → Reads (IsProof limit top) longest used used marks place done None
   used_alone input used marks place true r = record { left = []; input_is = sym (append-nil used); place_is = r.place_is; answer = (r.answer.0, refl) }
@@ -87,7 +111,7 @@ module _ (limit top longest : ℕ) where
   stopped input used marks place true s r = absurd (let e = r.answer.1 in cc e)
   stopped input used marks place false s r = r
 
--- ---- a feeder of a machine of proofs
+-- ---- a feeder of the machine of proofs
 abbrev StandingIsReading : Type 0
 StandingIsReading = (longest : ℕ) (start : ProofState) (input : List ℕ) (marks : List (Spanned Statement)) (f : ProofFeeder) → StandsAt longest start input marks f → (used : List ℕ) × Reads (AcceptsBytes proofs start) longest input used marks (place_of f) (is_complete f) (halt_of f)
 
@@ -101,7 +125,7 @@ texts_read exact reads limit top longest input marks f stands =
     let (used, r) = reads longest (begin limit top) input marks f stands in
     (used, proofs_read exact limit top longest input used marks (place_of f) (is_complete f) (halt_of f) r)
 
--- ---- what a feeder stands to was read
+-- ---- a feeder has read its input
 module _ (read : TextsAreRead) (limits : Limits) (longest : ℕ) where
   text_read : (input : List ℕ) (marks : List (Spanned Statement)) (f : ProofFeeder) (stop : Option Stop) → StandsAt longest (begin (largest limits) (top_of limits)) input marks f → halt_of f ≡ stop
       → (used : List ℕ) × Reads (IsProof (largest limits) (top_of limits)) longest input used marks (place_of f) (is_complete f) stop
@@ -109,11 +133,11 @@ module _ (read : TextsAreRead) (limits : Limits) (longest : ℕ) where
       let (used, reads) = read (largest limits) (top_of limits) longest input marks f stands in
       (used, subst (λ (x : Option Stop). Reads (IsProof (largest limits) (top_of limits)) longest input used marks (place_of f) (is_complete f) x) halts reads)
 
--- the statements of a spelling are those of its marks
+-- the statements of a text are those of its spans
 pub spelled_events : (format : List (Item Statement) → Type 0) (longest : ℕ) (used : List ℕ) (marks : List (Spanned Statement)) (s : IsSpelled format longest used marks) → events_at marks ≡ events_of s.items
 spelled_events format longest used marks s = ap (λ (x : List (Spanned Statement)). events_at x) s.marks_are ∙ marks_events None [] s.items
 
--- ---- where the text has ended
+-- ---- the end of the text
 given : (o : Option Verdict) → IsSome o → o ≡ None → ⊥
 given None i e = absurd (cc i)
 given (Some x) i e = absurd (cc e)
@@ -155,7 +179,7 @@ module _ (read : TextsAreRead) (limits : Limits) (longest : ℕ) (v : Problem) (
   pub running_text : halt_of f ≡ None
   running_text = now.running
 
-  -- ---- where the text has ended
+  -- ---- the end of the text
   abbrev IsTold : (used : List ℕ) → Bool → Type 0
   IsTold used done = Reads (IsProof (largest limits) (top_of limits)) longest input used now.marks (place_of f) done None
 
@@ -168,7 +192,7 @@ module _ (read : TextsAreRead) (limits : Limits) (longest : ℕ) (v : Problem) (
   whole_text : is_complete f ≡ true → IsReplayed limits longest v first input (place_of f) true None now.now
   whole_text done = subst (λ (b : Bool). IsReplayed limits longest v first input (place_of f) b None now.now) done replayed
 
-  pub cut_text : is_complete f ≡ false → Checks limits longest v first input (place_of f) false (Some (Text (record { place = place_of f; why = Ended })))
+  pub cut_text : is_complete f ≡ false → Checks limits longest v first input (place_of f) false (Some (Text (record { place = place_of f; why = reason.Ended })))
   cut_text done =
       let reads = subst (λ (b : Bool). IsTold told.0 b) done told.1 in (
         now.now,
@@ -226,12 +250,12 @@ module _ (read : TextsAreRead) (limits : Limits) (longest : ℕ) (v : Problem) (
           },
         )
 
-    -- the byte at which memory ran out is one that may ask for it
+    -- the byte at which memory ran out is one that may allocate
     pub wanted : (s : Stop) → FeedsOnce f piece (Err s) n → halt_of n ≡ Some s → WantsMemory limits (input ++ piece) (Text s)
     wanted s feeds halts memory =
         let k = (stands_stopped s feeds).1 in
         let waits : Waits proofs n.machine (end_of longest n.first) k.letters k.left n.place (Some s) = subst (λ (x : Option Stop). Waits proofs n.machine (end_of longest n.first) k.letters k.left n.place x) halts k.waits in
-        let stops : Halts proofs n.machine (end_of longest n.first) k.letters k.left Memory = subst (λ (x : Why). Halts proofs n.machine (end_of longest n.first) k.letters k.left x) memory waits.2 in
+        let stops : Halts proofs n.machine (end_of longest n.first) k.letters k.left reason.Memory = subst (λ (x : Why). Halts proofs n.machine (end_of longest n.first) k.letters k.left x) memory waits.2 in
         let (b, more, left, admits, asks, room) = stops in
         (bytes k.letters, b, more, k.input_is ∙ ap (λ (x : List ℕ). bytes k.letters ++ x) left, waits.1 ∙ k.place_is, (n.machine, k.leads, asks))
 
@@ -263,28 +287,36 @@ module _ (read : TextsAreRead) (limits : Limits) (longest : ℕ) (v : Problem) (
       pub stepped : (t : Replaying) → ((before : Result State Fault) → IsAt r before → StepsFrom r.limits r.problem before m (Ok tt) t) → t.limits ≡ r.limits → t.problem ≡ r.problem → Stands limits longest v first (input ++ take fed.used piece) n t e
       stepped t steps limited problem = stands_at limits longest v first (input ++ take fed.used piece) n t e none (running_on t (steps now.now now.at) limited problem)
 
-      refused_by : (why : Fault) → Refuses r.limits r.problem now.now m.event why → Checks limits longest v first (input ++ piece) (place_of n) false (Some (Step m.first why))
-      refused_by why refuses = record {
-        used = said.0;
-        left = said.1.left ++ drop fed.used piece;
-        marks = now.marks;
-        last = m;
-        before = now.now;
-        done = is_complete n;
-        input_is = ap (λ (x : List ℕ). input ++ x) (sym (take-append-drop fed.used piece)) ∙ (sym (append_assoc input (take fed.used piece) (drop fed.used piece)) ∙ (ap (λ (x : List ℕ). x ++ drop fed.used piece) said.1.input_is ∙ append_assoc said.0 said.1.left (drop fed.used piece)));
-        reads = used_alone (largest limits) (top_of limits) longest (input ++ take fed.used piece) said.0 (now.marks ++ m ∷ []) (place_of n) (is_complete n) said.1;
-        begins_is = refl;
-        accepted = now.accepted;
-        refused = subst (λ (x : Problem). Refuses limits x now.now m.event why) now.problem (subst (λ (x : Limits). Refuses x r.problem now.now m.event why) now.limits_are refuses);
-      }
+      kept_by : (t : Replaying) (why : Fault) → IsFront r.names t.names → ((n : ℕ) → why ≡ NotTotal n → n < length r.names) → (x : Result State Fault) → IsAt r x → KeepsNamesOf x t.names why
+      kept_by t why front old (Ok s) at = subst (λ (y : List (List ℕ)). KeepsNames y t.names why) (sym at.1.names) (front, old)
+      kept_by t why front old (Err e) at = tt
+
+      refused_by : (t : Replaying) (why : Fault) → Refuses r.limits r.problem now.now m.event why → IsFront r.names t.names → ((n : ℕ) → why ≡ NotTotal n → n < length r.names) → Stands limits longest v first (input ++ piece) n t (Some (Step m.first why))
+      refused_by t why refuses front old = (
+        record {
+          used = said.0;
+          left = said.1.left ++ drop fed.used piece;
+          marks = now.marks;
+          last = m;
+          before = now.now;
+          done = is_complete n;
+          input_is = ap (λ (x : List ℕ). input ++ x) (sym (take-append-drop fed.used piece)) ∙ (sym (append_assoc input (take fed.used piece) (drop fed.used piece)) ∙ (ap (λ (x : List ℕ). x ++ drop fed.used piece) said.1.input_is ∙ append_assoc said.0 said.1.left (drop fed.used piece)));
+          reads = used_alone (largest limits) (top_of limits) longest (input ++ take fed.used piece) said.0 (now.marks ++ m ∷ []) (place_of n) (is_complete n) said.1;
+          begins_is = refl;
+          accepted = now.accepted;
+          refused = subst (λ (x : Problem). Refuses limits x now.now m.event why) now.problem (subst (λ (x : Limits). Refuses x r.problem now.now m.event why) now.limits_are refuses);
+        },
+        kept_by t why front old now.now now.at,
+      )
 
       abbrev Refusing : Replaying → CheckFault → Type 0
       Refusing t x = (before : Result State Fault) → IsAt r before → StepsFrom r.limits r.problem before m (Err x) t
 
-      pub refused : (t : Replaying) (x : CheckFault) → Refusing t x → Stands limits longest v first (input ++ piece) n t (Some x)
-      refused t x steps =
+      pub refused : (t : Replaying) (x : CheckFault) → Refusing t x → IsFront r.names t.names → TellsOld r x → Stands limits longest v first (input ++ piece) n t (Some x)
+      refused t x steps front old =
           let (why, is, refuses) = steps now.now now.at in
-          subst (λ (y : CheckFault). Stands limits longest v first (input ++ piece) n t (Some y)) (sym is) (refused_by why refuses)
+          subst (λ (y : CheckFault). Stands limits longest v first (input ++ piece) n t (Some y)) (sym is)
+          (refused_by t why refuses front (λ k h. old m.first k (ap (λ (y : CheckFault). failed y) (is ∙ ap (λ (z : Fault). Step m.first z) h))))
 
       pub unread_step : (t : Replaying) (x : CheckFault) → Refusing t x → IsUnread x
       unread_step t x steps = let (why, is, refuses) = steps now.now now.at in subst IsUnread (sym is) tt
@@ -292,18 +324,18 @@ module _ (read : TextsAreRead) (limits : Limits) (longest : ℕ) (v : Problem) (
       pub wanted_step : (t : Replaying) (x : CheckFault) → Refusing t x → WantsMemory limits (input ++ piece) x
       wanted_step t x steps = let (why, is, refuses) = steps now.now now.at in subst (WantsMemory limits (input ++ piece)) (sym is) tt
 
--- ---- input behind a fault
+-- ---- input after a fault
 module _ (limit top longest : ℕ) (used left piece : List ℕ) where
   explained : (why : Why) → Counts why → Explains (IsProof limit top) longest used left why → Explains (IsProof limit top) longest used (left ++ piece) why
-  explained (Byte b) c (more, e, bad, digit) = (more ++ piece, ap (λ (x : List ℕ). x ++ piece) e, bad, digit)
-  explained TooLarge c (b, more, e, bad, digit, ends) = (b, more ++ piece, ap (λ (x : List ℕ). x ++ piece) e, bad, digit, ends)
-  explained TooLong c (some, full) = (λ e. some (no_front left piece e), full)
-  explained Ended c h = absurd c
-  explained Read c h = h
-  explained Memory c (b, more, e, viable, room) = (b, more ++ piece, ap (λ (x : List ℕ). x ++ piece) e, viable, room)
+  explained (reason.Byte b) c (more, e, bad, digit) = (more ++ piece, ap (λ (x : List ℕ). x ++ piece) e, bad, digit)
+  explained reason.TooLarge c (b, more, e, bad, digit, ends) = (b, more ++ piece, ap (λ (x : List ℕ). x ++ piece) e, bad, digit, ends)
+  explained reason.TooLong c (some, full) = (λ e. some (no_front left piece e), full)
+  explained reason.Ended c h = absurd c
+  explained reason.Read c h = h
+  explained reason.Memory c (b, more, e, viable, room) = (b, more ++ piece, ap (λ (x : List ℕ). x ++ piece) e, viable, room)
 
-later : (limits : Limits) (longest : ℕ) (v : Problem) (first : Result State Fault) (input piece : List ℕ) (place : Place) (e : CheckFault) → IsOpen (Some e) → Checks limits longest v first input place false (Some e) → Checks limits longest v first (input ++ piece) place false (Some e)
-later limits longest v first input piece place (Text s) counts (now, h) = (
+later : (limits : Limits) (longest : ℕ) (v : Problem) (first : Result State Fault) (input piece : List ℕ) (f : ProofFeeder) (r : Replaying) (e : CheckFault) → IsOpen (Some e) → Stands limits longest v first input f r (Some e) → Stands limits longest v first (input ++ piece) f r (Some e)
+later limits longest v first input piece f r (Text s) counts (now, h) = (
   now,
   record {
     used = h.used;
@@ -317,19 +349,22 @@ later limits longest v first input piece place (Text s) counts (now, h) = (
     accepted = h.accepted;
   },
 )
-later limits longest v first input piece place (Step begins e) counts h = record {
-  used = h.used;
-  left = h.left ++ piece;
-  marks = h.marks;
-  last = h.last;
-  before = h.before;
-  done = h.done;
-  input_is = ap (λ (x : List ℕ). x ++ piece) h.input_is ∙ append_assoc h.used h.left piece;
-  reads = h.reads;
-  begins_is = h.begins_is;
-  accepted = h.accepted;
-  refused = h.refused;
-}
+later limits longest v first input piece f r (Step begins e) counts (h, kept) = (
+  record {
+    used = h.used;
+    left = h.left ++ piece;
+    marks = h.marks;
+    last = h.last;
+    before = h.before;
+    done = h.done;
+    input_is = ap (λ (x : List ℕ). x ++ piece) h.input_is ∙ append_assoc h.used h.left piece;
+    reads = h.reads;
+    begins_is = h.begins_is;
+    accepted = h.accepted;
+    refused = h.refused;
+  },
+  kept,
+)
 
 -- a checker that has a fault stays as it is
 pub stays : (c : Checking) (piece : List ℕ) (e : CheckFault) → c.fault ≡ Some e → ChecksOnce c piece c
@@ -337,9 +372,9 @@ stays c piece e is = (λ limits longest v first input owed h. by limits longest 
   where
     by : (limits : Limits) (longest : ℕ) (v : Problem) (first : Result State Fault) (input : List ℕ) (x : Option CheckFault) → x ≡ Some e → IsOpen x → Stands limits longest v first input c.feeder c.replay x → Stands limits longest v first (input ++ piece) c.feeder c.replay x
     by limits longest v first input None is owed h = absurd (cc is)
-    by limits longest v first input (Some x) is owed h = later limits longest v first input piece (place_of c.feeder) x owed h
+    by limits longest v first input (Some x) is owed h = later limits longest v first input piece c.feeder c.replay x owed h
 
--- one piece of a piece after another
+-- one part of a piece after another
 pub onward_by : (input piece : List ℕ) (i n : ℕ) → (input ++ take i piece) ++ take n (take (length piece - i) (drop i piece)) ≡ input ++ take (i + n) piece
 onward_by input piece i n = append_assoc input (take i piece) (take n (take (length piece - i) (drop i piece))) ∙ ap (λ (x : List ℕ). input ++ x) (sym (front_parts piece i n))
 
@@ -366,18 +401,18 @@ module _ (read : TextsAreRead) (limits : Limits) (longest : ℕ) (v : Problem) (
   seen : (input : List ℕ) (c : Checking) (x : Option CheckFault) → Stands limits longest v first input c.feeder c.replay x → Checks limits longest v first input (place_in c) (is_whole c) x
   seen input c None h = ((now read limits longest v first input c.feeder c.replay None refl h).now, replayed read limits longest v first input c.feeder c.replay None refl h)
   seen input c (Some (Text s)) h = h
-  seen input c (Some (Step begins e)) h = h
+  seen input c (Some (Step begins e)) h = h.0
 
 pub any_cutting : TextsAreRead → AnyCutting
 any_cutting read limits longest v first before after pieces h owed feeds =
     seen read limits longest v first (joined pieces) after after.fault (row read limits longest v first [] before after pieces h owed feeds)
 
--- ---- a replay stands somewhere
-pub somewhere : ReplaysHaveStates → (r : Replaying) → (first : Result State Fault) × IsAt r first
-somewhere states r = by r.fault refl
+-- ---- a replay is in some state
+pub somewhere : (r : Replaying) → (r.fault ≡ None → (s : State) × StandsFor r s × IsSound r.problem s) → (first : Result State Fault) × IsAt r first
+somewhere r sound = by r.fault refl
   where
     by : (o : Option Fault) → r.fault ≡ o → (first : Result State Fault) × IsAt r first
-    by None e = let (s, at) = states r in (Ok s, (e, at))
+    by None e = let (s, at, right) = sound e in (Ok s, (e, at))
     by (Some x) e = (Err x, e)
 
 pub leads_none : (limits : Limits) (v : Problem) (first : Result State Fault) → Leads limits v first [] first

@@ -1,4 +1,4 @@
--- What is owed of a file, from what is owed of a proof or of an instance behind a look at its first byte.
+-- What is ensured for a file, from what is ensured for a proof or an instance after a peek at its first byte.
 use Rattle.std.proofs.Common.{◌≡◌, ◌⊎◌, ℕ, ◌<◌, List, [], ◌∷◌, ◌++◌, Bool, true, false, Option, Some, None, Result, Ok, Err, refl, sym, ap, ◌∙◌, inl, inr, subst, ◌≢◌, arith}
 use Rattle.std.specs.Prelude.{IfSome, unwrap_or, ◌^◌}
 use Rattle.std.proofs.Math.Dec.{eqb}
@@ -12,15 +12,17 @@ use Rattle.pb_text.specs.declared.Limits.{Limits}
 use Rattle.pb_text.specs.declared.Place.{Place}
 use Rattle.pb_text.specs.declared.Spanned.{Spanned}
 use Rattle.pb_text.specs.declared.Stop.{Stop}
-use Rattle.pb_text.specs.ValueRead.{IsRead, ReadsValue, Reading}
+use Rattle.pb_text.specs.Whole.{IsRead, ReadsValue, Reading}
 use Rattle.pb_text.proofs.Writing.{writes_nothing}
 use Rattle.pb_opb.specs.Canonical.{event_bytes}
+use Rattle.pb_opb.specs.Gather as opb_keeping
 use Rattle.pb_opb.specs.Values.{IsValueOf}
 use Rattle.pb_proof.specs.Canonical.{statement_bytes}
+use Rattle.pb_proof.specs.Gather as veri_keeping
 use Rattle.pb_proof.specs.Proofs.{IsProof, IsProofOf}
-use Rattle.pb_tool.specs.Files.{tidied_proof, MayBeProof, MayBeInstance, IsVeri, ShowsFile, TidiesFile, TidiesProof}
+use Rattle.pb_tool.specs.Files.{tidied_proof, MayBeProof, MayBeInstance, AsksVeri, IsVeri, ShowsFile, TidiesFile, TidiesProof}
 use Rattle.pb_tool.specs.Show.{IsSpelling, IsRefusedAfter, InText, InRest, Shows}
-use Rattle.pb_tool.specs.Tidy.{tidied, IsFile, IsOpb, IsRefused, Tidies, TidiesAs}
+use Rattle.pb_tool.specs.Tidy.{tidied, AsksOpb, IsFile, IsOpb, IsRefused, Tidies, TidiesAs}
 use Rattle.pb_tool.specs.Tidy.IsRefused.{InText as in_text, InRest as in_rest}
 use Rattle.pb_tool.specs.declared.fault.ToolFault.{ToolFault}
 use Rattle.pb_tool.specs.declared.fault.ToolFault.TheVariants.{Text, Open, Overflow, Memory, Write, Step}
@@ -29,16 +31,16 @@ use Rattle.pb_tool.specs.declared.fault.Input.TheVariants as input
 use Rattle.pb_tool.proofs.Restated.{written_so}
 use Rattle.pb_tool.proofs.Shown.{took_none}
 
--- the limit on a statement, given or not, is no 0
+-- the limit on a statement, given or not, is not 0
 pub some_of : (longest : Option ℕ) (n : ℕ) → n ≡ unwrap_or longest (2 ^ 40) → IfSome longest (λ m. 0 < m) → 0 < n
 some_of None n e h = omega (arith, e)
 some_of (Some m) n e h = omega (arith, e, h)
 
--- no proof has no statement
+-- a proof has at least one statement
 pub no_proof : (limit top : ℕ) → IsProof limit top [] → ⊥
 no_proof limit top (v, (steps, are, first, spelled)) = first
 
--- ---- what a look leaves
+-- ---- after a peek
 
 pub took_before : (before mid after : Option (List ℕ)) (used seen : List ℕ) → Keeps before mid → Took mid used seen after → Took before used seen after
 took_before None mid after used seen k t = tt
@@ -51,7 +53,7 @@ took_nothing before after k = let (seen, took) = took_none after in (seen, took_
 -- ---- what is shown
 
 module _ {E : Type 0} (format : List (Item E) → Type 0) (longest : ℕ) (before mid : Option (List ℕ)) (k : Keeps before mid) where
-  all_before : (after : Option (List ℕ)) (marks : List (Spanned E)) (place : Place) (done : Bool) (stop : Option Stop) → TookAll format longest mid after marks place done stop → TookAll format longest before after marks place done stop
+  abbrev all_before : (after : Option (List ℕ)) (marks : List (Spanned E)) (place : Place) (done : Bool) (stop : Option Stop) → TookAll format longest mid after marks place done stop → TookAll format longest before after marks place done stop
   all_before after marks place done stop t = record { used = t.used; seen = t.seen; took = took_before before mid after t.used t.seen k t.took; reads = t.reads }
 
   so_far_before : (after : Option (List ℕ)) (marks : List (Spanned E)) (place : Place) → TookSoFar format longest mid after marks place → TookSoFar format longest before after marks place
@@ -61,14 +63,14 @@ module _ {E : Type 0} (format : List (Item E) → Type 0) (longest : ℕ) (befor
   spelling_before after marks i =
       record { used = i.used; rest = i.rest; took = took_before before mid after (i.used ++ i.rest) [] k i.took; spelled = i.spelled; blank = i.blank; within = i.within }
 
-  refused_before : (after : Option (List ℕ)) (marks : List (Spanned E)) (s : Stop) → IsRefusedAfter format longest mid after marks s → IsRefusedAfter format longest before after marks s
-  refused_before after marks s (InText t) = InText (all_before after marks s.place false (Some s) t)
-  refused_before after marks s (InRest used seen next took spelled r) = InRest used seen next (took_before before mid next used seen k took) spelled r
+  refused_before : (May : List ℕ → ℕ → Type 0) (after : Option (List ℕ)) (marks : List (Spanned E)) (s : Stop) → IsRefusedAfter format longest May mid after marks s → IsRefusedAfter format longest May before after marks s
+  refused_before May after marks s (InText t a) = InText (all_before after marks s.place false (Some s) t) a
+  refused_before May after marks s (InRest used seen next took spelled r) = InRest used seen next (took_before before mid next used seen k took) spelled r
 
-  module _ (text : E → List ℕ) {W : Type 0} (contents : W → Option (List ℕ)) (faults : W → ℕ) where
-    pub shows_before : (old : W) (result : Result Unit ToolFault) (after : Option (List ℕ)) (new : W) → Shows format longest text contents faults mid old result after new → Shows format longest text contents faults before old result after new
+  module _ (May : List ℕ → ℕ → Type 0) (text : E → List ℕ) {W : Type 0} (contents : W → Option (List ℕ)) (faults : W → ℕ) where
+    pub shows_before : (old : W) (result : Result Unit ToolFault) (after : Option (List ℕ)) (new : W) → Shows format longest May text contents faults mid old result after new → Shows format longest May text contents faults before old result after new
     shows_before old (Ok u) after new (marks, i, w) = (marks, spelling_before after marks i, w)
-    shows_before old (Err (Text File s)) after new (marks, i, w) = (marks, refused_before after marks s i, w)
+    shows_before old (Err (Text File s)) after new (marks, i, w) = (marks, refused_before May after marks s i, w)
     shows_before old (Err Write) after new (marks, last, between, t, w, b) = (marks, last, between, so_far_before after (marks ++ last ∷ []) last.past t, w, b)
     shows_before old (Err (Text input.Instance s)) after new h = h
     shows_before old (Err (Text input.Proof s)) after new h = h
@@ -77,11 +79,11 @@ module _ {E : Type 0} (format : List (Item E) → Type 0) (longest : ℕ) (befor
     shows_before old (Err (Memory i)) after new h = h
     shows_before old (Err (Step place e name)) after new h = h
 
-    -- nothing, where the source failed at its first byte
-    pub shows_nothing : ReadsNothing format longest → (old : W) → Shows format longest text contents faults before old (Err (Text File first_fault)) mid old
+    -- nothing, if the source failed at its first byte
+    pub shows_nothing : ReadsNothing format longest → (old : W) → Shows format longest May text contents faults before old (Err (Text File first_fault)) mid old
     shows_nothing reads old =
         let t = took_nothing before mid k in
-        ([], InText (record { used = []; seen = t.0; took = t.1; reads = reads t.0 }), writes_nothing contents faults old)
+        ([], InText (record { used = []; seen = t.0; took = t.1; reads = reads t.0 }) tt, writes_nothing contents faults old)
 
 -- ---- what is tidied
 
@@ -90,25 +92,25 @@ module _ (before mid : Option (List ℕ)) (k : Keeps before mid) {V : Type 0} wh
   file_before IsReadOf after v f =
       record { used = f.used; rest = f.rest; took = took_before before mid after (f.used ++ f.rest) [] k f.took; read = f.read; spelled = f.spelled; blank = f.blank; within = f.within; value = f.value }
 
-  module _ {E : Type 0} (format : List (Item E) → Type 0) (longest : ℕ) (IsValue : List E → V → Type 0) where
-    no_file_before : (after : Option (List ℕ)) (s : Stop) → IsRefused (ReadsValue format longest IsValue) mid after s → IsRefused (ReadsValue format longest IsValue) before after s
+  module _ {E : Type 0} (format : List (Item E) → Type 0) (longest : ℕ) (May : List ℕ → ℕ → Type 0) (Keep : List E → E → Type 0) (IsValue : List E → V → Type 0) where
+    no_file_before : (after : Option (List ℕ)) (s : Stop) → IsRefused (ReadsValue format longest May Keep IsValue) mid after s → IsRefused (ReadsValue format longest May Keep IsValue) before after s
     no_file_before after s (in_text (used, seen, took, r)) = in_text (used, seen, took_before before mid after used seen k took, r)
     no_file_before after s (in_rest m next (used, seen, took, r) b) = in_rest m next (used, seen, took_before before mid next used seen k took, r) b
 
     module _ (text : V → List ℕ) {W : Type 0} (contents : W → Option (List ℕ)) (faults : W → ℕ) where
-      pub tidies_before : (old : W) (result : Result Unit ToolFault) (after : Option (List ℕ)) (new : W) → TidiesAs (IsRead format longest IsValue) (ReadsValue format longest IsValue) text contents faults mid old result after new
-          → TidiesAs (IsRead format longest IsValue) (ReadsValue format longest IsValue) text contents faults before old result after new
+      pub tidies_before : (old : W) (result : Result Unit ToolFault) (after : Option (List ℕ)) (new : W) → TidiesAs (IsRead format longest IsValue) (ReadsValue format longest May Keep IsValue) text contents faults mid old result after new
+          → TidiesAs (IsRead format longest IsValue) (ReadsValue format longest May Keep IsValue) text contents faults before old result after new
       tidies_before old result after new t =
-          written_so (IsFile (IsRead format longest IsValue) mid after) text (IsRefused (ReadsValue format longest IsValue) mid after) contents faults
-          (IsFile (IsRead format longest IsValue) before after) text (IsRefused (ReadsValue format longest IsValue) before after) (λ v f. (v, file_before (IsRead format longest IsValue) after v f, refl)) (no_file_before after) old result new t
+          written_so (IsFile (IsRead format longest IsValue) mid after) text (IsRefused (ReadsValue format longest May Keep IsValue) mid after) contents faults
+          (IsFile (IsRead format longest IsValue) before after) text (IsRefused (ReadsValue format longest May Keep IsValue) before after) (λ v f. (v, file_before (IsRead format longest IsValue) after v f, refl)) (no_file_before after) old result new t
 
-      -- nothing, where the source failed at its first byte
-      pub tidies_nothing : ReadsNothing format longest → (old : W) → TidiesAs (IsRead format longest IsValue) (ReadsValue format longest IsValue) text contents faults before old (Err (Text File first_fault)) mid old
+      -- nothing, if the source failed at its first byte
+      pub tidies_nothing : ReadsNothing format longest → (old : W) → TidiesAs (IsRead format longest IsValue) (ReadsValue format longest May Keep IsValue) text contents faults before old (Err (Text File first_fault)) mid old
       tidies_nothing reads old =
           let t = took_nothing before mid k in
-          (in_text ([], t.0, t.1, Reading [] (reads t.0)), refl)
+          (in_text ([], t.0, t.1, Reading [] (reads t.0) tt), refl)
 
--- ---- which it is
+-- ---- which format it is
 
 by_byte : (b : ℕ) (text : List ℕ) → ((eqb b 112 ≡ true) × (b ≡ 112)) ⊎ ((eqb b 112 ≡ false) × (b ≢ 112)) → MayBeProof (Some (b ∷ text)) ⊎ MayBeInstance (Some (b ∷ text))
 by_byte b text (inl h) = inl (text, ap (λ (x : ℕ). x ∷ text) h.1)
@@ -121,30 +123,30 @@ may_be (Some (b ∷ text)) = by_byte b text (eqb_tells b 112)
 
 module _ (limits : Limits) (longest n : ℕ) (is : longest ≡ n) {W : Type 0} (contents : W → Option (List ℕ)) (faults : W → ℕ) (before mid : Option (List ℕ)) (k : Keeps before mid) (old : W) where
   module _ (result : Result Unit ToolFault) (after : Option (List ℕ)) (new : W) where
-    pub shows_proof : MayBeProof before → Shows (IsVeri limits) longest statement_bytes contents faults mid old result after new → ShowsFile limits n contents faults before old result after new
+    pub shows_proof : MayBeProof before → Shows (IsVeri limits) longest (AsksVeri limits) statement_bytes contents faults mid old result after new → ShowsFile limits n contents faults before old result after new
     shows_proof may s =
-        subst (λ (m : ℕ). ShowsFile limits m contents faults before old result after new) is (inl (may, shows_before (IsVeri limits) longest before mid k statement_bytes contents faults old result after new s))
+        subst (λ (m : ℕ). ShowsFile limits m contents faults before old result after new) is (inl (may, shows_before (IsVeri limits) longest before mid k (AsksVeri limits) statement_bytes contents faults old result after new s))
 
-    pub shows_instance : MayBeInstance before → Shows (IsOpb limits) longest event_bytes contents faults mid old result after new → ShowsFile limits n contents faults before old result after new
+    pub shows_instance : MayBeInstance before → Shows (IsOpb limits) longest (AsksOpb limits) event_bytes contents faults mid old result after new → ShowsFile limits n contents faults before old result after new
     shows_instance may s =
-        subst (λ (m : ℕ). ShowsFile limits m contents faults before old result after new) is (inr (may, shows_before (IsOpb limits) longest before mid k event_bytes contents faults old result after new s))
+        subst (λ (m : ℕ). ShowsFile limits m contents faults before old result after new) is (inr (may, shows_before (IsOpb limits) longest before mid k (AsksOpb limits) event_bytes contents faults old result after new s))
 
     pub tidies_proof : MayBeProof before → TidiesProof limits longest contents faults mid old result after new → TidiesFile limits n contents faults false before old result after new
     tidies_proof may t =
-        subst (λ (m : ℕ). TidiesFile limits m contents faults false before old result after new) is (inl (may, tidies_before before mid k (IsVeri limits) longest IsProofOf tidied_proof contents faults old result after new t))
+        subst (λ (m : ℕ). TidiesFile limits m contents faults false before old result after new) is (inl (may, tidies_before before mid k (IsVeri limits) longest (AsksVeri limits) veri_keeping.MayKeep IsProofOf tidied_proof contents faults old result after new t))
 
     pub tidies_instance : MayBeInstance before → Tidies limits longest false contents faults mid old result after new → TidiesFile limits n contents faults false before old result after new
     tidies_instance may t =
-        subst (λ (m : ℕ). TidiesFile limits m contents faults false before old result after new) is (inr (may, tidies_before before mid k (IsOpb limits) longest IsValueOf tidied contents faults old result after new t))
+        subst (λ (m : ℕ). TidiesFile limits m contents faults false before old result after new) is (inr (may, tidies_before before mid k (IsOpb limits) longest (AsksOpb limits) opb_keeping.MayKeep IsValueOf tidied contents faults old result after new t))
 
   module _ (some : 0 < longest) (instance : (m : ℕ) → 0 < m → ReadsNothing (IsOpb limits) m) (proof : (m : ℕ) → 0 < m → ReadsNothing (IsVeri limits) m) (f : ToolFault) (fault : f ≡ Text File first_fault) where
     shows_either : MayBeProof before ⊎ MayBeInstance before → ShowsFile limits longest contents faults before old (Err (Text File first_fault)) mid old
-    shows_either (inl may) = inl (may, shows_nothing (IsVeri limits) longest before mid k statement_bytes contents faults (proof longest some) old)
-    shows_either (inr may) = inr (may, shows_nothing (IsOpb limits) longest before mid k event_bytes contents faults (instance longest some) old)
+    shows_either (inl may) = inl (may, shows_nothing (IsVeri limits) longest before mid k (AsksVeri limits) statement_bytes contents faults (proof longest some) old)
+    shows_either (inr may) = inr (may, shows_nothing (IsOpb limits) longest before mid k (AsksOpb limits) event_bytes contents faults (instance longest some) old)
 
     tidies_either : MayBeProof before ⊎ MayBeInstance before → TidiesFile limits longest contents faults false before old (Err (Text File first_fault)) mid old
-    tidies_either (inl may) = inl (may, tidies_nothing before mid k (IsVeri limits) longest IsProofOf tidied_proof contents faults (proof longest some) old)
-    tidies_either (inr may) = inr (may, tidies_nothing before mid k (IsOpb limits) longest IsValueOf tidied contents faults (instance longest some) old)
+    tidies_either (inl may) = inl (may, tidies_nothing before mid k (IsVeri limits) longest (AsksVeri limits) veri_keeping.MayKeep IsProofOf tidied_proof contents faults (proof longest some) old)
+    tidies_either (inr may) = inr (may, tidies_nothing before mid k (IsOpb limits) longest (AsksOpb limits) opb_keeping.MayKeep IsValueOf tidied contents faults (instance longest some) old)
 
     pub shows_unread : ShowsFile limits n contents faults before old (Err f) mid old
     shows_unread =

@@ -1,4 +1,4 @@
--- The number of a flag, by its text.
+-- The number of a flag, from its text.
 use Rattle.std.proofs.Common.{◌≡◌, ◌↔◌, ℕ, Bool, true, false, List, Option, Some, None, IsTrue, codes, ap, sym, ◌∙◌, subst, refl, inl, inr}
 use Rattle.std.specs.Prelude.{IsSomeAnd}
 use Rattle.std.specs.Str.{bytes_eq}
@@ -7,7 +7,7 @@ use Rattle.std.specs.Str.Parse.{digits_value, without_leading_plus}
 use Rattle.clap.specs.Words.{IsUnsignedIn}
 use Rattle.clap.specs.Walk.{Row}
 use Rattle.pb_tool.specs.declared.words.fault.WordsFault.{WordsFault}
-use Rattle.pb_tool.specs.Words.{IsEntryFault, IsFlag, IsInstanceFault, IsNumberFault, IsSwitch}
+use Rattle.pb_tool.specs.Words.{IsChecker, IsEntryFault, IsFlag, IsInstanceFault, IsNumberFault, IsSwitch}
 
 pub absent : (low high : ℕ) (found : Option (List ℕ)) → None ≡ found → IsFlag low high found None
 absent low high found e = subst (λ (t : Option (List ℕ)). IsFlag low high t None) e refl
@@ -20,7 +20,7 @@ pub outside : (low high : ℕ) (text : List ℕ) (found : Option (List ℕ)) →
     → IsSomeAnd found (λ (t : List ℕ). ¬ IsUnsignedIn low high t)
 outside low high text found e out = subst (λ (t : Option (List ℕ)). IsSomeAnd t (λ (x : List ℕ). ¬ IsUnsignedIn low high x)) e out
 
--- a flag without a value is on where its text is `true`
+-- a flag without a value is on if its text is `true`
 same_text : (b : Bool) (text want : List ℕ) → bytes_eq text want ≡ b → IsTrue b ↔ (Some text ≡ Some want)
 same_text true text want e = (λ _. ap Some ((bytes_eq-Decides text want).0 e), λ _. refl)
 same_text false text want e =
@@ -37,5 +37,5 @@ not_switched found e = subst (λ (t : Option (List ℕ)). IsTrue false ↔ (t �
 pub wrong_number : (name : List ℕ) (rows : List Row) (fault : WordsFault) → IsNumberFault rows fault → IsEntryFault (name, rows) fault
 wrong_number name rows fault is = inl is
 
-pub lacks_instance : (name : List ℕ) (rows : List Row) (fault : WordsFault) → name ≡ codes "check" → IsInstanceFault rows fault → IsEntryFault (name, rows) fault
+pub lacks_instance : (name : List ℕ) (rows : List Row) (fault : WordsFault) → IsChecker name → IsInstanceFault rows fault → IsEntryFault (name, rows) fault
 lacks_instance name rows fault named is = inr (named, is)

@@ -1,4 +1,4 @@
--- What a canonical spelling ends with.
+-- What a canonical text ends with.
 use Rattle.std.proofs.Common.{◌≡◌, ℕ, ◌+◌, true, false, ◌==◌, List, [], ◌∷◌, ◌++◌, length, take, drop, Option, Some, None, refl, sym, ap, ◌∙◌, append_assoc, subst}
 use Rattle.std.specs.List.{AllByRecursion}
 use Rattle.std.proofs.lemmas.Bool.{cond-false, cond-true}
@@ -34,21 +34,21 @@ linear_ends linear = ends_longer 59 _ _ (ends_longer 59 _ _ (ends_more 59 32 _ (
 objective_ends : (terms : List Term) → EndsWith 59 (event_bytes (Objective terms))
 objective_ends terms = ends_longer 59 (109 ∷ 105 ∷ 110 ∷ 58 ∷ []) (32 ∷ (head_bytes terms ++ 59 ∷ [])) (ends_more 59 32 (head_bytes terms ++ 59 ∷ []) (ends_longer 59 (head_bytes terms) (59 ∷ []) ([], refl)))
 
--- statements of which each ends with `;`
+-- statements, each of which ends with `;`
 abbrev AllEnd : List OpbEvent → Type 0
 AllEnd = AllByRecursion (λ e. EndsWith 59 (event_bytes e))
 
--- one statement in front
+-- one statement before others
 one_front : (e : OpbEvent) (front : List OpbEvent) (f : OpbEvent) (rest : List OpbEvent) → EndsWith 59 (lines (front ++ f ∷ rest)) → EndsWith 59 (lines (e ∷ (front ++ f ∷ rest)))
 one_front e [] f rest k = ends_longer 59 (event_bytes e) (10 ∷ lines (f ∷ rest)) (ends_more 59 10 (lines (f ∷ rest)) k)
 one_front e (g ∷ front) f rest k = ends_longer 59 (event_bytes e) (10 ∷ lines ((g ∷ front) ++ f ∷ rest)) (ends_more 59 10 (lines ((g ∷ front) ++ f ∷ rest)) k)
 
--- lines end as the last of them
+-- lines end as the last of them does
 lines_end : (first : List OpbEvent) (e : OpbEvent) (rest : List OpbEvent) → EndsWith 59 (lines (e ∷ rest)) → EndsWith 59 (lines (first ++ e ∷ rest))
 lines_end [] e rest h = h
 lines_end (f ∷ first) e rest h = one_front f first e rest (lines_end first e rest h)
 
--- a statement and those behind it
+-- a statement and those after it
 after_ends : (n : ℕ) (comments : List comment.Comment) (e : OpbEvent) (events : List OpbEvent) → EndsWith 59 (event_bytes e) → AllEnd events → EndsWith 59 (lines (e ∷ in_order n comments events))
 after_ends n comments e [] h k = h
 after_ends n comments e (f ∷ events) h k =
@@ -81,11 +81,11 @@ behind v (Some terms) constraints o c =
     let body : EndsWith 59 (lines (body_events v)) = subst (λ (es : List OpbEvent). EndsWith 59 (lines (in_order 0 v.comments es))) (sym events) (in_order_ends 0 v.comments (Objective terms) (constraint_events constraints) (objective_ends terms, all_constraints constraints)) in
     not_feed (instance_bytes v) (ends_longer 59 (header_bytes v.variables (length v.constraints) v.tail) (10 ∷ lines (body_events v)) (ends_more 59 10 (lines (body_events v)) body))
 
--- the canonical spelling ends in a line feed exactly where it is the header alone
+-- the canonical text ends in a line feed if and only if it is the header alone
 pub ends_bare : (v : Instance) → ends_in_feed (instance_bytes v) ≡ is_bare v.objective v.constraints
 ends_bare v = behind v v.objective v.constraints refl refl
 
--- what is written where there is nothing but a header, and where there is more
+-- what is written for a header alone, and for more
 pub tidied_bare : (v : Instance) → is_bare v.objective v.constraints ≡ true → tidied v ≡ instance_bytes v
 tidied_bare v e = cond-true (ends_in_feed (instance_bytes v)) (instance_bytes v) (instance_bytes v ++ 10 ∷ []) (ends_bare v ∙ e)
 

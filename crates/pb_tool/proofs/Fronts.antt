@@ -1,4 +1,4 @@
--- Fronts of a text. Of two texts that go on to the same one, the one begins with the other, or is longer.
+-- Prefixes of a text. Of two prefixes of the same text, the second begins with the first or is shorter.
 use Rattle.std.proofs.Common.{◌≡◌, ◌≢◌, ◌⊎◌, inl, inr, ℕ, ◌<◌, List, [], ◌∷◌, ◌++◌, length, refl, sym, ap, ◌∙◌, append-nil, append_assoc, arith}
 use Rattle.std.proofs.lemmas.List.{append_cancel_left}
 
@@ -6,12 +6,12 @@ pub some_left : (left : List ℕ) → left ≢ [] → 0 < length left
 some_left [] h = absurd (h refl)
 some_left (b ∷ left) h = omega arith
 
--- no text has an empty one behind it
+-- only the empty text is a prefix of the empty text
 pub no_front : (a b : List ℕ) → a ++ b ≡ [] → a ≡ []
 no_front [] b e = refl
 no_front (x ∷ a) b e = absurd (cc e)
 
--- one text begins with another, or that one is longer
+-- a text begins with another one, or that one is longer
 abbrev pub Compared : List ℕ → List ℕ → Type 0
 Compared a c = ((m : List ℕ) × (c ≡ a ++ m)) ⊎ ((x : ℕ) × (m : List ℕ) × (a ≡ c ++ x ∷ m))
 
@@ -28,15 +28,15 @@ two_fronts (x ∷ a) b (y ∷ c) d e =
     one_longer x y a c same (two_fronts a b c d rest)
 
 module _ (a b c d : List ℕ) (e : a ++ b ≡ c ++ d) where
-  -- what stands behind the first, where the second goes on with this
+  -- what follows the first, if the second is the first and then this
   pub behind_front : (m : List ℕ) → c ≡ a ++ m → b ≡ m ++ d
   behind_front m p = append_cancel_left a b (m ++ d) (e ∙ (ap (λ (y : List ℕ). y ++ d) p ∙ append_assoc a m d))
 
-  -- what stands behind two that are the same
+  -- what follows two equal prefixes
   pub same_behind : a ≡ c → b ≡ d
   same_behind p = append_cancel_left a b d (e ∙ ap (λ (y : List ℕ). y ++ d) (sym p))
 
-  -- the second begins with the first, where this is not longer
+  -- the second begins with the first, if the first is not longer
   pub begins_with : ((x : ℕ) (m : List ℕ) → a ≡ c ++ x ∷ m → ⊥) → (m : List ℕ) × (c ≡ a ++ m)
   begins_with not_longer = by (two_fronts a b c d e)
     where
@@ -44,7 +44,7 @@ module _ (a b c d : List ℕ) (e : a ++ b ≡ c ++ d) where
       by (inl h) = h
       by (inr (x, m, p)) = absurd (not_longer x m p)
 
-  -- they are the same, where neither is longer
+  -- they are equal, if neither is longer
   pub one_front : ((x : ℕ) (m : List ℕ) → c ≡ a ++ x ∷ m → ⊥) → ((x : ℕ) (m : List ℕ) → a ≡ c ++ x ∷ m → ⊥) → a ≡ c
   one_front not_shorter not_longer = let (m, p) = begins_with not_longer in by m p
     where

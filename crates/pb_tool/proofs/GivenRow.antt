@@ -1,10 +1,10 @@
--- Statements that are shown one after another, of the bytes that a source's calls have given.
+-- Statements that are shown one after another, for the bytes that the calls of a source have given.
 use Rattle.std.proofs.Common.{◌≡◌, ℕ, List, [], ◌∷◌, ◌++◌, length, true, false, Option, Some, None, Result, Ok, Err, refl, sym, ap, ◌∙◌, subst, append_assoc, length-append, arith}
 use Rattle.std.proofs.lemmas.List.{append_cancel_right}
 use Rattle.pb_text.specs.Automaton.{Accepts}
-use Rattle.pb_text.specs.Blank.{GivesBlank, ReadsBlank}
 use Rattle.pb_text.specs.Feeding.{StandsAt, place_of, halt_of, stop_of, is_complete}
-use Rattle.pb_text.specs.Pulling.{Pulls}
+use Rattle.pb_text.specs.Pulling.{OfGiven, Pulls}
+use Rattle.pb_text.specs.Stopping.{IsAsking}
 use Rattle.pb_text.specs.PullsInARow.{PullsOn, TookAll, TookSoFar}
 use Rattle.pb_text.specs.Spelling.{Item}
 use Rattle.pb_text.specs.Writing.{Wrote, Broke}
@@ -14,7 +14,6 @@ use Rattle.pb_text.specs.declared.Place.{Place}
 use Rattle.pb_text.specs.declared.Spanned.{Spanned}
 use Rattle.pb_text.specs.declared.Stop.{Stop}
 use Rattle.pb_text.proofs.PullsInARow.{row}
-use Rattle.pb_tool.specs.Given.{OfGiven}
 use Rattle.pb_tool.specs.Show.{shown, shown_line, EndsAt, InText, Shows}
 use Rattle.pb_tool.specs.declared.fault.ToolFault.{ToolFault}
 use Rattle.pb_tool.specs.declared.fault.ToolFault.TheVariants.{Text, Write}
@@ -22,12 +21,12 @@ use Rattle.pb_tool.specs.declared.fault.Input.TheVariants.{File}
 use Rattle.pb_text.proofs.Wholes.{given_both}
 use Rattle.pb_tool.proofs.Shown.{shows_end}
 
--- The feeder, which began with this machine, runs. It stands to what the calls have given since a history.
+-- The feeder began with this machine and has not stopped. It was fed what the calls have given since a history.
 abbrev pub HasGiven : {M E : Type 0} {g : Ghosts M E} → ℕ → M → List ℕ → List (Spanned E) → Feeder M E g → List ℕ → Type 0
 HasGiven longest start before marks f now = (given : List ℕ) × (now ≡ before ++ given) × ((place_of f).offset ≡ length given) × StandsAt longest start given marks f × (halt_of f ≡ None)
 
 module _ {M E : Type 0} {g : Ghosts M E} (longest : ℕ) (start : M) (before mid after : List ℕ) (marks : List (Spanned E)) (old new : Feeder M E g) (h : HasGiven longest start before marks old mid) (left rest : Option (List ℕ)) where
-  -- what one pull more answers
+  -- the result of one more pull
   pub given_row : (result : Result (Option (Spanned E)) Stop) → Pulls longest start h.0 marks old left result new rest mid after → halt_of new ≡ stop_of result → (result ≡ Ok None → is_complete new ≡ true)
       → ((m : Spanned E) → result ≡ Ok (Some m) → m.past ≡ place_of new) → OfGiven (λ text end. PullsOn longest start text marks result new end) before after
   given_row result p stop last past = (
@@ -45,7 +44,7 @@ module _ {M E : Type 0} {g : Ghosts M E} (longest : ℕ) (start : M) (before mid
       → OfGiven (λ text end. TookSoFar (Accepts g.automaton start) longest text end (marks ++ m ∷ []) m.past) before after
   given_so_far m (given, seen, e, on) = (given, seen, e, on.1)
 
-  -- and where the feeder stands behind an event
+  -- the state of the feeder after an event
   pub given_next : (m : Spanned E) → Pulls longest start h.0 marks old left (Ok (Some m)) new rest mid after → halt_of new ≡ None → HasGiven longest start before (marks ++ m ∷ []) new after
   given_next m p running = (
     h.0 ++ p.taken,
@@ -55,12 +54,7 @@ module _ {M E : Type 0} {g : Ghosts M E} (longest : ℕ) (start : M) (before mid
     running,
   )
 
--- a blank rest, or why it is none
-pub given_end : (place : Place) (result : Result (Unit {0}) Stop) (before after : List ℕ) → GivesBlank place before result after → OfGiven (λ left rest. ReadsBlank place left result rest) before after
-given_end place (Ok u) before after (used, e, blank, bound) = (used, [], e, (used, (refl, refl), blank, bound))
-given_end place (Err s) before after (used, seen, e, blank, place_is, stray) = (used, seen, e, (used, seen, (refl, refl), blank, place_is, stray))
-
--- the same used bytes, where the rest is another
+-- the same used bytes, with another rest
 pub all_of : {E : Type 0} (format : List (Item E) → Type 0) (longest : ℕ) (given seen other : List ℕ) (marks : List (Spanned E)) (place : Place) → TookAll format longest (Some (given ++ seen)) (Some seen) marks place true None
     → TookAll format longest (Some (given ++ other)) (Some other) marks place true None
 all_of format longest given seen other marks place t =
@@ -68,24 +62,24 @@ all_of format longest given seen other marks place t =
     let same : given ≡ t.used = append_cancel_right given t.used seen (t.took.0 ∙ ap (λ (x : List ℕ). t.used ++ x) (sym rest)) in
     record { used = t.used; seen = other; took = (ap (λ (x : List ℕ). x ++ other) same, refl); reads = record { left = other; input_is = refl; place_is = t.reads.place_is; answer = t.reads.answer } }
 
-module _ {E : Type 0} (format : List (Item E) → Type 0) (longest : ℕ) (text : E → List ℕ) {W : Type 0} (contents : W → Option (List ℕ)) (faults : W → ℕ) where
-  -- what was shown of a spelling, and then the rest
+module _ {E : Type 0} (format : List (Item E) → Type 0) (longest : ℕ) (May : List ℕ → ℕ → Type 0) (text : E → List ℕ) {W : Type 0} (contents : W → Option (List ℕ)) (faults : W → ℕ) where
+  -- what was shown of a text of the format, and then the rest
   pub given_shown : (before mid after : List ℕ) (marks : List (Spanned E)) (place : Place) (old new : W) (result : Result (Unit {0}) ToolFault) → OfGiven (λ left rest. TookAll format longest left rest marks place true None) before mid
-      → OfGiven (λ left rest. EndsAt place left result rest) mid after → Wrote contents faults old (shown text marks) new → OfGiven (λ left rest. Shows format longest text contents faults left old result rest new) before after
+      → OfGiven (λ left rest. EndsAt place left result rest) mid after → Wrote contents faults old (shown text marks) new → OfGiven (λ left rest. Shows format longest May text contents faults left old result rest new) before after
   given_shown before mid after marks place old new result (used, other, e, all) (given, seen, f, ends) w = (
     used ++ given,
     seen,
     given_both before mid after used given e f,
-    subst (λ (x : List ℕ). Shows format longest text contents faults (Some x) old result (Some seen) new) (sym (append_assoc used given seen))
-        (shows_end format longest text contents faults (Some (used ++ (given ++ seen))) (Some (given ++ seen)) (Some seen) marks place old new result (all_of format longest used other (given ++ seen) marks place all) ends w),
+    subst (λ (x : List ℕ). Shows format longest May text contents faults (Some x) old result (Some seen) new) (sym (append_assoc used given seen))
+        (shows_end format longest May text contents faults (Some (used ++ (given ++ seen))) (Some (given ++ seen)) (Some seen) marks place old new result (all_of format longest used other (given ++ seen) marks place all) ends w),
   )
 
-  -- what was shown of a text that was refused
-  pub given_refused : (before after : List ℕ) (marks : List (Spanned E)) (s : Stop) (old new : W) → OfGiven (λ left rest. TookAll format longest left rest marks s.place false (Some s)) before after
-      → Wrote contents faults old (shown text marks) new → OfGiven (λ left rest. Shows format longest text contents faults left old (Err (Text File s)) rest new) before after
-  given_refused before after marks s old new (given, seen, e, all) w = (given, seen, e, (marks, InText all, w))
+  -- what was shown of a text that was rejected
+  pub given_refused : (before after : List ℕ) (marks : List (Spanned E)) (s : Stop) (old new : W) → OfGiven (λ left rest. (all : TookAll format longest left rest marks s.place false (Some s)) × IsAsking May all.used all.seen s.why) before after
+      → Wrote contents faults old (shown text marks) new → OfGiven (λ left rest. Shows format longest May text contents faults left old (Err (Text File s)) rest new) before after
+  given_refused before after marks s old new (given, seen, e, (all, asking)) w = (given, seen, e, (marks, InText all asking, w))
 
-  -- what was shown where a line could not be written
+  -- what was shown before a line that could not be written
   pub given_broken : (before after : List ℕ) (marks : List (Spanned E)) (last : Spanned E) (old mid new : W) → OfGiven (λ left rest. TookSoFar format longest left rest (marks ++ last ∷ []) last.past) before after
-      → Wrote contents faults old (shown text marks) mid → Broke contents faults mid (shown_line text last) new → OfGiven (λ left rest. Shows format longest text contents faults left old (Err Write) rest new) before after
+      → Wrote contents faults old (shown text marks) mid → Broke contents faults mid (shown_line text last) new → OfGiven (λ left rest. Shows format longest May text contents faults left old (Err Write) rest new) before after
   given_broken before after marks last old mid new (given, seen, e, sofar) w b = (given, seen, e, (marks, last, mid, sofar, w, b))

@@ -1,8 +1,9 @@
 -- What is verified is true of the instance as it is written.
-use Rattle.std.proofs.Common.{ℕ, List, [], ◌∷◌, Option, ap, ◌∙◌, subst, All}
+use Rattle.std.proofs.Common.{◌≡◌, ℕ, List, [], ◌∷◌, ◌++◌, Option, Some, Ok, ap, ◌∙◌, subst, All}
 use Rattle.std.proofs.lemmas.List.Elements.{All-nil, All-cons, All-head, All-tail}
 use Rattle.pb_text.specs.Limits.{largest, top_of}
 use Rattle.pb_text.specs.Spelling.{Item}
+use Rattle.pb_text.specs.Pulling.{OfGiven}
 use Rattle.pb_text.specs.Whole.{events_of}
 use Rattle.pb_proof.specs.Lines.{SpellsStatement}
 use Rattle.pb_proof.specs.Proofs.{IsGap, statements_of}
@@ -10,9 +11,13 @@ use Rattle.pb_proof.specs.ValueLaws.{StatementValues}
 use Rattle.pb_proof.specs.Values.{IsStatementValue}
 use Rattle.pb_proof.specs.declared.Proof.{Proof}
 use Rattle.pb_proof.specs.declared.Statement.{Statement}
+use Rattle.pb_text.specs.declared.Limits.{Limits}
 use Rattle.pb_replay.specs.Laws.{VerdictsMean}
+use Rattle.pb_replay.specs.declared.verdict.Verdict.{Verdict}
 use Rattle.pb_replay.specs.declared.verdict.Verdict.TheVariants.{Unsat}
-use Rattle.pb_tool.specs.Headline.{VerdictsAreTrue, UnsatIsTrue}
+use Rattle.pb_tool.specs.Given.{ChecksGiven}
+use Rattle.pb_tool.specs.Headline.{TrueOf, UnsatIsTrue, UnsatOf, VerdictsAreTrue}
+use Rattle.pb_tool.specs.Verified.{ChecksFiles}
 
 module _ (values : StatementValues) (limit top : ℕ) where
   abbrev IsSpelled : Item Statement → Type 0
@@ -33,3 +38,21 @@ verdicts means values limits longest i p w before after file verified =
 pub unsat : {W : Type 0} (contents : W → Option (List ℕ)) (faults : W → ℕ) → VerdictsMean → StatementValues → UnsatIsTrue contents faults
 unsat contents faults means values limits longest i p i' p' old new (v, file, q, proof, verified, wrote) =
     (v, file, verdicts means values limits longest v q Unsat p p' proof verified)
+
+-- ---- what a check that returns a verdict says of the instance that it has read
+
+module _ (true : VerdictsAreTrue) {W : Type 0} (contents : W → Option (List ℕ)) (faults : W → ℕ) (limits : Limits) (longest : ℕ) (old new : W) (w : Verdict) where
+  pub verdict_is_true : (i p i' p' : Option (List ℕ)) → ChecksFiles limits longest contents faults i p old (Ok w) i' p' new → TrueOf limits longest w i i'
+  verdict_is_true i p i' p' (v, file, q, proof, verified, wrote) = (v, file, true limits longest v q w p p' proof verified)
+
+  -- the same for the bytes that its calls gave
+  pub given_is_true : (i p i' p' : List ℕ) → ChecksGiven limits longest contents faults i p old (Ok w) i' p' new → OfGiven (TrueOf limits longest w) i i'
+  given_is_true i p i' p' (one, left, e, (other, rest, f, checks)) =
+      (one, left, e, verdict_is_true (Some (one ++ left)) (Some (other ++ rest)) (Some left) (Some rest) checks)
+
+module _ (limits : Limits) (longest : ℕ) (w : Verdict) (is : w ≡ Unsat) where
+  pub unsat_is_true : (before after : Option (List ℕ)) → TrueOf limits longest w before after → UnsatOf limits longest before after
+  unsat_is_true before after t = subst (λ (x : Verdict). TrueOf limits longest x before after) is t
+
+  pub unsat_given_is_true : (before after : List ℕ) → OfGiven (TrueOf limits longest w) before after → OfGiven (UnsatOf limits longest) before after
+  unsat_given_is_true before after (given, seen, e, t) = (given, seen, e, unsat_is_true (Some (given ++ seen)) (Some seen) t)

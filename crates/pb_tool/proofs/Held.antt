@@ -1,4 +1,4 @@
--- What a checker holds of the open statement.
+-- What a checker holds of the unfinished statement.
 use Rattle.std.proofs.Common.{◌≡◌, ℕ, ◌+◌, ◌-◌, ◌≤◌, List, [], ◌∷◌, ◌++◌, length, nat_le, Bool, true, false, Option, None, Result, refl, sym, ap, ◌∙◌, append_assoc, append-nil, length-append, arith}
 use Rattle.std.proofs.lemmas.Bool.{cond-true, cond_both, le-leb}
 use Rattle.std.proofs.lemmas.List.{length-map}
@@ -27,7 +27,7 @@ use Rattle.pb_tool.specs.declared.checker.CheckFault.{CheckFault}
 use Rattle.pb_tool.proofs.Checked.{running_at, told as so_far}
 use Rattle.pb_tool.proofs.Fronts.{no_front}
 
--- ---- behind whole statements none is open
+-- ---- after whole statements none is unfinished
 length_plain : (gap : List ℕ) → length (plain gap) ≡ length gap
 length_plain gap = length-map gap (λ (b : ℕ). let l : Letter = record { byte = b; numeral = false } in l)
 
@@ -42,11 +42,11 @@ module _ {E : Type 0} where
   bytes_joined : (a b : List (Item E)) → bytes_of (a ++ b) ≡ bytes_of a ++ bytes_of b
   bytes_joined a b = ap bytes (letters_joined a b) ∙ bytes-append (letters_of a) (letters_of b)
 
-  -- how long a text is with one statement more
+  -- the length of a text with one more statement
   length_item : (before : List ℕ) (i : Item E) → length (before ++ (i.gap ++ bytes i.text)) ≡ length before + (length i.gap + length i.text)
   length_item before i = omega (arith, length-append before (i.gap ++ bytes i.text), length-append i.gap (bytes i.text), length-bytes i.text)
 
-  -- of statements that begin behind the first bytes none has one of them
+  -- statements that begin after the first n bytes have none of these
   behind : (n : ℕ) (before : List ℕ) (items : List (Item E)) → n ≤ length before → open_bytes n (marks_since None before items) ≡ 0
   behind n before [] h = refl
   behind n before (i ∷ items) h =

@@ -1,38 +1,38 @@
--- The text of an instance whose statements are put together one by one is its canonical text.
+-- The text of an instance whose statements are gathered one by one is its canonical text.
 use Rattle.std.proofs.Common.{◌≡◌, ◌↔◌, ℕ, suc, zero, List, [], ◌∷◌, ◌++◌, Bool, true, false, IsTrue, Option, None, Result, refl, sym, ap, ap₂, ◌∙◌, append_assoc, append-nil}
 use Rattle.pb_text.specs.Limits.{largest, top_of}
 use Rattle.pb_text.specs.Spelling.{Item, Letter}
 use Rattle.pb_text.specs.Whole.{gathered, events_of}
 use Rattle.pb_text.specs.declared.Limits.{Limits}
 use Rattle.pb_opb.specs.Gather.{MayKeep}
-use Rattle.pb_opb.specs.Instances.{IsEntry, IsBody, IsBegun, IsInstance}
+use Rattle.pb_opb.specs.Instances.{IsBegun, IsInstance}
 use Rattle.pb_opb.specs.Values.{IsValueOf}
 use Rattle.pb_opb.specs.declared.OpbEvent.{OpbEvent}
 use Rattle.pb_opb.specs.declared.OpbEvent.TheVariants.{Header, Comment, Objective, Constraint}
+use Rattle.pb_opb.proofs.Counted.{IsEntry, IsCounted, counted}
 use Rattle.pb_tool.specs.Gathered.{TidiesEach}
 use Rattle.pb_tool.specs.InstanceText.{line, line_if, with, asks, text_of, IsTextOf}
-use Rattle.pb_tool.specs.Tidy.{tidied, IsOpb, Tidies}
-use Rattle.pb_tool.specs.Wants.{AsksOpb, IfStopped, WantsInstance}
+use Rattle.pb_tool.specs.Tidy.{tidied, AsksOpb, IsOpb, Tidies}
 use Rattle.pb_tool.specs.declared.fault.ToolFault.{ToolFault}
 use Rattle.pb_tool.specs.declared.instance_text.InstanceText.{InstanceText}
 use Rattle.pb_tool.proofs.Ordered.{line_more, value_of, is_value, text_behind}
-use Rattle.pb_tool.proofs.TextFile.{tidies_value, wants_value}
+use Rattle.pb_tool.proofs.TextFile.{tidies_value}
 
--- ---- the text so far, and a statement more
+-- ---- the text so far, and one more statement
 
--- behind an objective that is kept
+-- after a stored objective
 pushed : (a p o l : List ℕ) → a ++ ((p ++ (o ++ l)) ++ []) ≡ (a ++ (p ++ o)) ++ l
 pushed a p o l = ap (λ (x : List ℕ). a ++ x) (append-nil (p ++ (o ++ l)) ∙ sym (append_assoc p o l)) ∙ sym (append_assoc a (p ++ o) l)
 
--- where none is
+-- without one
 kept : (a p l : List ℕ) (o : Option OpbEvent) → o ≡ None → a ++ (p ++ l) ≡ (a ++ (p ++ line_if o)) ++ l
 kept a p l o n =
     ap (λ (x : List ℕ). a ++ (x ++ l)) (sym (append-nil p)) ∙ (sym (append_assoc a (p ++ []) l) ∙ ap (λ (x : Option OpbEvent). (a ++ (p ++ line_if x)) ++ l) (sym n))
 
 module _ (limit : ℕ) where
   kept-entry : (may : Bool) (n : ℕ) (text : List Letter) (e : OpbEvent) (rest : List (Item OpbEvent))
-      → ((m : Bool) (k : ℕ) (t : InstanceText) → IsBody limit m k rest → (m ≡ true → t.objective ≡ None) → text_of (gathered with t (events_of rest)) ≡ gathered line_more (text_of t) (events_of rest))
-      → (t : InstanceText) → IsEntry limit may n text (λ m k. IsBody limit m k rest) e → (may ≡ true → t.objective ≡ None)
+      → ((m : Bool) (k : ℕ) (t : InstanceText) → IsCounted limit m k rest → (m ≡ true → t.objective ≡ None) → text_of (gathered with t (events_of rest)) ≡ gathered line_more (text_of t) (events_of rest))
+      → (t : InstanceText) → IsEntry limit may n text (λ m k. IsCounted limit m k rest) e → (may ≡ true → t.objective ≡ None)
       → text_of (gathered with t (e ∷ events_of rest)) ≡ gathered line_more (text_of t) (e ∷ events_of rest)
   kept-entry may n text (Header a b c) rest ih t h none = absurd h
   kept-entry may n text (Comment x) rest ih t h none =
@@ -45,7 +45,7 @@ module _ (limit : ℕ) where
       ih false n (with t (Constraint l)) h.1 (λ i. refl)
       ∙ ap (λ (x : List ℕ). gathered line_more x (events_of rest)) (pushed (line_if t.header) t.page.text (line_if t.objective) (line (Constraint l)))
 
-  kept_lines : (may : Bool) (n : ℕ) (items : List (Item OpbEvent)) (t : InstanceText) → IsBody limit may n items → (may ≡ true → t.objective ≡ None) → text_of (gathered with t (events_of items)) ≡ gathered line_more (text_of t) (events_of items)
+  kept_lines : (may : Bool) (n : ℕ) (items : List (Item OpbEvent)) (t : InstanceText) → IsCounted limit may n items → (may ≡ true → t.objective ≡ None) → text_of (gathered with t (events_of items)) ≡ gathered line_more (text_of t) (events_of items)
   kept_lines may zero [] t h none = refl
   kept_lines may zero (i ∷ rest) t h none = absurd h
   kept_lines may (suc n) [] t h none = absurd h
@@ -62,16 +62,16 @@ module _ (limit top : ℕ) (empty : InstanceText) (no_page : empty.page.text ≡
       let first : List ℕ = line (Header n m tail) in
       let alone : text_of (with empty (Header n m tail)) ≡ first = ap₂ (λ (x : List ℕ) (o : Option OpbEvent). first ++ (x ++ line_if o)) no_page no_objective ∙ append-nil first in (
         value_of n tail (events_of rest),
-        is_value n m tail limit rest h.3,
-        kept_lines limit true m rest (with empty (Header n m tail)) h.3 (λ i. no_objective)
-            ∙ (ap (λ (x : List ℕ). gathered line_more x (events_of rest)) alone ∙ text_behind limit top n m tail rest h.3),
+        is_value n m tail limit rest (counted limit m rest h.3),
+        kept_lines limit true m rest (with empty (Header n m tail)) (counted limit m rest h.3) (λ i. no_objective)
+            ∙ (ap (λ (x : List ℕ). gathered line_more x (events_of rest)) alone ∙ text_behind limit top n m tail rest (counted limit m rest h.3)),
       )
 
   instance_text : (items : List (Item OpbEvent)) → IsInstance limit top items → IsTextOf (events_of items) (gathered with empty (events_of items))
   instance_text [] h = absurd h
   instance_text (i ∷ rest) h = begun_text i rest i.event h
 
--- to keep a statement as text asks for memory only where to keep it as a value may
+-- storing a statement as text allocates only if storing it as a value may
 may_keep : (events : List OpbEvent) (e : OpbEvent) → IsTrue (asks e) → MayKeep events e
 may_keep events (Header n m tail) h = cc
 may_keep events (Comment x) h = h
@@ -81,12 +81,7 @@ may_keep events (Constraint l) h = h
 -- ---- what is written for an instance
 
 module _ (limits : Limits) (longest : ℕ) (accepted : List (Item OpbEvent) → Type 0) (same : (items : List (Item OpbEvent)) → accepted items ↔ IsOpb limits items) (empty : InstanceText) (no_page : empty.page.text ≡ []) (no_objective : empty.objective ≡ None) (may_ask : List ℕ → ℕ → Type 0) where
-  pub tidies_text : {W : Type 0} (contents : W → Option (List ℕ)) (faults : W → ℕ) (before : Option (List ℕ)) (old : W) (result : Result (Unit {0}) ToolFault) (after : Option (List ℕ)) (new : W)
+  pub tidies_text : ((used : List ℕ) (b : ℕ) → may_ask used b → AsksOpb limits used b) → {W : Type 0} (contents : W → Option (List ℕ)) (faults : W → ℕ) (before : Option (List ℕ)) (old : W) (result : Result (Unit {0}) ToolFault) (after : Option (List ℕ)) (new : W)
       → TidiesEach accepted longest with empty may_ask (λ t e. asks e) text_of contents faults before old result after new → Tidies limits longest false contents faults before old result after new
-  tidies_text contents faults before old result after new t =
-      tidies_value accepted (IsOpb limits) same longest with empty text_of IsValueOf tidied (instance_text (largest limits) (top_of limits) empty no_page no_objective) may_ask (λ t e. asks e) contents faults before old result after new t
-
-  pub wants_tidied : ((used : List ℕ) (b : ℕ) → may_ask used b → AsksOpb limits used b) → {W : Type 0} (contents : W → Option (List ℕ)) (faults : W → ℕ) (before : Option (List ℕ)) (old : W) (result : Result (Unit {0}) ToolFault) (after : Option (List ℕ)) (new : W)
-      → TidiesEach accepted longest with empty may_ask (λ t e. asks e) text_of contents faults before old result after new → IfStopped result (WantsInstance limits longest before after)
-  wants_tidied to contents faults before old result after new t =
-      wants_value accepted (IsOpb limits) same longest with empty text_of IsValueOf tidied (instance_text (largest limits) (top_of limits) empty no_page no_objective) may_ask (λ t e. asks e) (AsksOpb limits) to MayKeep may_keep contents faults before old result after new t
+  tidies_text to contents faults before old result after new t =
+      tidies_value accepted (IsOpb limits) same longest with empty text_of IsValueOf tidied (instance_text (largest limits) (top_of limits) empty no_page no_objective) may_ask (AsksOpb limits) to (λ t e. asks e) MayKeep may_keep contents faults before old result after new t

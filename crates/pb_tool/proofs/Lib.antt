@@ -11,7 +11,6 @@ mod InstanceLines
 mod Shown
 mod ShownLine
 mod Chosen
-mod Wanted
 mod Given
 mod GivenRow
 mod NormalForms
@@ -19,7 +18,9 @@ mod Noted
 mod NormalFile
 mod Solutions
 mod Stays
+mod TidiedAgain
 mod Checked
+mod Looked
 mod Held
 mod Replayed
 mod Accepted
@@ -30,5 +31,4 @@ mod OneRest
 mod Refusing
 mod Accepting
 mod OneAnswer
-mod CheckWants
 mod CheckGiven

@@ -1,4 +1,4 @@
--- Words that are right name no subcommand `help`.
+-- Valid arguments do not name a subcommand `help`.
 use Rattle.std.proofs.Common.{◌≡◌, ℕ, Bool, true, false, cond, List, [], ◌∷◌, ◌++◌, Option, Some, None, refl, sym, ap, ◌∙◌, subst, codes, is_some, inl, inr, ⊎_elim, get_or}
 use Rattle.std.specs.Prelude.{fold, find, option_map, ◌⊎◌}
 use Rattle.std.specs.Str.{bytes_eq}
@@ -11,7 +11,7 @@ use Rattle.clap.specs.Simple.{App, Shape, argument_words, built, entered, label_
 use Rattle.clap.specs.Faults.{fault_of, other_fault, step_fault, turn_fault, walk_fault, word_fault}
 use Rattle.pb_tool.specs.Words.{IsReader, pb_command}
 
--- ---- the first of two lists of kinds is empty where both together are
+-- ---- if two lists of kinds are empty together, the first is empty
 
 pub first_none : (a b : Kinds) → or_else a b ≡ [] → a ≡ []
 first_none [] b e = refl
@@ -55,7 +55,7 @@ rest_names_none c w position word h false = long_names_none c w word (long_of wo
 
 -- ---- a step
 
--- the walk stopped at a name only where the step names it
+-- the walk stopped at a name only if the step names it
 stops_by_name : (c : List Rule) (word : Text) (w : Walk) (h : Held) (s : Step) (p : Text × List Text) → w.stopped ≡ None → (after_step c word w h s).stopped ≡ Some p → s ≡ subcommand p.0
 stops_by_name c word w h (next waiting) p e k = absurd (cc)
 stops_by_name c word w h (trailing position) p e k = absurd (cc)
@@ -68,11 +68,11 @@ stops_by_name c word w h value p e k = absurd (at_positional (arg_by_index c w.p
     at_positional None k = cc
     at_positional (Some a) k = cc
 
--- the name `help` is answered with help
+-- the name `help` leads to help, which is a fault
 helps : (s : Shape) (name word : Text) (h : Held) → bytes_eq name (codes "help") ≡ true → s.disable_help_subcommand ≡ false → other_fault s (Some name) word h ≡ [] → ⊥
 helps s name word h is on e = let bad = rw (is, on) at e in cc
 
--- a word that names `help` is refused
+-- a word that names `help` is a fault
 refuses_help : (s : Shape) (names : Names) (w : Waiting) (position : ℕ) (word : Text) (h : Held) (is_trailing : Bool) (name : Text) → bytes_eq name (codes "help") ≡ true
     → s.disable_help_subcommand ≡ false → (word_met s.rules names is_trailing w position word h).1 ≡ subcommand name → word_fault s names is_trailing w word h ≡ [] → ⊥
 refuses_help s names w position word h true name is on met none = cc
@@ -129,22 +129,24 @@ walk_named s names w (word ∷ more) q is on none met right =
 abbrev finds : Text → Shape → Bool
 finds name s = answers_to name (label_of s)
 
--- the first of four that answers to a name
-first_of_four : (x y z t s : Shape) (name : Text) → find (finds name) (x ∷ y ∷ z ∷ t ∷ []) ≡ Some s → (s ≡ x) ⊎ ((s ≡ y) ⊎ ((s ≡ z) ⊎ ((s ≡ t) × (finds name t ≡ true))))
-first_of_four x y z t s name = go (finds name x) (finds name y) (finds name z) (finds name t) refl
+-- the first of five that has the name
+first_of_five : (x y z t u s : Shape) (name : Text) → find (finds name) (x ∷ y ∷ z ∷ t ∷ u ∷ []) ≡ Some s
+    → (s ≡ x) ⊎ ((s ≡ y) ⊎ ((s ≡ z) ⊎ ((s ≡ t) ⊎ ((s ≡ u) × (finds name u ≡ true)))))
+first_of_five x y z t u s name = go (finds name x) (finds name y) (finds name z) (finds name t) (finds name u) refl
   where
-    go : (a b c d : Bool) → finds name t ≡ d → cond a (Some x) (cond b (Some y) (cond c (Some z) (cond d (Some t) None))) ≡ Some s
-        → (s ≡ x) ⊎ ((s ≡ y) ⊎ ((s ≡ z) ⊎ ((s ≡ t) × (finds name t ≡ true))))
-    go true b c d e met = inl (cc)
-    go false true c d e met = inr (inl (cc))
-    go false false true d e met = inr (inr (inl (cc)))
-    go false false false true e met = inr (inr (inr (cc, e)))
-    go false false false false e met = absurd (cc)
+    go : (a b c d f : Bool) → finds name u ≡ f → cond a (Some x) (cond b (Some y) (cond c (Some z) (cond d (Some t) (cond f (Some u) None)))) ≡ Some s
+        → (s ≡ x) ⊎ ((s ≡ y) ⊎ ((s ≡ z) ⊎ ((s ≡ t) ⊎ ((s ≡ u) × (finds name u ≡ true)))))
+    go true b c d f e met = inl (cc)
+    go false true c d f e met = inr (inl (cc))
+    go false false true d f e met = inr (inr (inl (cc)))
+    go false false false true f e met = inr (inr (inr (inl (cc))))
+    go false false false false true e met = inr (inr (inr (inr (cc, e))))
+    go false false false false false e met = absurd (cc)
 
 abbrev commands : App
 commands = built pb_command
 
--- right words name `show`, `tidy` or `check`, where they name a subcommand
+-- if valid arguments name a subcommand, it is `show`, `tidy`, `check` or `trace`
 pub reader_named : (words : List Text) (named : Text × List Row) → fault_of pb_command words ≡ [] → subcommand_of pb_command words ≡ Some named → IsReader named.0
 reader_named words named right met = at_stop (walk commands.top.rules (names_of commands) nothing_held (argument_words pb_command words)).stopped refl met
   where
@@ -158,11 +160,12 @@ reader_named words named right met = at_stop (walk commands.top.rules (names_of 
     at_shape p (Some s) e found met =
         let same : rows_at s p.1 ≡ named = cc in
         let name : named.0 ≡ s.name = sym (ap (λ (n : Text × List Row). n.0) same) in
-        elim (first_of_four (get_or commands.subs 0 s) (get_or commands.subs 1 s) (get_or commands.subs 2 s) (get_or commands.subs 3 s) s p.0 found) [
+        elim (first_of_five (get_or commands.subs 0 s) (get_or commands.subs 1 s) (get_or commands.subs 2 s) (get_or commands.subs 3 s) (get_or commands.subs 4 s) s p.0 found) [
           | inl h ↦ inl (name ∙ ap (λ (x : Shape). x.name) h)
           | inr (inl h) ↦ inr (inl (name ∙ ap (λ (x : Shape). x.name) h))
-          | inr (inr (inl h)) ↦ inr (inr (name ∙ ap (λ (x : Shape). x.name) h))
-          | inr (inr (inr h)) ↦ absurd (⊎_elim (λ (yes : bytes_eq (codes "help") p.0 ≡ true). is_help p e ((bytes_eq-Decides (codes "help") p.0).0 yes)) false≢true (or_cases (bytes_eq (codes "help") p.0) false h.1))
+          | inr (inr (inl h)) ↦ inr (inr (inl (name ∙ ap (λ (x : Shape). x.name) h)))
+          | inr (inr (inr (inl h))) ↦ inr (inr (inr (name ∙ ap (λ (x : Shape). x.name) h)))
+          | inr (inr (inr (inr h))) ↦ absurd (⊎_elim (λ (yes : bytes_eq (codes "help") p.0 ≡ true). is_help p e ((bytes_eq-Decides (codes "help") p.0).0 yes)) false≢true (or_cases (bytes_eq (codes "help") p.0) false h.1))
         ]
 
     at_stop : (o : Option (Text × List Text)) → (walk commands.top.rules (names_of commands) nothing_held (argument_words pb_command words)).stopped ≡ o → entered commands o ≡ Some named → IsReader named.0

@@ -1,5 +1,5 @@
 -- The normal form of a file whose statements come one by one.
-use Rattle.std.proofs.Common.{◌≡◌, ◌↔◌, ℕ, List, [], ◌∷◌, ◌++◌, map, length, false, true, IsTrue, Option, Some, None, Result, Ok, Err, refl, sym, ap, ap₂, ◌∙◌, subst, append_assoc, append-nil, ◌+◌}
+use Rattle.std.proofs.Common.{◌≡◌, ◌↔◌, ℕ, List, [], ◌∷◌, ◌++◌, map, length, Bool, false, true, IsTrue, Option, Some, None, Result, Ok, Err, refl, sym, ap, ap₂, ◌∙◌, subst, append_assoc, append-nil, ◌+◌}
 use Rattle.std.specs.List.{flat_map}
 use Rattle.std.proofs.lemmas.List.{length-map}
 use Rattle.std.proofs.lemmas.List.Folds.{flat_map-map}
@@ -13,6 +13,7 @@ use Rattle.pb_sums.specs.declared.Linear.{Linear}
 use Rattle.pb_opb.specs.Canonical.{header_bytes, lines, objective_events, constraint_events, in_order, body_events, instance_bytes}
 use Rattle.pb_opb.specs.Gather.{MayKeep}
 use Rattle.pb_opb.specs.Instances.{IsBegun}
+use Rattle.pb_opb.proofs.Counted.{counted}
 use Rattle.pb_opb.specs.Values.{IsValueOf, last_or, objectives_in, constraints_in}
 use Rattle.pb_opb.specs.declared.Instance.{Instance}
 use Rattle.pb_opb.specs.declared.OpbEvent.{OpbEvent}
@@ -26,8 +27,8 @@ use Rattle.pb_tool.specs.Gathered.{IsGathered, IsNotGathered}
 use Rattle.pb_tool.specs.InstanceText.{line, line_if}
 use Rattle.pb_tool.specs.Normalised.{IsNormalised, SomePasses}
 use Rattle.pb_tool.specs.NormalText.{AreLines, IsInOrder, IsNoted, as_statement, names_at, names_on, noted}
-use Rattle.pb_tool.specs.Tidy.{IsAsked, IsDenied, IsNoNormalFile, IsNormalFile, IsOpb, IsOpbFile, IsNoOpbFile, WritesText, is_bare, tidied}
-use Rattle.pb_tool.specs.Wants.{AsksOpb, IfStopped, WantsInstance}
+use Rattle.pb_tool.specs.Tidy.{AsksOpb, IsAsked, IsDenied, IsNoNormalFile, IsNormalFile, IsOpb, IsOpbFile, IsNoOpbFile, WritesText, is_bare, tidied}
+use Rattle.pb_tool.specs.Seen.{SawFile}
 use Rattle.pb_tool.specs.declared.fault.ToolFault.{ToolFault}
 use Rattle.pb_tool.specs.declared.fault.ToolFault.TheVariants.{Text, Open, Overflow, Memory, Write, Step}
 use Rattle.pb_tool.specs.declared.fault.Input.TheVariants.{File, Instance as of_instance, Proof as of_proof}
@@ -35,9 +36,9 @@ use Rattle.pb_tool.specs.declared.normal_text.Forms.{Forms}
 use Rattle.pb_tool.specs.declared.normal_text.Standing.TheVariants.{Kept}
 use Rattle.pb_tool.proofs.Feeds.{tidied_bare}
 use Rattle.pb_tool.proofs.Ordered.{Follows, follows, headed, is_value, mains_in, value_of}
-use Rattle.pb_tool.proofs.TextFile.{file_as, refused_as, refused_wants}
+use Rattle.pb_tool.proofs.TextFile.{file_as, refused_as}
 
--- ---- what is written where there are no comments
+-- ---- what is written without comments
 
 plain_order : (n : ℕ) (events : List OpbEvent) → in_order n [] events ≡ events
 plain_order n [] = refl
@@ -63,7 +64,7 @@ plain_text n None [] = append-nil (line (Header n 0 [])) ∙ sym (tidied_bare (p
 plain_text n None (c ∷ cs) = full_text n None (c ∷ cs) (Constraint c) (constraint_events cs) refl refl
 plain_text n (Some terms) cs = full_text n (Some terms) cs (Objective terms) (constraint_events cs) refl refl
 
--- what was kept is the normal form of the instance
+-- what was stored is the normal form of the instance
 module _ (events : List OpbEvent) (n : ℕ) (o : Option OpbEvent) (t : Forms) (h : IsNoted events n o t) (x : Limits × List OpbEvent) (view : (t.limits, events) ≡ x) (kept : t.standing ≡ Kept) (v : Instance) (told : IsInOrder x.1 v) where
   order : IsInOrder events v
   order = subst (λ (y : Limits × List OpbEvent). IsInOrder y.1 v) (sym view) told
@@ -112,7 +113,7 @@ module _ (events : List OpbEvent) (n : ℕ) (o : Option OpbEvent) (t : Forms) (h
   pub kept_form : (w : Instance) × IsAsked (largest x.0) v w × (line (Header n t.lines.count []) ++ (line_if o ++ t.lines.page.text) ≡ tidied w)
   kept_form = (plain v.variables v.objective constraints, (normalised, within), text_kept)
 
--- ---- the names of an instance's statements
+-- ---- the names of the statements of an instance
 
 names_of_mains : (events : List OpbEvent) → names_on events ≡ names_on (mains_in events)
 names_of_mains [] = refl
@@ -129,7 +130,7 @@ gathered_noted : (limits : Limits) (before events : List OpbEvent) → gathered 
 gathered_noted limits before [] = ap (λ (es : List OpbEvent). (limits, es)) (sym (append-nil before))
 gathered_noted limits before (e ∷ events) = gathered_noted limits (before ++ e ∷ []) events ∙ ap (λ (es : List OpbEvent). (limits, es)) (append_assoc before (e ∷ []) events)
 
--- the statements under these limits have this value
+-- under these limits the statements have this value
 abbrev IsNotedOf : Limits → Limits × List OpbEvent → Instance → Type 0
 IsNotedOf limits t v = (t.0 ≡ limits) × IsInOrder t.1 v
 
@@ -139,10 +140,10 @@ module _ (limits : Limits) where
   value_begun i rest (Objective t) h = absurd h
   value_begun i rest (Constraint l) h = absurd h
   value_begun i rest (Header n m tail) h =
-      let r : Follows true m (events_of rest) = follows (largest limits) true m rest h.3 in (
+      let r : Follows true m (events_of rest) = follows (largest limits) true m rest (counted (largest limits) m rest h.3) in (
         value_of n tail (events_of rest),
         (
-          is_value n m tail (largest limits) rest h.3,
+          is_value n m tail (largest limits) rest (counted (largest limits) m rest h.3),
           names_of_mains (events_of rest) ∙ (ap names_on r.mains ∙ names_of_both (last_or None (objectives_in (events_of rest))) (constraints_in (events_of rest))),
         ),
       )
@@ -165,16 +166,12 @@ module _ (limits : Limits) where
     noted_file : (t : Limits × List OpbEvent) → IsGathered accepted longest noted empty before after t → (v : Instance) × IsOpbFile limits longest before after v × IsNotedOf limits t v
     noted_file t f = file_as accepted (IsOpb limits) same longest noted empty IsValueOf (IsNotedOf limits) has_value before after t f
 
-    module _ (may_ask : List ℕ → ℕ → Type 0) where
-      pub unnoted : (s : Stop) → IsNotGathered accepted longest noted empty may_ask (λ t e. false) before after s → IsNoOpbFile limits longest before after s
-      unnoted s r = refused_as accepted (IsOpb limits) same longest noted empty IsValueOf (IsNotedOf limits) has_value may_ask (λ t e. false) before after s r
-
+    module _ (may_ask : List ℕ → ℕ → Type 0) (to : (used : List ℕ) (b : ℕ) → may_ask used b → AsksOpb limits used b) where
       never : (events : List OpbEvent) (e : OpbEvent) → IsTrue false → MayKeep events e
       never events e h = cc
 
-      pub unnoted_wants : ((used : List ℕ) (b : ℕ) → may_ask used b → AsksOpb limits used b) → (s : Stop) → IsNotGathered accepted longest noted empty may_ask (λ t e. false) before after s → WantsInstance limits longest before after s
-      unnoted_wants to s r =
-          refused_wants accepted (IsOpb limits) same longest noted empty IsValueOf (IsNotedOf limits) has_value may_ask (λ t e. false) (AsksOpb limits) to MayKeep never before after s r
+      pub unnoted : (s : Stop) → IsNotGathered accepted longest noted empty may_ask (λ t e. false) before after s → IsNoOpbFile limits longest before after s
+      unnoted s r = refused_as accepted (IsOpb limits) same longest noted empty IsValueOf (IsNotedOf limits) has_value may_ask (AsksOpb limits) to (λ t e. false) MayKeep never before after s r
 
     module _ {W : Type 0} (contents : W → Option (List ℕ)) (faults : W → ℕ) (t : Limits × List OpbEvent) (f : IsGathered accepted longest noted empty before after t) (old : W) where
       abbrev Told : Result (Unit {0}) ToolFault → W → Type 0
@@ -203,24 +200,24 @@ module _ (limits : Limits) where
       by_result v file (Err (Memory i)) new (d, e) = (by_fault v file (Memory i) d, e)
       by_result v file (Err (Step place fault name)) new (d, e) = absurd d
 
-      -- what was written of it is what is owed of the file
+      -- what was written is what the file requires
       pub told_file : (result : Result (Unit {0}) ToolFault) (new : W) → Told result new → WritesText (IsNormalFile limits longest before after) (IsNoNormalFile limits longest before after) tidied contents faults old result new
       told_file result new told =
           let (v, file, (under, order)) = noted_file t f in
           by_result v file result new (subst (λ (l : Limits). WritesText (IsAsked (largest l) v) (IsDenied (largest l) v) tidied contents faults old result new) under (told v order))
 
-      by_stop : (v : Instance) (result : Result (Unit {0}) ToolFault) (new : W) (Holds : Stop → Type 0) → WritesText (IsAsked (largest t.0) v) (IsDenied (largest t.0) v) tidied contents faults old result new → IfStopped result Holds
-      by_stop v (Ok u) new Holds h = tt
-      by_stop v (Err Write) new Holds h = tt
-      by_stop v (Err (Text i s)) new Holds (d, e) = absurd d
-      by_stop v (Err (Open i)) new Holds h = tt
-      by_stop v (Err (Overflow i)) new Holds h = tt
-      by_stop v (Err (Memory i)) new Holds h = tt
-      by_stop v (Err (Step place fault name)) new Holds h = tt
+      by_seen : (shown : Option ℕ) (ended : Bool) → ended ≡ true → (v : Instance) (result : Result (Unit {0}) ToolFault) (new : W) → WritesText (IsAsked (largest t.0) v) (IsDenied (largest t.0) v) tidied contents faults old result new → SawFile shown ended result
+      by_seen shown ended end v (Ok u) new h = end
+      by_seen shown ended end v (Err Write) new h = end
+      by_seen shown ended end v (Err (Text i s)) new (d, e) = absurd d
+      by_seen shown ended end v (Err (Open i)) new h = end
+      by_seen shown ended end v (Err (Overflow i)) new h = end
+      by_seen shown ended end v (Err (Memory i)) new h = end
+      by_seen shown ended end v (Err (Step place fault name)) new h = end
 
-      -- its text did not stop the reader
-      pub told_on : (result : Result (Unit {0}) ToolFault) (new : W) (Holds : Stop → Type 0) → Told result new → IfStopped result Holds
-      told_on result new Holds told = let (v, file, (under, order)) = noted_file t f in by_stop v result new Holds (told v order)
+      -- the text did not stop its reader
+      pub told_on : (shown : Option ℕ) (ended : Bool) → ended ≡ true → (result : Result (Unit {0}) ToolFault) (new : W) → Told result new → SawFile shown ended result
+      told_on shown ended end result new told = let (v, file, (under, order)) = noted_file t f in by_seen shown ended end v result new (told v order)
 
       by_count : (v : Instance) (result : Result (Unit {0}) ToolFault) (new : W) (n : ℕ) → WritesText (IsAsked (largest t.0) v) (IsDenied (largest t.0) v) tidied contents faults old result new → n ≡ faults_told result n
       by_count v (Ok u) new n h = refl

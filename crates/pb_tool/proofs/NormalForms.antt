@@ -1,4 +1,4 @@
--- The names of terms, numbered in turn, and the forms of constraints as lines, where more names have appeared or a constraint has come.
+-- The names of terms, numbered in turn, and the forms of constraints as lines, after more names or one more constraint.
 use Rattle.std.proofs.Common.{◌≡◌, ◌⊎◌, inl, inr, ℕ, zero, suc, ◌<◌, ◌+◌, List, [], ◌∷◌, ◌++◌, length, length-append, sym, ◌∙◌, ap, ap₂, refl, subst, append-nil, arith, Contains, take, get_or}
 use Rattle.std.proofs.lemmas.Grind.{flat_map-append}
 use Rattle.std.proofs.lemmas.List.{map-append}
@@ -40,7 +40,7 @@ has_both : (names xs ys : List (List ℕ)) → HasNames names xs → HasNames na
 has_both names [] ys h k = k
 has_both names (x ∷ xs) ys h k = (h.0, has_both names xs ys h.1 k)
 
--- what is kept of the constraints, where these names have appeared too
+-- what is stored of the constraints, after these names have appeared too
 module _ (seen : List (List ℕ)) (cs : List Linear) (others : List (List ℕ)) (old : FormLines) (h : AreLines seen cs old) (new : List (List ℕ)) (e : new ≡ with_names old.names others) where
   all_names : new ≡ with_names [] (seen ++ others)
   all_names = e ∙ (ap (λ (ks : List (List ℕ)). with_names ks others) h.names ∙ sym (in_turn [] seen others))
@@ -75,7 +75,7 @@ lines_named seen cs others old new h e p k = record {
   count = k ∙ h.count;
 }
 
--- a constraint more
+-- one more constraint
 pub lines_added : (seen : List (List ℕ)) (cs : List Linear) (c : Linear) (old new : FormLines) (added : List Form) → AreLines seen cs old → new.names ≡ with_names old.names (constraint_names (c ∷ [])) → AreFormsOf new.names (sides_in (c ∷ [])) added
     → new.page.text ≡ old.page.text ++ form_lines new.names added → new.count ≡ old.count + length added → AreLines (seen ++ names_of c.terms) (cs ++ c ∷ []) new
 lines_added seen cs c old new added h e loaded p k =
@@ -96,7 +96,7 @@ lines_added seen cs c old new added h e loaded p k =
       count = k ∙ (ap (λ (n : ℕ). n + length added) h.count ∙ sym (length-append h.forms added));
     }
 
--- ---- what was made, and a constraint more
+-- ---- what was made, and one more constraint
 
 only : (c x : Linear) → Contains (c ∷ []) x → c ≡ x
 only c x (zero, lt, e) = e

@@ -1,4 +1,4 @@
--- What is kept of statements for their normal form, and a statement more.
+-- What is stored of statements for their normal form, and one more statement.
 use Rattle.std.proofs.Common.{◌≡◌, ℕ, List, [], ◌∷◌, ◌++◌, Option, Some, None, refl, sym, ◌∙◌, ap, append-nil}
 use Rattle.std.proofs.lemmas.Grind.{flat_map-append}
 use Rattle.pb_sums.specs.declared.Term.{Term}
@@ -38,7 +38,7 @@ constraints_more (Constraint l ∷ events) e = ap (λ (xs : List Linear). l ∷ 
 names_more : (events : List OpbEvent) (e : OpbEvent) → names_on (events ++ e ∷ []) ≡ names_on events ++ names_at e
 names_more events e = flat_map-append names_at events (e ∷ []) ∙ ap (λ (ns : List (List ℕ)). names_on events ++ ns) (append-nil (names_at e))
 
--- what is owed of the statements with one more
+-- the invariant of the statements with one more
 noted_next : (events : List OpbEvent) (e : OpbEvent) (n : ℕ) (o : Option OpbEvent) (f : Forms) → n ≡ last_or 0 (variables_in events ++ variables_in (e ∷ [])) → o ≡ as_statement (last_or None (objectives_in events ++ objectives_in (e ∷ [])))
     → AreMade (names_on events ++ names_at e) (constraints_in events ++ constraints_in (e ∷ [])) f → IsNoted (events ++ e ∷ []) n o f
 noted_next events e n o f v w made = record {

@@ -1,4 +1,4 @@
--- What the same bytes make a check answer.
+-- The result of a check that the bytes decide.
 use Rattle.std.proofs.Common.{◌≡◌, ◌≢◌, ◌↔◌, ℕ, List, [], ◌++◌, Option, Some, Result, Ok, Err, refl, sym, ap, ◌∙◌, subst}
 use Rattle.std.proofs.lemmas.Option.{same_Some}
 use Rattle.std.specs.Prelude.{String, string_bytes}
@@ -11,13 +11,9 @@ use Rattle.pb_text.specs.declared.Limits.{Limits}
 use Rattle.pb_text.specs.declared.Place.{Place}
 use Rattle.pb_text.specs.declared.Spanned.{Spanned}
 use Rattle.pb_text.specs.declared.Stop.{Stop}
-use Rattle.pb_text.specs.ValueRead.{IsRead, Reading, Keeping}
-use Rattle.pb_sums.specs.declared.Linear.{Linear}
-use Rattle.pb_sums.specs.declared.Term.{Term}
+use Rattle.pb_text.specs.Whole.{IsRead, Reading, Keeping}
 use Rattle.pb_opb.specs.Values.{IsValueOf}
-use Rattle.pb_opb.specs.declared.Comment.{Comment}
 use Rattle.pb_opb.specs.declared.Instance.{Instance}
-use Rattle.pb_opb.specs.declared.OpbEvent.{OpbEvent}
 use Rattle.pb_proof.specs.Proofs.{IsProofOf, statements_of}
 use Rattle.pb_proof.specs.declared.Proof.{Proof}
 use Rattle.pb_proof.specs.declared.Statement.{Statement}
@@ -61,7 +57,7 @@ module _ {V E : Type 0} (format : List (Item E) → Type 0) (IsValue : List E �
   whole_of : (after : Option (List ℕ)) (v : V) (f : Has after v) → IsSpelling format longest (Some input) after f.spelled.marks
   whole_of after v f = record { used = f.used; rest = f.rest; took = f.took; spelled = f.spelled.spelled; blank = f.blank; within = f.within }
 
-  -- a file that was taken leaves nothing
+  -- a file that was accepted leaves nothing
   taken : (after : Option (List ℕ)) (v : V) → Has after v → Has (Some []) v
   taken after v f = record { used = f.used; rest = f.rest; took = (f.took.0, refl); read = f.read; spelled = f.spelled; blank = f.blank; within = f.within; value = f.value }
 
@@ -82,14 +78,14 @@ module _ (laws : AllSingle) (limits : Limits) (longest : ℕ) (p : List ℕ) whe
 
   module _ (v : Problem) (first : State) where
     proof_refusal : (p' : Option (List ℕ)) (s : Stop) → IsRefusedText limits longest v first (Some p) p' s → Refusal (IsVeri limits) longest p s
-    proof_refusal p' s (InProof last a) = let r = a.took.reads in AtStop a.took.used r.left a.marks (a.took.took.0 ∙ r.input_is) r.answer.0 r.place_is r.answer.2
+    proof_refusal p' s (InProof last a w) = let r = a.took.reads in AtStop a.took.used r.left a.marks (a.took.took.0 ∙ r.input_is) r.answer.0 r.place_is r.answer.2
     proof_refusal p' s (BehindProof mid place last w a claimed rest) =
         at_rest (IsVeri limits) longest p a.took.used a.took.seen mid p' a.marks place s a.took.took a.took.reads.answer.0 a.took.reads.place_is rest
 
     abbrev HasPassed : Type 0
     HasPassed = Passed laws.outcomes limits v fixed_veri longest first p
 
-    -- the statements of a spelling, accepted
+    -- the statements of a text of the format, accepted
     spelled_passed : (used left : List ℕ) (marks : List (Spanned Statement)) (last : State) → p ≡ used ++ left → IsSpelled (IsVeri limits) longest used marks → Accepts (largest limits) (top_of limits) v first (events_at marks) last → HasPassed
     spelled_passed used left marks last is s accepted = record {
       marks = marks;
@@ -100,10 +96,10 @@ module _ (laws : AllSingle) (limits : Limits) (longest : ℕ) (p : List ℕ) whe
           marks_begin (IsVeri limits) longest fixed_veri own used m others marks beyond (so_far_reached (IsVeri limits) longest own own others place done r) (spelling_reached (IsVeri limits) longest used marks s);
     }
 
-    -- those of a text that is refused
+    -- those of a text that is rejected
     refused_passed : (p' : Option (List ℕ)) (s : Stop) → IsRefusedText limits longest v first (Some p) p' s → IsOfText s.why → HasPassed
     refused_passed p' s (BehindProof mid place last w a claimed rest) d = spelled_passed a.took.used a.took.seen a.marks last a.took.took.0 a.took.reads.answer.0 a.accepted
-    refused_passed p' s (InProof last a) d =
+    refused_passed p' s (InProof last a w) d =
         let t = a.took.reads in record {
           marks = a.marks;
           last = last;
@@ -134,8 +130,8 @@ module _ (laws : AllSingle) (limits : Limits) (longest : ℕ) (i : List ℕ) whe
   one_instance = one_file (IsOpb limits) IsValueOf longest i one_opb front_opb same_value
 
   instance_refusal : (i' : Option (List ℕ)) (s : Stop) → IsNoOpbFile limits longest (Some i) i' s → IsOfText s.why → Refusal (IsOpb limits) longest i s
-  instance_refusal i' s (InText (used, seen, took, Reading marks r)) d = AtStop used r.left marks (took.0 ∙ r.input_is) r.answer.0 r.place_is r.answer.2
-  instance_refusal i' s (InText (used, seen, took, Keeping viable is)) d = absurd (subst (λ (x : Stop). IsOfText x.why) is d)
+  instance_refusal i' s (InText (used, seen, took, Reading marks r w)) d = AtStop used r.left marks (took.0 ∙ r.input_is) r.answer.0 r.place_is r.answer.2
+  instance_refusal i' s (InText (used, seen, took, Keeping marks last done r k is)) d = absurd (subst (λ (x : Stop). IsOfText x.why) is d)
   instance_refusal i' s (InRest m mid (used, seen, took, read) rest) d = at_rest (IsOpb limits) longest i used seen mid i' read.marks m.past s took read.spelled read.past rest
 
   no_instance : (i' i'' : Option (List ℕ)) (v : Instance) (s : Stop) → IsOpbFile limits longest (Some i) i' v → IsNoOpbFile limits longest (Some i) i'' s → IsOfText s.why → ⊥
@@ -144,7 +140,7 @@ module _ (laws : AllSingle) (limits : Limits) (longest : ℕ) (i : List ℕ) whe
   one_stop_of_instance : (i' i'' : Option (List ℕ)) (s t : Stop) → IsNoOpbFile limits longest (Some i) i' s → IsOfText s.why → IsNoOpbFile limits longest (Some i) i'' t → IsOfText t.why → t ≡ s
   one_stop_of_instance i' i'' s t h d k d' = sym (one_refusal (IsOpb limits) longest one_opb front_opb i s t (instance_refusal i' s h d) (instance_refusal i'' t k d') d d')
 
-  -- the problem that the first bytes open as
+  -- the problem that the first bytes give
   problems : (i' i'' : Option (List ℕ)) (v w : Instance) (a b : Problem) → IsOpbFile limits longest (Some i) i' v → Opened (largest limits) v (Ok a) → IsOpbFile limits longest (Some i) i'' w → Opened (largest limits) w (Ok b) → a ≡ b
   problems i' i'' v w a b f h g k =
       same_ok (laws.openings (largest limits) w (Ok a) (Ok b) (subst (λ (x : Instance). Opened (largest limits) x (Ok a)) (one_instance i' i'' v w f g) h) k)
@@ -162,7 +158,7 @@ module _ (laws : AllSingle) (limits : Limits) (longest : ℕ) (i : List ℕ) whe
       abbrev Answers : Result Verdict ToolFault → W → Option (List ℕ) → Option (List ℕ) → W → Type 0
       Answers result old i' p' new = ChecksFiles limits longest contents faults (Some i) (Some p) old result i' p' new
 
-      -- what is verified is answered
+      -- what is verified is the result
       settled : (i1 p1 : Option (List ℕ)) (v : Instance) (q : Proof) (w : Verdict) → IsOpbFile limits longest (Some i) i1 v → IsProofFile limits longest (Some p) p1 q → IsVerified limits v q w
           → (result : Result Verdict ToolFault) (old new : W) (i' p' : Option (List ℕ)) → Answers result old i' p' new → IsDecided result → result ≡ Ok w
       settled i1 p1 v q w f g h (Ok x) old new i' p' (v', f', q', g', h', wrote) d =
@@ -197,9 +193,9 @@ module _ (laws : AllSingle) (limits : Limits) (longest : ℕ) (i : List ℕ) whe
         λ v. settled (Some []) (Some []) v.instance v.proof w v.first v.second v.verified result old new i' p' a d,
       )
 
-      -- ---- two answers
+      -- ---- two results
 
-      -- what an answer that the bytes decide says of them
+      -- what a result that the bytes decide says of them
       data Shown (result : Result Verdict ToolFault) : Type 0 where
         Accepted : (w : Verdict) → result ≡ Ok w → AreVerified limits longest i p w → Shown result
         NoInstance : (s : Stop) (i' : Option (List ℕ)) → result ≡ Err (Text of_instance s) → IsNoOpbFile limits longest (Some i) i' s → IsOfText s.why → Shown result
@@ -225,7 +221,7 @@ module _ (laws : AllSingle) (limits : Limits) (longest : ℕ) (i : List ℕ) whe
       to_same : (one other a b : Result Verdict ToolFault) → one ≡ a → other ≡ b → IsSame a b → IsSame one other
       to_same one other a b e f h = subst (λ (x : Result Verdict ToolFault). IsSame x other) (sym e) (subst (λ (y : Result Verdict ToolFault). IsSame a y) (sym f) h)
 
-      -- an accepted statement is not refused, and neither is one twice
+      -- an accepted statement is not rejected, and two rejected statements are the same
       text_or_step : (v w : Instance) (i' i'' : Option (List ℕ)) (a b : Problem) (s : Stop) (place : Place) (e : Fault) (name : String Global) (p' p'' : Option (List ℕ)) → IsOpbFile limits longest (Some i) i' v → Opened (largest limits) v (Ok a)
           → IsRefusedText limits longest a (first_state a) (Some p) p' s → IsOfText s.why → IsOpbFile limits longest (Some i) i'' w → Opened (largest limits) w (Ok b) → IsRefusedStep limits longest b (first_state b) (Some p) p'' place e (string_bytes name) → e ≢ no_memory → ⊥
       text_or_step v w i' i'' a b s place e name p' p'' f h r d g k x m =

@@ -14,10 +14,10 @@ use Rattle.pb_text.proofs.Short.{place_after-offset}
 use Rattle.pb_tool.specs.Decided.{IsOfText}
 use Rattle.pb_tool.proofs.Fronts.{begins_with, behind_front, one_front, same_behind}
 
--- ---- marks within fronts
+-- ---- spans within prefixes
 
 module _ {E : Type 0} where
-  -- the one list of marks begins with the other
+  -- one list of spans begins with the other
   abbrev pub Begins : List (Spanned E) → List (Spanned E) → Type 0
   Begins front all = (more : List (Spanned E)) × (all ≡ front ++ more)
 
@@ -33,7 +33,7 @@ module _ {E : Type 0} where
   within_kept : (n : ℕ) (m : Spanned E) (marks : List (Spanned E)) → m.past.offset ≤ n → ended_within n marks ≡ marks → ended_within n (m ∷ marks) ≡ m ∷ marks
   within_kept n m marks h e = within_more n m marks h ∙ ap (λ (x : List (Spanned E)). m ∷ x) e
 
-  -- a text ends no statement that follows it
+  -- a text does not end a statement that follows it
   none_within : (n : ℕ) (first : Option Place) (before : List ℕ) (items : List (Item E)) → n < length before → ended_within n (marks_since first before items) ≡ []
   none_within n first before [] h = refl
   none_within n first before (i ∷ items) h =
@@ -50,7 +50,7 @@ module _ {E : Type 0} where
       )
       by (inr (t, h)) = (ended_within k (m ∷ marks), ap (λ (x : List (Spanned E)). x ++ ended_within k (m ∷ marks)) (sym (within_first n m marks h (none h))))
 
-  -- the statements that a front ends begin those that a longer one ends
+  -- the statements that end in a prefix begin those that end in a longer one
   prefix : (n k : ℕ) (first : Option Place) (before : List ℕ) (items : List (Item E)) → n ≤ k → Begins (ended_within n (marks_since first before items)) (ended_within k (marks_since first before items))
   prefix n k first before [] le = ([], refl)
   prefix n k first before (i ∷ items) le =
@@ -73,13 +73,13 @@ module _ {E : Type 0} where
       (omega (arith, here, place_after-offset (before ++ (i.gap ++ bytes i.text)), length-append (before ++ (i.gap ++ bytes i.text)) (bytes_of items)))
       (all_within n None (before ++ (i.gap ++ bytes i.text)) items here)
 
-  -- a statement that has longest bytes in a front, and ends behind it, has more in a longer one
+  -- a statement with longest bytes in a prefix that ends after that prefix has more bytes in a longer one
   overrun : (longest n k : ℕ) (marks : List (Spanned E)) → n < k → Overruns longest n marks → AreShort longest k marks → ⊥
   overrun longest n k [] lt o s = o
   overrun longest n k (m ∷ marks) lt (inl (e, past)) s = omega (arith, e, past, lt, s.0)
   overrun longest n k (m ∷ marks) lt (inr o) s = overrun longest n k marks lt o s.1
 
--- ---- a format whose texts spell one value, and none of which is a front of another
+-- ---- a format in which a text has one value, and none is a prefix of another
 
 abbrev pub OneSpelling : {E : Type 0} → (List (Item E) → Type 0) → Type 0
 OneSpelling {E} format = (items items' : List (Item E)) → format items → format items' → bytes_of items ≡ bytes_of items' → items ≡ items'
@@ -87,7 +87,7 @@ OneSpelling {E} format = (items items' : List (Item E)) → format items → for
 abbrev pub NoneGoesOn : {E : Type 0} → (List (Item E) → Type 0) → Type 0
 NoneGoesOn {E} format = (items items' : List (Item E)) (more : List ℕ) → format items → format items' → bytes_of items' ≡ bytes_of items ++ more → more ≡ []
 
--- of two spellings in one text neither is longer
+-- of two texts of the format in one text, neither is longer
 module _ {E : Type 0} (format : List (Item E) → Type 0) (front : NoneGoesOn format) where
   no_longer : (used used' : List ℕ) (items items' : List (Item E)) → format items → format items' → bytes_of items ≡ used → bytes_of items' ≡ used' → (x : ℕ) (m : List ℕ) → used' ≡ used ++ x ∷ m → ⊥
   no_longer used used' items items' h h' are are' x m p =
@@ -98,7 +98,7 @@ module _ {E : Type 0} (format : List (Item E) → Type 0) (front : NoneGoesOn fo
   one_spelt used left used' left' items items' e h h' are are' = one_front used left used' left' e (no_longer used used' items items' h h' are are') (no_longer used' used items' items h' h are' are)
 
 module _ {E : Type 0} (format : List (Item E) → Type 0) (longest : ℕ) where
-  -- a front of a spelling with its marks, where no limit was passed
+  -- a prefix of a text of the format with its spans, with no limit exceeded
   pub record Reached (used : List ℕ) (marks : List (Spanned E)) : Type 0 where
     pub items : List (Item E)
     pub is : format items
@@ -124,7 +124,7 @@ module _ {E : Type 0} (format : List (Item E) → Type 0) (longest : ℕ) where
       let (items, is, begins) = u.viable in
       record { items = items; is = is; more = begins.0; begins = begins.1; marks_are = u.seen items is begins; within = u.within; short = u.short items is begins }
 
-  -- ---- nothing is read behind a stop
+  -- ---- nothing is read after a stop
   module _ (used left used' left' : List ℕ) (marks' : List (Spanned E)) (input_is : used ++ left ≡ used' ++ left') (r : Reached used' marks') where
     next : (x : ℕ) (m : List ℕ) → used' ≡ used ++ x ∷ m → left ≡ x ∷ (m ++ left')
     next x m p = behind_front used left used' left' input_is (x ∷ m) p
@@ -202,7 +202,7 @@ module _ {E : Type 0} (format : List (Item E) → Type 0) (longest : ℕ) where
       let rest : left ≡ left' = same_behind used left used' left' e same in
       (same, one_why used left why why' d d' x (subst (λ (y : List ℕ). Explains format longest used y why') (sym rest) (subst (λ (y : List ℕ). Explains format longest y left' why') (sym same) x')))
 
-  -- ---- a spelling is not refused
+  -- ---- a text of the format is not rejected
   module _ (used left used' left' : List ℕ) (marks marks' : List (Spanned E)) (e : used ++ left ≡ used' ++ left') (u : IsUnderWay format longest used marks) (s : IsSpelled format longest used' marks') where
     not_beyond : (m : List ℕ) → used ≡ used' ++ m → ⊥
     not_beyond m p = u.unfinished s.items s.spelled (m, p ∙ ap (λ (y : List ℕ). y ++ m) (sym s.used_are))
@@ -213,7 +213,7 @@ module _ {E : Type 0} (format : List (Item E) → Type 0) (longest : ℕ) where
         before : (m : List ℕ) × (used ≡ used' ++ m)
         before = reached_before used left used' left' marks' e (spelling_reached used' marks' s) why d x
 
-    -- and a statement that was read comes within it
+    -- and a text that was read so far is a prefix of it
     pub way_before : (m : List ℕ) × (used' ≡ used ++ m)
     way_before = begins_with used left used' left' e (λ y m p. not_beyond (y ∷ m) p)
 
@@ -223,7 +223,7 @@ module _ {E : Type 0} (format : List (Item E) → Type 0) (longest : ℕ) where
         let same : used ≡ used' = one_spelt format front used left used' left' s.items s'.items e s.spelled s'.spelled s.used_are s'.used_are in
         (same, one s.items s'.items s.spelled s'.spelled (s.used_are ∙ (same ∙ sym s'.used_are)))
 
-    -- what was read so far of a text that spells comes within it
+    -- what was read so far of an input that begins with a text of the format is a prefix of that text
     pub so_far_before : (used left used' left' : List ℕ) (marks marks' : List (Spanned E)) (input : List ℕ) (place : Place) (done : Bool) → used ++ left ≡ used' ++ left' → Reads format longest input used marks place done None → IsSpelled format longest used' marks' → (m : List ℕ) × (used' ≡ used ++ m)
     so_far_before used left used' left' marks marks' input place true e r s = ([], sym (one_spelled used left used' left' marks marks' e r.answer.0 s).0 ∙ sym (append-nil used))
     so_far_before used left used' left' marks marks' input place false e r s = way_before used left used' left' marks marks' e r.answer.0 s
@@ -232,7 +232,7 @@ module _ {E : Type 0} (format : List (Item E) → Type 0) (longest : ℕ) where
   so_far_reached input used marks place true r = spelling_reached used marks r.answer.0
   so_far_reached input used marks place false r = way_reached used marks r.answer.0
 
-  -- the marks of a front begin those of a longer one
+  -- the spans of a prefix begin those of a longer one
   pub marks_begin : HasFixedMarks format → (used used' m : List ℕ) (marks marks' : List (Spanned E)) → used' ≡ used ++ m → Reached used marks → Reached used' marks' → Begins marks marks'
   marks_begin fixed used used' m marks marks' p r r' =
       let here : IsFront used (bytes_of r'.items) = (m ++ r'.more, r'.begins ∙ (ap (λ (y : List ℕ). y ++ r'.more) p ∙ append_assoc used m r'.more)) in

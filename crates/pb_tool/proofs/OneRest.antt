@@ -1,20 +1,19 @@
--- The rest behind a text is blank or not.
-use Rattle.std.proofs.Common.{◌≡◌, ℕ, ◌+◌, ◌≤◌, List, ◌∷◌, ◌++◌, length, IsTrue, refl, sym, ap, ap₂, ◌∙◌, subst, arith, length-append}
+-- The rest after a text is blank or not.
+use Rattle.std.proofs.Common.{◌≡◌, ℕ, ◌+◌, ◌≤◌, List, ◌∷◌, ◌++◌, length, IsTrue, refl, sym, ap, ◌∙◌, subst, arith, length-append}
 use Rattle.std.proofs.lemmas.Bool.{both_ways}
-use Rattle.std.proofs.Math.Seq.{get_or-append_seam, take-append_seam}
 use Rattle.pb_text.specs.Blank.{IsBlank, IsStray, passes}
 use Rattle.pb_text.specs.Reading.{byte_limit}
 use Rattle.pb_text.specs.declared.Place.{Place}
 use Rattle.pb_text.specs.declared.Why.{Why}
 use Rattle.pb_text.specs.declared.Why.TheVariants.{Byte, TooLarge, Ended, TooLong, Read, Memory}
+use Rattle.pb_text.proofs.Blanks.{blank_passes, passes_at}
 use Rattle.pb_tool.specs.Decided.{IsOfText}
 use Rattle.pb_tool.proofs.Fronts.{behind_front, one_front, same_behind, some_left}
 
 -- a byte within a blank text passes
 passes_in : (text used more : List ℕ) (b : ℕ) → IsBlank text → text ≡ used ++ b ∷ more → IsTrue (passes used b)
 passes_in text used more b blank e =
-    let here : IsBlank (used ++ b ∷ more) = subst IsBlank e blank in
-    subst IsTrue (ap₂ passes (take-append_seam used (b ∷ more)) (get_or-append_seam used b more 0)) (here (length used) (omega (arith, length-append used (b ∷ more))))
+    passes_at used more b (blank_passes (used ++ b ∷ more) (subst IsBlank e blank))
 
 module _ (place : Place) where
   -- a blank rest has no stray byte
@@ -26,7 +25,7 @@ module _ (place : Place) where
   not_stray used left Read blank within d h = d
   not_stray used left Memory blank within d h = d
 
-  -- no blank text goes on behind a stray byte
+  -- no blank text continues after a stray byte
   no_more : (used left used' left' : List ℕ) (why : Why) → used ++ left ≡ used' ++ left' → IsBlank used' → place.offset + length used' ≤ byte_limit → IsOfText why → IsStray place used left why → (x : ℕ) (m : List ℕ) → used' ≡ used ++ x ∷ m → ⊥
   no_more used left used' left' (Byte b) e blank within d (more, is, bad, room) x m p =
       let k : b ∷ more ≡ x ∷ (m ++ left') = sym is ∙ behind_front used left used' left' e (x ∷ m) p in
@@ -67,7 +66,7 @@ module _ (place : Place) where
   one_why used left TooLong Read d d' h h' = absurd d'
   one_why used left TooLong Memory d d' h h' = absurd d'
 
-  -- the first stray byte is one
+  -- there is one first stray byte
   pub one_stray : (used left used' left' : List ℕ) (why why' : Why) → used ++ left ≡ used' ++ left' → IsBlank used → IsBlank used' → IsOfText why → IsOfText why' → IsStray place used left why → IsStray place used' left' why' → (used ≡ used') × (why ≡ why')
   one_stray used left used' left' why why' e blank blank' d d' h h' =
       let same : used ≡ used' =

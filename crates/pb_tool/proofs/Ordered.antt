@@ -1,5 +1,5 @@
--- The statements of an instance come in the order in which its canonical text has them.
-use Rattle.std.proofs.Common.{◌≡◌, ℕ, suc, zero, ◌+◌, ◌≤◌, List, [], ◌∷◌, ◌++◌, take, drop, length, Bool, true, false, cond, nat_le, Option, Some, None, refl, sym, ap, ap₂, subst, ◌∙◌, append_assoc, append-nil, ◌<◌, arith}
+-- The statements of an instance come in the order that its canonical text has.
+use Rattle.std.proofs.Common.{◌≡◌, ℕ, suc, zero, ◌+◌, ◌≤◌, List, [], ◌∷◌, ◌++◌, take, drop, Bool, true, false, cond, nat_le, Option, Some, None, refl, sym, ap, ap₂, subst, ◌∙◌, append_assoc, append-nil, ◌<◌, arith}
 use Rattle.std.specs.List.{flat_map}
 use Rattle.std.proofs.lemmas.Bool.{both_ways, leb-false, leb-true}
 use Rattle.pb_text.specs.Spelling.{Item, Letter}
@@ -8,12 +8,12 @@ use Rattle.pb_sums.specs.declared.Term.{Term}
 use Rattle.pb_sums.specs.declared.Linear.{Linear}
 use Rattle.pb_opb.proofs.Kept.{told}
 use Rattle.pb_opb.specs.Canonical.{header_bytes, event_bytes, lines, objective_events, constraint_events, comment_events, due, in_order, body_events, instance_bytes}
-use Rattle.pb_opb.specs.Instances.{IsEntry, IsBody}
-use Rattle.pb_opb.specs.Values.{IsValueOf, last_or, variables_in, tails_in, objectives_in, constraints_in, comments_in, comment_at}
+use Rattle.pb_opb.specs.Values.{IsValueOf, last_or, objectives_in, constraints_in, comments_in, comment_at}
 use Rattle.pb_opb.specs.declared.Instance.{Instance}
 use Rattle.pb_opb.specs.declared.Comment as comment
 use Rattle.pb_opb.specs.declared.OpbEvent.{OpbEvent}
 use Rattle.pb_opb.specs.declared.OpbEvent.TheVariants.{Header, Comment, Objective, Constraint}
+use Rattle.pb_opb.proofs.Counted.{IsEntry, IsCounted}
 use Rattle.pb_tool.specs.InstanceText.{line}
 use Rattle.pb_tool.specs.Tidy.{is_bare, tidied}
 use Rattle.pb_tool.proofs.Feeds.{tidied_bare, tidied_more}
@@ -26,7 +26,7 @@ mains_in (Comment t ∷ events) = mains_in events
 mains_in (Objective t ∷ events) = Objective t ∷ mains_in events
 mains_in (Constraint l ∷ events) = Constraint l ∷ mains_in events
 
--- a comment that comes now stands first
+-- a comment that is due comes first
 comment_first : (k : ℕ) (t : List ℕ) (cs : List comment.Comment) (e : OpbEvent) (ms : List OpbEvent) → in_order k (comment_at k t ∷ cs) (e ∷ ms) ≡ Comment t ∷ in_order k cs (e ∷ ms)
 comment_first k t cs e ms = first (nat_le k k) refl
   where
@@ -38,7 +38,7 @@ comment_first k t cs e ms = first (nat_le k k) refl
         rw one refl
     first false h = absurd (let late : k < k = leb-false k k h in omega arith)
 
--- no comment behind a later statement comes now
+-- no comment after a later statement is due
 late : (events : List OpbEvent) (k j : ℕ) → k + 1 ≤ j → due k (comments_in j events) ≡ 0
 late [] k j h = refl
 late (Header n m t ∷ events) k j h = late events k j h
@@ -50,11 +50,11 @@ late (Comment t ∷ events) k j h = none (nat_le j k) refl
 late (Objective t ∷ events) k j h = late events k (j + 1) (omega arith)
 late (Constraint l ∷ events) k j h = late events k (j + 1) (omega arith)
 
--- a statement before which no comment comes stands first
+-- a statement comes first if no comment before it is due
 main_first : (k : ℕ) (cs : List comment.Comment) (e : OpbEvent) (ms : List OpbEvent) → due k cs ≡ 0 → in_order k cs (e ∷ ms) ≡ e ∷ in_order (k + 1) cs ms
 main_first k cs e ms h = rw h refl
 
--- How the statements behind a header stand, of which n are constraints.
+-- The order of the statements after a header, n of which are constraints.
 pub record Follows (may : Bool) (n : ℕ) (events : List OpbEvent) : Type 0 where
   pub some : 1 ≤ n → ((l : Linear) × (ls : List Linear) × (constraints_in events ≡ l ∷ ls)) × ((e : OpbEvent) × (ms : List OpbEvent) × (mains_in events ≡ e ∷ ms))
   pub in_place : (k : ℕ) → in_order k (comments_in k events) (mains_in events) ≡ events
@@ -63,8 +63,8 @@ pub record Follows (may : Bool) (n : ℕ) (events : List OpbEvent) : Type 0 wher
 
 module _ (limit : ℕ) where
   follows-entry : (may : Bool) (n : ℕ) (text : List Letter) (e : OpbEvent) (rest : List (Item OpbEvent))
-      → ((m : Bool) (k : ℕ) → IsBody limit m k rest → Follows m k (events_of rest))
-      → IsEntry limit may n text (λ m k. IsBody limit m k rest) e → Follows may (suc n) (e ∷ events_of rest)
+      → ((m : Bool) (k : ℕ) → IsCounted limit m k rest → Follows m k (events_of rest))
+      → IsEntry limit may n text (λ m k. IsCounted limit m k rest) e → Follows may (suc n) (e ∷ events_of rest)
   follows-entry may n text (Header a b t) rest ih h = absurd h
   follows-entry may n text (Comment t) rest ih h =
       let r : Follows may (suc n) (events_of rest) = ih may (suc n) h.2 in
@@ -103,7 +103,7 @@ module _ (limit : ℕ) where
         mains = rw (only.0) all;
       }
 
-  pub follows : (may : Bool) (n : ℕ) (items : List (Item OpbEvent)) → IsBody limit may n items → Follows may n (events_of items)
+  pub follows : (may : Bool) (n : ℕ) (items : List (Item OpbEvent)) → IsCounted limit may n items → Follows may n (events_of items)
   follows may zero [] h = record { some = λ i. absurd (let j : 1 ≤ 0 = i in omega arith); in_place = λ k. refl; only_constraints = λ e. (refl, refl); mains = refl }
   follows may zero (i ∷ rest) h = absurd h
   follows may (suc n) [] h = absurd h
@@ -112,7 +112,7 @@ module _ (limit : ℕ) where
 abbrev pub line_more : List ℕ → OpbEvent → List ℕ
 line_more text e = text ++ line e
 
--- lines of which each has a line feed
+-- lines, each with a line feed
 fed : (e : OpbEvent) (events : List OpbEvent) → flat_map line (e ∷ events) ≡ lines (e ∷ events) ++ 10 ∷ []
 fed e [] = append-nil (line e)
 fed e (f ∷ events) =
@@ -137,7 +137,7 @@ headed v head e events bytes full =
 abbrev pub value_of : ℕ → List ℕ → List OpbEvent → Instance
 value_of n tail events = record { variables = n; tail = tail; objective = last_or None (objectives_in events); comments = comments_in 0 events; constraints = constraints_in events }
 
-pub is_value : (n m : ℕ) (tail : List ℕ) (limit : ℕ) (items : List (Item OpbEvent)) → IsBody limit true m items → IsValueOf (Header n m tail ∷ events_of items) (value_of n tail (events_of items))
+pub is_value : (n m : ℕ) (tail : List ℕ) (limit : ℕ) (items : List (Item OpbEvent)) → IsCounted limit true m items → IsValueOf (Header n m tail ∷ events_of items) (value_of n tail (events_of items))
 is_value n m tail limit items h =
     let r = told limit true m items h in
     record { variables = ap (last_or n) (sym r.variables); tail = ap (last_or tail) (sym r.tails); objective = refl; comments = refl; constraints = refl }
@@ -147,7 +147,7 @@ module _ (limit top : ℕ) where
   bare_not None l ls = refl
   bare_not (Some t) l ls = refl
 
-  pub text_behind : (n m : ℕ) (tail : List ℕ) (rest : List (Item OpbEvent)) → IsBody limit true m rest → gathered line_more [] (Header n m tail ∷ events_of rest) ≡ tidied (value_of n tail (events_of rest))
+  pub text_behind : (n m : ℕ) (tail : List ℕ) (rest : List (Item OpbEvent)) → IsCounted limit true m rest → gathered line_more [] (Header n m tail ∷ events_of rest) ≡ tidied (value_of n tail (events_of rest))
   text_behind n zero tail [] h = sym (tidied_bare (value_of n tail []) refl)
   text_behind n zero tail (i ∷ rest) h = absurd h
   text_behind n (suc m) tail [] h = absurd h

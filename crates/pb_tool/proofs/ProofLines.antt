@@ -1,4 +1,4 @@
--- The text of a proof whose statements are put together one by one is its canonical text.
+-- The text of a proof whose statements are gathered one by one is its canonical text.
 use Rattle.std.proofs.Common.{◌≡◌, ◌↔◌, ℕ, List, [], ◌∷◌, ◌++◌, Option, Result, refl, sym, ap, ◌∙◌, append_assoc, append-nil, All}
 use Rattle.pb_text.specs.Spelling.{Item}
 use Rattle.pb_text.specs.Whole.{gathered, events_of}
@@ -12,13 +12,12 @@ use Rattle.pb_proof.specs.Proofs.{IsStep, statements_of, IsProofOf}
 use Rattle.pb_proof.specs.declared.Proof.{Proof}
 use Rattle.pb_proof.specs.declared.Statement.{Statement}
 use Rattle.pb_proof.specs.declared.Statement.TheVariants.{Header, F, Pol, Rup, Soli, Solx, Delete, Output, Conclude, End}
-use Rattle.pb_tool.specs.Files.{tidied_proof, IsVeri, TidiesProof}
+use Rattle.pb_tool.specs.Files.{tidied_proof, AsksVeri, IsVeri, TidiesProof}
 use Rattle.pb_tool.specs.Gathered.{TidiesEach}
 use Rattle.pb_tool.specs.ProofText.{line, with, text_of, IsTextOf}
-use Rattle.pb_tool.specs.Wants.{AsksVeri, IfStopped, WantsProof}
 use Rattle.pb_tool.specs.declared.fault.ToolFault.{ToolFault}
 use Rattle.pb_tool.specs.declared.proof_text.ProofText.{ProofText}
-use Rattle.pb_tool.proofs.TextFile.{tidies_value, wants_value}
+use Rattle.pb_tool.proofs.TextFile.{tidies_value}
 
 -- lines, each with its line feed
 ended : (s : Statement) (rest : List Statement) → lines (s ∷ rest) ++ 10 ∷ [] ≡ flat_map line (s ∷ rest)
@@ -67,11 +66,7 @@ module _ (limits : Limits) (longest : ℕ) (accepted : List (Item Statement) →
   has_text : (items : List (Item Statement)) → IsVeri limits items → IsTextOf (events_of items) (gathered with empty (events_of items))
   has_text items (v, (steps, are, first, spelled)) = (v, are, ap (λ (x : List Statement). text_of (gathered with empty x)) are ∙ proof_text empty none v steps)
 
-  pub tidies_text : {W : Type 0} (contents : W → Option (List ℕ)) (faults : W → ℕ) (before : Option (List ℕ)) (old : W) (result : Result (Unit {0}) ToolFault) (after : Option (List ℕ)) (new : W)
+  pub tidies_text : ((used : List ℕ) (b : ℕ) → may_ask used b → AsksVeri limits used b) → {W : Type 0} (contents : W → Option (List ℕ)) (faults : W → ℕ) (before : Option (List ℕ)) (old : W) (result : Result (Unit {0}) ToolFault) (after : Option (List ℕ)) (new : W)
       → TidiesEach accepted longest with empty may_ask (λ t s. asks s) text_of contents faults before old result after new → TidiesProof limits longest contents faults before old result after new
-  tidies_text contents faults before old result after new t = tidies_value accepted (IsVeri limits) same longest with empty text_of IsProofOf tidied_proof has_text may_ask (λ t s. asks s) contents faults before old result after new t
-
-  pub wants_tidied : ((used : List ℕ) (b : ℕ) → may_ask used b → AsksVeri limits used b) → {W : Type 0} (contents : W → Option (List ℕ)) (faults : W → ℕ) (before : Option (List ℕ)) (old : W) (result : Result (Unit {0}) ToolFault) (after : Option (List ℕ)) (new : W)
-      → TidiesEach accepted longest with empty may_ask (λ t s. asks s) text_of contents faults before old result after new → IfStopped result (WantsProof limits longest before after)
-  wants_tidied to contents faults before old result after new t =
-      wants_value accepted (IsVeri limits) same longest with empty text_of IsProofOf tidied_proof has_text may_ask (λ t s. asks s) (AsksVeri limits) to MayKeep (λ events s h. h) contents faults before old result after new t
+  tidies_text to contents faults before old result after new t =
+      tidies_value accepted (IsVeri limits) same longest with empty text_of IsProofOf tidied_proof has_text may_ask (AsksVeri limits) to (λ t s. asks s) MayKeep (λ events s h. h) contents faults before old result after new t

@@ -1,4 +1,4 @@
--- A text, with the rest behind it, is refused in one way or not at all.
+-- A text, with the rest after it, is rejected in one way or not at all.
 use Rattle.std.proofs.Common.{◌≡◌, ℕ, List, [], ◌++◌, length, Option, Some, Err, sym, ap, ◌∙◌, subst, arith, append-nil, length-append}
 use Rattle.pb_text.specs.Blank.{IsBlank, IsStray, ReadsBlank, place_from}
 use Rattle.pb_text.specs.Pulling.{Took}
@@ -15,7 +15,7 @@ use Rattle.pb_tool.proofs.Fronts.{same_behind}
 use Rattle.pb_tool.proofs.OneRead.{NoneGoesOn, OneSpelling, not_both, one_spelled, one_stop}
 use Rattle.pb_tool.proofs.OneRest.{not_stray, one_stray}
 
--- all of an input was taken
+-- all of an input was used
 pub all_taken : (input used : List ℕ) → input ≡ used ++ [] → input ≡ used
 all_taken input used e = e ∙ append-nil used
 
@@ -27,7 +27,7 @@ unfolding stop_at
 same_stop s t e f = ap (λ (p : Place). stop_at p s.why) e ∙ ap (λ (w : Why). stop_at t.place w) f
 
 module _ {E : Type 0} (format : List (Item E) → Type 0) (longest : ℕ) where
-  -- why the text is refused, or the rest behind it
+  -- why the text, or the rest after it, is rejected
   pub data Refusal (input : List ℕ) (s : Stop) : Type 0 where
     AtStop : (used left : List ℕ) (marks : List (Spanned E)) → input ≡ used ++ left → IsUnderWay format longest used marks → s.place ≡ place_after used → Explains format longest used left s.why → Refusal input s
     AtRest : (used left : List ℕ) (marks : List (Spanned E)) → input ≡ used ++ left → IsSpelled format longest used marks → (rest more : List ℕ) → left ≡ rest ++ more → IsBlank rest → s.place ≡ place_from (place_after used) rest → IsStray (place_after used) rest more s.why → Refusal input s
@@ -40,7 +40,7 @@ module _ {E : Type 0} (format : List (Item E) → Type 0) (longest : ℕ) where
       AtRest used seen marks took.0 spelled rest more t'.0 blank (at ∙ ap (λ (x : Place). place_from x rest) place_is) (subst (λ (x : Place). IsStray x rest more s.why) place_is stray)
 
   module _ (one : OneSpelling format) (front : NoneGoesOn format) (input : List ℕ) where
-    -- not where it was a whole text and a blank rest
+    -- not for a whole text and a blank rest
     pub no_refusal : (s : Stop) (after : Option (List ℕ)) (marks : List (Spanned E)) → IsSpelling format longest (Some input) after marks → Refusal input s → IsOfText s.why → ⊥
     no_refusal s after marks' w (AtStop used left marks is u place x) d = not_both format longest used left w.used w.rest marks marks' (sym is ∙ all_taken input (w.used ++ w.rest) w.took.0) u w.spelled s.why d x
     no_refusal s after marks' w (AtRest used left marks is spelled rest more e blank place x) d =

@@ -1,10 +1,11 @@
--- What a run of a replay through the statements of a source owes.
-use Rattle.std.proofs.Common.{◌≡◌, ◌⊎◌, ℕ, ◌<◌, List, [], ◌∷◌, ◌++◌, length, Bool, true, Option, Some, None, Result, Ok, Err, refl, sym, ap, ◌∙◌, subst, inl, inr}
+-- What a run of a replay through the statements of a source ensures.
+use Rattle.std.proofs.Common.{◌≡◌, ◌⊎◌, ℕ, List, [], ◌∷◌, ◌++◌, Bool, true, false, Option, Some, None, Result, Ok, Err, refl, sym, ap, ◌∙◌, subst, inl, inr}
 use Rattle.pb_text.specs.Limits.{largest, top_of}
-use Rattle.pb_text.specs.Automaton.{Accepts as AcceptsBytes}
+use Rattle.pb_text.specs.Automaton.{Accepts as AcceptsBytes, MayAsk}
 use Rattle.pb_text.specs.Reading.{Reads}
 use Rattle.pb_text.specs.PullsInARow.{TookAll, TookSoFar}
 use Rattle.pb_text.specs.Spelling.{Item}
+use Rattle.pb_text.specs.Stopping.{IsAsking}
 use Rattle.pb_text.specs.declared.Limits.{Limits}
 use Rattle.pb_text.specs.declared.Place.{Place}
 use Rattle.pb_text.specs.declared.Spanned.{Spanned}
@@ -16,46 +17,50 @@ use Rattle.pb_proof.specs.Values.{IsStatementValue}
 use Rattle.pb_proof.specs.declared.Statement.{Statement}
 use Rattle.pb_proof.specs.declared.Stage.{Stage}
 use Rattle.pb_proof.specs.declared.Stage.TheVariants.{Opening, Formula, Steps, Claim, Closing, Complete}
-use Rattle.pb_replay.specs.Laws.{ReplaysHaveStates, WholeProofsConclude}
+use Rattle.pb_replay.specs.Laws.{WholeProofsConclude}
 use Rattle.pb_replay.specs.Problem.{Problem}
-use Rattle.pb_replay.specs.Meaning.{IsFront}
+use Rattle.pb_replay.specs.Meaning.{IsFront, IsSound}
 use Rattle.pb_replay.specs.Replay.{State}
 use Rattle.pb_replay.specs.Kept.{Replaying, verdict_at, verdict_in}
-use Rattle.pb_replay.specs.Statements.{Outcome, Accepts}
+use Rattle.pb_replay.specs.Statements.{Outcome, Accepts, MayWantAt}
 use Rattle.pb_replay.specs.declared.fault.Fault.{Fault}
 use Rattle.pb_replay.specs.declared.fault.Fault.TheVariants as fault
 use Rattle.pb_replay.specs.declared.verdict.Verdict.{Verdict}
 use Rattle.pb_tool.specs.Checker.{IsAt, StepsFrom}
 use Rattle.pb_text.specs.Whole.{events_at}
-use Rattle.pb_tool.specs.Checks.{Refuses, Takes}
+use Rattle.pb_tool.specs.Checks.{KeepsNames, Refuses, Takes}
 use Rattle.pb_replay.specs.Kept.{StandsFor}
-use Rattle.pb_tool.specs.Files.{IsVeri}
-use Rattle.pb_tool.specs.Runs.{KeepsNames, Runs, faults_of_text}
+use Rattle.pb_tool.specs.Files.{AsksVeri, IsVeri}
+use Rattle.pb_tool.specs.Runs.{Runs, faults_of_text}
+use Rattle.pb_tool.specs.Seen.{SawText}
 use Rattle.pb_tool.specs.Verified.{IsAccepted}
 use Rattle.pb_tool.specs.declared.checker.CheckFault.{CheckFault}
 use Rattle.pb_tool.specs.declared.checker.CheckFault.TheVariants as check
-use Rattle.pb_tool.proofs.Checked.{accepts_more, last_is_value, proofs_read, shown_at, there}
+use Rattle.pb_text.proofs.Unkept.{asking_to}
+use Rattle.pb_tool.proofs.Checked.{TellsOld, accepts_more, failed, last_is_value, proofs_read, shown_at, there}
 use Rattle.pb_tool.proofs.Shown.{all_to, so_far_to}
 
--- what a step answers, from wherever the replay stood
+-- the result of a step, from any state of the replay
 abbrev Answers : Replaying → Spanned Statement → Result Unit CheckFault → Replaying → Type 0
 Answers old m result new = (now : Result State Fault) → IsAt old now → StepsFrom old.limits old.problem now m result new
 
-abbrev failed : CheckFault → Result Unit CheckFault
-failed x = Err x
+-- a sound state that it stands for
+abbrev pub Somewhere : Replaying → Type 0
+Somewhere r = (s : State) × StandsFor r s × IsSound r.problem s
 
--- a name that the fault tells is one of those from before
-abbrev pub TellsOld : Replaying → CheckFault → Type 0
-TellsOld old x = (at : Place) (n : ℕ) → failed x ≡ failed (check.Step at (fault.NotTotal n)) → n < length old.names
+pub unspent_after : (old new : Replaying) (m : Spanned Statement) → Somewhere old → old.fault ≡ None → Answers old m (Ok tt) new → new.fault ≡ None
+unspent_after old new m (s, at, right) none steps = (steps (Ok s) (none, at)).1.0
 
-pub unspent_after : ReplaysHaveStates → (old new : Replaying) (m : Spanned Statement) → old.fault ≡ None → Answers old m (Ok tt) new → new.fault ≡ None
-unspent_after states old new m none steps = let (s, at) = states old in (steps (Ok s) (none, at)).1.0
-
-pub refused_faults : ReplaysHaveStates → (old new : Replaying) (m : Spanned Statement) (x : CheckFault) → old.fault ≡ None → Answers old m (Err x) new → (k n : ℕ) → k ≡ n → k ≡ faults_of_text {A = Unit} (Err x) n
-refused_faults states old new m x none steps k n h =
-    let (s, at) = states old in
+pub refused_faults : (old new : Replaying) (m : Spanned Statement) (x : CheckFault) → Somewhere old → old.fault ≡ None → Answers old m (Err x) new → (k n : ℕ) → k ≡ n → k ≡ faults_of_text {A = Unit} (Err x) n
+refused_faults old new m x (s, at, right) none steps k n h =
     let (e, is, refuses) = steps (Ok s) (none, at) in
     subst (λ (y : CheckFault). k ≡ faults_of_text {A = Unit} (Err y) n) (sym is) h
+
+-- a rejected statement is not a text that stopped the reader
+pub step_unseen : (shown : Option ℕ) (ended : Bool) (old new : Replaying) (m : Spanned Statement) (x : CheckFault) → Somewhere old → old.fault ≡ None → Answers old m (Err x) new → SawText shown ended x
+step_unseen shown ended old new m x (s, at, right) none steps =
+    let (e, is, refuses) = steps (Ok s) (none, at) in
+    subst (SawText shown ended) (sym is) tt
 
 claimed : (p : Stage) (c : Option Verdict) (w : Verdict) → verdict_at p c ≡ Some w → c ≡ Some w
 claimed Complete c w h = h
@@ -69,11 +74,14 @@ claimed Closing c w h = absurd (cc h)
 abbrev pub Taken : Limits → List (Item Statement) → Type 0
 Taken limits = AcceptsBytes proofs (begin (largest limits) (top_of limits))
 
+abbrev pub MayTake : Limits → List ℕ → ℕ → Type 0
+MayTake limits = MayAsk proofs (begin (largest limits) (top_of limits))
+
 module _ (exact : ReadsProofs) (limits : Limits) (longest : ℕ) where
   abbrev IsRead : List ℕ → List ℕ → List (Spanned Statement) → Place → Bool → Option Stop → Type 0
   IsRead = Reads (Taken limits) longest
 
-  to_proof : (input used : List ℕ) (marks : List (Spanned Statement)) (place : Place) (done : Bool) (stop : Option Stop) → IsRead input used marks place done stop → Reads (IsVeri limits) longest input used marks place done stop
+  pub to_proof : (input used : List ℕ) (marks : List (Spanned Statement)) (place : Place) (done : Bool) (stop : Option Stop) → IsRead input used marks place done stop → Reads (IsVeri limits) longest input used marks place done stop
   to_proof = proofs_read exact (largest limits) (top_of limits) longest
 
   module _ (before after : Option (List ℕ)) where
@@ -83,7 +91,7 @@ module _ (exact : ReadsProofs) (limits : Limits) (longest : ℕ) where
     abbrev HasSoFar : List (Spanned Statement) → Place → Type 0
     HasSoFar = TookSoFar (Taken limits) longest before after
 
-    read_all : (marks : List (Spanned Statement)) (place : Place) (done : Bool) (stop : Option Stop) → HasAll marks place done stop → TookAll (IsVeri limits) longest before after marks place done stop
+    abbrev read_all : (marks : List (Spanned Statement)) (place : Place) (done : Bool) (stop : Option Stop) → HasAll marks place done stop → TookAll (IsVeri limits) longest before after marks place done stop
     read_all = all_to (Taken limits) (IsVeri limits) longest to_proof before after
 
     read_so_far : (marks : List (Spanned Statement)) (place : Place) → HasSoFar marks place → TookSoFar (IsVeri limits) longest before after marks place
@@ -95,8 +103,12 @@ module _ (exact : ReadsProofs) (limits : Limits) (longest : ℕ) where
         subst (λ (x : Limits). IsStatementValue (largest x) (top_of x) m.event) (sym same) (last_is_value values (largest limits) (top_of limits) longest all.used all.used marks m place all.done all.reads)
 
     module _ (v : Problem) (first : State) (r : Replaying) (marks : List (Spanned Statement)) (led : (t : State) × StandsFor r t × Accepts (largest limits) (top_of limits) v first (events_at marks) t) where
-      pub accepted : (place : Place) (done : Bool) (stop : Option Stop) → HasAll marks place done stop → IsAccepted limits longest v first before after place done stop led.0
+      abbrev pub accepted : (place : Place) (done : Bool) (stop : Option Stop) → HasAll marks place done stop → IsAccepted limits longest v first before after place done stop led.0
       accepted place done stop all = record { marks = marks; took = read_all marks place done stop all; accepted = led.2 }
+
+      pub stopped : ((used : List ℕ) (b : ℕ) → MayTake limits used b → AsksVeri limits used b) → (s : Stop) → (all : HasAll marks s.place false (Some s)) × IsAsking (MayTake limits) all.used all.seen s.why
+          → (t : State) × (a : IsAccepted limits longest v first before after s.place false (Some s) t) × IsAsking (AsksVeri limits) a.took.used a.took.seen s.why
+      stopped asks s (all, asking) = (led.0, accepted s.place false (Some s) all, asking_to (MayTake limits) (AsksVeri limits) all.used all.seen (asks all.used) s.why asking)
 
       module _ (none : r.fault ≡ None) where
         pub ended : (place : Place) (w : Verdict) → HasAll marks place true None → Some w ≡ verdict_in r → (t : State) × IsAccepted limits longest v first before after place true None t × (t.concluded ≡ Some w)
@@ -118,7 +130,7 @@ module _ (exact : ReadsProofs) (limits : Limits) (longest : ℕ) where
               )
 
           told : (e : Fault) → KeepsNames led.0.names new.names e → Refuses limits v (Ok led.0) m.event e
-              → (e ≡ fault.Memory) ⊎ (Outcome (largest limits) (top_of limits) v led.0 m.event (Err e) × KeepsNames led.0.names new.names e)
+              → ((e ≡ fault.Memory) × MayWantAt (largest limits) (top_of limits) v led.0.next m.event) ⊎ (Outcome (largest limits) (top_of limits) v led.0 m.event (Err e) × KeepsNames led.0.names new.names e)
           told e names (inl h) = inl h
           told e names (inr h) = inr (h, names)
 

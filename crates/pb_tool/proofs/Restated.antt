@@ -1,9 +1,8 @@
--- What was written and why, where the readings that it speaks of are readings of another kind too.
+-- What was written and why, if each reading is also a reading of another kind.
 use Rattle.std.proofs.Common.{◌≡◌, ℕ, List, Option, Result, Ok, Err, subst}
 use Rattle.pb_text.specs.Writing.{Wrote, Broke}
 use Rattle.pb_text.specs.declared.Stop.{Stop}
 use Rattle.pb_tool.specs.Tidy.{IsStopped, WritesText}
-use Rattle.pb_tool.specs.Wants.{IfStopped}
 use Rattle.pb_tool.specs.declared.fault.ToolFault.{ToolFault}
 use Rattle.pb_tool.specs.declared.fault.ToolFault.TheVariants.{Text, Open, Overflow, Memory, Write, Step}
 use Rattle.pb_tool.specs.declared.fault.Input.TheVariants.{File, Instance, Proof}
@@ -20,14 +19,3 @@ module _ {V : Type 0} (Has : V → Type 0) (text : V → List ℕ) (No : Stop �
   written_so Shows spelling Not has deny old (Err (Overflow i)) new h = h
   written_so Shows spelling Not has deny old (Err (Memory i)) new h = h
   written_so Shows spelling Not has deny old (Err (Step place e name)) new h = h
-
-  pub stopped_so : (Not : Stop → Type 0) → ((s : Stop) → No s → Not s) → (old : W) (result : Result (Unit {0}) ToolFault) (new : W) → WritesText Has (IsStopped No) text contents faults old result new → IfStopped result Not
-  stopped_so Not deny old (Ok u) new h = tt
-  stopped_so Not deny old (Err Write) new h = tt
-  stopped_so Not deny old (Err (Text File s)) new (h, e) = deny s h
-  stopped_so Not deny old (Err (Text Instance s)) new (h, e) = absurd h
-  stopped_so Not deny old (Err (Text Proof s)) new (h, e) = absurd h
-  stopped_so Not deny old (Err (Open i)) new h = tt
-  stopped_so Not deny old (Err (Overflow i)) new h = tt
-  stopped_so Not deny old (Err (Memory i)) new h = tt
-  stopped_so Not deny old (Err (Step place e name)) new h = tt

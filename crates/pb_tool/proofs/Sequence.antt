@@ -8,7 +8,7 @@ use Rattle.pb_text.specs.Writing.{Wrote, Broke, Writes}
 use Rattle.pb_text.proofs.Parts.{part_then, part_broke}
 
 module _ {S : Type 0} (contents : S → Option (List ℕ)) (faults : S → ℕ) where
-  -- all of a list's texts, where those before one were written and that one broke off
+  -- all texts of a list, if those before one were written and that one was written in part
   pub broke_at : (a b c : S) (parts : List (Bor (List ℕ))) (i : ℕ) (none : Bor (List ℕ)) (r : Result Unit Failed) → i < length parts → IsErr r
       → Wrote contents faults a (flat_map (λ part. part.now) (take i parts)) b → Broke contents faults b (get_or parts i none).now c
       → Writes contents faults a (flat_map (λ part. part.now) parts) r c

@@ -15,23 +15,24 @@ use Rattle.pb_text.specs.declared.Machine.{Ghosts}
 use Rattle.pb_text.specs.Writing.{Wrote}
 use Rattle.pb_text.proofs.PullsInARow.{took_join}
 use Rattle.pb_text.proofs.Short.{place_after-offset}
+use Rattle.pb_text.proofs.Unkept.{asking_to}
 use Rattle.pb_tool.specs.Show.{shown_line, shown, EndsAt, IsSpelling, IsRefusedAfter, InText, InRest, Shows}
 use Rattle.pb_tool.specs.declared.fault.ToolFault.{ToolFault}
 use Rattle.pb_tool.specs.declared.fault.ToolFault.TheVariants.{Text, Open, Overflow, Memory, Write, Step}
 use Rattle.pb_tool.specs.declared.fault.Input.TheVariants.{File, Instance, Proof}
 use Rattle.pb_tool.proofs.OneRead.{so_far_reached}
 
--- a text and a blank rest behind it are no more than is read of an input
+-- a text and the blank rest after it are no longer than an input may be
 pub rest_within : (used rest : List ℕ) (place : Place) → place ≡ place_after used → place.offset + length rest ≤ byte_limit → length (used ++ rest) ≤ byte_limit
 rest_within used rest place at bound =
     let offset = ap (λ (p : Place). p.offset) at ∙ place_after-offset used in
     omega (arith, bound, offset, length-append used rest)
 
--- where more was read of an input, less is left of it
+-- if more was read of an input, less is left of it
 pub fewer : (a b : ℕ) → b ≤ 2 ^ 40 → a < b → 2 ^ 40 + 1 - b < 2 ^ 40 + 1 - a
 fewer a b reach onward = omega arith
 
--- one line more
+-- one more line
 pub shown_more : {E : Type 0} (text : E → List ℕ) (marks : List (Spanned E)) (m : Spanned E) → shown text (marks ++ m ∷ []) ≡ shown text marks ++ shown_line text m
 shown_more text marks m = flat_map-append (shown_line text) marks (m ∷ []) ∙ ap (λ (x : List ℕ). shown text marks ++ x) (append-nil (shown_line text m))
 
@@ -46,13 +47,13 @@ first_pull longest start before f stands running offset =
     record { used = []; seen = t.0; took = t.1; offset_is = offset; stands = stands; running = running }
 
 module _ {E : Type 0} (format : List (Item E) → Type 0) (longest : ℕ) where
-  -- what was taken is no more than is read of an input
+  -- what was taken is no longer than an input may be
   pub so_far_within : (before after : Option (List ℕ)) (marks : List (Spanned E)) (place : Place) → TookSoFar format longest before after marks place → place.offset ≤ byte_limit
   so_far_within before after marks place t =
       let offset = ap (λ (p : Place). p.offset) t.reads.place_is ∙ place_after-offset t.used in
       omega (arith, offset, (so_far_reached format longest t.used t.used marks place t.done t.reads).within)
 
-  -- a spelling, and then a blank rest
+  -- a text of the format, and then a blank rest
   pub spelling : (before mid after : Option (List ℕ)) (marks : List (Spanned E)) (place : Place) → TookAll format longest before mid marks place true None → ReadsBlank place mid (Ok tt) after → IsSpelling format longest before after marks
   spelling before mid after marks place t (rest, more, blank, bound) = record {
     used = t.used;
@@ -63,17 +64,17 @@ module _ {E : Type 0} (format : List (Item E) → Type 0) (longest : ℕ) where
     within = rest_within t.used rest place t.reads.place_is bound;
   }
 
-  -- a spelling, and then a rest that is not blank
-  pub stray : (before mid after : Option (List ℕ)) (marks : List (Spanned E)) (place : Place) (s : Stop) → TookAll format longest before mid marks place true None → ReadsBlank place mid (Err s) after → IsRefusedAfter format longest before after marks s
-  stray before mid after marks place s t r =
+  -- a text of the format, and then a rest that is not blank
+  pub stray : (May : List ℕ → ℕ → Type 0) (before mid after : Option (List ℕ)) (marks : List (Spanned E)) (place : Place) (s : Stop) → TookAll format longest before mid marks place true None → ReadsBlank place mid (Err s) after → IsRefusedAfter format longest May before after marks s
+  stray May before mid after marks place s t r =
       InRest t.used t.seen mid t.took t.reads.answer.0 (subst (λ (p : Place). ReadsBlank p mid (Err s) after) t.reads.place_is r)
 
-  -- what was shown of a spelling, and then the rest
-  module _ (text : E → List ℕ) {W : Type 0} (contents : W → Option (List ℕ)) (faults : W → ℕ) where
+  -- what was shown of a text of the format, and then the rest
+  module _ (May : List ℕ → ℕ → Type 0) (text : E → List ℕ) {W : Type 0} (contents : W → Option (List ℕ)) (faults : W → ℕ) where
     pub shows_end : (before mid after : Option (List ℕ)) (marks : List (Spanned E)) (place : Place) (old new : W) (result : Result Unit ToolFault) → TookAll format longest before mid marks place true None
-        → EndsAt place mid result after → Wrote contents faults old (shown text marks) new → Shows format longest text contents faults before old result after new
+        → EndsAt place mid result after → Wrote contents faults old (shown text marks) new → Shows format longest May text contents faults before old result after new
     shows_end before mid after marks place old new (Ok u) t e w = (marks, spelling before mid after marks place t e, w)
-    shows_end before mid after marks place old new (Err (Text File s)) t e w = (marks, stray before mid after marks place s t e, w)
+    shows_end before mid after marks place old new (Err (Text File s)) t e w = (marks, stray May before mid after marks place s t e, w)
     shows_end before mid after marks place old new (Err (Text Instance s)) t e w = e
     shows_end before mid after marks place old new (Err (Text Proof s)) t e w = e
     shows_end before mid after marks place old new (Err (Open i)) t e w = e
@@ -82,10 +83,10 @@ module _ {E : Type 0} (format : List (Item E) → Type 0) (longest : ℕ) where
     shows_end before mid after marks place old new (Err Write) t e w = absurd e
     shows_end before mid after marks place old new (Err (Step begins fault name)) t e w = absurd e
 
--- what is shown of a read under a format, where a read under it is one under another
+-- what is shown for a format, if each read under it is one under another format
 module _ {E : Type 0} (one other : List (Item E) → Type 0) (longest : ℕ)
     (to : (input used : List ℕ) (marks : List (Spanned E)) (place : Place) (done : Bool) (stop : Option Stop) → Reads one longest input used marks place done stop → Reads other longest input used marks place done stop) where
-  pub all_to : (before after : Option (List ℕ)) (marks : List (Spanned E)) (place : Place) (done : Bool) (stop : Option Stop) → TookAll one longest before after marks place done stop → TookAll other longest before after marks place done stop
+  abbrev pub all_to : (before after : Option (List ℕ)) (marks : List (Spanned E)) (place : Place) (done : Bool) (stop : Option Stop) → TookAll one longest before after marks place done stop → TookAll other longest before after marks place done stop
   all_to before after marks place done stop t = record { used = t.used; seen = t.seen; took = t.took; reads = to (t.used ++ t.seen) t.used marks place done stop t.reads }
 
   pub so_far_to : (before after : Option (List ℕ)) (marks : List (Spanned E)) (place : Place) → TookSoFar one longest before after marks place → TookSoFar other longest before after marks place
@@ -97,14 +98,14 @@ module _ {E : Type 0} (one other : List (Item E) → Type 0) (longest : ℕ)
   spelling_to : (before after : Option (List ℕ)) (marks : List (Spanned E)) → IsSpelling one longest before after marks → IsSpelling other longest before after marks
   spelling_to before after marks i = record { used = i.used; rest = i.rest; took = i.took; spelled = spelt_to i.used marks i.spelled; blank = i.blank; within = i.within }
 
-  refused_to : (before after : Option (List ℕ)) (marks : List (Spanned E)) (s : Stop) → IsRefusedAfter one longest before after marks s → IsRefusedAfter other longest before after marks s
-  refused_to before after marks s (InText t) = InText (all_to before after marks s.place false (Some s) t)
-  refused_to before after marks s (InRest used seen mid took spelled r) = InRest used seen mid took (spelt_to used marks spelled) r
+  refused_to : (May Other : List ℕ → ℕ → Type 0) (asks : (used : List ℕ) (b : ℕ) → May used b → Other used b) (before after : Option (List ℕ)) (marks : List (Spanned E)) (s : Stop) → IsRefusedAfter one longest May before after marks s → IsRefusedAfter other longest Other before after marks s
+  refused_to May Other asks before after marks s (InText t a) = InText (all_to before after marks s.place false (Some s) t) (asking_to May Other t.used t.seen (asks t.used) s.why a)
+  refused_to May Other asks before after marks s (InRest used seen mid took spelled r) = InRest used seen mid took (spelt_to used marks spelled) r
 
-  module _ (text : E → List ℕ) {W : Type 0} (contents : W → Option (List ℕ)) (faults : W → ℕ) where
-    pub shows_to : (before : Option (List ℕ)) (old : W) (result : Result Unit ToolFault) (after : Option (List ℕ)) (new : W) → Shows one longest text contents faults before old result after new → Shows other longest text contents faults before old result after new
+  module _ (May Other : List ℕ → ℕ → Type 0) (asks : (used : List ℕ) (b : ℕ) → May used b → Other used b) (text : E → List ℕ) {W : Type 0} (contents : W → Option (List ℕ)) (faults : W → ℕ) where
+    pub shows_to : (before : Option (List ℕ)) (old : W) (result : Result Unit ToolFault) (after : Option (List ℕ)) (new : W) → Shows one longest May text contents faults before old result after new → Shows other longest Other text contents faults before old result after new
     shows_to before old (Ok u) after new (marks, i, w) = (marks, spelling_to before after marks i, w)
-    shows_to before old (Err (Text File s)) after new (marks, i, w) = (marks, refused_to before after marks s i, w)
+    shows_to before old (Err (Text File s)) after new (marks, i, w) = (marks, refused_to May Other asks before after marks s i, w)
     shows_to before old (Err Write) after new (marks, last, mid, t, w, b) = (marks, last, mid, so_far_to before after (marks ++ last ∷ []) last.past t, w, b)
     shows_to before old (Err (Text Instance s)) after new h = h
     shows_to before old (Err (Text Proof s)) after new h = h

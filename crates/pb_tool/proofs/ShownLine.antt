@@ -1,10 +1,10 @@
--- The line of a statement that is shown.
+-- The line that shows a statement.
 use Rattle.std.proofs.Common.{◌≡◌, ℕ, List, [], ◌∷◌, ◌++◌, decimal, sym, ap, ◌∙◌, append_assoc}
 use Rattle.pb_text.specs.declared.Spanned.{Spanned}
 use Rattle.pb_sums.specs.Canonical.{place_bytes}
 use Rattle.pb_tool.specs.Show.{line_of, shown_line}
 
--- a line is a place and what stands behind it
+-- a line is a position and what follows it
 pub line_parts : {E : Type 0} (text : E → List ℕ) (m : Spanned E) → shown_line text m ≡ place_bytes m.first ++ line_of text m.event
 line_parts text m =
     let behind : List ℕ = line_of text m.event in

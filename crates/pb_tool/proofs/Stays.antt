@@ -1,13 +1,10 @@
--- What is read of a canonical text, with a line feed behind it or none.
+-- What is read of a canonical text, with or without a line feed after it.
 use Rattle.std.proofs.Common.{◌≡◌, ◌≢◌, ◌⊎◌, inl, inr, ℕ, ◌<◌, ◌≤◌, ◌^◌, List, [], ◌∷◌, ◌++◌, length, Bool, true, false, cond, Option, Some, Err, refl, sym, ap, ◌∙◌, subst, append-nil, append_assoc, arith, length-append}
-use Rattle.std.proofs.Math.Pow.{pow_mono}
 use Rattle.pb_text.specs.Blank.{ReadsBlank, IsStray, passes}
-use Rattle.pb_text.specs.Limits.{largest}
 use Rattle.pb_text.specs.Pulling.{Took}
 use Rattle.pb_text.specs.Reading.{Explains, IsBad, IsFull, IsUnderWay, Overruns, Reads, byte_limit}
 use Rattle.pb_text.specs.Spelling.{Item, bytes_of, marks_of, place_after}
-use Rattle.pb_text.specs.ValueRead.{IsRead, ReadsValue, Reading, Keeping}
-use Rattle.pb_text.specs.declared.Limits.{Limits}
+use Rattle.pb_text.specs.Whole.{IsRead, ReadsValue, Reading, Keeping}
 use Rattle.pb_text.specs.declared.Place.{Place}
 use Rattle.pb_text.specs.declared.Spanned.{Spanned}
 use Rattle.pb_text.specs.declared.Stop.{Stop}
@@ -34,7 +31,7 @@ written v = by_end (ends_in_feed (instance_bytes v))
     by_end true = ([], sym (append-nil (instance_bytes v)), inl refl)
     by_end false = (10 ∷ [], refl, inr refl)
 
--- what stands behind a canonical text is blank
+-- what follows a canonical text is blank
 passes_feed : (rest used more : List ℕ) (b : ℕ) → IsFeed rest → rest ≡ used ++ b ∷ more → passes used b ≡ false → ⊥
 passes_feed rest [] more b (inl f) e p = cc
 passes_feed rest (u ∷ used) more b (inl f) e p = cc
@@ -64,14 +61,14 @@ strays used more left rest place TooLarge feed e o h = h
 strays used more left rest place Ended feed e o h = h
 strays used more left rest place Memory feed e o h = tt
 
--- a format, and a text that spells something of it, of which no spelling is a front of another
+-- a format, and one text of it; no text of the format is a prefix of another
 module _ {E : Type 0} (format : List (Item E) → Type 0) (text : List ℕ) (own : List (Item E)) (spells : format own) (bytes : bytes_of own ≡ text)
     (front : NoneGoesOn format) where
-  -- a spelling that begins the text, or that this begins, is it
+  -- a text of the format that begins this text, or that it begins, is this text
   same_used : (used seen rest : List ℕ) (items : List (Item E)) → format items → bytes_of items ≡ used → used ++ seen ≡ text ++ rest → used ≡ text
   same_used used seen rest items h e k = one_spelt format front used seen text rest items own k h spells e bytes
 
-  -- what is under way there is a shorter front of the text
+  -- a text that is unfinished there is a shorter prefix of this text
   shorter : (used left rest : List ℕ) (marks : List (Spanned E)) → IsUnderWay format (2 ^ 40) used marks → used ++ left ≡ text ++ rest → (x : ℕ) × (m : List ℕ) × (text ≡ used ++ x ∷ m)
   shorter used left rest marks u k = by_length (two_fronts text rest used left (sym k))
     where
@@ -110,14 +107,14 @@ module _ {E : Type 0} (format : List (Item E) → Type 0) (text : List ℕ) (own
   explained used left rest marks Read u h k = tt
   explained used left rest marks Memory u h k = tt
 
-  -- no fault of the text itself
+  -- a stop in the text is not a fault of the text itself
   in_text : (used seen rest : List ℕ) (marks : List (Spanned E)) (s : Stop) → Reads format (2 ^ 40) (used ++ seen) used marks s.place false (Some s) → used ++ seen ≡ text ++ rest
       → IsOutside (length (used ++ seen)) s.why
   in_text used seen rest marks s r k =
       let (under, place, why) = r.answer in
       subst (λ (t : List ℕ). IsOutside (length t) s.why) (sym r.input_is) (explained used r.left rest marks s.why under why (sym r.input_is ∙ k))
 
-  -- nor of the line feed behind it
+  -- nor is one after it a fault of the line feed
   in_rest : (used seen rest : List ℕ) (items : List (Item E)) (past : Place) (mid after : Option (List ℕ)) (s : Stop) → format items → bytes_of items ≡ used → past ≡ place_after used
       → used ++ seen ≡ text ++ rest → IsFeed rest → mid ≡ Some seen → ReadsBlank past mid (Err s) after → IsOutside (length (used ++ seen)) s.why
   in_rest used seen rest items past mid after s h e at k feed is (more, left, took, blank, place, stray) =
@@ -127,7 +124,7 @@ module _ {E : Type 0} (format : List (Item E) → Type 0) (text : List ℕ) (own
       let offset : past.offset ≡ length used = ap (λ (p : Place). p.offset) at ∙ place_after-offset used in
       subst (λ (t : List ℕ). IsOutside (length (used ++ t)) s.why) (sym now.0) (strays used more left rest past s.why feed (sym behind ∙ now.0) offset stray)
 
-  -- the text with nothing behind it, or a line feed
+  -- the text with nothing after it, or a line feed
   module _ {V : Type 0} (IsValue : List E → V → Type 0) (whole rest : List ℕ) (is : whole ≡ text ++ rest) (feed : IsFeed rest) (after : Option (List ℕ)) where
     pub read_alone : (longest : ℕ) (w : V) (file : IsFile (IsRead format longest IsValue) (Some whole) after w) → IsRead format longest IsValue text file.read
     read_alone longest w file =
@@ -135,9 +132,9 @@ module _ {E : Type 0} (format : List (Item E) → Type 0) (text : List ℕ) (own
         let same : file.used ≡ text = same_used file.used file.rest rest s.items s.spelled s.used_are (sym (append-nil _) ∙ (sym file.took.0 ∙ is)) in
         subst (λ (u : List ℕ). IsRead format longest IsValue u file.read) same file.spelled
 
-    pub faultless : (s : Stop) → IsRefused (ReadsValue format (2 ^ 40) IsValue) (Some whole) after s → IsOutside (length whole) s.why
-    faultless s (InText (used, seen, took, Reading marks r)) = subst (λ (t : List ℕ). IsOutside (length t) s.why) (sym took.0) (in_text used seen rest marks s r (sym took.0 ∙ is))
-    faultless s (InText (used, seen, took, Keeping viable e)) = rw e tt
-    faultless s (InRest m mid (used, seen, took, read) blank) =
+    pub faultless : (May : List ℕ → ℕ → Type 0) (Keep : List E → E → Type 0) (s : Stop) → IsRefused (ReadsValue format (2 ^ 40) May Keep IsValue) (Some whole) after s → IsOutside (length whole) s.why
+    faultless May Keep s (InText (used, seen, took, Reading marks r w)) = subst (λ (t : List ℕ). IsOutside (length t) s.why) (sym took.0) (in_text used seen rest marks s r (sym took.0 ∙ is))
+    faultless May Keep s (InText (used, seen, took, Keeping marks last done r k e)) = rw e tt
+    faultless May Keep s (InRest m mid (used, seen, took, read) blank) =
         subst (λ (t : List ℕ). IsOutside (length t) s.why) (sym took.0)
         (in_rest used seen rest read.spelled.items m.past mid after s read.spelled.spelled read.spelled.used_are read.past (sym took.0 ∙ is) feed took.1 blank)

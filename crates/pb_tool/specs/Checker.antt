@@ -1,4 +1,4 @@
--- How a checker stands to the text that it was fed.
+-- How a checker relates to the text that it was fed.
 use Rattle.std.specs.Prelude.{◌≡◌, ℕ, List, false, Option, Some, None, Result, Ok, Err}
 use Rattle.pb_text.specs.Limits.{largest, top_of}
 use Rattle.pb_text.specs.Feeding.{StandsAt, place_of, halt_of, is_complete}
@@ -15,9 +15,9 @@ use Rattle.pb_replay.specs.Kept.{Replaying}
 use Rattle.pb_replay.specs.Kept.{StandsFor}
 use Rattle.pb_replay.specs.declared.fault.Fault.{Fault}
 use Rattle.pb_text.specs.Whole.{events_at}
-use Rattle.pb_tool.specs.Checks.{Checks, Leads, Takes, Refuses}
+use Rattle.pb_tool.specs.Checks.{Checks, IsRefusedAt, KeepsNamesOf, Leads, Takes, Refuses}
 use Rattle.pb_tool.specs.declared.checker.CheckFault.{CheckFault}
-use Rattle.pb_tool.specs.declared.checker.CheckFault.TheVariants.{Step}
+use Rattle.pb_tool.specs.declared.checker.CheckFault.TheVariants.{Text, Step}
 
 -- a feeder of the machine of proofs
 abbrev pub ProofFeeder : Type 0
@@ -34,13 +34,13 @@ abbrev pub IsAt : Replaying → Result State Fault → Type 0
 IsAt r (Ok s) = (r.fault ≡ None) × StandsFor r s
 IsAt r (Err spent) = r.fault ≡ Some spent
 
--- what a step through a statement that was read answers, from where the replay stood
+-- the result of a step through a statement that was read, from the state of the replay before it
 abbrev pub StepsFrom : Limits → Problem → Result State Fault → Spanned Statement → Result Unit CheckFault → Replaying → Type 0
 StepsFrom limits v now m (Ok u) new = (t : State) × IsAt new (Ok t) × Takes limits v now m.event t
 StepsFrom limits v now m (Err f) new = (e : Fault) × (f ≡ Step m.first e) × Refuses limits v now m.event e
 
 module _ (limits : Limits) (longest : ℕ) (v : Problem) (first : Result State Fault) (input : List ℕ) where
-  -- Every statement that came was accepted, and the text goes on.
+  -- Every statement so far was accepted, and the text may continue.
   pub record IsRunning (f : ProofFeeder) (r : Replaying) : Type 0 where
     pub marks : List (Spanned Statement)
     pub stands : StandsAt longest (begin (largest limits) (top_of limits)) input marks f
@@ -51,18 +51,21 @@ module _ (limits : Limits) (longest : ℕ) (v : Problem) (first : Result State F
     pub at : IsAt r now
     pub accepted : Leads limits v first (events_at marks) now
 
-  -- The feeder and the replay of a checker were fed the input.
+  -- The feeder and the replay of a checker were fed the input. If a statement was rejected, the names from before it
+  -- are still there.
   abbrev pub Stands : ProofFeeder → Replaying → Option CheckFault → Type 0
   Stands f r None = IsRunning f r
-  Stands f r (Some e) = Checks limits longest v first input (place_of f) false (Some e)
+  Stands f r (Some (Text s)) = Checks limits longest v first input (place_of f) false (Some (Text s))
+  Stands f r (Some (Step begins e)) =
+      (refused : IsRefusedAt limits longest v first input (place_of f) begins e) × KeepsNamesOf refused.before r.names e
 
--- This holds of every checker: it stands to some text.
+-- This holds for every checker: it was fed some text.
 abbrev pub IsSomewhere : ProofFeeder → Replaying → Option CheckFault → Type 0
 IsSomewhere f r e =
     (limits : Limits) × (longest : ℕ) × (v : Problem) × (first : Result State Fault) × (input : List ℕ)
     × Stands limits longest v first input f r e
 
--- A feeder that stands to the text of a proof has read it.
+-- If `StandsAt` holds of a feeder of proofs and an input, the feeder has read that input.
 abbrev pub TextsAreRead : Type 0
 TextsAreRead = (limit top longest : ℕ) (input : List ℕ) (marks : List (Spanned Statement)) (f : ProofFeeder) →
     StandsAt longest (begin limit top) input marks f →

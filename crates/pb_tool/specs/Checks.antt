@@ -1,5 +1,5 @@
 -- What a check says of the text of a proof: how far its statements were accepted, and why not further.
-use Rattle.std.specs.Prelude.{◌≡◌, ◌⊎◌, ℕ, List, [], ◌∷◌, ◌++◌, map, Bool, true, false, Option, Some, None, Result, Ok, Err}
+use Rattle.std.specs.Prelude.{◌≡◌, ◌⊎◌, ◌<◌, ℕ, List, [], ◌∷◌, ◌++◌, length, Bool, true, false, Option, Some, None, Result, Ok, Err}
 use Rattle.pb_text.specs.Whole.{events_at}
 use Rattle.pb_text.specs.Limits.{largest, top_of}
 use Rattle.pb_text.specs.Reading.{Reads}
@@ -10,14 +10,24 @@ use Rattle.pb_text.specs.declared.Stop.{Stop}
 use Rattle.pb_proof.specs.Proofs.{IsProof}
 use Rattle.pb_proof.specs.declared.Statement.{Statement}
 use Rattle.pb_replay.specs.Problem.{Problem}
+use Rattle.pb_replay.specs.Meaning.{IsFront}
 use Rattle.pb_replay.specs.Replay.{State}
 use Rattle.pb_replay.specs.Kept.{verdict_at}
-use Rattle.pb_replay.specs.Statements.{Outcome, Accepts}
+use Rattle.pb_replay.specs.Statements.{Outcome, Accepts, MayWantAt}
 use Rattle.pb_replay.specs.declared.fault.Fault.{Fault}
 use Rattle.pb_replay.specs.declared.fault.Fault.TheVariants as fault
 use Rattle.pb_replay.specs.declared.verdict.Verdict.{Verdict}
 use Rattle.pb_tool.specs.declared.checker.CheckFault.{CheckFault}
 use Rattle.pb_tool.specs.declared.checker.CheckFault.TheVariants.{Text, Step}
+
+-- The old names are a prefix of the new ones. A name that the fault gives by its number is among the old ones.
+abbrev pub KeepsNames : List (List ℕ) → List (List ℕ) → Fault → Type 0
+KeepsNames old new e = IsFront old new × ((n : ℕ) → e ≡ fault.NotTotal n → n < length old)
+
+-- the same for the names of a state; nothing for a replay that was spent before
+abbrev pub KeepsNamesOf : Result State Fault → List (List ℕ) → Fault → Type 0
+KeepsNamesOf (Ok s) new e = KeepsNames s.names new e
+KeepsNamesOf (Err spent) new e = Unit {0}
 
 -- A replay over the problem is in a state, or a fault has spent it.
 module _ (limits : Limits) (v : Problem) where
@@ -26,27 +36,30 @@ module _ (limits : Limits) (v : Problem) where
   Takes (Ok s) st t = Outcome (largest limits) (top_of limits) v s st (Ok t)
   Takes (Err spent) st t = ⊥
 
-  -- the same by accepted statements, one after the other
+  -- the same by accepted statements, one after another
   abbrev pub Leads : Result State Fault → List Statement → Result State Fault → Type 0
   Leads (Ok s) sts now = (t : State) × (now ≡ Ok t) × Accepts (largest limits) (top_of limits) v s sts t
   Leads (Err spent) sts now = (sts ≡ []) × (now ≡ Err spent)
 
-  -- It refuses the statement: by its rules, or because memory ran out. A spent one refuses each with its fault.
+  -- The replay rejects the statement: by its rules, or because memory ran out where it may allocate. A spent one
+  -- rejects each statement with its fault.
   abbrev pub Refuses : Result State Fault → Statement → Fault → Type 0
-  Refuses (Ok s) st e = (e ≡ fault.Memory) ⊎ Outcome (largest limits) (top_of limits) v s st (Err e)
+  Refuses (Ok s) st e =
+      ((e ≡ fault.Memory) × MayWantAt (largest limits) (top_of limits) v s.next st)
+      ⊎ Outcome (largest limits) (top_of limits) v s st (Err e)
   Refuses (Err spent) st e = e ≡ spent
 
--- A replay over the problem began at first. What is said of the bytes that were fed is said of all of them joined.
+-- A replay over the problem began at first. What is said of the bytes that were fed holds for all of them joined.
 module _ (limits : Limits) (longest : ℕ) (v : Problem) (first : Result State Fault) where
-  -- The text was read so far, and every statement that it has was accepted.
+  -- The text was read so far, and every statement in it was accepted.
   pub record IsReplayed (input : List ℕ) (place : Place) (done : Bool) (stop : Option Stop) (now : Result State Fault) : Type 0 where
     pub used : List ℕ
     pub marks : List (Spanned Statement)
     pub reads : Reads (IsProof (largest limits) (top_of limits)) longest input used marks place done stop
     pub accepted : Leads limits v first (events_at marks) now
 
-  -- Every statement but the last was accepted, and that one, which began at begins, was refused. Nothing behind it was
-  -- read.
+  -- Every statement but the last was accepted. The last one, which began at `begins`, was rejected. Nothing after it
+  -- was read.
   pub record IsRefusedAt (input : List ℕ) (place begins : Place) (e : Fault) : Type 0 where
     pub used : List ℕ
     pub left : List ℕ
@@ -66,7 +79,7 @@ module _ (limits : Limits) (longest : ℕ) (v : Problem) (first : Result State F
   Checks input place done (Some (Text stop)) = (now : Result State Fault) × IsReplayed input place false (Some stop) now
   Checks input place done (Some (Step begins e)) = IsRefusedAt input place begins e
 
-  -- where the input has ended: the verdict of a whole proof, or the fault; `Ended` where the text is cut
+  -- at the end of the input: the verdict of a whole proof, or the fault, which is `Ended` if the text is cut
   abbrev pub Ends : List ℕ → Place → Result Verdict CheckFault → Type 0
   Ends input place (Ok w) = (t : State) × IsReplayed input place true None (Ok t) × (verdict_at t.next t.concluded ≡ Some w)
   Ends input place (Err f) = Checks input place false (Some f)

@@ -1,4 +1,4 @@
--- Which answers of a check the bytes alone decide.
+-- Which results of a check the bytes alone decide.
 use Rattle.std.specs.Prelude.{◌≡◌, ◌≢◌, ◌↔◌, ℕ, List, [], Option, Some, String, string_bytes, Result, Ok, Err}
 use Rattle.std.specs.declared.alloc.Global.{Global}
 use Rattle.pb_text.specs.declared.Limits.{Limits}
@@ -23,7 +23,7 @@ IsOfText why.TooLong = Unit {0}
 IsOfText why.Read = ⊥
 IsOfText why.Memory = ⊥
 
--- The bytes decide the answer: nothing failed to be opened, read or written, and memory did not run out.
+-- The bytes decide the result: nothing failed to be opened, read or written, and memory did not run out.
 abbrev pub IsDecided : Result Verdict ToolFault → Type 0
 IsDecided (Ok w) = Unit {0}
 IsDecided (Err (Text input s)) = IsOfText s.why
@@ -33,7 +33,7 @@ IsDecided (Err (Open input)) = ⊥
 IsDecided (Err (Memory input)) = ⊥
 IsDecided (Err Write) = ⊥
 
--- The other answer is the same. A name that they tell has the same bytes.
+-- The other result is the same. The names in the two have the same bytes.
 abbrev pub IsSame : Result Verdict ToolFault → Result Verdict ToolFault → Type 0
 IsSame (Err (Step place e name)) other = (text : String Global) × (other ≡ Err (Step place e text)) × (string_bytes name ≡ string_bytes text)
 IsSame (Ok w) other = other ≡ Ok w
@@ -44,8 +44,8 @@ IsSame (Err (Memory input)) other = other ≡ Err (Memory input)
 IsSame (Err Write) other = other ≡ Err Write
 
 module _ (limits : Limits) (longest : ℕ) where
-  -- The first bytes are an instance and a blank rest, the second a proof and a blank rest, and the rules accept its
-  -- statements with the verdict.
+  -- The first bytes are an instance and a blank rest, the second ones a proof and a blank rest. The rules accept the
+  -- statements of the proof with the verdict.
   pub record AreVerified (i p : List ℕ) (w : Verdict) : Type 0 where
     pub instance : Instance
     pub first : IsOpbFile limits longest (Some i) (Some []) instance
@@ -54,13 +54,13 @@ module _ (limits : Limits) (longest : ℕ) where
     pub verified : IsVerified limits instance proof w
 
 module _ {W : Type 0} (contents : W → Option (List ℕ)) (faults : W → ℕ) where
-  -- Of what the bytes decide, a check answers a verdict exactly where they are verified with it.
+  -- If the bytes decide the result, a check returns a verdict if and only if the bytes are verified with it.
   abbrev pub AnswersExactly : Type 0
   AnswersExactly = (limits : Limits) (longest : ℕ) (i p : List ℕ) (i' p' : Option (List ℕ)) (old new : W) (result : Result Verdict ToolFault) (w : Verdict) →
       ChecksFiles limits longest contents faults (Some i) (Some p) old result i' p' new → IsDecided result →
       (result ≡ Ok w) ↔ AreVerified limits longest i p w
 
-  -- Two checks of the same bytes, which these decide, answer the same.
+  -- Two checks of the same bytes have the same result, if the bytes decide both results.
   abbrev pub OneAnswer : Type 0
   OneAnswer = (limits : Limits) (longest : ℕ) (i p : List ℕ) (i' p' i'' p'' : Option (List ℕ)) (old new old' new' : W) (one other : Result Verdict ToolFault) →
       ChecksFiles limits longest contents faults (Some i) (Some p) old one i' p' new → IsDecided one →

@@ -13,13 +13,13 @@ use Rattle.pb_tool.specs.declared.fault.ToolFault.{ToolFault}
 use Rattle.pb_tool.specs.declared.fault.ToolFault.TheVariants as fault
 use Rattle.pb_tool.specs.Refusals.{refusal_text, refusal_status}
 
--- which input it is
+-- the name of the input in a fault line
 abbrev pub prefix_of : Input → List ℕ
 prefix_of File = codes "file: "
 prefix_of Instance = codes "instance: "
 prefix_of Proof = codes "proof: "
 
--- the fault of a proof, behind its place
+-- the fault of a proof, after its position
 abbrev pub check_fault_text : CheckFault → List ℕ
 check_fault_text (check.Text stop) = stop_text stop
 check_fault_text (check.Step place e) = place_text place ++ fault_text e
@@ -33,7 +33,7 @@ fault_line (fault.Memory input) = prefix_of input ++ codes "out of memory" ++ 10
 fault_line fault.Write = codes "output: write fault" ++ 10 ∷ []
 fault_line (fault.Step place e name) = codes "proof: " ++ place_text place ++ refusal_text e (string_bytes name) ++ 10 ∷ []
 
--- 1 where the text was refused, and 3 where its reader failed or memory ran out
+-- 1 if the text was rejected, and 3 if its reader failed or memory ran out
 abbrev pub stop_status : Why → ℕ
 stop_status (why.Byte byte) = 1
 stop_status why.TooLarge = 1
@@ -50,8 +50,7 @@ exit_status (fault.Memory input) = 3
 exit_status fault.Write = 3
 exit_status (fault.Step place e name) = refusal_status e
 
--- how often a source has failed after a command that answers this: once more where the answer is a read fault, and
--- else as often as before
+-- how often a source has failed after a command with this result: once more for a read fault, and else as often as before
 abbrev pub faults_told : Result Unit ToolFault → ℕ → ℕ
 faults_told (Ok u) n = n
 faults_told (Err (fault.Text input stop)) n = faults_with stop.why n

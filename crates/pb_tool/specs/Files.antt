@@ -1,25 +1,26 @@
--- What `pb show` and `pb tidy` owe of a file: it is a proof or an instance.
+-- What `pb show` and `pb tidy` ensure for a file, which is a proof or an instance.
 use Rattle.std.specs.Prelude.{◌≡◌, ◌⊎◌, ℕ, Bool, true, false, List, [], ◌∷◌, ◌++◌, Option, Result, IfSome}
 use Rattle.pb_text.specs.Limits.{largest, top_of}
 use Rattle.pb_text.specs.Spelling.{Item}
 use Rattle.pb_text.specs.declared.Limits.{Limits}
 use Rattle.pb_text.specs.declared.Stop.{Stop}
-use Rattle.pb_text.specs.ValueRead.{IsRead, ReadsValue}
+use Rattle.pb_text.specs.Whole.{IsRead}
 use Rattle.pb_opb.specs.Canonical.{event_bytes}
 use Rattle.pb_proof.specs.Canonical.{proof_bytes, statement_bytes}
 use Rattle.pb_proof.specs.Proofs.{IsProof, IsProofOf}
+use Rattle.pb_proof.specs.Reading.{AsksInProof, ReadsProof}
 use Rattle.pb_proof.specs.declared.Proof.{Proof}
 use Rattle.pb_proof.specs.declared.Statement.{Statement}
 use Rattle.pb_tool.specs.Show.{Shows}
-use Rattle.pb_tool.specs.Tidy.{IsFile, IsOpb, IsRefused, Tidies, TidiesAs}
+use Rattle.pb_tool.specs.Tidy.{AsksOpb, IsFile, IsOpb, IsRefused, Tidies, TidiesAs}
 use Rattle.pb_tool.specs.declared.fault.ToolFault.{ToolFault}
 
 -- the first byte of the text is `p`
 abbrev pub BeginsWithP : List ℕ → Type 0
 BeginsWithP text = (rest : List ℕ) × (text ≡ 112 ∷ rest)
 
--- A source is read as a proof where its text begins with `p`, and else as an instance. One that does not tell its
--- text may be either.
+-- A source is read as a proof if its text begins with `p`, and as an instance otherwise. One whose text is not known
+-- may be either.
 abbrev pub MayBeProof : Option (List ℕ) → Type 0
 MayBeProof source = IfSome source BeginsWithP
 
@@ -29,6 +30,10 @@ MayBeInstance source = IfSome source (λ text. ¬ BeginsWithP text)
 -- the proofs under the limits
 abbrev pub IsVeri : Limits → List (Item Statement) → Type 0
 IsVeri limits = IsProof (largest limits) (top_of limits)
+
+-- the bytes that may allocate in one
+abbrev pub AsksVeri : Limits → List ℕ → ℕ → Type 0
+AsksVeri limits = AsksInProof (largest limits) (top_of limits)
 
 -- what is written for a proof
 abbrev pub tidied_proof : Proof → List ℕ
@@ -40,12 +45,12 @@ module _ (limits : Limits) (longest : ℕ) where
   IsProofFile = IsFile (IsRead (IsVeri limits) longest IsProofOf)
 
   abbrev pub IsNoProofFile : Option (List ℕ) → Option (List ℕ) → Stop → Type 0
-  IsNoProofFile = IsRefused (ReadsValue (IsVeri limits) longest IsProofOf)
+  IsNoProofFile = IsRefused (ReadsProof (largest limits) (top_of limits) longest)
 
   module _ {W : Type 0} (contents : W → Option (List ℕ)) (faults : W → ℕ) where
-    -- What was read of the source as a proof, and what was written: nothing before the whole input was accepted.
+    -- What was read of the source as a proof, and what was written. Nothing is written before the whole input was accepted.
     abbrev pub TidiesProof : Option (List ℕ) → W → Result Unit ToolFault → Option (List ℕ) → W → Type 0
-    TidiesProof = TidiesAs (IsRead (IsVeri limits) longest IsProofOf) (ReadsValue (IsVeri limits) longest IsProofOf) tidied_proof contents faults
+    TidiesProof = TidiesAs (IsRead (IsVeri limits) longest IsProofOf) (ReadsProof (largest limits) (top_of limits) longest) tidied_proof contents faults
 
     -- With `normal` the source is read as an instance, whatever its text begins with.
     abbrev pub TidiesFile : Bool → Option (List ℕ) → W → Result Unit ToolFault → Option (List ℕ) → W → Type 0
@@ -56,5 +61,5 @@ module _ (limits : Limits) (longest : ℕ) where
 
     abbrev pub ShowsFile : Option (List ℕ) → W → Result Unit ToolFault → Option (List ℕ) → W → Type 0
     ShowsFile before old result after new =
-        (MayBeProof before × Shows (IsVeri limits) longest statement_bytes contents faults before old result after new)
-        ⊎ (MayBeInstance before × Shows (IsOpb limits) longest event_bytes contents faults before old result after new)
+        (MayBeProof before × Shows (IsVeri limits) longest (AsksVeri limits) statement_bytes contents faults before old result after new)
+        ⊎ (MayBeInstance before × Shows (IsOpb limits) longest (AsksOpb limits) event_bytes contents faults before old result after new)

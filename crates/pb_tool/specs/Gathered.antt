@@ -1,4 +1,4 @@
--- A file whose statements are put together one by one, and what is owed of the text of these.
+-- A file whose statements are gathered one by one, and what is ensured for the text of these.
 use Rattle.std.specs.Prelude.{ℕ, Bool, List, Option, Result}
 use Rattle.pb_text.specs.Spelling.{Item}
 use Rattle.pb_text.specs.Whole.{IsWhole, ReadsWhole}
@@ -7,7 +7,7 @@ use Rattle.pb_tool.specs.Tidy.{IsFile, IsRefused, TidiesAs}
 use Rattle.pb_tool.specs.declared.fault.ToolFault.{ToolFault}
 
 module _ {V E : Type 0} (format : List (Item E) → Type 0) (longest : ℕ) (with : V → E → V) (empty : V) where
-  -- The input was a spelling and a blank rest, and the value is that of its statements.
+  -- The input was a text of the format and a blank rest, and the value is that of its statements.
   abbrev pub IsGathered : Option (List ℕ) → Option (List ℕ) → V → Type 0
   IsGathered = IsFile (IsWhole format longest with empty)
 
@@ -16,7 +16,7 @@ module _ {V E : Type 0} (format : List (Item E) → Type 0) (longest : ℕ) (wit
     IsNotGathered = IsRefused (ReadsWhole format longest with empty MayAsk asks)
 
     module _ (text : V → List ℕ) {W : Type 0} (contents : W → Option (List ℕ)) (faults : W → ℕ) where
-      -- What was read of the source, and what was written: the text of the value, and nothing before the whole input
-      -- was accepted.
+      -- What was read of the source, and what was written: the text of the value. Nothing is written before the whole
+      -- input was accepted.
       abbrev pub TidiesEach : Option (List ℕ) → W → Result Unit ToolFault → Option (List ℕ) → W → Type 0
       TidiesEach = TidiesAs (IsWhole format longest with empty) (ReadsWhole format longest with empty MayAsk asks) text contents faults

@@ -1,5 +1,7 @@
 -- What an accepted check means.
-use Rattle.std.specs.Prelude.{◌≡◌, ◌↔◌, ℕ, List, Bool, Option, Some, Result, Ok}
+use Rattle.std.specs.Prelude.{◌≡◌, ◌↔◌, ℕ, ◌-◌, ◌^◌, List, [], Bool, Option, Some, Result, Ok}
+use Rattle.pb_text.specs.Limits.{bits_of, top_of}
+use Rattle.pb_text.specs.Reading.{byte_limit}
 use Rattle.pb_text.specs.declared.Limits.{Limits}
 use Rattle.pb_opb.specs.declared.Instance.{Instance}
 use Rattle.pb_proof.specs.declared.Proof.{Proof}
@@ -13,7 +15,7 @@ use Rattle.pb_tool.specs.Tidy.{IsOpbFile}
 use Rattle.pb_tool.specs.Verified.{ChecksFiles, IsVerified}
 use Rattle.pb_tool.specs.declared.fault.ToolFault.{ToolFault}
 
--- What a proof that is read shows of an instance is true of the instance as it is written.
+-- What a proof that was read shows of an instance is true of the instance as it is written.
 abbrev pub VerdictsAreTrue : Type 0
 VerdictsAreTrue = (limits : Limits) (longest : ℕ) (i : Instance) (p : Proof) (w : Verdict) (before after : Option (List ℕ)) →
     IsProofFile limits longest before after p → IsVerified limits i p w → MeansWritten i w
@@ -22,16 +24,32 @@ VerdictsAreTrue = (limits : Limits) (longest : ℕ) (i : Instance) (p : Proof) (
 abbrev pub IsUnsatisfiable : Instance → Type 0
 IsUnsatisfiable v = (a : List ℕ → Bool) → Solves v a → ⊥
 
--- Where a check of two sources answers that UNSAT is verified, the first one was an instance, and no assignment solves
--- it.
+module _ (limits : Limits) (longest : ℕ) where
+  -- What `verified UNSAT` says of a source with these bytes before and those after. There is an instance whose text was
+  -- read, and no assignment solves it.
+  abbrev pub UnsatOf : Option (List ℕ) → Option (List ℕ) → Type 0
+  UnsatOf before after = (v : Instance) × IsOpbFile limits longest before after v × IsUnsatisfiable v
+
+  -- The same for any verdict: there is an instance whose text was read, and the verdict is true of it.
+  abbrev pub TrueOf : Verdict → Option (List ℕ) → Option (List ℕ) → Type 0
+  TrueOf w before after = (v : Instance) × IsOpbFile limits longest before after v × MeansWritten v w
+
+-- the widest limits: 127 bits, and `2^63 - 1`
+abbrev pub AreWidest : Limits → Type 0
+AreWidest limits = (bits_of limits ≡ 127) × (top_of limits ≡ 2 ^ 63 - 1)
+
+-- The bytes are an instance under the widest limits and a blank rest, and no assignment solves that instance.
+abbrev pub IsUnsatText : List ℕ → Type 0
+IsUnsatText text = (limits : Limits) × AreWidest limits × UnsatOf limits byte_limit (Some text) (Some [])
+
+-- If a check of two sources returns that UNSAT is verified, the first was an instance, and no assignment solves it.
 abbrev pub UnsatIsTrue : {W : Type 0} → (W → Option (List ℕ)) → (W → ℕ) → Type 0
 UnsatIsTrue {W} contents faults = (limits : Limits) (longest : ℕ) (i p i' p' : Option (List ℕ)) (old new : W) →
     ChecksFiles limits longest contents faults i p old (Ok Unsat) i' p' new →
-    (v : Instance) × IsOpbFile limits longest i i' v × IsUnsatisfiable v
+    UnsatOf limits longest i i'
 
--- The headline. Where nothing fails to be read or written and memory does not run out, a check of two texts answers that UNSAT
--- is verified exactly where they are an instance and a proof of UNSAT that the rules accept, and then no assignment solves that
--- instance.
+-- The headline, for I/O and allocation that succeed. A check of two texts verifies UNSAT if and only if they are an
+-- instance and a proof of UNSAT that the rules accept. Then no assignment solves that instance.
 abbrev pub UnsatIsExact : {W : Type 0} → (W → Option (List ℕ)) → (W → ℕ) → Type 0
 UnsatIsExact {W} contents faults = (limits : Limits) (longest : ℕ) (i p : List ℕ) (i' p' : Option (List ℕ)) (old new : W) (result : Result Verdict ToolFault) →
     ChecksFiles limits longest contents faults (Some i) (Some p) old result i' p' new → IsDecided result →

@@ -1,4 +1,4 @@
--- The text of an instance, as its statements come.
+-- The text of an instance, built as its statements come.
 use Rattle.std.specs.Prelude.{◌≡◌, ℕ, Bool, true, false, List, [], ◌++◌, Option, Some, None}
 use Rattle.pb_opb.specs.Canonical.{event_bytes}
 use Rattle.pb_opb.specs.Values.{IsValueOf}
@@ -13,18 +13,18 @@ use Rattle.pb_tool.specs.declared.instance_text.InstanceText.{InstanceText}
 abbrev pub line : OpbEvent → List ℕ
 line = line_of event_bytes
 
--- the line of a statement that may be there
+-- the line of a statement, if there is one
 abbrev pub line_if : Option OpbEvent → List ℕ
 line_if None = []
 line_if (Some e) = line e
 
--- The statements with one more. The header and an objective are kept as they are, an objective until the next statement.
+-- The statements with one more. The header is stored as it is, and so is an objective until the next statement.
 abbrev pub with : InstanceText → OpbEvent → InstanceText
 with t (Header variables constraints tail) = record t { header = Some (Header variables constraints tail) }
 with t (Objective terms) = record t { objective = Some (Objective terms) }
 with t e = record t { page = record t.page { text = t.page.text ++ (line_if t.objective ++ line e) }; objective = None }
 
--- whether to keep a statement may ask for memory
+-- whether storing a statement may allocate
 abbrev pub asks : OpbEvent → Bool
 asks (Header variables constraints tail) = false
 asks (Objective terms) = false

@@ -19,5 +19,6 @@ pub mod Single
 pub mod Stays
 pub mod Tidy
 pub mod Verified
-pub mod Wants
+pub mod Seen
 pub mod Words
+pub mod Fields

@@ -1,4 +1,4 @@
--- The normal form of an instance, as its statements come.
+-- The normal form of an instance, built as its statements come.
 use Rattle.std.specs.Prelude.{◌≡◌, ℕ, List, [], ◌∷◌, ◌++◌, length, Option, Some, None}
 use Rattle.std.specs.List.{flat_map}
 use Rattle.pb_text.specs.Limits.{largest}
@@ -25,7 +25,7 @@ use Rattle.pb_tool.specs.declared.normal_text.Standing.TheVariants.{Kept, Lost, 
 abbrev pub form_lines : List (List ℕ) → List Form → List ℕ
 form_lines names = flat_map (λ f. line (Constraint (linear_of names f)))
 
--- the names that a statement has, in the order of its terms, and those of statements
+-- the names of a statement, in the order of its terms, and those of statements
 abbrev pub names_at : OpbEvent → List (List ℕ)
 names_at (Header variables constraints tail) = []
 names_at (Comment text) = []
@@ -44,7 +44,7 @@ pub record AreLines (named : List (List ℕ)) (cs : List Linear) (t : FormLines)
   pub text : t.page.text ≡ form_lines t.names forms
   pub count : t.count ≡ length forms
 
--- what was made of constraints: their forms, or else a constraint passes the limit, or none does and memory ran out
+-- what was made of constraints: their forms; or a constraint exceeds the limit; or none does and memory ran out
 abbrev pub Made : Standing → Limits → List (List ℕ) → List Linear → FormLines → Type 0
 Made Kept limits named cs lines = AreLines named cs lines × ¬ SomePasses (largest limits) cs
 Made Lost limits named cs lines = ¬ SomePasses (largest limits) cs
@@ -58,7 +58,7 @@ abbrev pub as_statement : Option (List Term) → Option OpbEvent
 as_statement None = None
 as_statement (Some terms) = Some (Objective terms)
 
--- what is kept of statements
+-- what is stored of statements
 pub record IsNoted (events : List OpbEvent) (variables : ℕ) (objective : Option OpbEvent) (forms : Forms) : Type 0 where
   pub variables_are : variables ≡ last_or 0 (variables_in events)
   pub objective_is : objective ≡ as_statement (last_or None (objectives_in events))
@@ -68,6 +68,6 @@ pub record IsNoted (events : List OpbEvent) (variables : ℕ) (objective : Optio
 abbrev pub noted : Limits × List OpbEvent → OpbEvent → Limits × List OpbEvent
 noted t e = (t.0, t.1 ++ e ∷ [])
 
--- v is the value of the statements, and they have its names in the order of its objective and its constraints
+-- v is the value of the statements, and their names come in the order of its objective and its constraints
 abbrev pub IsInOrder : List OpbEvent → Instance → Type 0
 IsInOrder events v = IsValueOf events v × (names_on events ≡ names_of (objective_of v.objective) ++ constraint_names v.constraints)

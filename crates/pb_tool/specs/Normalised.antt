@@ -1,4 +1,4 @@
--- The normal form of an instance: its constraints as the forms that they load as.
+-- The normal form of an instance: its constraints are the forms that they load as.
 use Rattle.std.specs.Prelude.{◌≡◌, ℕ, List, [], map, Contains}
 use Rattle.pb_sums.specs.declared.Linear.{Linear}
 use Rattle.pb_opb.specs.declared.Instance.{Instance}
@@ -8,13 +8,13 @@ use Rattle.pb_normal.specs.Form.{Form}
 use Rattle.pb_normal.specs.Written.{linear_of}
 use Rattle.pb_replay.specs.Problem.{names_in}
 
--- the constraints are the forms of such sides, written out with the names
+-- the constraints are the forms of these sides, written out with the names
 abbrev pub AreLoaded : List (List ℕ) → List (Side × Linear) → List Linear → Type 0
 AreLoaded names sides cs = (forms : List Form) × AreFormsOf names sides forms × (cs ≡ map (linear_of names) forms)
 
--- The instance w is the normal form of v: it has the variables and the objective of v, no tail and no comments, and
--- as its constraints the forms of v's, in order, written out with the names of v. So the terms of each stand in the
--- order in which these first appear.
+-- The instance w is the normal form of v. It has the variables and the objective of v, no tail and no comments. Its
+-- constraints are the forms of the constraints of v, in order, written out with the names of v. So the names of the
+-- terms of each appear in the order of their first appearance in v.
 pub record IsNormalised (v w : Instance) : Type 0 where
   pub variables : w.variables ≡ v.variables
   pub objective : w.objective ≡ v.objective
@@ -22,10 +22,10 @@ pub record IsNormalised (v w : Instance) : Type 0 where
   pub comments : w.comments ≡ []
   pub constraints : AreLoaded (names_in v) (sides_in v.constraints) w.constraints
 
--- some constraint does not fit: its numbers pass the limit together
+-- some constraint does not fit: its numbers together exceed the limit
 abbrev pub SomePasses : ℕ → List Linear → Type 0
 SomePasses limit cs = (c : Linear) × Contains cs c × ¬ Fits limit c
 
--- some constraint of the instance does not
+-- some constraint of the instance does not fit
 abbrev pub Overflows : ℕ → Instance → Type 0
 Overflows limit v = SomePasses limit v.constraints

@@ -1,4 +1,4 @@
--- What a source is read as.
+-- The format that a source is read as.
 use Rattle.std.specs.Prelude.{ℕ, List, Option}
 use Rattle.pb_tool.specs.Files.{MayBeProof, MayBeInstance}
 use Rattle.pb_tool.specs.declared.file.Format.{Format}

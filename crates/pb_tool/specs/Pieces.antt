@@ -26,7 +26,7 @@ use Rattle.pb_tool.specs.declared.checker.CheckFault.TheVariants.{Text, Step}
 abbrev pub fault_of : Checking → Option CheckFault
 fault_of c = c.fault
 
--- the place of the next byte
+-- the position of the next byte
 abbrev pub place_in : Checking → Place
 place_in c = place_of c.feeder
 
@@ -34,12 +34,12 @@ place_in c = place_of c.feeder
 abbrev pub is_whole : Checking → Bool
 is_whole c = is_complete c.feeder
 
--- The checker, whose statements have at most longest bytes and whose replay, with these limits, began at first, was fed
--- the input.
+-- The checker was fed the input. Its statements have at most longest bytes, and its replay, with these limits, began at
+-- first.
 abbrev pub ChecksAt : Limits → ℕ → Problem → Result State Fault → List ℕ → Checking → Type 0
 ChecksAt limits longest v first input c = Stands limits longest v first input c.feeder c.replay c.fault
 
--- Input that comes now still counts: it was not said to have ended.
+-- Later input still counts: the text was not said to have ended.
 abbrev pub IsOpen : Option CheckFault → Type 0
 IsOpen None = Unit {0}
 IsOpen (Some (Text s)) = Counts s.why
@@ -49,7 +49,7 @@ abbrev pub fault_in : {A : Type 0} → Result A CheckFault → Option CheckFault
 fault_in (Ok x) = None
 fault_in (Err e) = Some e
 
--- what one feed says of the checker: as it stood to all the input before, it stands to that with these bytes
+-- What one feed says of the checker. What held for all the input before holds for that input followed by these bytes.
 abbrev pub ChecksOnce : Checking → List ℕ → Checking → Type 0
 ChecksOnce old piece new =
     ((limits : Limits) (longest : ℕ) (v : Problem) (first : Result State Fault) (input : List ℕ) →
@@ -64,15 +64,15 @@ Feeds before (piece ∷ pieces) after = (mid : Checking) × ChecksOnce before pi
 abbrev pub joined : List (List ℕ) → List ℕ
 joined = flat_map (λ piece. piece)
 
--- However the text of a proof is cut: after any feeds in a row of a checker that was new, what it answers is said of all
--- bytes joined.
+-- The text of a proof may be cut in any way. After any feeds in a row of a new checker, its result holds for all bytes
+-- joined.
 abbrev pub AnyCutting : Type 0
 AnyCutting = (limits : Limits) (longest : ℕ) (v : Problem) (first : Result State Fault) (before after : Checking) (pieces : List (List ℕ)) →
     ChecksAt limits longest v first [] before → IsOpen (fault_of before) → Feeds before pieces after →
     Checks limits longest v first (joined pieces) (place_in after) (is_whole after) (fault_of after)
 
--- The place is that after bytes which were used of the input, and at most as much is held as these have bytes of a
--- statement that they do not end: nothing between two statements.
+-- The position is the one after the used bytes, a prefix of the input. At most as much is held as the used bytes have
+-- of an unfinished statement: nothing between two statements.
 abbrev pub HoldsOpen : Limits → List ℕ → Place → ℕ → Type 0
 HoldsOpen limits input place held =
     (used : List ℕ) × (n : ℕ) × IsFront used input × (place ≡ place_after used)
@@ -89,14 +89,14 @@ abbrev pub IsUnread : CheckFault → Type 0
 IsUnread (Text s) = s.why ≢ Read
 IsUnread (Step begins e) = Unit {0}
 
--- Where memory ran out for the text, the byte of the input at that place may ask for it.
+-- If memory ran out for the text, the byte of the input at that position may allocate.
 abbrev pub WantsMemory : Limits → List ℕ → CheckFault → Type 0
 WantsMemory limits input (Text s) = s.why ≡ Memory →
     (used : List ℕ) × (b : ℕ) × (more : List ℕ) × (input ≡ used ++ b ∷ more) × (s.place ≡ place_after used)
     × MayAsk proofs (begin (largest limits) (top_of limits)) used b
 WantsMemory limits input (Step begins e) = Unit {0}
 
--- the bytes of the piece that were dealt with: where a statement came, those through its last
+-- the bytes of the piece that were consumed: if a statement ended, those through its last byte
 abbrev pub bytes_to : Bool → ℕ → List ℕ → List ℕ
 bytes_to true used piece = take used piece
 bytes_to false used piece = piece

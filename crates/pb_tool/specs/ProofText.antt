@@ -1,4 +1,4 @@
--- The text of a proof, as its statements come.
+-- The text of a proof, built as its statements come.
 use Rattle.std.specs.Prelude.{◌≡◌, ℕ, List, ◌++◌}
 use Rattle.pb_proof.specs.Canonical.{statement_bytes}
 use Rattle.pb_proof.specs.Proofs.{IsProofOf}
@@ -13,7 +13,7 @@ use Rattle.pb_tool.specs.declared.proof_text.ProofText.{ProofText}
 abbrev pub line : Statement → List ℕ
 line = line_of statement_bytes
 
--- The statements with one more. Steps are kept as text, and the count of `f` and the conclusion as they are.
+-- The statements with one more. Steps are stored as text, and the count of `f` and the conclusion as they are.
 abbrev pub with : ProofText → Statement → ProofText
 with t Header = t
 with t (F count) = record t { count = count }
@@ -22,7 +22,7 @@ with t (Conclude conclusion) = record t { conclusion = Conclude conclusion }
 with t End = t
 with t step = record t { steps = record t.steps { text = t.steps.text ++ line step } }
 
--- the lines before the steps, and those behind them
+-- the lines before the steps, and those after them
 abbrev pub front_of : ProofText → List ℕ
 front_of t = line Header ++ line (F t.count)
 

@@ -1,7 +1,8 @@
--- What the parts of a check owe: the replay of an instance, and its run through a proof.
-use Rattle.std.specs.Prelude.{◌≡◌, ◌⊎◌, ◌<◌, ℕ, List, length, string_bytes, true, false, Option, Some, None, Result, Ok, Err}
+-- What the parts of a check ensure: the replay of an instance, and its run through a proof.
+use Rattle.std.specs.Prelude.{◌≡◌, ◌⊎◌, ℕ, List, string_bytes, true, false, Option, Some, None, Result, Ok, Err}
 use Rattle.pb_text.specs.Limits.{largest, top_of}
 use Rattle.pb_text.specs.Pulling.{faults_with}
+use Rattle.pb_text.specs.Stopping.{IsAsking}
 use Rattle.pb_text.specs.declared.Limits.{Limits}
 use Rattle.pb_text.specs.declared.Place.{Place}
 use Rattle.pb_opb.specs.declared.Instance.{Instance}
@@ -9,15 +10,15 @@ use Rattle.pb_proof.specs.Proofs.{statements_of}
 use Rattle.pb_proof.specs.declared.Proof.{Proof}
 use Rattle.pb_proof.specs.declared.Statement.{Statement}
 use Rattle.pb_replay.specs.Problem.{FitsAll, Problem, Opened}
-use Rattle.pb_replay.specs.Meaning.{IsFront}
 use Rattle.pb_replay.specs.Replay.{State, first_state}
 use Rattle.pb_replay.specs.Kept.{Replaying}
-use Rattle.pb_replay.specs.Statements.{Outcome, Accepts}
+use Rattle.pb_replay.specs.Statements.{Outcome, Accepts, MayWantAt}
 use Rattle.pb_replay.specs.declared.fault.Fault.{Fault}
 use Rattle.pb_replay.specs.declared.fault.Fault.TheVariants.{Memory as no_memory, Overflow as over, NotTotal}
 use Rattle.pb_replay.specs.declared.verdict.Verdict.{Verdict}
 use Rattle.pb_replay.specs.Kept.{StandsFor}
-use Rattle.pb_tool.specs.Files.{IsProofFile}
+use Rattle.pb_tool.specs.Checks.{KeepsNames}
+use Rattle.pb_tool.specs.Files.{AsksVeri, IsProofFile}
 use Rattle.pb_tool.specs.Tidy.{IsOpbFile, IsNoOpbFile}
 use Rattle.pb_tool.specs.Verified.{ComesTo, IsAccepted, IsRefusedStep, IsRefusedText, IsTold}
 use Rattle.pb_tool.specs.declared.checker.CheckFault.{CheckFault}
@@ -26,7 +27,7 @@ use Rattle.pb_tool.specs.declared.fault.ToolFault.{ToolFault}
 use Rattle.pb_tool.specs.declared.fault.ToolFault.TheVariants.{Text, Overflow, Memory, Step}
 use Rattle.pb_tool.specs.declared.fault.Input.TheVariants.{Instance as of_instance, Proof as of_proof}
 
--- how often a source has failed after a check that answers this: once more where the answer is a read fault of it
+-- how often a source has failed after a check with this result: once more for a read fault of that source
 abbrev pub faults_of_instance : {A : Type 0} → Result A ToolFault → ℕ → ℕ
 faults_of_instance (Err (Text of_instance s)) n = faults_with s.why n
 faults_of_instance _ n = n
@@ -39,17 +40,13 @@ abbrev pub faults_of_text : {A : Type 0} → Result A CheckFault → ℕ → ℕ
 faults_of_text (Err (check.Text s)) n = faults_with s.why n
 faults_of_text _ n = n
 
--- the fault of the tool: with that name, or want of memory
+-- the fault of the tool: with that name, or out of memory for a copy of that name
 abbrev pub IsToldAs : List (List ℕ) → Place → Fault → ToolFault → Type 0
-IsToldAs names place e (Step at f name) = (at ≡ place) × ((f ≡ no_memory) ⊎ ((f ≡ e) × IsTold names e (string_bytes name)))
+IsToldAs names place e (Step at f name) = (at ≡ place) × (((f ≡ no_memory) × ((n : ℕ) × (e ≡ NotTotal n))) ⊎ ((f ≡ e) × IsTold names e (string_bytes name)))
 IsToldAs names place e _ = ⊥
 
--- The names from before stay, and one that is told by its number is among them.
-abbrev pub KeepsNames : List (List ℕ) → List (List ℕ) → Fault → Type 0
-KeepsNames old new e = IsFront old new × ((n : ℕ) → e ≡ NotTotal n → n < length old)
-
 module _ (limits : Limits) (longest : ℕ) where
-  -- The replay is that of the instance which the source had.
+  -- The replay is that of the instance that the source had.
   pub record IsReplayOf (before after : Option (List ℕ)) (r : Replaying) : Type 0 where
     pub instance : Instance
     pub file : IsOpbFile limits longest before after instance
@@ -69,12 +66,14 @@ module _ (limits : Limits) (longest : ℕ) where
     -- the statements of a source that were stepped through
     abbrev pub Runs : Result (Verdict × Place) CheckFault → Option (List ℕ) → Replaying → Type 0
     Runs (Ok r) after new = (t : State) × IsAccepted limits longest v first before after r.1 true None t × (t.concluded ≡ Some r.0)
-    Runs (Err (check.Text s)) after new = (t : State) × IsAccepted limits longest v first before after s.place false (Some s) t
+    Runs (Err (check.Text s)) after new =
+        (t : State) × (a : IsAccepted limits longest v first before after s.place false (Some s) t) × IsAsking (AsksVeri limits) a.took.used a.took.seen s.why
     Runs (Err (check.Step begins e)) after new =
         (st : Statement) × (state : State) × ComesTo limits longest v first before after begins st state
-        × ((e ≡ no_memory) ⊎ (Outcome (largest limits) (top_of limits) v state st (Err e) × KeepsNames state.names new.names e))
+        × (((e ≡ no_memory) × MayWantAt (largest limits) (top_of limits) v state.next st)
+        ⊎ (Outcome (largest limits) (top_of limits) v state st (Err e) × KeepsNames state.names new.names e))
 
-    -- the same, with the rest behind the proof
+    -- the same, with the rest after the proof
     abbrev pub Replays : Result Verdict ToolFault → Option (List ℕ) → Type 0
     Replays (Ok w) after =
         (q : Proof) × IsProofFile limits longest before after q

@@ -6,6 +6,7 @@ use Rattle.pb_text.specs.Pulling.{Took}
 use Rattle.pb_text.specs.Reading.{IsSpelled, byte_limit}
 use Rattle.pb_text.specs.PullsInARow.{TookAll, TookSoFar}
 use Rattle.pb_text.specs.Spelling.{Item, place_after}
+use Rattle.pb_text.specs.Stopping.{IsAsking}
 use Rattle.pb_text.specs.Writing.{Wrote, Broke}
 use Rattle.pb_text.specs.declared.Place.{Place}
 use Rattle.pb_text.specs.declared.Spanned.{Spanned}
@@ -19,7 +20,7 @@ module _ {E : Type 0} (text : E → List ℕ) where
   abbrev pub line_of : E → List ℕ
   line_of e = text e ++ 10 ∷ []
 
-  -- the line of a statement that is shown: `L:C `, the line and the column of its first byte, and then its line
+  -- the line that shows a statement: `L:C `, the line and the column of its first byte, and then its canonical line
   abbrev pub shown_line : Spanned E → List ℕ
   shown_line m = decimal m.first.line ++ (58 ∷ (decimal m.first.column ++ (32 ∷ line_of m.event)))
 
@@ -27,14 +28,14 @@ module _ {E : Type 0} (text : E → List ℕ) where
   abbrev pub shown : List (Spanned E) → List ℕ
   shown = flat_map shown_line
 
--- The rest of an input was blank, or else why it was not, or was not read to its end.
+-- The rest of an input was blank; or why it was not, or was not read to its end.
 abbrev pub EndsAt : Place → Option (List ℕ) → Result Unit ToolFault → Option (List ℕ) → Type 0
 EndsAt place before (Ok u) after = ReadsBlank place before (Ok u) after
 EndsAt place before (Err (Text File s)) after = ReadsBlank place before (Err s) after
 EndsAt place before (Err _) after = ⊥
 
 module _ {E : Type 0} (format : List (Item E) → Type 0) (longest : ℕ) where
-  -- The input was a spelling with these marks and a blank rest, and ended there.
+  -- The input was a text of the format with these spans and a blank rest, and ended there.
   pub record IsSpelling (before after : Option (List ℕ)) (marks : List (Spanned E)) : Type 0 where
     pub used : List ℕ
     pub rest : List ℕ
@@ -43,17 +44,18 @@ module _ {E : Type 0} (format : List (Item E) → Type 0) (longest : ℕ) where
     pub blank : IsBlank rest
     pub within : length (used ++ rest) ≤ byte_limit
 
-  -- The input was refused after these marks: in the text, or in the rest behind a whole spelling.
-  pub data IsRefusedAfter (before after : Option (List ℕ)) (marks : List (Spanned E)) (s : Stop) : Type 0 where
-    InText : TookAll format longest before after marks s.place false (Some s) → IsRefusedAfter before after marks s
-    InRest : (used seen : List ℕ) (mid : Option (List ℕ)) → Took before used seen mid → IsSpelled format longest used marks → ReadsBlank (place_after used) mid (Err s) after → IsRefusedAfter before after marks s
+  -- The input was rejected after these spans: in the text, or in the rest after a whole text. In the text, memory runs
+  -- out only at a byte that may allocate.
+  pub data IsRefusedAfter (MayAsk : List ℕ → ℕ → Type 0) (before after : Option (List ℕ)) (marks : List (Spanned E)) (s : Stop) : Type 0 where
+    InText : (all : TookAll format longest before after marks s.place false (Some s)) → IsAsking MayAsk all.used all.seen s.why → IsRefusedAfter MayAsk before after marks s
+    InRest : (used seen : List ℕ) (mid : Option (List ℕ)) → Took before used seen mid → IsSpelled format longest used marks → ReadsBlank (place_after used) mid (Err s) after → IsRefusedAfter MayAsk before after marks s
 
-  module _ (text : E → List ℕ) {W : Type 0} (contents : W → Option (List ℕ)) (faults : W → ℕ) where
-    -- What was read of the source, and what was written: the line of each statement that was read. After a write
-    -- fault the lines of all statements that were read but the last, and a front of the last one's.
+  module _ (MayAsk : List ℕ → ℕ → Type 0) (text : E → List ℕ) {W : Type 0} (contents : W → Option (List ℕ)) (faults : W → ℕ) where
+    -- What was read of the source, and what was written: the line of each statement that was read. After a write fault,
+    -- the lines of all statements read but the last were written, and a prefix of the last line.
     abbrev pub Shows : Option (List ℕ) → W → Result Unit ToolFault → Option (List ℕ) → W → Type 0
     Shows before old (Ok u) after new = (marks : List (Spanned E)) × IsSpelling before after marks × Wrote contents faults old (shown text marks) new
-    Shows before old (Err (Text File s)) after new = (marks : List (Spanned E)) × IsRefusedAfter before after marks s × Wrote contents faults old (shown text marks) new
+    Shows before old (Err (Text File s)) after new = (marks : List (Spanned E)) × IsRefusedAfter MayAsk before after marks s × Wrote contents faults old (shown text marks) new
     Shows before old (Err Write) after new =
         (marks : List (Spanned E)) × (last : Spanned E) × (mid : W) × TookSoFar format longest before after (marks ++ last ∷ []) last.past
         × Wrote contents faults old (shown text marks) mid × Broke contents faults mid (shown_line text last) new

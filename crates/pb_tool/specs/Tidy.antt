@@ -9,11 +9,12 @@ use Rattle.pb_text.specs.Writing.{Wrote, Broke}
 use Rattle.pb_text.specs.declared.Limits.{Limits}
 use Rattle.pb_text.specs.declared.Spanned.{Spanned}
 use Rattle.pb_text.specs.declared.Stop.{Stop}
-use Rattle.pb_text.specs.ValueRead.{IsRead, ReadsValue}
+use Rattle.pb_text.specs.Whole.{IsRead}
 use Rattle.pb_sums.specs.declared.Term.{Term}
 use Rattle.pb_sums.specs.declared.Linear.{Linear}
 use Rattle.pb_opb.specs.Canonical.{instance_bytes}
 use Rattle.pb_opb.specs.Instances.{IsInstance}
+use Rattle.pb_opb.specs.Reading.{AsksInInstance, ReadsInstance}
 use Rattle.pb_opb.specs.Values.{IsValueOf}
 use Rattle.pb_opb.specs.declared.Instance.{Instance}
 use Rattle.pb_opb.specs.declared.OpbEvent.{OpbEvent}
@@ -46,18 +47,22 @@ is_bare (Some terms) constraints = false
 abbrev pub IsOpb : Limits → List (Item OpbEvent) → Type 0
 IsOpb limits = IsInstance (largest limits) (top_of limits)
 
--- what is written with `normal`: the normal form of v, where no constraint passes the limit
+-- the bytes that may allocate in one
+abbrev pub AsksOpb : Limits → List ℕ → ℕ → Type 0
+AsksOpb limits = AsksInInstance (largest limits) (top_of limits)
+
+-- what is written with `normal`: the normal form of v, if no constraint exceeds the limit
 abbrev pub IsAsked : ℕ → Instance → Instance → Type 0
 IsAsked limit v w = IsNormalised v w × ¬ Overflows limit v
 
--- Why there is none: a constraint of v passes the limit, or none does and memory ran out.
+-- Why there is none: a constraint of v exceeds the limit, or none does and memory ran out.
 abbrev pub IsDenied : ℕ → Instance → ToolFault → Type 0
 IsDenied limit v (Overflow File) = Overflows limit v
 IsDenied limit v (Memory File) = ¬ Overflows limit v
 IsDenied limit v _ = ⊥
 
 module _ {V : Type 0} where
-  -- The input was a spelling of v and a blank rest, and ended there.
+  -- The input was a text of v and a blank rest, and ended there.
   pub record IsFile (IsReadOf : List ℕ → Spanned V → Type 0) (before after : Option (List ℕ)) (v : V) : Type 0 where
     pub used : List ℕ
     pub rest : List ℕ
@@ -68,24 +73,25 @@ module _ {V : Type 0} where
     pub within : length (used ++ rest) ≤ byte_limit
     pub value : read.event ≡ v
 
-  -- The input was refused: it begins with no spelling, or the rest behind that is not blank.
+  -- The input was rejected: it does not begin with a text of the format, or the rest after that is not blank.
   pub data IsRefused (Reads : Option (List ℕ) → Result (Spanned V) Stop → Option (List ℕ) → Type 0) (before after : Option (List ℕ)) (s : Stop) : Type 0 where
     InText : Reads before (Err s) after → IsRefused Reads before after s
     InRest : (m : Spanned V) (mid : Option (List ℕ)) → Reads before (Ok m) mid → ReadsBlank m.past mid (Err s) after → IsRefused Reads before after s
 
--- What was written: the text of a value that the input has, or nothing, where the fault says why.
+-- What was written: the text of a value of the input, or nothing, and then the fault says why.
 module _ {V : Type 0} (Has : V → Type 0) (IsWhy : ToolFault → Type 0) (text : V → List ℕ) {W : Type 0} (contents : W → Option (List ℕ)) (faults : W → ℕ) where
   abbrev pub WritesText : W → Result Unit ToolFault → W → Type 0
   WritesText old (Ok u) new = (v : V) × Has v × Wrote contents faults old (text v) new
   WritesText old (Err Write) new = (v : V) × Has v × Broke contents faults old (text v) new
   WritesText old (Err e) new = IsWhy e × (new ≡ old)
 
--- the fault is that the text of the file stopped its reader
+-- the fault is that the reader stopped in the text of the file
 abbrev pub IsStopped : (Stop → Type 0) → ToolFault → Type 0
 IsStopped Holds (Text File s) = Holds s
 IsStopped Holds _ = ⊥
 
--- What was read of the source, in one way of reading, and what was written: nothing before the whole input was accepted.
+-- What was read of the source, in one way of reading, and what was written. Nothing is written before the whole input
+-- was accepted.
 module _ {V : Type 0} (IsReadOf : List ℕ → Spanned V → Type 0) (Reads : Option (List ℕ) → Result (Spanned V) Stop → Option (List ℕ) → Type 0) (text : V → List ℕ) {W : Type 0} (contents : W → Option (List ℕ)) (faults : W → ℕ) where
   abbrev pub TidiesAs : Option (List ℕ) → W → Result Unit ToolFault → Option (List ℕ) → W → Type 0
   TidiesAs before old result after new = WritesText (IsFile IsReadOf before after) (IsStopped (IsRefused Reads before after)) text contents faults old result new
@@ -96,7 +102,7 @@ module _ (limits : Limits) (longest : ℕ) where
   IsOpbFile = IsFile (IsRead (IsOpb limits) longest IsValueOf)
 
   abbrev pub IsNoOpbFile : Option (List ℕ) → Option (List ℕ) → Stop → Type 0
-  IsNoOpbFile = IsRefused (ReadsValue (IsOpb limits) longest IsValueOf)
+  IsNoOpbFile = IsRefused (ReadsInstance (largest limits) (top_of limits) longest)
 
   -- with `normal`: the normal form of the instance that the input was, or why there is none
   abbrev pub IsNormalFile : Option (List ℕ) → Option (List ℕ) → Instance → Type 0
@@ -106,8 +112,8 @@ module _ (limits : Limits) (longest : ℕ) where
   IsNoNormalFile before after (Text File s) = IsNoOpbFile before after s
   IsNoNormalFile before after e = (v : Instance) × IsOpbFile before after v × IsDenied (largest limits) v e
 
-  -- What was read of the source, and what was written: nothing before the whole input was accepted and, with
-  -- `normal`, every constraint normalised.
+  -- What was read of the source, and what was written. Nothing is written before the whole input was accepted and, with
+  -- `normal`, every constraint was normalised.
   abbrev pub Tidies : Bool → {W : Type 0} → (W → Option (List ℕ)) → (W → ℕ) → Option (List ℕ) → W → Result Unit ToolFault → Option (List ℕ) → W → Type 0
-  Tidies false contents faults before old result after new = TidiesAs (IsRead (IsOpb limits) longest IsValueOf) (ReadsValue (IsOpb limits) longest IsValueOf) tidied contents faults before old result after new
+  Tidies false contents faults before old result after new = TidiesAs (IsRead (IsOpb limits) longest IsValueOf) (ReadsInstance (largest limits) (top_of limits) longest) tidied contents faults before old result after new
   Tidies true contents faults before old result after new = WritesText (IsNormalFile before after) (IsNoNormalFile before after) tidied contents faults old result new

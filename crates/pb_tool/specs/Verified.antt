@@ -1,8 +1,9 @@
--- What `pb check` answers of an instance and a proof, and what it writes.
+-- What `pb check` returns for an instance and a proof, and what it writes.
 use Rattle.std.specs.Prelude.{◌≡◌, ◌⊎◌, ℕ, List, [], ◌∷◌, ◌++◌, codes, get_or, string_bytes, Bool, true, false, Option, Some, None, Result, Ok, Err}
 use Rattle.pb_text.specs.Blank.{ReadsBlank}
 use Rattle.pb_text.specs.Limits.{largest, top_of}
 use Rattle.pb_text.specs.PullsInARow.{TookAll, TookSoFar}
+use Rattle.pb_text.specs.Stopping.{IsAsking}
 use Rattle.pb_text.specs.Writing.{Wrote, Broke}
 use Rattle.pb_text.specs.declared.Limits.{Limits}
 use Rattle.pb_text.specs.declared.Place.{Place}
@@ -15,13 +16,13 @@ use Rattle.pb_proof.specs.declared.Proof.{Proof}
 use Rattle.pb_proof.specs.declared.Statement.{Statement}
 use Rattle.pb_replay.specs.Problem.{FitsAll, Problem, Opened}
 use Rattle.pb_replay.specs.Replay.{State, first_state}
-use Rattle.pb_replay.specs.Statements.{Outcome, Accepts}
+use Rattle.pb_replay.specs.Statements.{Outcome, Accepts, MayWantAt}
 use Rattle.pb_replay.specs.declared.fault.Fault.{Fault}
 use Rattle.pb_replay.specs.declared.fault.Fault.TheVariants.{Memory as no_memory, Overflow as over, NotTotal}
 use Rattle.pb_replay.specs.declared.verdict.Verdict.{Verdict}
 use Rattle.pb_replay.specs.declared.verdict.Verdict.TheVariants as verdict
 use Rattle.pb_text.specs.Whole.{events_at}
-use Rattle.pb_tool.specs.Files.{IsVeri, IsProofFile}
+use Rattle.pb_tool.specs.Files.{AsksVeri, IsVeri, IsProofFile}
 use Rattle.pb_tool.specs.Tidy.{IsOpbFile, IsNoOpbFile}
 use Rattle.pb_tool.specs.declared.fault.ToolFault.{ToolFault}
 use Rattle.pb_tool.specs.declared.fault.ToolFault.TheVariants.{Text, Open, Overflow, Memory, Write, Step}
@@ -34,7 +35,7 @@ verdict_line verdict.Unsat = codes "verified UNSAT\n"
 verdict_line verdict.Sat = codes "verified SAT\n"
 verdict_line (verdict.Bounds lower upper) = codes "verified BOUNDS " ++ (bound_bytes lower ++ (32 ∷ (bound_bytes upper ++ (10 ∷ []))))
 
--- the name that a refusal tells by its number, among these
+-- the name, among these, that a fault gives by its number
 abbrev pub IsTold : List (List ℕ) → Fault → List ℕ → Type 0
 IsTold names (NotTotal n) name = name ≡ get_or names n []
 IsTold names _ name = name ≡ []
@@ -49,14 +50,14 @@ module _ (limits : Limits) where
     pub claimed : last.concluded ≡ Some w
 
   module _ (longest : ℕ) (v : Problem) (first : State) (before : Option (List ℕ)) where
-    -- The text of a proof came so far in a source, and its statements lead from the first state to the last.
+    -- The text of a proof was read this far in a source, and its statements lead from the first state to the last.
     pub record IsAccepted (after : Option (List ℕ)) (place : Place) (done : Bool) (stop : Option Stop) (last : State) : Type 0 where
       pub marks : List (Spanned Statement)
       pub took : TookAll (IsVeri limits) longest before after marks place done stop
       pub accepted : Accepts (largest limits) (top_of limits) v first (events_at marks) last
 
-    -- All statements before this one, which begins at the place, were accepted and lead to the state. Nothing behind it was
-    -- taken.
+    -- All statements before this one, which begins at the position, were accepted and lead to the state. Nothing after
+    -- it was taken.
     pub record ComesTo (after : Option (List ℕ)) (begins : Place) (st : Statement) (state : State) : Type 0 where
       pub marks : List (Spanned Statement)
       pub last : Spanned Statement
@@ -65,20 +66,23 @@ module _ (limits : Limits) where
       pub statement : last.event ≡ st
       pub accepted : Accepts (largest limits) (top_of limits) v first (events_at marks) state
 
-    -- The statement that begins at the place is the first that is refused: by its rules, or because memory ran out.
+    -- The statement that begins at the position is the first one that is rejected. Its rules reject it, or memory ran
+    -- out where it may allocate.
     abbrev pub IsRefusedStep : Option (List ℕ) → Place → Fault → List ℕ → Type 0
     IsRefusedStep after begins e name =
         (st : Statement) × (state : State) × ComesTo after begins st state
-        × ((e ≡ no_memory) ⊎ (Outcome (largest limits) (top_of limits) v state st (Err e) × IsTold state.names e name))
+        × (((e ≡ no_memory) × MayWantAt (largest limits) (top_of limits) v state.next st)
+        ⊎ (Outcome (largest limits) (top_of limits) v state st (Err e) × IsTold state.names e name))
 
-    -- The text is refused, and every statement before that place was accepted: in the proof, or in the rest behind it.
+    -- The text is rejected, and every statement before that position was accepted. The stop is in the proof, or in the
+    -- rest after it. In the proof, memory runs out only at a byte that may allocate.
     pub data IsRefusedText (after : Option (List ℕ)) (s : Stop) : Type 0 where
-      InProof : (last : State) → IsAccepted after s.place false (Some s) last → IsRefusedText after s
+      InProof : (last : State) (a : IsAccepted after s.place false (Some s) last) → IsAsking (AsksVeri limits) a.took.used a.took.seen s.why → IsRefusedText after s
       BehindProof : (mid : Option (List ℕ)) (place : Place) (last : State) (w : Verdict) → IsAccepted mid place true None last → last.concluded ≡ Some w → ReadsBlank place mid (Err s) after → IsRefusedText after s
 
   module _ (longest : ℕ) {W : Type 0} (contents : W → Option (List ℕ)) (faults : W → ℕ) where
-    -- What was read of the two sources, one after the other, and what was written: nothing before both were accepted.
-    -- Each case says which tests were passed before the refusal.
+    -- What was read of the two sources, one after the other, and what was written. Nothing is written before both were
+    -- accepted. Each case says which tests were passed before the fault.
     abbrev pub ChecksFiles : Option (List ℕ) → Option (List ℕ) → W → Result Verdict ToolFault → Option (List ℕ) → Option (List ℕ) → W → Type 0
     ChecksFiles i p old (Ok w) i' p' new =
         (v : Instance) × IsOpbFile limits longest i i' v × (q : Proof) × IsProofFile limits longest p p' q

@@ -1,4 +1,4 @@
-//! What has a canonical text.
+//! Values with a canonical text.
 
 ghost use Rattle.std.specs.Prelude.{ℕ, List};
 ghost use Rattle.pb_text.specs.Writing.{Writes};
@@ -10,7 +10,7 @@ use pb_opb::{OpbEvent, write_event};
 use pb_proof::{Statement, write_statement};
 use pb_text::{Failed, Sink, write_bytes};
 
-/// A value with a canonical text. That of a statement has no line feed behind it.
+/// A value with a canonical text. The text of a statement does not include a line feed at its end.
 pub trait Canonical {
     /// Its canonical text.
     ghost text: { Self → List ℕ };

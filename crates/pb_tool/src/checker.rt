@@ -1,4 +1,4 @@
-//! Checks a proof, in whatever pieces its text comes.
+//! Checks a proof whose text comes in pieces of any size.
 
 ghost use Rattle.std.specs.Prelude.{◌≡◌, ◌<◌, ℕ, Err, Result, Some, length};
 ghost use Rattle.pb_text.specs.Limits.{largest, top_of};
@@ -12,7 +12,7 @@ ghost use Rattle.pb_tool.specs.Faults.{check_fault_text};
 use pb_proof::laws::values::reads_are_of_proofs;
 use pb_proof::laws::{no_front, proofs_are_exact};
 use pb_proof::{ProofMachine, Statement};
-use pb_replay::laws::{replays_have_states, whole_proofs_conclude};
+use pb_replay::laws::whole_proofs_conclude;
 use pb_replay::{Fault, Replay, Verdict};
 use pb_text::laws::standing_is_reading;
 use pb_text::{BYTE_LIMIT, Feeder, Place, Spanned, Stop, Why};
@@ -21,12 +21,12 @@ use std::error::Error;
 use std::fmt;
 use std::marker::Model;
 
-/// Why a proof is refused.
+/// Why a proof is rejected.
 #[derive(Clone, Copy, Debug, PartialEq, Eq)]
 pub enum CheckFault {
-    /// Its text stopped the reader at a place.
+    /// The reader stopped at a position of the text.
     Text(Stop),
-    /// The statement that begins at the place was refused.
+    /// The statement that begins at the position was rejected.
     Step(Place, Fault),
 }
 
@@ -46,15 +46,14 @@ impl fmt::Display for CheckFault {
 
 impl Error for CheckFault {}
 
-/// How far a piece was taken: so many bytes of it, and whether a statement ends there.
+/// How far a piece was consumed: the number of bytes used, and whether a statement ends there.
 #[derive(Clone, Copy, Debug, PartialEq, Eq)]
 pub(crate) struct Went {
     pub(crate) used: usize,
     pub(crate) more: bool,
 }
 
-/// Checks a proof, in whatever pieces its text comes: each statement goes to the replay when its last byte has come,
-/// and is kept no longer.
+/// Checks a proof whose text comes in pieces of any size. Each statement goes to the replay when its last byte has come.
 #[derive(Drop)]
 pub struct Checker {
     feeder: Feeder<ProofMachine>,
@@ -69,14 +68,14 @@ impl Model for Checker {
 
     ghost view = { λ c. record { feeder = c.feeder; replay = c.replay; fault = c.fault } };
 
-    // It stands to some text.
+    // `Stands` holds of the checker for some text.
     ghost invariant = { λ c. IsSomewhere c.feeder c.replay c.fault };
 }
 
 impl Checker {
     ghost use Rattle.pb_text.specs.Feeding.{state_of};
     ghost use Rattle.pb_proof.specs.Machine.State.{proofs};
-    ghost use Rattle.std.specs.Prelude.{◌+◌, ◌<◌, ◌≤◌, ◌++◌, [], ℕ, List, None, Some, Err, IfErr, IfOk, IfSome, length, slice_get, unwrap_or, true, ◌^◌};
+    ghost use Rattle.std.specs.Prelude.{◌+◌, ◌<◌, ◌≤◌, ◌++◌, [], ℕ, OnOk, List, None, Some, Err, IfErr, IfOk, IfSome, length, slice_get, unwrap_or, true, ◌^◌};
     ghost use Rattle.std.specs.Option.{option_copied};
     ghost use Rattle.pb_text.specs.Blank.{IsInReach};
     ghost use Rattle.pb_text.specs.declared.Limits.{Limits};
@@ -85,8 +84,8 @@ impl Checker {
     ghost use Rattle.pb_tool.specs.Pieces.{ChecksAt, ChecksOnce, EndsStatement, HoldsOpen, IsOpen, IsUnread, WantsMemory, bytes_gone, fault_in, fault_of, is_whole, place_in};
     ghost use Rattle.pb_tool.specs.declared.checker.CheckFault.{CheckFault as ACheckFault};
 
-    /// A checker of a proof for the replay, in whatever state that is. It stops at a statement which has not ended
-    /// within its first `longest` bytes, where there is such a limit.
+    /// A checker of a proof for the replay, in whatever state the replay is. It stops at a statement that has not ended
+    /// within its first `longest` bytes, if there is such a limit.
     pub fn new(alloc: Global, replay: Replay, longest: Option<u64>) -> Checker
         requires { IfSome longest (λ n. 0 < n) }
         ensures stands { (first : Result State AFault) → IsAt replay first
@@ -95,7 +94,7 @@ impl Checker {
         ensures place { place_in result ≡ Place.START }
         ensures replay { result.replay ≡ replay }
     {
-        replays_have_states();
+        replay.tell_sound();
         let machine = ProofMachine::new(alloc, replay.limits());
         Checker {
             feeder: Feeder::within(machine, longest.unwrap_or(BYTE_LIMIT)),
@@ -104,7 +103,7 @@ impl Checker {
         }
     }
 
-    /// The place of the next byte.
+    /// The position of the next byte.
     pub fn place(&self) -> Place
         ensures place { result ≡ place_in self.now }
         ensures reach { IsInReach result }
@@ -119,14 +118,14 @@ impl Checker {
         self.replay.name_of(number)
     }
 
-    /// How much of the current statement is kept.
+    /// How much of the current statement is stored.
     pub fn held(&self) -> usize
         ensures kept { result ≡ proofs.kept (state_of self.now.feeder) }
         ensures few { (limits : Limits) (longest : ℕ) (v : Problem) (first : Result State AFault) (input : List ℕ)
             → fault_of self.now ≡ None
             → ChecksAt limits longest v first input self.now
             → HoldsOpen limits input (place_in self.now) result }
-        // Behind the last byte of a statement nothing is kept.
+        // After the last byte of a statement nothing is stored.
         ensures none { (limits : Limits) (longest : ℕ) (v : Problem) (first : Result State AFault) (input : List ℕ)
             → fault_of self.now ≡ None
             → ChecksAt limits longest v first input self.now
@@ -139,17 +138,21 @@ impl Checker {
         self.feeder.held()
     }
 
-    /// Takes a piece of the text, and steps through each statement that ends in it. It answers how many bytes it used:
-    /// the whole piece, or through the last byte of the proof, and none after that. After a fault it answers that fault.
+    /// Takes a piece of the text and steps through each statement that ends in it. Returns the number of bytes it used:
+    /// the whole piece, or the bytes through the last byte of the proof, and none after that. After a fault it returns
+    /// that fault again.
     pub fn feed(&mut self, piece: &[u8]) -> Result<usize, CheckFault>
-        // As it stood to all the text before, it stands to that with this piece.
+        // What held of the checker for all the text before now holds for that text followed by this piece.
         ensures checks { ChecksOnce self.old piece.now self.new }
         ensures fault { fault_of self.new ≡ fault_in result }
         ensures used { IfOk result (λ n. ((place_in self.new).offset ≡ (place_in self.old).offset + n) × (n ≤ length piece.now)) }
         ensures again { (e : ACheckFault) → fault_of self.old ≡ Some e → (result ≡ Err e) × (self.new ≡ self.old) }
+        // No name is forgotten, whatever the result is. A name that a rejection gives by its number is there.
+        ensures names { IsFront self.old.replay.names self.new.replay.names }
+        ensures told { (at : Place) (n : ℕ) → fault_of self.old ≡ None → result ≡ Err (ACheckFault.Step at (AFault.NotTotal n)) → n < length self.new.replay.names }
         // There is no reader that could fail.
         ensures unread { fault_of self.old ≡ None → IfErr result IsUnread }
-        // Memory for the text is wanted only at a byte that may ask for it.
+        // Memory for the text runs out only at a byte that may allocate.
         ensures memory { (limits : Limits) (longest : ℕ) (v : Problem) (first : Result State AFault) (input : List ℕ)
             → fault_of self.old ≡ None
             → ChecksAt limits longest v first input self.old
@@ -172,13 +175,15 @@ impl Checker {
         }
     }
 
-    /// Takes bytes of the piece up to the next statement, which it steps through, or all of them.
+    /// Consumes the piece up to the end of the next statement, which it steps through, or all of it.
     fn advance(&mut self, piece: &[u8]) -> Result<Went, CheckFault>
         requires { fault_of self.old ≡ None }
         ensures stands { (limits : Limits) (longest : ℕ) (v : Problem) (first : Result State AFault) (input : List ℕ)
             → ChecksAt limits longest v first input self.old
             → ChecksAt limits longest v first (input ++ bytes_gone result piece.now) self.new }
         ensures open { IsOpen (fault_of self.new) }
+        ensures names { IsFront self.old.replay.names self.new.replay.names }
+        ensures told { (at : Place) (n : ℕ) → result ≡ Err (ACheckFault.Step at (AFault.NotTotal n)) → n < length self.new.replay.names }
         ensures fault { fault_of self.new ≡ fault_in result }
         ensures used { IfOk result (λ w. ((place_in self.new).offset ≡ (place_in self.old).offset + w.used) × (w.used ≤ length piece.now)) }
         ensures onward { IfOk result (λ w. w.more ≡ true → 0 < w.used) }
@@ -210,7 +215,7 @@ impl Checker {
         }
     }
 
-    /// The text has ended: what the proof has shown, or why it is refused.
+    /// Call this at the end of the text: it returns what the proof has shown, or why it is rejected.
     pub fn finish(&mut self) -> Result<Verdict, CheckFault>
         ensures ends { (limits : Limits) (longest : ℕ) (v : Problem) (first : Result State AFault) (input : List ℕ)
             → fault_of self.old ≡ None
@@ -218,7 +223,10 @@ impl Checker {
             → Ends limits longest v first input (place_in self.new) result }
         ensures fault { fault_of self.new ≡ fault_in result }
         ensures place { place_in self.new ≡ place_in self.old }
-        // It wants no memory: the one fault that comes here is that the text was cut.
+        // A success changes nothing, and the replay never changes.
+        ensures ok { OnOk result (self.new ≡ self.old) }
+        ensures replay { self.new.replay ≡ self.old.replay }
+        // It does not allocate. The only fault that first comes here is that the text was cut.
         ensures first { fault_of self.old ≡ None
             → IfErr result (λ e. e ≡ CheckFault.Text (record { place = place_in self.old; why = Why.Ended })) }
         ensures again { (e : ACheckFault) → fault_of self.old ≡ Some e → (result ≡ Err e) × (self.new ≡ self.old) }
@@ -244,7 +252,7 @@ impl Checker {
     }
 }
 
-/// Steps through a statement that was read, which nothing wants any more.
+/// Steps through a statement that was read, and drops the statement.
 pub(crate) fn step_through(replay: &mut Replay, read: Spanned<Statement>) -> Result<(), CheckFault>
     requires { IsStatementValue (largest replay.old.limits) (top_of replay.old.limits) read.event }
     ensures steps { (now : Result State AFault) → IsAt replay.old now
@@ -257,8 +265,8 @@ pub(crate) fn step_through(replay: &mut Replay, read: Spanned<Statement>) -> Res
     step_by(replay, &read)
 }
 
-/// The same of a statement that the caller keeps.
-fn step_by(replay: &mut Replay, read: &Spanned<Statement>) -> Result<(), CheckFault>
+/// The same for a statement that the caller keeps.
+pub(crate) fn step_by(replay: &mut Replay, read: &Spanned<Statement>) -> Result<(), CheckFault>
     requires { IsStatementValue (largest replay.old.limits) (top_of replay.old.limits) read.now.event }
     ensures steps { (now : Result State AFault) → IsAt replay.old now
         → StepsFrom replay.old.limits replay.old.problem now read.now result replay.new }
@@ -273,14 +281,14 @@ fn step_by(replay: &mut Replay, read: &Spanned<Statement>) -> Result<(), CheckFa
     }
 }
 
-/// The fault of a statement that was refused, at its first byte.
+/// The fault of a rejected statement, at its first byte.
 fn refused_at(read: &Spanned<Statement>, fault: Fault) -> CheckFault
     ensures { result ≡ CheckFault.Step read.now.first fault }
 {
     CheckFault::Step(read.first, fault)
 }
 
-/// A feeder that stands to the text of a proof has read it.
+/// If `StandsAt` holds of a feeder of proofs and an input, the feeder has read that input (`Reads`).
 pub(crate) fn texts_are_read()
     ensures { TextsAreRead }
 {

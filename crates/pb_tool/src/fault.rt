@@ -1,4 +1,4 @@
-//! Why a command gave up, its line on standard error and its exit status.
+//! Why a command failed, its line on standard error and its exit status.
 
 ghost use Rattle.std.specs.Prelude.{◌≡◌, ◌++◌, ◌∷◌, []};
 ghost use Rattle.std.specs.List.{flat_map};
@@ -17,16 +17,16 @@ use thiserror::Error;
 pub enum Input {
     /// The one file of a command.
     File,
-    /// The instance that a proof speaks of.
+    /// The instance that a proof is about.
     Instance,
     /// The proof.
     Proof,
 }
 
-/// Why a command gave up.
+/// Why a command failed.
 #[derive(Debug, Drop, Error)]
 pub enum ToolFault {
-    /// The text stopped its reader at a place.
+    /// The reader stopped at a position of the text.
     #[error("the reader stopped")]
     Text {
         input: Input,
@@ -35,17 +35,17 @@ pub enum ToolFault {
     /// The file could not be opened.
     #[error("a file could not be opened")]
     Open(Input),
-    /// A number of the whole input, and of no place in it, passes the limit.
+    /// A number that belongs to the whole input, and to no position in it, exceeds the limit.
     #[error("a number passes the limit")]
     Overflow(Input),
-    /// Memory ran out at no place of the input.
+    /// Memory ran out at no position of the input.
     #[error("memory ran out")]
     Memory(Input),
     /// The output could not be written.
     #[error("the output could not be written")]
     Write,
-    /// The statement of the proof that begins at the place was refused. The name is that without a value, where that
-    /// is why, and else empty.
+    /// The statement of the proof that begins at the position was rejected. `name` is the name without a value if that
+    /// is the reason, and empty otherwise.
     #[error("a statement was refused")]
     Step {
         place: Place,
@@ -54,8 +54,8 @@ pub enum ToolFault {
     },
 }
 
-/// The exit status of a fault: 1 where the input was refused, and 3 where a file could not be opened,
-/// read or written or memory ran out.
+/// The exit status of a fault. It is 1 if the input was rejected. It is 3 if a file could not be opened, read or
+/// written, or memory ran out.
 pub fn status(fault: &ToolFault) -> u8
     ensures { result ≡ exit_status fault.now }
 {
@@ -73,15 +73,14 @@ pub fn status(fault: &ToolFault) -> u8
     }
 }
 
-/// The fault of an input whose text was refused.
+/// The fault of an input whose text was rejected.
 pub(crate) fn refused(input: Input, stop: Stop) -> ToolFault
     ensures { result ≡ ToolFault.Text input stop }
 {
     ToolFault::Text { stop, input }
 }
 
-/// Writes the line of a fault, with its line feed. It fails where the sink does, and what went out
-/// is then a front of the line.
+/// Writes the line of a fault, with its line feed. It fails if the sink fails; a prefix of the line was then written.
 pub fn write_fault<S: Sink>(fault: &ToolFault, out: &mut S) -> Result<(), Failed>
     ensures { Writes S.contents S.faults out.old (fault_line fault.now) result out.new }
 {
@@ -95,7 +94,7 @@ pub fn write_fault<S: Sink>(fault: &ToolFault, out: &mut S) -> Result<(), Failed
     }
 }
 
-/// The line of a fault that has no place.
+/// The line of a fault that has no position.
 fn write_whole<S: Sink>(input: Input, reason: &'static [u8], out: &mut S) -> Result<(), Failed>
     ensures { Writes S.contents S.faults out.old
         (prefix_of input ++ reason.now ++ 10 ∷ []) result out.new }
@@ -103,7 +102,7 @@ fn write_whole<S: Sink>(input: Input, reason: &'static [u8], out: &mut S) -> Res
     write_parts(&[prefix(input), reason, b"\n"], out)
 }
 
-/// The line of a fault at a place.
+/// The line of a fault at a position.
 fn write_stop<S: Sink>(input: Input, stop: Stop, out: &mut S) -> Result<(), Failed>
     ensures { Writes S.contents S.faults out.old
         (prefix_of input ++ place_text stop.place ++ reason_of stop.why ++ 10 ∷ [])
@@ -114,7 +113,7 @@ fn write_stop<S: Sink>(input: Input, stop: Stop, out: &mut S) -> Result<(), Fail
     write_bytes(b"\n", out)
 }
 
-/// The word before a fault of the input.
+/// The word for the input at the start of a fault line.
 fn prefix(input: Input) -> &'static [u8]
     ensures { result.now ≡ prefix_of input }
 {
@@ -125,7 +124,7 @@ fn prefix(input: Input) -> &'static [u8]
     }
 }
 
-/// The word before a fault of the input, and a place in it, as far as its colon and space.
+/// The start of a fault line: the word for the input and a position in it, through the colon and the space.
 pub(crate) fn write_place<S: Sink>(input: Input, place: Place, out: &mut S) -> Result<(), Failed>
     ensures { Writes S.contents S.faults out.old (prefix_of input ++ place_text place) result out.new }
 {

@@ -1,17 +1,16 @@
-//! A file: what it is read as, and its text with the blank rest behind it.
+//! A file: its format, and its text with the white space and comments after it.
 
-ghost use Rattle.std.specs.Prelude.{◌≡◌, ◌<◌, ℕ, false, None, IfErr, IfOk, OnOk, OnErr};
+ghost use Rattle.std.specs.Prelude.{◌≡◌, ◌<◌, ℕ, false, true, None, IfErr, IfOk, OnOk, OnErr};
 ghost use Rattle.std.specs.Io.KnownBytes.{Keeps};
 ghost use Rattle.pb_text.specs.Automaton.{Accepts, MayAsk};
 ghost use Rattle.pb_text.specs.NothingRead.{ReadsNothing, first_fault};
-ghost use Rattle.pb_text.specs.Pulling.{faults_after};
+ghost use Rattle.pb_text.specs.Pulling.{OfGiven, faults_after};
+ghost use Rattle.pb_text.specs.Stopping.{IsShown};
 ghost use Rattle.pb_text.specs.Writing.{one_more};
 ghost use Rattle.pb_tool.specs.Files.{IsVeri};
 ghost use Rattle.pb_tool.specs.Gathered.{IsGathered, IsNotGathered};
-ghost use Rattle.pb_tool.specs.Given.{OfGiven};
 ghost use Rattle.pb_tool.specs.Opening.{IsReadAs};
 ghost use Rattle.pb_tool.specs.Tidy.{IsNoOpbFile, IsOpb, IsOpbFile};
-ghost use Rattle.pb_tool.specs.Wants.{WantsInstance};
 ghost use Rattle.pb_tool.specs.declared.fault.Input.TheVariants.{File};
 
 use crate::fault::{Input, ToolFault, refused};
@@ -20,14 +19,14 @@ use pb_proof::ProofMachine;
 use pb_text::{Failed, Gather, Limits, Machine, Source, Stop, read_whole, rest_is_blank, unread};
 use std::alloc::Global;
 
-/// A format that files have.
+/// A format of files.
 #[derive(Clone, Copy)]
 pub(crate) enum Format {
     Instance,
     Proof,
 }
 
-/// The format of a file: a proof's where its first byte is `p`, and else an instance's. It takes no byte.
+/// The format of a file: a proof if its first byte is `p`, and an instance otherwise. It consumes no byte.
 pub(crate) fn format_of<S: Source>(input: &mut S) -> Result<Format, Failed>
     ensures format { IfOk result (IsReadAs (S.left input.old)) }
     ensures left { Keeps (S.left input.old) (S.left input.new) }
@@ -42,7 +41,7 @@ pub(crate) fn format_of<S: Source>(input: &mut S) -> Result<Format, Failed>
     }
 }
 
-/// The fault of a file whose first byte could not be read: neither machine was given a byte.
+/// The fault of a file whose first byte could not be read. Neither machine was given a byte.
 pub(crate) fn unread_file(alloc: Global, limits: Limits) -> ToolFault
     ensures fault { result ≡ ToolFault.Text File first_fault }
     ensures instance { (longest : ℕ) → 0 < longest → ReadsNothing (IsOpb limits) longest }
@@ -53,8 +52,8 @@ pub(crate) fn unread_file(alloc: Global, limits: Limits) -> ToolFault
     refused(Input::File, stop)
 }
 
-/// Reads a text by a machine, behind which only white space and comments may stand, and puts its statements together,
-/// beginning with `empty`.
+/// Reads a text with a machine and gathers its statements, beginning with `empty`. Only white space and comments may
+/// follow the text.
 pub(crate) fn read_file<S: Source, M: Machine + Drop, G: Gather<Event = M::Event> + Drop>(
     input: &mut S,
     machine: M,
@@ -67,6 +66,8 @@ pub(crate) fn read_file<S: Source, M: Machine + Drop, G: Gather<Event = M::Event
     ensures refused { IfErr result (IsNotGathered (Accepts M.automaton machine) longest G.with empty (MayAsk M.automaton machine) G.asks (S.left input.old) (S.left input.new)) }
     ensures given { IfOk result (λ v. OfGiven (λ left rest. IsGathered (Accepts M.automaton machine) longest G.with empty left rest v) (S.history input.old) (S.history input.new)) }
     ensures refused_given { IfErr result (λ s. OfGiven (λ left rest. IsNotGathered (Accepts M.automaton machine) longest G.with empty (MayAsk M.automaton machine) G.asks left rest s) (S.history input.old) (S.history input.new)) }
+    ensures ended { OnOk result (S.ended input.new ≡ true) }
+    ensures shown { IfErr result (λ s. IsShown (S.shown input.new) (S.ended input.new) s.why) }
     ensures faults { S.faults input.new ≡ faults_after None result (S.faults input.old) }
 {
     let read = match read_whole(input, machine, longest, empty) {
@@ -79,7 +80,7 @@ pub(crate) fn read_file<S: Source, M: Machine + Drop, G: Gather<Event = M::Event
     }
 }
 
-/// Reads an instance, behind which only white space and comments may stand.
+/// Reads an instance. Only white space and comments may follow it.
 pub(crate) fn read_instance_file<S: Source>(
     alloc: Global,
     input: &mut S,
@@ -91,7 +92,8 @@ pub(crate) fn read_instance_file<S: Source>(
     ensures refused { IfErr result (IsNoOpbFile limits longest (S.left input.old) (S.left input.new)) }
     ensures given { IfOk result (λ v. OfGiven (λ left rest. IsOpbFile limits longest left rest v) (S.history input.old) (S.history input.new)) }
     ensures refused_given { IfErr result (λ s. OfGiven (λ left rest. IsNoOpbFile limits longest left rest s) (S.history input.old) (S.history input.new)) }
-    ensures memory { IfErr result (WantsInstance limits longest (S.left input.old) (S.left input.new)) }
+    ensures ended { OnOk result (S.ended input.new ≡ true) }
+    ensures shown { IfErr result (λ s. IsShown (S.shown input.new) (S.ended input.new) s.why) }
     ensures faults { S.faults input.new ≡ faults_after None result (S.faults input.old) }
 {
     let instance = match read_instance_within(alloc, input, longest, limits) {

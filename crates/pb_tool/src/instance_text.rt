@@ -1,4 +1,4 @@
-//! The text of an instance, as its statements come.
+//! The text of an instance, built as its statements come.
 
 ghost use Rattle.std.specs.Prelude.{◌≡◌, ◌++◌, None, OnErr, OnOk};
 ghost use Rattle.pb_text.specs.Writing.{Writes};
@@ -10,8 +10,8 @@ use pb_opb::OpbEvent;
 use pb_text::{Failed, Gather, Sink, write_bytes};
 use std::alloc::{AllocError, Global};
 
-/// The statements of an instance so far, as text but for the header and for an objective behind which no statement has
-/// come yet: to keep those takes no memory.
+/// The statements of an instance so far, as text. Two are stored as values, which allocates nothing: the header, and an
+/// objective until the next statement comes.
 #[derive(Drop)]
 pub(crate) struct InstanceText {
     header: Option<OpbEvent>,
@@ -35,7 +35,7 @@ impl InstanceText {
         }
     }
 
-    /// Adds a statement to the text, behind an objective that is kept. Where memory ran out the text is unchanged.
+    /// Adds a statement to the text, after the stored objective, if any. If memory ran out, the text is unchanged.
     fn push(&mut self, event: &OpbEvent) -> Result<(), AllocError>
         ensures ok { OnOk result (self.new ≡ record self.old { page = record self.old.page { text = self.old.page.text ++ (line_if self.old.objective ++ line event.now) }; objective = None }) }
         ensures unchanged { OnErr result (self.new ≡ self.old) }
@@ -54,7 +54,7 @@ impl InstanceText {
     }
 }
 
-/// Writes the line of a statement that may be there.
+/// Writes the line of a statement, if there is one.
 pub(crate) fn write_line_if<W: Sink>(event: &Option<OpbEvent>, out: &mut W) -> Result<(), Failed>
     ensures { Writes W.contents W.faults out.old (line_if event.now) result out.new }
 {
@@ -64,7 +64,7 @@ pub(crate) fn write_line_if<W: Sink>(event: &Option<OpbEvent>, out: &mut W) -> R
     }
 }
 
-/// Writes the line of a statement behind that of one that may be there.
+/// Writes the line of `before`, if there is one, and then the line of `event`.
 fn write_behind<W: Sink>(
     before: &Option<OpbEvent>,
     event: &OpbEvent,

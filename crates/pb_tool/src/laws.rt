@@ -1,15 +1,17 @@
-//! The laws of normal forms, and of what is written.
+//! The laws of normal forms, and of the written texts.
 
 ghost use Rattle.std.specs.Prelude.{◌≡◌, ◌↔◌, ℕ, Bool, List};
 ghost use Rattle.pb_opb.specs.declared.Instance.{Instance};
 ghost use Rattle.pb_replay.specs.Problem.{Solves};
 ghost use Rattle.pb_tool.specs.Normalised.{IsNormalised};
-ghost use Rattle.pb_tool.specs.Stays.{HasNoFault, IsTakenForInstance, StaysAsIs};
+ghost use Rattle.pb_tool.specs.Stays.{HasNoFault, IsTakenForInstance, StaysAsIs, TidiesAgain};
 ghost use Rattle.pb_tool.specs.Stays.{IsTakenForProof, ProofHasNoFault, ProofStaysAsIs};
+
+use pb_text::Sink;
 
 pub mod check;
 
-/// The normal form of an instance has exactly its solutions.
+/// The normal form of an instance has exactly the solutions of the instance.
 pub fn normal_forms_keep_solutions()
     ensures { (v w : Instance) → IsNormalised v w → (a : List ℕ → Bool) → Solves v a ↔ Solves w a }
 {
@@ -24,9 +26,9 @@ pub fn one_normal_form()
     pb_normal::laws::forms_are_unique();
 }
 
-/// What `tidy` writes of an instance stays as it is: `tidy` takes it for an instance and reads it as that instance alone,
-/// so it writes the same; and with no limit on statements it refuses it only where the source fails, memory runs out, or
-/// it has over `2^40` bytes.
+/// `tidy` leaves the text that it wrote for an instance as it is. It treats the text as an instance and reads it as
+/// that instance alone, so it writes the same. With no limit on statements, `tidy` rejects the text only if the source
+/// fails, memory runs out, or the text has over `2^40` bytes.
 pub fn tidied_text_stays()
     ensures taken { IsTakenForInstance }
     ensures same { StaysAsIs }
@@ -37,7 +39,7 @@ pub fn tidied_text_stays()
     pb_opb::laws::written_instance_reads_back();
 }
 
-/// What `tidy` writes of a proof stays as it is, as what it writes of an instance does.
+/// The same for a proof: `tidy` leaves the text that it wrote as it is.
 pub fn tidied_proof_stays()
     ensures taken { IsTakenForProof }
     ensures same { ProofStaysAsIs }
@@ -46,4 +48,16 @@ pub fn tidied_proof_stays()
     pb_proof::laws::values::canonical_proof_spells();
     pb_proof::laws::no_front();
     pb_proof::laws::values::written_proof_reads_back();
+}
+
+/// `tidy` is idempotent under the same limits. If a run wrote a text, a run over that text writes it again or fails in
+/// writing it. With no limit on statements, `tidy` rejects that text only if the source fails, memory runs out, or the
+/// text has over `2^40` bytes.
+pub fn tidied_files_stay<W: Sink>()
+    ensures { TidiesAgain W.contents W.faults }
+{
+    tidied_text_stays();
+    tidied_proof_stays();
+    pb_opb::laws::instances_are_values();
+    pb_proof::laws::values::proofs_are_values();
 }

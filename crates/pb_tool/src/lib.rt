@@ -1,4 +1,4 @@
-//! The command: its words and its faults.
+//! The commands, their arguments and their faults.
 #![tactic(auto)]
 
 mod canonical;
@@ -18,6 +18,7 @@ mod show_file;
 mod tidy_file;
 mod verdict;
 mod verify;
+mod watch;
 mod words;
 
 pub use checker::{CheckFault, Checker};
@@ -25,5 +26,6 @@ pub use fault::{Input, ToolFault, status, write_fault};
 pub use limits::limits_of;
 pub use show_file::show;
 pub use tidy_file::{tidy, tidy_with_hasher};
-pub use verify::{check, check_with_hasher};
+pub use verify::{check, check_watched, check_with_hasher};
+pub use watch::{Unwatched, Watch};
 pub use words::{Job, WordsFault, read_words};

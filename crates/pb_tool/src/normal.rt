@@ -19,7 +19,8 @@ use pb_text::Limits;
 use std::alloc::{AllocError, Global};
 use std::slice;
 
-/// The lines of forms so far, how many these are, and the names that have appeared. A name's number is its place.
+/// The lines of the forms so far, how many forms there are, and the names that have appeared. The number of a name is
+/// its position among these.
 #[derive(Drop)]
 pub(crate) struct FormLines {
     alloc: Global,
@@ -66,7 +67,7 @@ impl FormLines {
         number_names(&mut self.names, terms)
     }
 
-    /// Adds the lines of a constraint's forms: of an equality the side at least, and then the side at most.
+    /// Adds the lines of a constraint's forms. For an equality these are the `at least` side and then the `at most` side.
     pub(crate) fn add(&mut self, constraint: &Linear, limits: Limits) -> Result<(), AllocError>
         requires { Fits (largest limits) constraint.now }
         ensures names { OnOk result (self.new.names ≡ with_names self.old.names (constraint_names (constraint.now ∷ []))) }
@@ -124,7 +125,7 @@ fn number_names(names: &mut Names, terms: &[Term]) -> Result<(), AllocError>
     Ok(())
 }
 
-/// The forms of constraints that fit, in turn.
+/// The forms of constraints that fit the limits, in turn.
 fn loaded(
     alloc: Global,
     names: &mut Names,

@@ -1,4 +1,4 @@
-//! The normal form of an instance, as its statements come.
+//! The normal form of an instance, built as its statements come.
 
 ghost use Rattle.std.specs.Prelude.{◌≡◌, ◌++◌, ◌∷◌, [], List, ℕ, false};
 ghost use Rattle.pb_text.specs.Limits.{largest};
@@ -23,14 +23,14 @@ use pb_text::{Bytes, Failed, Gather, Limits, Sink, write_bytes};
 use std::alloc::{AllocError, Global};
 use std::marker::Model;
 
-/// How far the forms have come.
+/// Whether the forms could be made.
 #[derive(Clone, Copy)]
 enum Standing {
-    /// The forms of all constraints are there.
+    /// The forms of all constraints are stored.
     Kept,
-    /// Every constraint fits, and memory ran out for a form or a name.
+    /// Every constraint fits the limit, but memory ran out for a form or a name.
     Lost,
-    /// A constraint passes the limit.
+    /// A constraint exceeds the limit.
     Overflows,
 }
 
@@ -75,8 +75,8 @@ impl Forms {
     }
 }
 
-/// The normal form of the statements so far: the count of variables and the objective as they are, and the forms as
-/// lines. Clauses see it as the limits and the statements.
+/// The normal form of the statements so far. The number of variables and the objective are stored as they are, and the
+/// forms as lines. Contracts see the limits and the statements.
 #[derive(Drop)]
 pub(crate) struct NormalText {
     notes: Notes,
@@ -118,7 +118,7 @@ impl NormalText {
         }
     }
 
-    /// Writes the normal form of the instance, and nothing where there is none.
+    /// Writes the normal form of the instance, or nothing if there is none.
     pub(crate) fn write<W: Sink>(&self, alloc: Global, out: &mut W) -> Result<(), ToolFault>
         ensures { (v : Instance) → IsInOrder self.now.1 v →
             WritesText (IsAsked (largest self.now.0) v) (IsDenied (largest self.now.0) v) tidied W.contents W.faults out.old result out.new }
@@ -140,7 +140,7 @@ impl NormalText {
     }
 }
 
-/// Writes the line of a header, that of an objective that may be there, and then these lines.
+/// Writes the line of a header, the line of an objective if there is one, and then these lines.
 fn write_normal<W: Sink>(
     header: &OpbEvent,
     objective: &Option<OpbEvent>,

@@ -1,4 +1,4 @@
-//! A list of statements that only clauses read.
+//! A list of statements that only contracts read.
 
 ghost use Rattle.std.specs.Prelude.{◌≡◌, List, [], ◌∷◌, ◌++◌};
 ghost use Rattle.std.specs.Borrow.{ftrue};
@@ -7,7 +7,7 @@ ghost use Rattle.pb_opb.specs.declared.OpbEvent.{OpbEvent as Event};
 use pb_opb::OpbEvent;
 use std::marker::{Model, PhantomData};
 
-/// Statements that came. It takes no memory, and its methods do nothing when they run.
+/// The statements so far, seen by contracts only. It takes no memory, and its methods do nothing at run time.
 #[derive(Drop)]
 pub(crate) struct Notes {
     marker: PhantomData<u8>,
@@ -28,7 +28,7 @@ impl Notes {
         }
     }
 
-    /// These and one more.
+    /// These statements and one more.
     pub(crate) fn and(&self, _event: &OpbEvent) -> Notes
         ensures { result.events ≡ self.now.events ++ _event.now ∷ [] }
     {

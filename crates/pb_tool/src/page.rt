@@ -1,4 +1,4 @@
-//! Text that is kept until it may be written.
+//! Text that is stored until it may be written.
 
 ghost use Rattle.std.specs.Prelude.{◌≡◌, [], length, take};
 
@@ -20,14 +20,14 @@ impl Model for Text {
     ghost view = { λ t. t.bytes.items };
 }
 
-/// A sink in memory. It fails where memory ran out.
+/// A sink in memory. It fails if memory ran out.
 #[derive(Drop)]
 pub(crate) struct Page {
     text: Text,
     failures: u64,
 }
 
-/// Where a page stands: how many bytes it holds, and how often it has failed.
+/// The state of a page: how many bytes it holds, and how often it has failed.
 #[derive(Clone, Copy)]
 pub(crate) struct Mark {
     bytes: usize,
@@ -35,7 +35,7 @@ pub(crate) struct Mark {
 }
 
 impl Page {
-    /// Before any byte.
+    /// An empty page.
     pub(crate) fn new(alloc: Global) -> Page
         ensures text { result.text ≡ [] }
         ensures failures { result.failures ≡ 0 }
@@ -53,7 +53,7 @@ impl Page {
         self.text.bytes.as_slice()
     }
 
-    /// Where it stands.
+    /// The current state.
     pub(crate) fn mark(&self) -> Mark
         ensures bytes { result.bytes ≡ length self.now.text }
         ensures failures { result.failures ≡ self.now.failures }
@@ -64,7 +64,7 @@ impl Page {
         }
     }
 
-    /// Takes back what came behind a mark.
+    /// Removes what was written after a mark, and restores the count of failures.
     pub(crate) fn back_to(&mut self, mark: Mark)
         ensures text { self.new.text ≡ take mark.bytes self.old.text }
         ensures failures { self.new.failures ≡ mark.failures }

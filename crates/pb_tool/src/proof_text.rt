@@ -1,4 +1,4 @@
-//! The text of a proof, as its statements come.
+//! The text of a proof, built as its statements come.
 
 ghost use Rattle.std.specs.Prelude.{◌≡◌, ◌++◌, OnErr, OnOk};
 ghost use Rattle.pb_text.specs.Writing.{Writes};
@@ -10,7 +10,8 @@ use pb_proof::{Conclusion, Statement};
 use pb_text::{Failed, Gather, Sink, write_bytes};
 use std::alloc::{AllocError, Global};
 
-/// The statements of a proof so far: its steps as text, and the count of `f` and the conclusion as they are, which takes no memory.
+/// The statements of a proof so far. The steps are stored as text. The count of `f` and the conclusion are stored as
+/// values, which allocates nothing.
 #[derive(Drop)]
 pub(crate) struct ProofText {
     count: Option<u64>,
@@ -40,7 +41,7 @@ impl ProofText {
         write_line(&Statement::F(self.count), out)
     }
 
-    /// Writes the lines behind the steps.
+    /// Writes the lines after the steps.
     fn write_back<W: Sink>(&self, out: &mut W) -> Result<(), Failed>
         ensures { Writes W.contents W.faults out.old (back_of self.now) result out.new }
     {
@@ -49,7 +50,7 @@ impl ProofText {
         write_line(&Statement::End, out)
     }
 
-    /// Adds a step to the text. Where memory ran out the text is unchanged.
+    /// Adds a step to the text. If memory ran out, the text is unchanged.
     fn push(&mut self, step: &Statement) -> Result<(), AllocError>
         ensures ok { OnOk result (self.new ≡ record self.old { steps = record self.old.steps { text = self.old.steps.text ++ line step.now } }) }
         ensures unchanged { OnErr result (self.new ≡ self.old) }

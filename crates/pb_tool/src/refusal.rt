@@ -1,4 +1,4 @@
-//! The line of a refused statement.
+//! The line of a rejected statement.
 
 ghost use Rattle.std.specs.Fmt.{signed_decimal};
 ghost use Rattle.std.specs.Prelude.{◌++◌, ◌∷◌, [], codes, decimal};
@@ -11,7 +11,7 @@ use itoa::Buffer;
 use pb_replay::Fault;
 use pb_text::{Failed, Place, Sink, write_bytes};
 
-/// Writes the line of a statement of the proof that begins at a place. The name is that of a `NotTotal`.
+/// Writes the line of a rejected statement of the proof that begins at a position. `name` is the name of a `NotTotal`.
 pub(crate) fn write_step<S: Sink>(
     place: Place,
     fault: Fault,
@@ -26,7 +26,7 @@ pub(crate) fn write_step<S: Sink>(
     write_bytes(b"\n", out)
 }
 
-/// Why a statement was refused.
+/// Why a statement was rejected.
 fn write_refusal<S: Sink>(fault: Fault, name: &str, out: &mut S) -> Result<(), Failed>
     ensures { Writes S.contents S.faults out.old (refusal_text fault name.now) result out.new }
 {
@@ -49,7 +49,7 @@ fn write_refusal<S: Sink>(fault: Fault, name: &str, out: &mut S) -> Result<(), F
     }
 }
 
-/// The number of constraints that there are.
+/// The actual number of constraints.
 fn write_formula_count<S: Sink>(count: u64, out: &mut S) -> Result<(), Failed>
     ensures { Writes S.contents S.faults out.old
         (codes "formula has " ++ decimal count ++ codes " constraints") result out.new }
@@ -80,7 +80,7 @@ fn write_no_value<S: Sink>(name: &str, out: &mut S) -> Result<(), Failed>
     write_parts(&[b"no value for ", name.as_bytes()], out)
 }
 
-/// The id of the constraint that fails.
+/// The id of the violated constraint.
 fn write_violates<S: Sink>(id: u64, out: &mut S) -> Result<(), Failed>
     ensures { Writes S.contents S.faults out.old (codes "violates constraint " ++ decimal id) result out.new }
 {

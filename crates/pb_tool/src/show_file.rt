@@ -1,17 +1,18 @@
-//! `pb show`: the statements of a text, each with its place.
+//! `pb show`: the statements of a text, each with its position.
 
 ghost use Rattle.std.specs.Prelude.{◌≡◌, ◌<◌, ◌^◌, false, unwrap_or, IfSome};
 ghost use Rattle.pb_text.specs.Automaton.{Accepts, MayAsk};
 ghost use Rattle.pb_text.specs.Blank.{IsInReach};
+ghost use Rattle.pb_text.specs.Pulling.{OfGiven};
 ghost use Rattle.pb_text.specs.Writing.{Writes};
 ghost use Rattle.pb_opb.specs.Canonical.{event_bytes};
 ghost use Rattle.pb_proof.specs.Canonical.{statement_bytes};
 ghost use Rattle.pb_tool.specs.Faults.{faults_told};
-ghost use Rattle.pb_tool.specs.Files.{IsVeri, ShowsFile};
-ghost use Rattle.pb_tool.specs.Given.{OfGiven, ShowsGiven};
+ghost use Rattle.pb_tool.specs.Files.{AsksVeri, IsVeri, ShowsFile};
+ghost use Rattle.pb_tool.specs.Given.{ShowsGiven};
+ghost use Rattle.pb_tool.specs.Seen.{SawStatements};
 ghost use Rattle.pb_tool.specs.Show.{shown_line, EndsAt, Shows};
-ghost use Rattle.pb_tool.specs.Tidy.{IsOpb};
-ghost use Rattle.pb_tool.specs.Wants.{AsksOpb, AsksVeri, IfStopped, WantsEach, WantsShowing};
+ghost use Rattle.pb_tool.specs.Tidy.{AsksOpb, IsOpb};
 
 use crate::canonical::{Canonical, write_line};
 use crate::fault::{Input, ToolFault, refused};
@@ -24,12 +25,12 @@ use pb_text::{
 };
 use std::alloc::Global;
 
-/// Writes a line for each statement as soon as it is complete: the line and the column of its first byte, and its
-/// canonical spelling, as in `2:1 +1 x1 >= 1 ;`. A file whose first byte is `p` is read as a proof, and any other as
-/// an instance. Behind these only white space and comments may stand. Where the text is refused, the lines of all
-/// statements before that place went out.
+/// Writes a line for each statement as soon as it is complete. The line begins with the line and column of the first
+/// byte of the statement. Its canonical text follows, as in `2:1 +1 x1 >= 1 ;`. A file whose first byte is `p` is read
+/// as a proof, any other as an instance. Only white space and comments may follow. If the text is rejected, the lines
+/// of all statements before that position were written.
 ///
-/// `longest` is the most bytes of a statement, where there is such a limit.
+/// `longest` is the maximum number of bytes of a statement, if there is such a limit.
 pub fn show<S: Source, W: Sink>(
     alloc: Global,
     input: &mut S,
@@ -39,11 +40,11 @@ pub fn show<S: Source, W: Sink>(
 ) -> Result<(), ToolFault>
     requires { IfSome longest (λ n. 0 < n) }
     ensures shows { ShowsFile limits (unwrap_or longest (2 ^ 40)) W.contents W.faults (S.left input.old) out.old result (S.left input.new) out.new }
-    // Of any source, a file too: the answer is right for the bytes that its calls have given.
+    // For any source, files included: the result is right for the bytes that its calls have given.
     ensures given { ShowsGiven limits (unwrap_or longest (2 ^ 40)) W.contents W.faults (S.history input.old) out.old result (S.history input.new) out.new }
-    // Memory runs out only at a byte that may ask for some.
-    ensures memory { IfStopped result (WantsShowing limits (unwrap_or longest (2 ^ 40)) (S.left input.old) (S.left input.new)) }
-    // `Read` comes only where the source failed.
+    // A rejected byte is the one that the source has shown. The text ends only if the source has shown its end.
+    ensures seen { SawStatements (S.shown input.new) (S.ended input.new) result }
+    // `Read` comes only if the source failed.
     ensures faults { S.faults input.new ≡ faults_told result (S.faults input.old) }
 {
     let longest = longest.unwrap_or(BYTE_LIMIT);
@@ -63,9 +64,9 @@ fn show_proof<S: Source, W: Sink>(
     limits: Limits,
 ) -> Result<(), ToolFault>
     requires { 0 < longest }
-    ensures shows { Shows (IsVeri limits) longest statement_bytes W.contents W.faults (S.left input.old) out.old result (S.left input.new) out.new }
-    ensures given { OfGiven (λ left rest. Shows (IsVeri limits) longest statement_bytes W.contents W.faults left out.old result rest out.new) (S.history input.old) (S.history input.new) }
-    ensures memory { IfStopped result (WantsEach (IsVeri limits) longest (AsksVeri limits) (S.left input.old) (S.left input.new)) }
+    ensures shows { Shows (IsVeri limits) longest (AsksVeri limits) statement_bytes W.contents W.faults (S.left input.old) out.old result (S.left input.new) out.new }
+    ensures given { OfGiven (λ left rest. Shows (IsVeri limits) longest (AsksVeri limits) statement_bytes W.contents W.faults left out.old result rest out.new) (S.history input.old) (S.history input.new) }
+    ensures seen { SawStatements (S.shown input.new) (S.ended input.new) result }
     ensures faults { S.faults input.new ≡ faults_told result (S.faults input.old) }
 {
     show_each(ProofMachine::new(alloc, limits), longest, input, out)
@@ -80,15 +81,15 @@ fn show_instance<S: Source, W: Sink>(
     limits: Limits,
 ) -> Result<(), ToolFault>
     requires { 0 < longest }
-    ensures shows { Shows (IsOpb limits) longest event_bytes W.contents W.faults (S.left input.old) out.old result (S.left input.new) out.new }
-    ensures given { OfGiven (λ left rest. Shows (IsOpb limits) longest event_bytes W.contents W.faults left out.old result rest out.new) (S.history input.old) (S.history input.new) }
-    ensures memory { IfStopped result (WantsEach (IsOpb limits) longest (AsksOpb limits) (S.left input.old) (S.left input.new)) }
+    ensures shows { Shows (IsOpb limits) longest (AsksOpb limits) event_bytes W.contents W.faults (S.left input.old) out.old result (S.left input.new) out.new }
+    ensures given { OfGiven (λ left rest. Shows (IsOpb limits) longest (AsksOpb limits) event_bytes W.contents W.faults left out.old result rest out.new) (S.history input.old) (S.history input.new) }
+    ensures seen { SawStatements (S.shown input.new) (S.ended input.new) result }
     ensures faults { S.faults input.new ≡ faults_told result (S.faults input.old) }
 {
     show_each(OpbMachine::new(alloc, limits), longest, input, out)
 }
 
-/// The same for what a machine reads.
+/// The same for any machine.
 fn show_each<S: Source, W: Sink, E: Canonical + Drop, M: Machine<Event = E> + Drop>(
     machine: M,
     longest: u64,
@@ -97,9 +98,9 @@ fn show_each<S: Source, W: Sink, E: Canonical + Drop, M: Machine<Event = E> + Dr
 ) -> Result<(), ToolFault>
     requires between { M.automaton.begun machine ≡ false }
     requires some { 0 < longest }
-    ensures shows { Shows (Accepts M.automaton machine) longest E.text W.contents W.faults (S.left input.old) out.old result (S.left input.new) out.new }
-    ensures given { OfGiven (λ left rest. Shows (Accepts M.automaton machine) longest E.text W.contents W.faults left out.old result rest out.new) (S.history input.old) (S.history input.new) }
-    ensures memory { IfStopped result (WantsEach (Accepts M.automaton machine) longest (MayAsk M.automaton machine) (S.left input.old) (S.left input.new)) }
+    ensures shows { Shows (Accepts M.automaton machine) longest (MayAsk M.automaton machine) E.text W.contents W.faults (S.left input.old) out.old result (S.left input.new) out.new }
+    ensures given { OfGiven (λ left rest. Shows (Accepts M.automaton machine) longest (MayAsk M.automaton machine) E.text W.contents W.faults left out.old result rest out.new) (S.history input.old) (S.history input.new) }
+    ensures seen { SawStatements (S.shown input.new) (S.ended input.new) result }
     ensures faults { S.faults input.new ≡ faults_told result (S.faults input.old) }
 {
     let mut feeder = Feeder::within(machine, longest);
@@ -116,11 +117,12 @@ fn show_each<S: Source, W: Sink, E: Canonical + Drop, M: Machine<Event = E> + Dr
     end_of(input, feeder.place())
 }
 
-/// Reads the rest of an input, in which only white space and comments may stand.
+/// Reads the rest of an input, which may have only white space and comments.
 fn end_of<S: Source>(input: &mut S, place: Place) -> Result<(), ToolFault>
     requires { IsInReach place }
     ensures ends { EndsAt place (S.left input.old) result (S.left input.new) }
     ensures given { OfGiven (λ left rest. EndsAt place left result rest) (S.history input.old) (S.history input.new) }
+    ensures seen { SawStatements (S.shown input.new) (S.ended input.new) result }
     ensures faults { S.faults input.new ≡ faults_told result (S.faults input.old) }
 {
     match rest_is_blank(input, place) {
@@ -129,7 +131,7 @@ fn end_of<S: Source>(input: &mut S, place: Place) -> Result<(), ToolFault>
     }
 }
 
-/// Writes the line of a statement, which nothing wants any more.
+/// Writes the line of a statement, and drops the statement.
 fn show_one<W: Sink, E: Canonical + Drop>(read: Spanned<E>, out: &mut W) -> Result<(), Failed>
     ensures { Writes W.contents W.faults out.old (shown_line E.text read) result out.new }
 {

@@ -1,13 +1,14 @@
-//! `pb tidy`: the canonical spelling of a file.
+//! `pb tidy`: the canonical text of a file.
 
 ghost use Rattle.std.specs.Prelude.{◌≡◌, ◌<◌, ◌^◌, false, true, unwrap_or, IfSome};
 ghost use Rattle.pb_text.specs.Automaton.{Accepts, MayAsk};
+ghost use Rattle.pb_text.specs.Pulling.{OfGiven};
 ghost use Rattle.pb_tool.specs.Faults.{faults_told};
 ghost use Rattle.pb_tool.specs.Files.{TidiesFile, TidiesProof};
 ghost use Rattle.pb_tool.specs.Gathered.{TidiesEach};
-ghost use Rattle.pb_tool.specs.Given.{OfGiven, TidiesGiven};
+ghost use Rattle.pb_tool.specs.Given.{TidiesGiven};
+ghost use Rattle.pb_tool.specs.Seen.{SawFile};
 ghost use Rattle.pb_tool.specs.Tidy.{Tidies};
-ghost use Rattle.pb_tool.specs.Wants.{IfStopped, WantsInstance, WantsProof, WantsTidying};
 
 use crate::canonical::Canonical;
 use crate::fault::{Input, ToolFault, refused};
@@ -21,16 +22,17 @@ use pb_proof::ProofMachine;
 use pb_text::{BYTE_LIMIT, Failed, Gather, Limits, Machine, Sink, Source};
 use std::alloc::Global;
 
-/// Reads a file, behind whose text only white space and comments may stand, and writes its canonical spelling and a
-/// line feed if that does not end in one. A file whose first byte is `p` is read as a proof, and any other as an
-/// instance. It writes nothing before the whole input was accepted.
+/// Reads a file and writes its canonical text, with a line feed if the text does not end in one. Only white space and
+/// comments may follow the text of the file. A file whose first byte is `p` is read as a proof, any other as an
+/// instance. Nothing is written before the whole input was accepted.
 ///
-/// With `normal` every file is read as an instance, and written in normal form: each constraint `>=` as its form, each
-/// `=` as its two, with the variables and the objective of the instance and without its tail and comments. Then it
-/// writes nothing before each constraint was normalised, and answers `Overflow` where a constraint passes the limit.
+/// With `normal` every file is read as an instance and written in normal form. Each constraint `>=` becomes its form,
+/// each `=` its two forms. The variables and the objective of the instance stay; its tail and comments are left out.
+/// Nothing is written before each constraint was normalised. The result is `Overflow` if a constraint exceeds the
+/// limit.
 ///
-/// `longest` is the most bytes of a statement, where there is such a limit. The names of an instance are hashed by fixed
-/// keys: for files that come from strangers there is `tidy_with_hasher`.
+/// `longest` is the maximum number of bytes of a statement, if there is such a limit. The names of an instance are
+/// hashed with fixed keys: use `tidy_with_hasher` for files from untrusted sources.
 pub fn tidy<S: Source, W: Sink>(
     alloc: Global,
     input: &mut S,
@@ -41,17 +43,17 @@ pub fn tidy<S: Source, W: Sink>(
 ) -> Result<(), ToolFault>
     requires { IfSome longest (λ n. 0 < n) }
     ensures tidies { TidiesFile limits (unwrap_or longest (2 ^ 40)) W.contents W.faults normal (S.left input.old) out.old result (S.left input.new) out.new }
-    // Of any source, a file too: the answer is right for the bytes that its calls have given.
+    // For any source, files included: the result is right for the bytes that its calls have given.
     ensures given { TidiesGiven limits (unwrap_or longest (2 ^ 40)) W.contents W.faults normal (S.history input.old) out.old result (S.history input.new) out.new }
-    // Memory runs out for the text only at a byte that may ask for some, and behind a statement that is to be kept.
-    ensures memory { IfStopped result (WantsTidying limits (unwrap_or longest (2 ^ 40)) normal (S.left input.old) (S.left input.new)) }
-    // `Read` comes only where the source failed.
+    // A rejected byte is the one that the source has shown. The text ends only if the source has shown its end.
+    ensures seen { SawFile (S.shown input.new) (S.ended input.new) result }
+    // `Read` comes only if the source failed.
     ensures faults { S.faults input.new ≡ faults_told result (S.faults input.old) }
 {
     tidy_with_hasher(alloc, HashKeys::Fixed, input, normal, out, longest, limits)
 }
 
-/// The same, where the names of an instance are hashed by these keys.
+/// The same as `tidy`, with the names of an instance hashed with these keys.
 pub fn tidy_with_hasher<S: Source, W: Sink>(
     alloc: Global,
     keys: HashKeys,
@@ -63,11 +65,11 @@ pub fn tidy_with_hasher<S: Source, W: Sink>(
 ) -> Result<(), ToolFault>
     requires { IfSome longest (λ n. 0 < n) }
     ensures tidies { TidiesFile limits (unwrap_or longest (2 ^ 40)) W.contents W.faults normal (S.left input.old) out.old result (S.left input.new) out.new }
-    // Of any source, a file too: the answer is right for the bytes that its calls have given.
+    // For any source, files included: the result is right for the bytes that its calls have given.
     ensures given { TidiesGiven limits (unwrap_or longest (2 ^ 40)) W.contents W.faults normal (S.history input.old) out.old result (S.history input.new) out.new }
-    // Memory runs out for the text only at a byte that may ask for some, and behind a statement that is to be kept.
-    ensures memory { IfStopped result (WantsTidying limits (unwrap_or longest (2 ^ 40)) normal (S.left input.old) (S.left input.new)) }
-    // `Read` comes only where the source failed.
+    // A rejected byte is the one that the source has shown. The text ends only if the source has shown its end.
+    ensures seen { SawFile (S.shown input.new) (S.ended input.new) result }
+    // `Read` comes only if the source failed.
     ensures faults { S.faults input.new ≡ faults_told result (S.faults input.old) }
 {
     let longest = longest.unwrap_or(BYTE_LIMIT);
@@ -81,7 +83,7 @@ pub fn tidy_with_hasher<S: Source, W: Sink>(
     }
 }
 
-/// The same for a proof: its canonical spelling and a line feed.
+/// The same for a proof: its canonical text and a line feed.
 fn tidy_proof<S: Source, W: Sink>(
     alloc: Global,
     input: &mut S,
@@ -92,7 +94,7 @@ fn tidy_proof<S: Source, W: Sink>(
     requires { 0 < longest }
     ensures tidies { TidiesProof limits longest W.contents W.faults (S.left input.old) out.old result (S.left input.new) out.new }
     ensures given { OfGiven (λ left rest. TidiesProof limits longest W.contents W.faults left out.old result rest out.new) (S.history input.old) (S.history input.new) }
-    ensures memory { IfStopped result (WantsProof limits longest (S.left input.old) (S.left input.new)) }
+    ensures seen { SawFile (S.shown input.new) (S.ended input.new) result }
     ensures faults { S.faults input.new ≡ faults_told result (S.faults input.old) }
 {
     tidy_each(
@@ -104,7 +106,7 @@ fn tidy_proof<S: Source, W: Sink>(
     )
 }
 
-/// The same for an instance: its canonical spelling and a line feed if that does not end in one.
+/// The same for an instance: its canonical text, and a line feed if the text does not end in one.
 fn tidy_instance<S: Source, W: Sink>(
     alloc: Global,
     input: &mut S,
@@ -115,7 +117,7 @@ fn tidy_instance<S: Source, W: Sink>(
     requires { 0 < longest }
     ensures tidies { Tidies limits longest false W.contents W.faults (S.left input.old) out.old result (S.left input.new) out.new }
     ensures given { OfGiven (λ left rest. Tidies limits longest false W.contents W.faults left out.old result rest out.new) (S.history input.old) (S.history input.new) }
-    ensures memory { IfStopped result (WantsInstance limits longest (S.left input.old) (S.left input.new)) }
+    ensures seen { SawFile (S.shown input.new) (S.ended input.new) result }
     ensures faults { S.faults input.new ≡ faults_told result (S.faults input.old) }
 {
     tidy_each(
@@ -127,8 +129,8 @@ fn tidy_instance<S: Source, W: Sink>(
     )
 }
 
-/// The same for what a machine reads: the text of its statements put together, beginning with `empty`. It writes nothing
-/// before the whole input was accepted.
+/// The same for any machine: the text of its statements gathered, beginning with `empty`. Nothing is written before the
+/// whole input was accepted.
 fn tidy_each<S: Source, W: Sink, M: Machine + Drop, G: Gather<Event = M::Event> + Canonical + Drop>(
     machine: M,
     empty: G,
@@ -140,6 +142,7 @@ fn tidy_each<S: Source, W: Sink, M: Machine + Drop, G: Gather<Event = M::Event> 
     requires some { 0 < longest }
     ensures tidies { TidiesEach (Accepts M.automaton machine) longest G.with empty (MayAsk M.automaton machine) G.asks G.text W.contents W.faults (S.left input.old) out.old result (S.left input.new) out.new }
     ensures given { OfGiven (λ left rest. TidiesEach (Accepts M.automaton machine) longest G.with empty (MayAsk M.automaton machine) G.asks G.text W.contents W.faults left out.old result rest out.new) (S.history input.old) (S.history input.new) }
+    ensures seen { SawFile (S.shown input.new) (S.ended input.new) result }
     ensures faults { S.faults input.new ≡ faults_told result (S.faults input.old) }
 {
     let text = match read_file(input, machine, longest, empty) {
@@ -152,8 +155,8 @@ fn tidy_each<S: Source, W: Sink, M: Machine + Drop, G: Gather<Event = M::Event> 
     }
 }
 
-/// Reads an instance, behind which only white space and comments may stand, and writes its normal form and a line feed if
-/// that does not end in one.
+/// Reads an instance and writes its normal form, with a line feed if the text does not end in one. Only white space and
+/// comments may follow the instance.
 fn tidy_normal<S: Source, W: Sink>(
     alloc: Global,
     keys: HashKeys,
@@ -165,7 +168,7 @@ fn tidy_normal<S: Source, W: Sink>(
     requires { 0 < longest }
     ensures tidies { Tidies limits longest true W.contents W.faults (S.left input.old) out.old result (S.left input.new) out.new }
     ensures given { OfGiven (λ left rest. Tidies limits longest true W.contents W.faults left out.old result rest out.new) (S.history input.old) (S.history input.new) }
-    ensures memory { IfStopped result (WantsInstance limits longest (S.left input.old) (S.left input.new)) }
+    ensures seen { SawFile (S.shown input.new) (S.ended input.new) result }
     ensures faults { S.faults input.new ≡ faults_told result (S.faults input.old) }
 {
     let machine = OpbMachine::new(alloc, limits);

@@ -34,7 +34,7 @@ fn write_bounds<S: Sink>(lower: Bound, upper: Bound, out: &mut S) -> Result<(), 
     write_parts(&[b"verified BOUNDS ", low, b" ", high, b"\n"], out)
 }
 
-/// A bound as a proof spells it: a number, or `INF`.
+/// A bound as it appears in a proof: a number, or `INF`.
 fn bound_text<'a>(bound: Bound, buffer: &'a mut Buffer) -> &'a [u8]
     ensures { result.now ≡ bound_bytes bound }
 {

@@ -1,33 +1,45 @@
 //! `pb check`: whether a proof of an instance is accepted, and what it shows.
 
-ghost use Rattle.std.specs.Prelude.{◌≡◌, ◌<◌, ◌^◌, None, unwrap_or, string_bytes, get_or, [], IfErr, IfOk, IfSome};
+ghost use Rattle.std.specs.Prelude.{◌≡◌, ◌<◌, ◌^◌, Err, None, Result, unwrap_or, string_bytes, get_or, [], length, IfErr, IfOk, IfSome, OnErr, ℕ};
 ghost use Rattle.pb_text.specs.Blank.{IsInReach};
+ghost use Rattle.pb_text.specs.Pulling.{OfGiven};
+ghost use Rattle.pb_text.specs.Limits.{largest, top_of};
+ghost use Rattle.pb_proof.specs.Values.{IsStatementValue};
 ghost use Rattle.pb_replay.specs.Replay.{State};
 ghost use Rattle.pb_replay.specs.Kept.{StandsFor};
-ghost use Rattle.pb_tool.specs.Given.{ChecksGiven, OfGiven};
+ghost use Rattle.pb_replay.specs.Meaning.{IsFront};
+ghost use Rattle.pb_replay.specs.declared.fault.Fault.{Fault as AFault};
+ghost use Rattle.pb_tool.specs.Checker.{IsAt, StepsFrom};
+ghost use Rattle.pb_tool.specs.Given.{ChecksGiven};
+ghost use Rattle.pb_tool.specs.Headline.{TrueOf, UnsatOf};
 ghost use Rattle.pb_tool.specs.Runs.{IsNoReplay, IsReplayOf, IsToldAs, Replays, Runs, faults_of_instance, faults_of_proof, faults_of_text};
+ghost use Rattle.pb_tool.specs.Seen.{SawInstance, SawProof, SawText};
 ghost use Rattle.pb_tool.specs.Verified.{ChecksFiles, IsTold};
-ghost use Rattle.pb_tool.specs.Wants.{IfInstanceStopped, IfProofStopped, IfTextStopped, WantsInstance, WantsSteps};
 
-use crate::checker::{CheckFault, step_through};
+use crate::checker::{CheckFault, step_by};
 use crate::fault::{Input, ToolFault, refused};
 use crate::file::read_instance_file;
+use crate::laws::check::verified_is_true;
 use crate::verdict::write_verdict;
+use crate::watch::{Unwatched, Watch};
 use pb_normal::HashKeys;
-use pb_proof::ProofMachine;
 use pb_proof::laws::proofs_are_exact;
 use pb_proof::laws::values::reads_are_of_proofs;
-use pb_replay::laws::{replays_have_states, whole_proofs_conclude};
+use pb_proof::{ProofMachine, Statement};
+use pb_replay::laws::{outcomes_are_single, whole_proofs_conclude};
 use pb_replay::{Fault, Replay, Verdict};
-use pb_text::{BYTE_LIMIT, Failed, Feeder, Limits, Place, Sink, Source, pull, rest_is_blank};
+use pb_text::{
+    BYTE_LIMIT, Failed, Feeder, Limits, Place, Sink, Source, Spanned, pull, rest_is_blank,
+};
 use std::alloc::{AllocError, Global};
 
-/// Reads an instance and then a proof of it, takes each statement of the proof as soon as it is complete, and writes
-/// the line of what the proof shows: `verified UNSAT`, `verified SAT`, `verified NONE` or `verified BOUNDS l u`. Behind
-/// the instance and the proof only white space and comments may stand. It writes nothing before both were accepted.
+/// Reads an instance and then a proof of it, and checks each statement of the proof as soon as it is complete. Then it
+/// writes what the proof shows: `verified UNSAT`, `verified SAT`, `verified NONE` or `verified BOUNDS l u`, as one
+/// line. Only white space and comments may follow the instance and the proof. Nothing is written before both were
+/// accepted.
 ///
-/// `longest` is the most bytes of a statement, where there is such a limit. Names are hashed by fixed keys: for files that
-/// come from strangers there is `check_with_hasher`.
+/// `longest` is the maximum number of bytes of a statement, if there is such a limit. Names are hashed with fixed keys:
+/// use `check_with_hasher` for files from untrusted sources.
 pub fn check<I: Source, P: Source, W: Sink>(
     alloc: Global,
     instance: &mut I,
@@ -39,13 +51,18 @@ pub fn check<I: Source, P: Source, W: Sink>(
     requires { IfSome longest (λ n. 0 < n) }
     ensures checks { ChecksFiles limits (unwrap_or longest (2 ^ 40)) W.contents W.faults (I.left instance.old) (P.left proof.old) out.old
         result (I.left instance.new) (P.left proof.new) out.new }
-    // Of any sources, files too: the answer is right for the bytes that their calls have given.
+    // For any sources, files included: the result is right for the bytes that their calls have given.
     ensures given { ChecksGiven limits (unwrap_or longest (2 ^ 40)) W.contents W.faults (I.history instance.old) (P.history proof.old) out.old
         result (I.history instance.new) (P.history proof.new) out.new }
-    // Memory runs out for a text only at a byte that may ask for some, or behind a statement of the instance, which is kept.
-    ensures wants_instance { IfErr result (λ f. IfInstanceStopped f (WantsInstance limits (unwrap_or longest (2 ^ 40)) (I.left instance.old) (I.left instance.new))) }
-    ensures wants_proof { IfErr result (λ f. IfProofStopped f (WantsSteps limits (unwrap_or longest (2 ^ 40)) (P.left proof.old) (P.left proof.new))) }
-    // `Read` comes only where the source of that input failed.
+    // What a verdict says is true of the instance that was read. For UNSAT, no assignment solves that instance.
+    ensures unsat { result ≡ Ok Verdict.Unsat → UnsatOf limits (unwrap_or longest (2 ^ 40)) (I.left instance.old) (I.left instance.new) }
+    ensures true_verdict { IfOk result (λ w. TrueOf limits (unwrap_or longest (2 ^ 40)) w (I.left instance.old) (I.left instance.new)) }
+    ensures unsat_given { result ≡ Ok Verdict.Unsat → OfGiven (UnsatOf limits (unwrap_or longest (2 ^ 40))) (I.history instance.old) (I.history instance.new) }
+    ensures true_given { IfOk result (λ w. OfGiven (TrueOf limits (unwrap_or longest (2 ^ 40)) w) (I.history instance.old) (I.history instance.new)) }
+    // A rejected byte is the one that its source has shown. A text ends only if its source has shown its end.
+    ensures seen_instance { SawInstance (I.shown instance.new) (I.ended instance.new) result }
+    ensures seen_proof { SawProof (P.shown proof.new) (P.ended proof.new) result }
+    // `Read` comes only if the source of that input failed.
     ensures instance { I.faults instance.new ≡ faults_of_instance result (I.faults instance.old) }
     ensures proof { P.faults proof.new ≡ faults_of_proof result (P.faults proof.old) }
 {
@@ -60,7 +77,7 @@ pub fn check<I: Source, P: Source, W: Sink>(
     )
 }
 
-/// The same, where names are hashed by these keys.
+/// The same as `check`, with names hashed with these keys.
 pub fn check_with_hasher<I: Source, P: Source, W: Sink>(
     alloc: Global,
     keys: HashKeys,
@@ -73,22 +90,69 @@ pub fn check_with_hasher<I: Source, P: Source, W: Sink>(
     requires { IfSome longest (λ n. 0 < n) }
     ensures checks { ChecksFiles limits (unwrap_or longest (2 ^ 40)) W.contents W.faults (I.left instance.old) (P.left proof.old) out.old
         result (I.left instance.new) (P.left proof.new) out.new }
-    // Of any sources, files too: the answer is right for the bytes that their calls have given.
+    // For any sources, files included: the result is right for the bytes that their calls have given.
     ensures given { ChecksGiven limits (unwrap_or longest (2 ^ 40)) W.contents W.faults (I.history instance.old) (P.history proof.old) out.old
         result (I.history instance.new) (P.history proof.new) out.new }
-    // Memory runs out for a text only at a byte that may ask for some, or behind a statement of the instance, which is kept.
-    ensures wants_instance { IfErr result (λ f. IfInstanceStopped f (WantsInstance limits (unwrap_or longest (2 ^ 40)) (I.left instance.old) (I.left instance.new))) }
-    ensures wants_proof { IfErr result (λ f. IfProofStopped f (WantsSteps limits (unwrap_or longest (2 ^ 40)) (P.left proof.old) (P.left proof.new))) }
-    // `Read` comes only where the source of that input failed.
+    // What a verdict says is true of the instance that was read. For UNSAT, no assignment solves that instance.
+    ensures unsat { result ≡ Ok Verdict.Unsat → UnsatOf limits (unwrap_or longest (2 ^ 40)) (I.left instance.old) (I.left instance.new) }
+    ensures true_verdict { IfOk result (λ w. TrueOf limits (unwrap_or longest (2 ^ 40)) w (I.left instance.old) (I.left instance.new)) }
+    ensures unsat_given { result ≡ Ok Verdict.Unsat → OfGiven (UnsatOf limits (unwrap_or longest (2 ^ 40))) (I.history instance.old) (I.history instance.new) }
+    ensures true_given { IfOk result (λ w. OfGiven (TrueOf limits (unwrap_or longest (2 ^ 40)) w) (I.history instance.old) (I.history instance.new)) }
+    // A rejected byte is the one that its source has shown. A text ends only if its source has shown its end.
+    ensures seen_instance { SawInstance (I.shown instance.new) (I.ended instance.new) result }
+    ensures seen_proof { SawProof (P.shown proof.new) (P.ended proof.new) result }
+    // `Read` comes only if the source of that input failed.
     ensures instance { I.faults instance.new ≡ faults_of_instance result (I.faults instance.old) }
     ensures proof { P.faults proof.new ≡ faults_of_proof result (P.faults proof.old) }
 {
+    check_watched(
+        alloc,
+        keys,
+        instance,
+        proof,
+        out,
+        &mut Unwatched,
+        longest,
+        limits,
+    )
+}
+
+/// The same, and the watch sees each statement of the proof.
+pub fn check_watched<I: Source, P: Source, W: Sink, V: Watch>(
+    alloc: Global,
+    keys: HashKeys,
+    instance: &mut I,
+    proof: &mut P,
+    out: &mut W,
+    watch: &mut V,
+    longest: Option<u64>,
+    limits: Limits,
+) -> Result<Verdict, ToolFault>
+    requires { IfSome longest (λ n. 0 < n) }
+    ensures checks { ChecksFiles limits (unwrap_or longest (2 ^ 40)) W.contents W.faults (I.left instance.old) (P.left proof.old) out.old
+        result (I.left instance.new) (P.left proof.new) out.new }
+    // For any sources, files included: the result is right for the bytes that their calls have given.
+    ensures given { ChecksGiven limits (unwrap_or longest (2 ^ 40)) W.contents W.faults (I.history instance.old) (P.history proof.old) out.old
+        result (I.history instance.new) (P.history proof.new) out.new }
+    // What a verdict says is true of the instance that was read. For UNSAT, no assignment solves that instance.
+    ensures unsat { result ≡ Ok Verdict.Unsat → UnsatOf limits (unwrap_or longest (2 ^ 40)) (I.left instance.old) (I.left instance.new) }
+    ensures true_verdict { IfOk result (λ w. TrueOf limits (unwrap_or longest (2 ^ 40)) w (I.left instance.old) (I.left instance.new)) }
+    ensures unsat_given { result ≡ Ok Verdict.Unsat → OfGiven (UnsatOf limits (unwrap_or longest (2 ^ 40))) (I.history instance.old) (I.history instance.new) }
+    ensures true_given { IfOk result (λ w. OfGiven (TrueOf limits (unwrap_or longest (2 ^ 40)) w) (I.history instance.old) (I.history instance.new)) }
+    // A rejected byte is the one that its source has shown. A text ends only if its source has shown its end.
+    ensures seen_instance { SawInstance (I.shown instance.new) (I.ended instance.new) result }
+    ensures seen_proof { SawProof (P.shown proof.new) (P.ended proof.new) result }
+    // `Read` comes only if the source of that input failed.
+    ensures instance { I.faults instance.new ≡ faults_of_instance result (I.faults instance.old) }
+    ensures proof { P.faults proof.new ≡ faults_of_proof result (P.faults proof.old) }
+{
+    verified_is_true();
     let longest = longest.unwrap_or(BYTE_LIMIT);
     let replay = match opened(alloc, keys, instance, longest, limits) {
         Ok(replay) => replay,
         Err(fault) => return Err(fault),
     };
-    let verdict = match replayed(alloc, replay, proof, longest) {
+    let verdict = match replayed(alloc, replay, proof, watch, longest) {
         Ok(verdict) => verdict,
         Err(fault) => return Err(fault),
     };
@@ -98,7 +162,7 @@ pub fn check_with_hasher<I: Source, P: Source, W: Sink>(
     }
 }
 
-/// The replay of an instance, behind which only white space and comments may stand.
+/// The replay of an instance. Only white space and comments may follow the instance.
 fn opened<S: Source>(
     alloc: Global,
     keys: HashKeys,
@@ -111,7 +175,7 @@ fn opened<S: Source>(
     ensures refused { IfErr result (IsNoReplay limits longest (S.left input.old) (S.left input.new)) }
     ensures given { IfOk result (λ r. OfGiven (λ left rest. IsReplayOf limits longest left rest r) (S.history input.old) (S.history input.new)) }
     ensures refused_given { IfErr result (λ f. OfGiven (λ left rest. IsNoReplay limits longest left rest f) (S.history input.old) (S.history input.new)) }
-    ensures wants { IfErr result (λ f. IfInstanceStopped f (WantsInstance limits longest (S.left input.old) (S.left input.new))) }
+    ensures seen { SawInstance (S.shown input.new) (S.ended input.new) result }
     ensures faults { S.faults input.new ≡ faults_of_instance result (S.faults input.old) }
 {
     let instance = match read_instance_file(alloc, input, longest, limits) {
@@ -125,11 +189,12 @@ fn opened<S: Source>(
     }
 }
 
-/// What a proof shows, behind which only white space and comments may stand.
-fn replayed<S: Source>(
+/// What a proof shows. Only white space and comments may follow the proof.
+fn replayed<S: Source, V: Watch>(
     alloc: Global,
     mut replay: Replay,
     input: &mut S,
+    watch: &mut V,
     longest: u64,
 ) -> Result<Verdict, ToolFault>
     requires some { 0 < longest }
@@ -137,10 +202,11 @@ fn replayed<S: Source>(
     ensures replayed { (first : State) → StandsFor replay first → Replays replay.limits longest replay.problem first (S.left input.old) result (S.left input.new) }
     ensures given { (first : State) → StandsFor replay first →
         OfGiven (λ left rest. Replays replay.limits longest replay.problem first left result rest) (S.history input.old) (S.history input.new) }
-    ensures wants { IfErr result (λ f. IfProofStopped f (WantsSteps replay.limits longest (S.left input.old) (S.left input.new))) }
+    ensures seen { SawProof (S.shown input.new) (S.ended input.new) result }
     ensures faults { S.faults input.new ≡ faults_of_proof result (S.faults input.old) }
 {
-    let (verdict, place) = match run(alloc, &mut replay, input, longest) {
+    outcomes_are_single();
+    let (verdict, place) = match run(alloc, &mut replay, input, watch, longest) {
         Ok(ended) => ended,
         Err(CheckFault::Text(stop)) => return Err(refused(Input::Proof, stop)),
         Err(CheckFault::Step(place, fault)) => return Err(refusal(alloc, &replay, place, fault)),
@@ -151,8 +217,8 @@ fn replayed<S: Source>(
     }
 }
 
-/// The fault of a statement that was refused, with a copy of the name that it tells by its number. Where there is no
-/// memory for that, memory ran out.
+/// The fault of a rejected statement, with a copy of the name that it gives by its number. If there is no memory for
+/// the copy, the fault is that memory ran out.
 fn refusal(alloc: Global, replay: &Replay, place: Place, fault: Fault) -> ToolFault
     ensures { IsToldAs replay.now.names place fault result }
 {
@@ -166,9 +232,10 @@ fn refusal(alloc: Global, replay: &Replay, place: Place, fault: Fault) -> ToolFa
     }
 }
 
-/// The name that a refusal tells by its number, where it does.
+/// The name that a fault gives by its number, and an empty one for other faults.
 fn told_name(alloc: Global, replay: &Replay, fault: Fault) -> Result<String, AllocError>
-    ensures { IfOk result (λ name. IsTold replay.now.names fault (string_bytes name)) }
+    ensures told { IfOk result (λ name. IsTold replay.now.names fault (string_bytes name)) }
+    ensures err { OnErr result ((n : ℕ) × (fault ≡ Fault.NotTotal n)) }
 {
     match fault {
         Fault::NotTotal(number) => copied_name(alloc, replay, number),
@@ -176,7 +243,7 @@ fn told_name(alloc: Global, replay: &Replay, fault: Fault) -> Result<String, All
     }
 }
 
-/// A copy of the name with a number, empty where there is none.
+/// A copy of the name with a number, empty if there is none.
 fn copied_name(alloc: Global, replay: &Replay, number: usize) -> Result<String, AllocError>
     ensures { IfOk result (λ name. string_bytes name ≡ get_or replay.now.names number []) }
 {
@@ -186,11 +253,35 @@ fn copied_name(alloc: Global, replay: &Replay, number: usize) -> Result<String, 
     }
 }
 
-/// Steps a replay through the statements of a source until the proof ends: what it shows, and the place behind it.
-fn run<S: Source>(
+/// Steps through a statement that was read, shows it to the watch, and drops it.
+fn step_watched<V: Watch>(
+    replay: &mut Replay,
+    read: Spanned<Statement>,
+    watch: &mut V,
+) -> Result<(), CheckFault>
+    requires { IsStatementValue (largest replay.old.limits) (top_of replay.old.limits) read.event }
+    ensures steps { (now : Result State AFault) → IsAt replay.old now
+        → StepsFrom replay.old.limits replay.old.problem now read result replay.new }
+    ensures names { IsFront replay.old.names replay.new.names }
+    ensures unvalued { (at : Place) (n : ℕ) → result ≡ Err (CheckFault.Step at (Fault.NotTotal n)) → n < length replay.old.names }
+    ensures limits { replay.new.limits ≡ replay.old.limits }
+    ensures problem { replay.new.problem ≡ replay.old.problem }
+{
+    let done = step_by(replay, &read);
+    match done {
+        Ok(()) => watch.accepted(&read, replay),
+        Err(fault) => watch.rejected(&read, replay, fault),
+    }
+    done
+}
+
+/// Steps a replay through the statements of a source until the proof ends. Returns what the proof shows, and the
+/// position after it.
+fn run<S: Source, V: Watch>(
     alloc: Global,
     replay: &mut Replay,
     input: &mut S,
+    watch: &mut V,
     longest: u64,
 ) -> Result<(Verdict, Place), CheckFault>
     requires some { 0 < longest }
@@ -199,20 +290,23 @@ fn run<S: Source>(
     ensures given { (first : State) → StandsFor replay.old first →
         OfGiven (λ left rest. Runs replay.old.limits longest replay.old.problem first left result rest replay.new) (S.history input.old) (S.history input.new) }
     ensures reach { IfOk result (λ r. IsInReach r.1) }
-    ensures wants { IfErr result (λ f. IfTextStopped f (WantsSteps replay.old.limits longest (S.left input.old) (S.left input.new))) }
+    ensures seen { IfErr result (SawText (S.shown input.new) (S.ended input.new)) }
     ensures faults { S.faults input.new ≡ faults_of_text result (S.faults input.old) }
 {
     proofs_are_exact();
     reads_are_of_proofs();
-    replays_have_states();
+    replay.tell_sound();
     whole_proofs_conclude();
     let mut feeder = Feeder::within(ProofMachine::new(alloc, replay.limits()), longest);
     loop {
         match pull(input, &mut feeder) {
-            Ok(Some(read)) => match step_through(replay, read) {
-                Ok(()) => {}
-                Err(fault) => return Err(fault),
-            },
+            Ok(Some(read)) => {
+                replay.tell_sound();
+                match step_watched(replay, read, watch) {
+                    Ok(()) => {}
+                    Err(fault) => return Err(fault),
+                }
+            }
             Ok(None) => break,
             Err(stop) => return Err(CheckFault::Text(stop)),
         }

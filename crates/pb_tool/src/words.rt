@@ -1,4 +1,4 @@
-//! What the words of the command line ask for.
+//! What the arguments of the command line ask for.
 
 ghost use Rattle.std.specs.Prelude.{◌≡◌, ◌^◌, IfErr, IfOk, OnOk, [], Some, codes, option_map};
 ghost use Rattle.std.specs.Prelude.{string_bytes};
@@ -21,29 +21,39 @@ use clap::error::ErrorKind;
 pub use fault::WordsFault;
 use std::alloc::{AllocError, Global};
 
-/// The most bytes that a statement may be allowed.
+/// The largest number that `--longest` allows.
 const MOST_BYTES: u64 = 1 << 40;
 
-/// What the words ask for. `longest` is the most bytes of a statement, 1 to `2^40`, where there is
-/// such a limit; `bits` are those of the largest magnitude of a number, 31 to 127.
+/// What the arguments ask for. `longest` is the maximum number of bytes of a statement, 1 to `2^40`, if there is such a
+/// limit. `bits` is the number of bits of the largest magnitude of a number, 31 to 127.
 #[derive(Debug, Drop)]
 pub enum Job {
-    /// Each statement of the file, or of standard input, with its place.
+    /// Print each statement of the file, or of standard input, with its position.
     Show {
         file: Option<String>,
         longest: Option<u64>,
         bits: u32,
     },
-    /// The canonical spelling of the file, or of standard input; where `normal` is true, of an instance with each
-    /// constraint in normal form.
+    /// Print the canonical text of the file, or of standard input. If `normal` is true, it is an instance, and each
+    /// constraint is printed in normal form.
     Tidy {
         normal: bool,
         file: Option<String>,
         longest: Option<u64>,
         bits: u32,
     },
-    /// Whether the proof, or standard input, proves what it claims of the instance.
+    /// Check whether the proof, or standard input, proves what it claims about the instance. If `stats` is true, counts
+    /// are printed after the check. If `progress` is true, a progress line is printed while it runs.
     Check {
+        instance: String,
+        proof: Option<String>,
+        stats: bool,
+        progress: bool,
+        longest: Option<u64>,
+        bits: u32,
+    },
+    /// Check the proof, or standard input, and print each statement with the constraints that it adds.
+    Trace {
         instance: String,
         proof: Option<String>,
         longest: Option<u64>,
@@ -51,7 +61,7 @@ pub enum Job {
     },
 }
 
-/// What the words ask for, of which the first is the program's name.
+/// What the arguments ask for. The first of them is the name of the program.
 pub fn read_words(alloc: Global, words: &[&str]) -> Result<Job, WordsFault>
     ensures job { IfOk result (AsksFor (subcommand_of pb_command (texts words.now))) }
     ensures right { OnOk result (fault_of pb_command (texts words.now) ≡ []) }
@@ -66,7 +76,7 @@ pub fn read_words(alloc: Global, words: &[&str]) -> Result<Job, WordsFault>
     job_of(alloc, name, given)
 }
 
-/// What a subcommand asks for with its entries.
+/// What a subcommand with these entries asks for.
 #[tactic(auto, using(crate::proofs::Entries::wrong_number, crate::proofs::Entries::lacks_instance))]
 fn job_of(alloc: Global, name: &str, given: &ArgMatches<'_>) -> Result<Job, WordsFault>
     requires { IsReader name.now }
@@ -87,9 +97,20 @@ fn job_of(alloc: Global, name: &str, given: &ArgMatches<'_>) -> Result<Job, Word
             longest,
             bits,
         }),
-        _ => {
-            let (instance, proof) = files_of(alloc, given)?;
+        "check" => {
+            let (instance, proof) = files_of(alloc, name, given)?;
             Ok(Job::Check {
+                instance,
+                proof,
+                stats: is_given(given, "stats"),
+                progress: is_given(given, "progress"),
+                longest,
+                bits,
+            })
+        }
+        _ => {
+            let (instance, proof) = files_of(alloc, name, given)?;
+            Ok(Job::Trace {
                 instance,
                 proof,
                 longest,
@@ -124,15 +145,19 @@ fn longest_of(alloc: Global, name: &str, given: &ArgMatches<'_>) -> Result<Optio
     number(alloc, name, given, "longest", 1, MOST_BYTES)
 }
 
-/// The names of the instance and, where one is given, of the proof.
-fn files_of(alloc: Global, given: &ArgMatches<'_>) -> Result<(String, Option<String>), WordsFault>
+/// The names of the instance and, if one is given, of the proof, for the subcommand with this name.
+fn files_of(
+    alloc: Global,
+    name: &str,
+    given: &ArgMatches<'_>,
+) -> Result<(String, Option<String>), WordsFault>
     ensures ok { IfOk result (λ r. AreFilesOf (rows_of (found_of given.now)) r.0 r.1) }
     ensures err { IfErr result (IsInstanceFault (rows_of (found_of given.now))) }
 {
     let Some(instance) = file_name(alloc, given, "instance")? else {
         let error = wrong_words(
             alloc,
-            "check",
+            name,
             ErrorKind::MissingRequiredArgument,
             "no instance is given",
         )?;
@@ -142,7 +167,7 @@ fn files_of(alloc: Global, given: &ArgMatches<'_>) -> Result<(String, Option<Str
     Ok((instance, proof))
 }
 
-/// The name of the file that an argument gives, where it is given.
+/// The name of the file that an argument gives, if it is given.
 fn file_name(
     alloc: Global,
     given: &ArgMatches<'_>,
@@ -157,7 +182,7 @@ fn file_name(
     }
 }
 
-/// Whether a flag without a value is given: the parser then answers `true` for it, and else `false`.
+/// Whether a flag without a value is given. The parser then returns `true` as its text, and `false` otherwise.
 fn is_given(given: &ArgMatches<'_>, flag: &str) -> bool
     ensures { IsSwitch (first_of flag.now (rows_of (found_of given.now))) result }
 {
@@ -167,7 +192,7 @@ fn is_given(given: &ArgMatches<'_>, flag: &str) -> bool
     }
 }
 
-/// The number of a flag of the subcommand with a name, where the flag is given.
+/// The number of a flag of the subcommand with this name, if the flag is given.
 fn number(
     alloc: Global,
     name: &str,
@@ -190,7 +215,7 @@ fn number(
     Err(WordsFault::Words(error))
 }
 
-/// The number that a text spells, where it lies from `low` to `high`.
+/// The number that a text represents, if it is from `low` to `high`.
 fn number_within(text: &str, low: u64, high: u64) -> Option<u64>
     ensures { SomeIff result (IsUnsignedIn low high text.now)
         (digits_value 10 (without_leading_plus text.now)) }

@@ -1,4 +1,4 @@
-//! Ends a statement in one go.
+//! Ends a statement in one step.
 
 ghost use Rattle.std.specs.Prelude.{◌≡◌};
 ghost use Rattle.pb_text.specs.Automaton.{Closes};
@@ -14,7 +14,7 @@ use pb_text::{Bytes, Machine};
 use std::mem;
 
 impl OpbMachine {
-    /// Ends a statement with a byte, where it ends one and no memory is refused.
+    /// Ends a statement with a byte, if the byte ends one and no allocation is refused.
     #[inline(always)]
     pub(super) fn end(&mut self, byte: u8) -> Option<OpbEvent>
         ensures { Closes opb self.old byte result self.new }

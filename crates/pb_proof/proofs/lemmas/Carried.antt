@@ -9,7 +9,7 @@ use Rattle.pb_text.proofs.Walking.{Walks}
 use Rattle.pb_proof.specs.Line.Machine.{carried, IsCarried, IsEnded}
 
 module _ {S E R F : Type 0} (m : Automaton S E) (n : Automaton R F) (into : S → R) (event : E → F) where
-  -- What the one does in a state the other does in the state that stands for it.
+  -- In the image of a state, `n` does what `m` does in the state.
   pub record Carries : Type 0 where
     pub step : (s : S) (b : ℕ) → n.step (into s) b ≡ carried into event (m.step s b)
     pub done : (s : S) → n.done (into s) ≡ m.done s
@@ -29,7 +29,7 @@ module _ {S E R F : Type 0} (m : Automaton S E) (n : Automaton R F) (into : S �
     reads_in (l ∷ k ∷ t) s e after (mid, g, i, f, r) =
         (into mid, stepped s l.byte (Go mid) g, h.begun mid ∙ i, f ∙ sym (h.in_number mid), reads_in (k ∷ t) mid e after r)
 
-    -- what a step of the other comes from
+    -- where a step of `n` comes from
     went : (x : Next S E) (r : R) → carried into event x ≡ Go r → (s : S) × (x ≡ Go s) × (r ≡ into s)
     went (Go s) r e = (s, refl, (let f : r ≡ into s = cc in f))
     went (End v s) r e = absurd (let f : ⊥ = cc in f)
@@ -91,7 +91,7 @@ module _ {S E R F : Type 0} (m : Automaton S E) (n : Automaton R F) (into : S �
     pub admits_in : (s : S) (b : ℕ) → Admits m s b → Admits n (into s) b
     admits_in s b (items, a, more, e) = (map carried_item items, accepts_in items s a, more, ap bytes (letters_same items) ∙ e)
 
-    -- what the one answers is answered within the other
+    -- a push of `m` is a push of `n`
     pub pushes_in : (gives : E → F → Type 0) → ((e : E) (f : F) → gives e f → f ≡ event e) → (s new : S) (b : ℕ) (answer : Push E) (r : Push F)
         → IsCarried gives answer r → Pushes m s b answer new → Pushes n (into s) b r (into new)
     pushes_in gives is s new b push.Go r c p = rw c (stepped s b (Go new) p)
@@ -100,13 +100,13 @@ module _ {S E R F : Type 0} (m : Automaton S E) (n : Automaton R F) (into : S �
     pushes_in gives is s new b push.Large r c (p, l, same) = rw c (stepped s b Refuse p, ap (λ x. x && is_digit b) (h.in_number s) ∙ l, ap into same)
     pushes_in gives is s new b push.Memory r c (p, a, same) = rw c (h.asks s b ∙ p, admits_in s b a, ap into same)
 
-    -- what the one ends is ended within the other
+    -- what `m` ends, `n` ends
     pub closes_in : (gives : E → F → Type 0) → ((e : E) (f : F) → gives e f → f ≡ event e) → (s new : S) (b : ℕ) (answer : Option E) (r : Option F)
         → IsEnded gives answer r → Closes m s b answer new → Closes n (into s) b r (into new)
     closes_in gives is s new b (Some e) r (f, g, c) p = rw (c, is e f g) (stepped s b (End e new) p)
     closes_in gives is s new b None r c same = rw c (ap into same)
 
-    -- each byte that is taken begins the text, or is behind its beginning
+    -- after each byte that is taken, the text has begun
     pub begins_in : ((s next : S) (b : ℕ) → m.step s b ≡ Go next → m.begun next ≡ true) → (s : S) (r : R) (b : ℕ) → n.step (into s) b ≡ Go r → n.begun r ≡ true
     begins_in f s r b e = let (next, g, same) = went_out s b r e in ap n.begun same ∙ (h.begun next ∙ f s next b g)
 

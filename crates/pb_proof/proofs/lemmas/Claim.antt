@@ -1,4 +1,4 @@
--- Lemmas on the machine of claims.
+-- Lemmas about the conclusion machine.
 pub mod Asks
 pub mod Each
 pub mod Front

@@ -1,4 +1,4 @@
--- Lemmas on the machine of counts.
+-- Lemmas about the count machine.
 pub mod Complete
 pub mod Sound
 pub mod Theorems

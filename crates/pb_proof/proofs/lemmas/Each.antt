@@ -1,10 +1,10 @@
--- Rules that each of a list meets.
+-- Rules that each item of a list meets.
 use Rattle.std.proofs.Common.{◌≡◌, ℕ, ◌+◌, ◌<◌, ◌≤◌, true, List, length, take, get_or, refl, subst, All, ◌↔◌}
 use Rattle.std.specs.Prelude.{IsTrue}
 use Rattle.std.proofs.lemmas.List.{take_all}
 use Rattle.std.proofs.lemmas.List.Elements.{All-more}
 
--- one more of the list
+-- one more item of the list
 pub each_more : {A : Type 0} (P : A → Type 0) (xs : List A) (i : ℕ) (x : A) → i < length xs → x ≡ get_or xs i x → All P (take i xs) → P x → All P (take (i + 1) xs)
 each_more P xs i x h e all p = All-more P xs i x h all (subst P e p)
 

@@ -1,4 +1,4 @@
--- Lemmas on the machine of ids.
+-- Lemmas about the ids machine.
 pub mod AtOnce
 pub mod Complete
 pub mod Pushes

@@ -1,4 +1,4 @@
--- Lemmas on the lines of statements, and on what reads them.
+-- Lemmas about the lines of statements, and about the machines that read them.
 pub mod Asks
 pub mod ByteKinds
 pub mod Ends

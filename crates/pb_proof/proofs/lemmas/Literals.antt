@@ -1,4 +1,4 @@
--- Lemmas on the machine of literals.
+-- Lemmas about the literals machine.
 pub mod Complete
 pub mod Names
 pub mod Pushes

@@ -1,4 +1,4 @@
--- Lemmas on the machine of proofs.
+-- Lemmas about the proof machine.
 pub mod Alive
 pub mod Asks
 pub mod Complete

@@ -1,4 +1,4 @@
--- Lemmas on the machine of postfix words, and on these.
+-- Lemmas about the `pol` machine and about postfix words.
 pub mod Alive
 pub mod Asks
 pub mod AtOnce

@@ -1,4 +1,4 @@
--- Lemmas on proofs, their texts and their values.
+-- Lemmas about proofs, their texts and their values.
 pub mod Gathered
 pub mod Larger
 pub mod ReadStatements

@@ -1,4 +1,4 @@
--- What is written reads as the same value, where a text spells one proof.
+-- What is written reads back as the same value, if each text is of one proof only.
 use Rattle.std.proofs.Common.{◌≡◌, ℕ, List, sym, ◌∙◌, subst}
 use Rattle.pb_text.specs.Spelling.{Item, bytes_of}
 use Rattle.pb_text.specs.Whole.{events_of}

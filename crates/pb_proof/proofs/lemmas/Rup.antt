@@ -1,3 +1,3 @@
--- Lemmas on the machine of `rup`.
+-- Lemmas about the `rup` machine.
 pub mod Reads
 pub mod States

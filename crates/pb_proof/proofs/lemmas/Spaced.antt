@@ -19,7 +19,7 @@ abbrev pub chooses : Bool → Language → Language → Language
 chooses true P Q = P
 chooses false P Q = Q
 
--- a byte of words, and one or more blanks for a space
+-- a byte of words, or one or more blanks for a space
 abbrev pub One : ℕ → Language
 One c = chooses (nat_eq c 32) Blanks1 (Byte c)
 
@@ -27,7 +27,7 @@ abbrev pub Spaced : List ℕ → Language
 Spaced [] = Empty
 Spaced (c ∷ cs) = One c ⋅ Spaced cs
 
--- the letter that meets a byte of the words
+-- a letter that matches a byte of the words
 pub one_met : (c : ℕ) (l : Letter) → meets c l.byte ≡ true → l.numeral ≡ false → One c (l ∷ [])
 one_met c l h n = by_test (nat_eq c 32) h
   where
@@ -35,7 +35,7 @@ one_met c l h n = by_test (nat_eq c 32) h
     by_test true e = first_blank l [] e n refl
     by_test false e = ap (λ x. x ∷ []) (as_unmarked l c n (eqb-true l.byte c e))
 
--- one more byte of the words
+-- more of the words
 pub spaced_then : (cs ds : List ℕ) (p q : List Letter) → Spaced cs p → Spaced ds q → Spaced (cs ++ ds) (p ++ q)
 spaced_then [] ds p q h k = subst (λ x. Spaced ds (x ++ q)) (sym h) k
 spaced_then (c ∷ cs) ds p q (a, b, e, h, i) k =
@@ -44,7 +44,7 @@ spaced_then (c ∷ cs) ds p q (a, b, e, h, i) k =
 pub spaced_more : (cs : List ℕ) (c : ℕ) (p : List Letter) (l : Letter) → Spaced cs p → One c (l ∷ []) → Spaced (cs ++ c ∷ []) (p ++ l ∷ [])
 spaced_more cs c p l h k = spaced_then cs (c ∷ []) p (l ∷ []) h (l ∷ [], [], refl, k, refl)
 
--- one more blank behind a space
+-- one more blank after a space
 pub spaced_blank : (cs : List ℕ) (p : List Letter) (l : Letter) → is_blank l.byte ≡ true → l.numeral ≡ false → Spaced (cs ++ 32 ∷ []) p → Spaced (cs ++ 32 ∷ []) (p ++ l ∷ [])
 spaced_blank [] p l h n k =
     none_yet Blanks1 Empty (p ++ l ∷ []) refl
@@ -64,7 +64,7 @@ abbrev pub led : List (List ℕ) → List ℕ
 led [] = []
 led (w ∷ ws) = 32 ∷ (w ++ led ws)
 
--- a text of P, and the words with blanks before each
+-- a text of P, and then the words with blanks before each
 abbrev pub Words : Language → List (List ℕ) → Language
 Words P [] = P
 Words P (w ∷ ws) = Words (P ⋅ Blanks1 ⋅ Bytes w) ws
@@ -124,7 +124,7 @@ first_word Output = output_word
 first_word Conclusion = conclusion_word
 first_word End = end_word
 
--- all of them have a byte
+-- each of them has at least one byte
 pub some_byte : (f : Keyword) → 0 < length (words_of f)
 some_byte Header = omega arith
 some_byte Formula = omega arith

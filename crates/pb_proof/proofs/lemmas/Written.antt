@@ -38,7 +38,7 @@ module _ {A : Type 0} (line : A → List ℕ) where
       ∙ (listed-append (take i xs) (drop i xs)
       ∙ ap (λ z. listed_bytes line (take i xs) ++ z) (ap (listed_bytes line) (drop-cons xs i d h) ∙ listed-cons (get_or xs i d) (drop (suc i) xs)))
 
--- each with a line feed behind it
+-- each with a line feed after it
 pub ended_none : ended_lines [] ≡ []
 unfolding ended_lines
 ended_none = refl
@@ -80,7 +80,7 @@ lines-ended (x ∷ xs) s ys =
     after [] = refl
     after (y ∷ xs) = refl
 
--- a proof's parts
+-- the parts of a proof
 pub proof_parts : (v : Proof) → proof_bytes v ≡ (statement_bytes Header ++ (10 ∷ [])) ++ (statement_bytes (F v.count)
     ++ ((10 ∷ []) ++ (ended_lines v.steps ++ ((statement_bytes Output ++ (10 ∷ [])) ++ (statement_bytes (Conclude v.conclusion) ++ ((10 ∷ []) ++ statement_bytes End))))))
 proof_parts v =

@@ -1,4 +1,4 @@
--- What a byte is to a line of numbers, and to a line of names.
+-- The class of a byte in a line of numbers, and in a line of names.
 use Rattle.std.specs.Prelude.{ℕ, ◌-◌, ◌<◌, cond, nat_eq}
 use Rattle.pb_text.specs.Classes.{is_blank, is_digit, is_letter, is_name_byte}
 use Rattle.pb_proof.specs.declared.line.byte_kind.NumberByte.{NumberByte}
@@ -26,7 +26,7 @@ name_byte b =
     (cond (is_letter b) (name.TheVariants.Letter b)
     (cond (is_name_byte b) (name.TheVariants.Inner b) (symbol b)))
 
--- a digit is one, and the bytes of names are ASCII
+-- the value of a digit is below 10, and the bytes of names are ASCII
 abbrev pub NumberByteFits : NumberByte → Type 0
 NumberByteFits (number.TheVariants.Digit d) = d < 10
 NumberByteFits _ = Unit {0}

@@ -1,4 +1,4 @@
--- The machine of a claim: what it does with one byte.
+-- The machine for conclusions: what it does with one byte.
 use Rattle.std.specs.Prelude.{ℕ, ℤ, ◌+◌, ◌-◌, ◌*◌, ◌<◌, ◌≤◌, Bool, true, false, cond, ◌&&◌, List, length, slice_index, nat_eq, nat_le, Some, None}
 use Rattle.pb_text.specs.Classes.{is_blank, is_digit}
 use Rattle.pb_text.specs.Numbers.{signed}
@@ -26,7 +26,7 @@ word_of word.TheVariants.Unsat = unsat_word
 word_of word.TheVariants.Sat = sat_word
 word_of word.TheVariants.Bounds = bounds_word
 
--- what has been read with a whole first word, and with a whole bound
+-- the phase after a whole first word, and after a whole bound
 abbrev pub behind_word : Word → Phase
 behind_word word.TheVariants.NoClaim = phase.Behind claim.TheVariants.NoClaim
 behind_word word.TheVariants.Unsat = phase.Behind (claim.TheVariants.Unsat None)
@@ -37,12 +37,12 @@ abbrev pub behind_bound : Side → Bound → Phase
 behind_bound side.TheVariants.Lower x = phase.Between x
 behind_bound (side.TheVariants.Upper lower id) x = phase.Behind (claim.TheVariants.Shows (showing.TheVariants.Bounds lower id x))
 
--- the next byte of a word, of which k were read
+-- the action for the next byte of a word, after k bytes of it
 abbrev pub spell : List ℕ → ℕ → ℕ → Phase → Phase → Move
 spell word k b more whole =
     cond (nat_eq b (slice_index word k)) (To (cond (nat_eq (k + 1) (length word)) whole more)) Stop
 
--- the first byte of a first word
+-- the action for the first byte of a first word
 abbrev pub first_word : ℕ → Move
 first_word b =
     cond (nat_eq b 78) (To (phase.Word word.TheVariants.NoClaim 1))
@@ -50,26 +50,26 @@ first_word b =
     (cond (nat_eq b 83) (To (phase.Word word.TheVariants.Sat 1))
     (cond (nat_eq b 66) (To (phase.Word word.TheVariants.Bounds 1)) Stop)))
 
--- the next digit of a bound
+-- the action for the next digit of a bound
 abbrev pub digits : ℕ → Side → Bool → ℕ → ℕ → Move
 digits limit side negative n b =
     cond (is_digit b && nat_le (10 * n + (b - 48)) limit) (To (phase.Digits side negative (10 * n + (b - 48)))) Stop
 
--- the first byte of a bound
+-- the action for the first byte of a bound
 abbrev pub begin_bound : ℕ → Side → ℕ → Move
 begin_bound limit side b =
     cond (nat_eq b 43) (To (phase.Signed side false))
     (cond (nat_eq b 45) (To (phase.Signed side true))
     (cond (nat_eq b 73) (To (phase.Infinity side 1)) (digits limit side false 0 b)))
 
--- what a claim does with `:`
+-- the action for `:` after a conclusion
 abbrev pub colon : Claim → Move
 colon claim.TheVariants.NoClaim = Stop
 colon (claim.TheVariants.Unsat None) = To (phase.BeforeId owner.TheVariants.Unsat)
 colon (claim.TheVariants.Unsat (Some id)) = Stop
 colon (claim.TheVariants.Shows shows) = To (phase.Shown shows)
 
--- what may stand behind a claim
+-- the action for a byte after a conclusion
 abbrev pub behind : Claim → ℕ → Move
 behind claim b =
     cond (is_blank b) (To (phase.Behind claim))
@@ -77,7 +77,7 @@ behind claim b =
     (cond (nat_eq b 59) (To (phase.Semicolon claim))
     (cond (nat_eq b 58) (colon claim) Stop)))
 
--- what may stand behind the lower bound, and behind either
+-- the action for a byte after the lower bound, and after either bound
 abbrev pub between : Bound → ℕ → Move
 between x b = cond (is_blank b) (To (phase.Spaced x)) (cond (nat_eq b 58) (To (phase.BeforeId (owner.TheVariants.Lower x))) Stop)
 
@@ -85,17 +85,17 @@ abbrev pub after_bound : Side → Bound → ℕ → Move
 after_bound side.TheVariants.Lower x b = between x b
 after_bound (side.TheVariants.Upper lower id) x b = behind (claim.TheVariants.Shows (showing.TheVariants.Bounds lower id x)) b
 
--- the next digit of an id
+-- the action for the next digit of an id
 abbrev pub id_digits : ℕ → Owner → Bool → ℕ → ℕ → Move
 id_digits top owner negative n b =
     cond (is_digit b && nat_le (10 * n + (b - 48)) top) (To (phase.IdDigits owner negative (10 * n + (b - 48)))) Stop
 
--- what may stand behind an id
+-- the action for a byte after an id
 abbrev pub after_id : Owner → ℤ → ℕ → Move
 after_id owner.TheVariants.Unsat id b = behind (claim.TheVariants.Unsat (Some id)) b
 after_id (owner.TheVariants.Lower x) id b = cond (is_blank b) (To (phase.BeforeBound (side.TheVariants.Upper x (Some id)))) Stop
 
--- the plan for what was read last and a byte
+-- the action for a phase and a byte
 abbrev pub plan : ℕ → ℕ → Phase → ℕ → Move
 plan limit top phase.Start b = cond (is_blank b) (To phase.Before) Stop
 plan limit top phase.Before b = cond (is_blank b) (To phase.Before) (first_word b)
@@ -120,7 +120,7 @@ plan limit top (phase.IdDigits owner negative n) b =
 plan limit top (phase.Shown shows) b = Give shows
 plan limit top phase.Done b = Stop
 
--- a claim has begun and not ended, or has ended
+-- a conclusion has begun and not ended, or has ended
 abbrev pub is_within : Phase → Bool
 is_within phase.Start = false
 is_within phase.Done = false
@@ -130,7 +130,7 @@ abbrev pub is_done : Phase → Bool
 is_done phase.Done = true
 is_done _ = false
 
--- the byte before is a digit of a bound or an id
+-- the last byte read is a digit of a bound or an id
 abbrev pub is_in_digits : Phase → Bool
 is_in_digits (phase.Digits side negative n) = true
 is_in_digits (phase.IdDigits owner negative n) = true

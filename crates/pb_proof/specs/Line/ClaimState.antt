@@ -1,4 +1,4 @@
--- The states of a machine of claims, and its automaton.
+-- The states of the machine for conclusions, and its automaton.
 use Rattle.std.specs.Prelude.{◌≡◌, ℕ, ◌<◌, ◌^◌, Bool, true, false, Option, Some, None, List}
 use Rattle.pb_text.specs.Automaton.{Automaton, Next, Go, End, Refuse}
 use Rattle.pb_sums.specs.declared.Literal.{Literal}
@@ -15,25 +15,25 @@ use Rattle.pb_proof.specs.declared.line.claim.phase.Move.TheVariants.{To, Finish
 use Rattle.pb_proof.specs.declared.conclusion.Conclusion.{Conclusion}
 use Rattle.pb_proof.specs.declared.conclusion.Conclusion.TheVariants.{NoClaim, Unsat, Sat, Bounds}
 
--- what a machine keeps: its limits, what was read last, and the machine of literals, which reads what stands behind `:`
+-- what a machine stores: its limits, what was read last, and the machine for literals, which reads the text after `:`
 pub record ClaimState : Type 0 where
   pub limit : ℕ
   pub top : ℕ
   pub phase : Phase
   pub literals : LiteralsState
 
--- with no literal read
+-- the state with no literal read
 abbrev pub claim_at : ℕ → ℕ → Phase → ClaimState
 claim_at limit top p = record { limit = limit; top = top; phase = p; literals = literals_first true }
 
--- before a claim, and after it
+-- before a conclusion, and after it
 abbrev pub claim_first : ℕ → ℕ → ClaimState
 claim_first limit top = claim_at limit top phase.Start
 
 abbrev pub claim_last : ℕ → ℕ → ClaimState
 claim_last limit top = claim_at limit top phase.Done
 
--- the conclusion that is claimed, and the literals that are shown
+-- the conclusion, with the literals that are given for it
 abbrev pub showing_value : Showing → Option (List Literal) → Conclusion
 showing_value showing.TheVariants.Sat shown = Sat shown
 showing_value (showing.TheVariants.Bounds lower id upper) shown = Bounds lower id upper shown
@@ -43,34 +43,34 @@ claim_value claim.TheVariants.NoClaim = NoClaim
 claim_value (claim.TheVariants.Unsat id) = Unsat id
 claim_value (claim.TheVariants.Shows shows) = showing_value shows None
 
--- with what the machine of literals has read
+-- the state with what the machine for literals has read
 abbrev pub giving : ClaimState → LiteralsState → ClaimState
 giving s inner = record s { literals = inner }
 
--- What a step of the machine of literals leads to: where it ends, its literals are shown.
+-- What a step of the machine for literals leads to. If it ends, its literals are those of the conclusion.
 abbrev pub over : ClaimState → Showing → Next LiteralsState (List Literal) → Next ClaimState Conclusion
 over s shows (Go inner) = Go (giving s inner)
 over s shows (End literals inner) = End (showing_value shows (Some literals)) (claim_last s.limit s.top)
 over s shows Refuse = Refuse
 
--- what it does
+-- what an action does
 abbrev pub act : ClaimState → ℕ → Move → Next ClaimState Conclusion
 act s b (To p) = Go (claim_at s.limit s.top p)
 act s b (Finish claim) = End (claim_value claim) (claim_last s.limit s.top)
 act s b (Give shows) = over s shows (literals_automaton.step s.literals b)
 act s b Stop = Refuse
 
--- the byte before is a digit of a number
+-- the last byte read is a digit of a number
 abbrev pub is_in_number : ClaimState → Phase → Bool
 is_in_number s (phase.Shown shows) = literals_automaton.in_number s.literals
 is_in_number s p = is_in_digits p
 
--- memory is asked for by the machine of literals alone
+-- only the machine for literals may allocate
 abbrev pub asks : ClaimState → ℕ → Move → Bool
 asks s b (Give shows) = literals_automaton.asks s.literals b
 asks s b _ = false
 
--- nothing is kept but by the machine of literals, once it has begun
+-- only the machine for literals stores anything, once it has begun
 abbrev pub kept : ClaimState → Phase → ℕ
 kept s (phase.Shown shows) = literals_automaton.kept s.literals
 kept s _ = 0
@@ -79,7 +79,6 @@ abbrev pub spent : ClaimState → Phase → ℕ
 spent s (phase.Shown shows) = literals_automaton.spent s.literals
 spent s _ = 0
 
--- the automaton
 abbrev pub claim_automaton : Automaton ClaimState Conclusion
 claim_automaton = record {
   step = λ s b. act s b (plan s.limit s.top s.phase b);
@@ -91,12 +90,12 @@ claim_automaton = record {
   spent = λ s. spent s s.phase;
 }
 
--- The machine of literals has read nothing, or some of what stands behind `:` and not all.
+-- The machine for literals has read nothing, or a part of the text after `:` but not all of it.
 abbrev pub Holds : ClaimState → Phase → Type 0
 Holds s (phase.Shown shows) = literals_automaton.done s.literals ≡ false
 Holds s _ = s.literals ≡ literals_first true
 
--- What a machine of claims keeps of its state.
+-- The invariant of a machine for conclusions.
 pub record IsClaimInOrder (s : ClaimState) : Type 0 where
   pub limit : s.limit < 2 ^ 127
   pub top : s.top < 2 ^ 63

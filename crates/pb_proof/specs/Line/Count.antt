@@ -1,4 +1,4 @@
--- The machine of what stands behind `f`: a count or none, through the line feed.
+-- The machine for the rest of a line after `f`: a count or none, through the line feed.
 use Rattle.std.specs.Prelude.{◌≡◌, ℕ, ◌+◌, ◌*◌, ◌^◌, ◌≤◌, ◌<◌, Bool, true, false, cond, nat_le, Option, Some, None}
 use Rattle.pb_text.specs.Automaton.{Automaton, Next, Go, End, Refuse}
 use Rattle.pb_proof.specs.Line.ByteKind.{number_byte}
@@ -17,18 +17,18 @@ pub record CountState : Type 0 where
 abbrev pub at : ℕ → CountPhase → CountState
 at top p = record { top = top; phase = p }
 
--- before what stands behind `f`, and after it
+-- before the text after `f`, and after that text
 abbrev pub counting : ℕ → CountState
 counting top = at top Start
 
 abbrev pub count_last : ℕ → CountState
 count_last top = at top Done
 
--- the plan for a phase and what the byte is
+-- the action for the next digit of a count
 abbrev pub digits : ℕ → ℕ → ℕ → CountMove
 digits top n d = cond (nat_le (10 * n + d) top) (move.TheVariants.To (Digits (10 * n + d))) move.TheVariants.Stop
 
--- where the line may end, with a count or none
+-- the action for a byte at which the line may end, with a count or none
 abbrev pub behind : Option ℕ → CountPhase → NumberByte → CountMove
 behind count gap Blank = move.TheVariants.To gap
 behind count gap Semicolon = move.TheVariants.To (Closing count)
@@ -64,7 +64,7 @@ abbrev pub is_in_number : CountPhase → Bool
 is_in_number (Digits n) = true
 is_in_number _ = false
 
--- the automaton: nothing is kept
+-- the automaton: it stores nothing
 abbrev pub count_automaton : Automaton CountState (Option ℕ)
 count_automaton = record {
   step = λ s b. act s.top (plan s.top s.phase (number_byte b));
@@ -76,7 +76,7 @@ count_automaton = record {
   spent = λ s. 0;
 }
 
--- a count in hand is at most top
+-- a count that is being read is at most top
 abbrev pub PhaseFits : ℕ → CountPhase → Type 0
 PhaseFits top (Digits n) = n ≤ top
 PhaseFits top _ = Unit {0}
@@ -85,6 +85,6 @@ abbrev pub MoveFits : ℕ → CountMove → Type 0
 MoveFits top (move.TheVariants.To p) = PhaseFits top p × (is_midway p ≡ true)
 MoveFits top _ = Unit {0}
 
--- what a machine keeps of its state
+-- the invariant of a machine
 abbrev pub IsCountInOrder : CountState → Type 0
 IsCountInOrder s = (s.top < 2 ^ 63) × PhaseFits s.top s.phase

@@ -1,4 +1,4 @@
--- Lines with a line feed behind each.
+-- Lines with a line feed after each.
 use Rattle.std.specs.Prelude.{ℕ, List, [], ◌∷◌, ◌++◌}
 use Rattle.pb_proof.specs.Canonical.{statement_bytes}
 use Rattle.pb_proof.specs.declared.statement.Statement.{Statement}

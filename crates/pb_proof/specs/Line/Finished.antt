@@ -1,9 +1,9 @@
--- How many expressions are finished behind a postfix word.
+-- How many expressions are finished after a postfix word.
 use Rattle.std.specs.Prelude.{ℕ, suc, Option, Some, None}
 use Rattle.pb_proof.specs.declared.word.PolWord.{PolWord}
 use Rattle.pb_proof.specs.declared.word.PolWord.TheVariants.{Id, Axiom, Add, Multiply, Divide, Saturate, Weaken}
 
--- the number behind the word where so many are finished before it, or none where it lacks an operand
+-- the number after the word if d are finished before it, or none if the word lacks an operand
 abbrev pub finished_with : ℕ → PolWord → Option ℕ
 finished_with d (Id id) = Some (suc d)
 finished_with d (Axiom literal) = Some (suc d)

@@ -1,4 +1,4 @@
--- The machine of the ids behind `del id`, through the line feed.
+-- The machine for the ids after `del id`, through the line feed.
 use Rattle.std.specs.Prelude.{◌≡◌, ℕ, ◌+◌, ◌*◌, ◌-◌, ◌^◌, ◌≤◌, ◌<◌, min, ℤ, Bool, true, false, cond, nat_eq, nat_le, List, [], ◌∷◌, ◌++◌, length}
 use Rattle.pb_text.specs.Automaton.{Automaton, Next, Go, End, Refuse}
 use Rattle.pb_text.specs.Numbers.{signed}
@@ -10,7 +10,7 @@ use Rattle.pb_proof.specs.declared.line.ids.phase.IdsPhase.TheVariants.{Start, G
 use Rattle.pb_proof.specs.declared.line.ids.phase.IdsMove.{IdsMove}
 use Rattle.pb_proof.specs.declared.line.ids.phase.IdsMove.TheVariants as move
 
--- the largest magnitude of an id, the ids that are whole, and what was read last
+-- the largest magnitude of an id, the ids that are complete, and what was read last
 pub record IdsState : Type 0 where
   pub top : ℕ
   pub ids : List ℤ
@@ -26,17 +26,17 @@ ids_first top = ids_at top [] Start
 abbrev pub ids_last : ℕ → IdsState
 ids_last top = ids_at top [] Done
 
--- The plan for a phase and what the byte is.
+-- the action for the next digit of an id
 abbrev pub digits : ℕ → Bool → ℕ → ℕ → IdsMove
 digits top negative n d = cond (nat_le (10 * n + d) top) (move.To (Digits negative (10 * n + d))) move.Stop
 
--- where an id may begin
+-- the action for a byte at which an id may begin
 abbrev pub before : ℕ → NumberByte → IdsMove
 before top kind.Minus = move.To Minus
 before top (kind.Digit d) = digits top false 0 d
 before top _ = move.Stop
 
--- where an id may end
+-- the action for a byte at which an id may end
 abbrev pub behind : ℤ → NumberByte → IdsMove
 behind id kind.Blank = move.Keep Between id
 behind id kind.Semicolon = move.Keep Closing id
@@ -87,13 +87,13 @@ begins_id Gap = true
 begins_id Between = true
 begins_id _ = false
 
--- whether memory may be asked for: at a byte that ends an id
+-- whether the machine may allocate: at a byte that ends an id
 abbrev pub keeps : IdsMove → Bool
 keeps (move.Keep p id) = true
 keeps (move.EndWith id) = true
 keeps _ = false
 
--- the automaton: ids are kept, and their count stays at its largest
+-- the automaton: it stores ids, and their count saturates
 abbrev pub ids_automaton : Automaton IdsState (List ℤ)
 ids_automaton = record {
   step = λ s b. step s (number_byte b);
@@ -105,7 +105,7 @@ ids_automaton = record {
   spent = λ s. length s.ids;
 }
 
--- an id in hand is at most top
+-- an id that is being read is at most top
 abbrev pub PhaseFits : ℕ → IdsPhase → Type 0
 PhaseFits top (Digits negative n) = n ≤ top
 PhaseFits top _ = Unit {0}
@@ -115,6 +115,6 @@ MoveFits top (move.To p) = PhaseFits top p × (is_midway p ≡ true)
 MoveFits top (move.Keep p id) = PhaseFits top p × (is_midway p ≡ true)
 MoveFits top _ = Unit {0}
 
--- What a machine keeps of its state: some id is within top, and before the ids and after them nothing is kept.
+-- The invariant of a machine: some id is within top, and no id is stored before the ids and after them.
 abbrev pub IsIdsInOrder : IdsState → Type 0
 IsIdsInOrder s = (s.top < 2 ^ 63) × (0 < s.top) × PhaseFits s.top s.phase × (is_midway s.phase ≡ false → s.ids ≡ [])

@@ -1,4 +1,4 @@
--- The machine of literals: those behind a word, or joined to what stands before them, through the line feed.
+-- The machine for literals after a word, or joined to what comes before them, through the line feed.
 use Rattle.std.specs.Prelude.{◌≡◌, ℕ, ◌+◌, ◌-◌, ◌^◌, ◌<◌, min, Bool, true, false, cond, ◌||◌, List, [], ◌∷◌, ◌++◌, length}
 use Rattle.pb_text.specs.Automaton.{Automaton, Next, Go, End, Refuse}
 use Rattle.pb_text.specs.Languages.{Language, ◌⋅◌, Blanks0}
@@ -13,13 +13,15 @@ use Rattle.pb_proof.specs.declared.line.literals.phase.LiteralsPhase.TheVariants
 use Rattle.pb_proof.specs.declared.line.literals.phase.LiteralsMove.{LiteralsMove}
 use Rattle.pb_proof.specs.declared.line.literals.phase.LiteralsMove as move
 
--- Literals with blank+ before each, and then the end of the line; where they are joined to what stands before them, blank* before the first one.
+-- Literals with blank+ before each, and then the end of the line. If they are joined to what comes before them,
+-- blank* before the first one.
 abbrev pub SpellsJoined : Bool → List Literal → Language
 SpellsJoined true [] = LineEnd
 SpellsJoined true (l ∷ ls) = Blanks0 ⋅ SpellsLiteral l ⋅ Listed SpellsLiteral ls ⋅ LineEnd
 SpellsJoined false ls = Listed SpellsLiteral ls ⋅ LineEnd
 
--- whether the literals are joined to what stands before them, those that are whole, the name in hand, and what was read last
+-- whether the literals are joined to what comes before them, the complete ones, the name that is being read, and what
+-- was read last
 pub record LiteralsState : Type 0 where
   pub joined : Bool
   pub literals : List Literal
@@ -39,7 +41,7 @@ literals_last joined = literals_at joined [] [] Done
 abbrev pub literal : Bool → List ℕ → Literal
 literal negated name = record { negated = negated; name = name }
 
--- The plan for a phase and what the byte is: where the line may end, and where a literal may begin or the line end.
+-- The action for a byte at which the line may end, and for one at which a literal may begin or the line may end.
 abbrev pub behind : NameByte → LiteralsMove
 behind Blank = move.TheVariants.To Gap
 behind Semicolon = move.TheVariants.To Closing
@@ -64,12 +66,12 @@ plan joined Closing Blank = move.TheVariants.To Closing
 plan joined Closing Feed = move.TheVariants.End
 plan _ _ _ = move.TheVariants.Stop
 
--- with the literal whose name is whole
+-- the literals with the one whose name is complete
 abbrev pub flushed : LiteralsPhase → List Literal → List ℕ → List Literal
 flushed (More negated) ls name = ls ++ literal negated name ∷ []
 flushed _ ls name = ls
 
--- What it does: ls are the literals so far, ms those with the one that ends here.
+-- What an action does: ls are the literals so far, and ms are those with the one that ends here.
 abbrev pub act : Bool → List Literal → List Literal → List ℕ → LiteralsMove → Next LiteralsState (List Literal)
 act joined ms ls name (move.TheVariants.To p) = Go (literals_at joined ms [] p)
 act joined ms ls name (move.TheVariants.Begin p b) = Go (literals_at joined ls (b ∷ []) p)
@@ -85,7 +87,7 @@ is_midway Start = false
 is_midway Done = false
 is_midway _ = true
 
--- Literals that are joined to what stands before them have begun with that.
+-- Literals that are joined to what comes before them have begun with that.
 abbrev pub is_begun : Bool → LiteralsPhase → Bool
 is_begun joined Start = joined
 is_begun joined p = is_midway p
@@ -94,7 +96,7 @@ abbrev pub is_done : LiteralsPhase → Bool
 is_done Done = true
 is_done _ = false
 
--- whether memory may be asked for: at a byte of a name, or one that ends a literal
+-- whether the machine may allocate: at a byte of a name, or at one that ends a literal
 abbrev pub is_more : LiteralsPhase → Bool
 is_more (More negated) = true
 is_more _ = false
@@ -104,18 +106,18 @@ adds (move.TheVariants.Begin p b) = true
 adds (move.TheVariants.Add p b) = true
 adds _ = false
 
--- literals, and the bytes of their names
+-- the number of literals plus the number of bytes of their names
 abbrev pub units : List Literal → ℕ
 units [] = 0
 units (l ∷ ls) = 1 + length l.name + units ls
 
--- a literal is kept from the first byte of its name on
+-- a literal counts as stored from the first byte of its name on
 abbrev pub in_hand : LiteralsPhase → ℕ
 in_hand (First negated) = 1
 in_hand (More negated) = 1
 in_hand _ = 0
 
--- the byte before a name, which leaves room for the literal with its first byte
+-- one unit at the byte before a name, so that the first byte of the name may also add its literal
 abbrev pub ready : Bool → LiteralsPhase → ℕ
 ready joined Start = cond joined 1 0
 ready joined Gap = 1
@@ -125,7 +127,7 @@ ready joined _ = 0
 abbrev pub all_units : LiteralsState → ℕ
 all_units s = units s.literals + in_hand s.phase + length s.name
 
--- the automaton: the count of what is kept stays at its largest
+-- the automaton: the count of what is stored saturates
 abbrev pub literals_automaton : Automaton LiteralsState (List Literal)
 literals_automaton = record {
   step = λ s b. step s (name_byte b);
@@ -137,11 +139,11 @@ literals_automaton = record {
   spent = λ s. all_units s + ready s.joined s.phase;
 }
 
--- What a machine keeps of its state: before the literals and after them nothing is kept.
+-- The invariant of a machine: nothing is stored before the literals and after them.
 abbrev pub IsLiteralsInOrder : LiteralsState → Type 0
 IsLiteralsInOrder s = is_midway s.phase ≡ false → (s.literals ≡ []) × (s.name ≡ [])
 
--- a byte that is added to a name is ASCII, and what it leads to is midway
+-- a byte that is added to a name is ASCII, and it leads to a phase that is midway
 abbrev pub MoveFits : LiteralsMove → Type 0
 MoveFits (move.TheVariants.To p) = is_midway p ≡ true
 MoveFits (move.TheVariants.Begin p b) = (is_midway p ≡ true) × (b < 128)

@@ -1,4 +1,4 @@
--- The machines of what stands behind the first word of a statement, as one automaton.
+-- The line machines as one automaton.
 use Rattle.std.specs.Prelude.{◌≡◌, ℕ, false, Option, Some, None}
 use Rattle.pb_text.specs.Automaton.{Automaton, Next, Go, End, Refuse}
 use Rattle.pb_text.specs.Languages.{Language}
@@ -18,13 +18,13 @@ use Rattle.pb_proof.specs.declared.machine.phase.LineKind as kind
 use Rattle.pb_proof.specs.declared.statement.Statement.{Statement}
 use Rattle.pb_proof.specs.declared.statement.Statement as statement
 
--- what an automaton does, within another one
+-- a step of an automaton, as a step of another one
 abbrev pub carried : {S E R F : Type 0} → (S → R) → (E → F) → Next S E → Next R F
 carried into event (Go s) = Go (into s)
 carried into event (End e s) = End (event e) (into s)
 carried into event Refuse = Refuse
 
--- what a machine answers, within another one, where its events give these
+-- an answer of a machine, as an answer of another one, if its events give these
 abbrev pub IsCarried : {E F : Type 0} → (E → F → Type 0) → Push E → Push F → Type 0
 IsCarried gives push.Go r = r ≡ push.Go
 IsCarried gives (push.Event e) r = (f : _) × gives e f × (r ≡ push.Event f)
@@ -32,7 +32,7 @@ IsCarried gives push.No r = r ≡ push.No
 IsCarried gives push.Large r = r ≡ push.Large
 IsCarried gives push.Memory r = r ≡ push.Memory
 
--- the event of the one, as that of the other
+-- an event of the one, as an event of the other
 abbrev pub IsEnded : {E F : Type 0} → (E → F → Type 0) → Option E → Option F → Type 0
 IsEnded gives None r = r ≡ None
 IsEnded gives (Some e) r = (f : _) × gives e f × (r ≡ Some f)
@@ -46,7 +46,7 @@ line_step (line.TheVariants.Solx s) b = carried line.TheVariants.Solx statement.
 line_step (line.TheVariants.Delete s) b = carried line.TheVariants.Delete statement.TheVariants.Delete (ids_automaton.step s b)
 line_step (line.TheVariants.Conclusion s) b = carried line.TheVariants.Conclusion statement.TheVariants.Conclude (claim_automaton.step s b)
 
--- what is asked of an automaton is asked of the machine that reads
+-- the answer of the machine that reads
 abbrev pub line_asked : {A : Type 0} → ((S E : Type 0) → Automaton S E → S → A) → LineMachine → A
 line_asked ask (line.TheVariants.Count s) = ask _ _ count_automaton s
 line_asked ask (line.TheVariants.Pol s) = ask _ _ pol_automaton s
@@ -67,7 +67,7 @@ line_automaton = record {
   spent = line_asked (λ S E m s. m.spent s);
 }
 
--- the machine behind a first word, before its text
+-- the line machine at the start of its text
 abbrev pub line_first : ℕ → ℕ → LineKind → LineMachine
 line_first limit top kind.TheVariants.Count = line.TheVariants.Count (counting top)
 line_first limit top kind.TheVariants.Pol = line.TheVariants.Pol (pol_first limit top)
@@ -77,7 +77,7 @@ line_first limit top kind.TheVariants.Solx = line.TheVariants.Solx (literals_fir
 line_first limit top kind.TheVariants.Delete = line.TheVariants.Delete (ids_first top)
 line_first limit top kind.TheVariants.Conclusion = line.TheVariants.Conclusion (claim_first limit top)
 
--- what stands behind the first word of a statement
+-- the text after the first word of a statement
 module _ (limit top : ℕ) where
   abbrev pub SpellsRest : LineKind → Statement → Language
   SpellsRest kind.TheVariants.Count (statement.TheVariants.F count) = SpellsCount limit top count

@@ -1,4 +1,4 @@
--- Postfix words that are soon taken.
+-- The fast path for postfix words.
 use Rattle.std.specs.Prelude.{ℕ, ◌&&◌, cond, nat_eq, nat_le, Option, Some, None}
 use Rattle.pb_proof.specs.declared.line.pol.phase.Held.{Held}
 use Rattle.pb_proof.specs.declared.line.pol.phase.Held.TheVariants as held
@@ -7,7 +7,7 @@ use Rattle.pb_proof.specs.declared.line.pol.phase.Phase.TheVariants as phase
 use Rattle.pb_proof.specs.declared.line.pol.phase.Change.{Change}
 use Rattle.pb_proof.specs.declared.line.pol.phase.Change.TheVariants as change
 
--- how the last word may still change, where another may begin
+-- how the last word may still change, if another word may begin
 abbrev pub held_before : Phase → Option Held
 held_before (phase.Gap held.Large) = None
 held_before (phase.Gap h) = Some h
@@ -19,7 +19,7 @@ held_operator held.Number b = cond (nat_eq b 42) (Some change.Multiply) (cond (n
 held_operator held.Name b = cond (nat_eq b 119) (Some change.Weaken) None
 held_operator h b = None
 
--- an operator of one byte, where it may stand
+-- an operator of one byte, if it may come here
 abbrev pub operator : ℕ → Held → ℕ → Option Change
 operator depth h b =
     cond (nat_eq b 43 && nat_le 2 depth) (Some change.Sum)

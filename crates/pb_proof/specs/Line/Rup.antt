@@ -1,4 +1,4 @@
--- The machine of a goal: blanks, a constraint, and the end of its line.
+-- The machine for a goal: blanks, a constraint, and the end of its line.
 use Rattle.std.specs.Prelude.{◌≡◌, ℕ, pos, ◌+◌, ◌-◌, ◌^◌, min, Bool, true, false, cond, nat_eq, Option, Some, None}
 use Rattle.pb_text.specs.Automaton.{Automaton, Next, Go, End, Refuse, IsState}
 use Rattle.pb_text.specs.Classes.{is_blank}
@@ -14,7 +14,7 @@ use Rattle.pb_proof.specs.declared.line.rup.phase.RupPhase.TheVariants.{Start, G
 use Rattle.pb_proof.specs.declared.line.rup.phase.RupMove.{RupMove}
 use Rattle.pb_proof.specs.declared.line.rup.phase.RupMove.TheVariants.{To, Give, Finish, Stop}
 
--- what was read last, the machine of sums, and the constraint that it has read
+-- what was read last, the machine for sums, and the constraint that it has read
 pub record RupState : Type 0 where
   pub phase : RupPhase
   pub sums : SumState
@@ -40,7 +40,7 @@ rup_plan Inside b = Give
 rup_plan Tail b = cond (is_blank b) (To Tail) (cond (nat_eq b 10) Finish Stop)
 rup_plan Done b = Stop
 
--- the constraint that a machine of sums has read; in a goal it reads no sum alone
+-- the constraint that a machine for sums has read; in a goal, it never reads a sum without a relation
 abbrev pub linear_of : SumEvent → Linear
 linear_of (sum.TheVariants.Linear c) = c
 linear_of (sum.TheVariants.Sum terms) = record { terms = terms; relation = AtLeast; degree = pos 0 }
@@ -77,7 +77,7 @@ abbrev pub rup_asks : RupState → ℕ → RupMove → Bool
 rup_asks s b Give = sums.asks s.sums b
 rup_asks s b _ = false
 
--- literals of the constraint that has been read, and the bytes of their names
+-- the number of literals of the constraint that has been read, plus the number of bytes of their names
 abbrev pub units_in : Option Linear → ℕ
 units_in None = 0
 units_in (Some c) = units c.terms
@@ -93,7 +93,7 @@ rup_automaton = record {
   spent = λ s. units_in s.linear + sums.spent s.sums;
 }
 
--- What a machine keeps of its state.
+-- What holds in each phase, as a part of the invariant.
 abbrev pub RupHolds : RupState → RupPhase → Type 0
 RupHolds s Start = (s.linear ≡ None) × (s.sums ≡ sum_first s.sums.limit)
 RupHolds s Gap = (s.linear ≡ None) × (s.sums ≡ sum_first s.sums.limit)

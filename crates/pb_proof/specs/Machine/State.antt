@@ -1,4 +1,4 @@
--- The states of a machine of proofs, and its automaton.
+-- The states of the machine for proofs, and its automaton.
 use Rattle.std.specs.Prelude.{◌≡◌, ℕ, ◌^◌, ◌<◌, Bool, true, false, Option, Some, None, length}
 use Rattle.pb_text.specs.Automaton.{Automaton, Next, Go, End, Refuse, IsState}
 use Rattle.pb_proof.specs.Line.Machine.{line_automaton, line_first}
@@ -15,14 +15,14 @@ use Rattle.pb_proof.specs.declared.machine.phase.Move.TheVariants.{To, Begin, Gi
 use Rattle.pb_proof.specs.declared.statement.Statement.{Statement}
 use Rattle.pb_proof.specs.declared.statement.Statement as statement
 
--- what a machine keeps: its limits, what was read last, and the machine of what stands behind a first word
+-- what a machine stores: its limits, what was read last, and the line machine
 pub record ProofState : Type 0 where
   pub limit : ℕ
   pub top : ℕ
   pub phase : Phase
   pub line : Option LineMachine
 
--- with no such machine
+-- the state without a line machine
 abbrev pub at : ℕ → ℕ → Phase → ProofState
 at limit top p = record { limit = limit; top = top; phase = p; line = None }
 
@@ -34,11 +34,11 @@ idle limit top stage = at limit top (phase.TheVariants.Between stage)
 abbrev pub begin : ℕ → ℕ → ProofState
 begin limit top = idle limit top stage.TheVariants.Opening
 
--- within what stands behind a first word
+-- within the text after a first word
 abbrev pub giving : ℕ → ℕ → LineKind → LineMachine → ProofState
 giving limit top r line = record { limit = limit; top = top; phase = phase.TheVariants.Inside r; line = Some line }
 
--- what may come behind a statement
+-- the stage after a statement
 abbrev pub stage_behind : LineKind → Stage
 stage_behind kind.TheVariants.Conclusion = stage.TheVariants.Closing
 stage_behind _ = stage.TheVariants.Steps
@@ -75,12 +75,12 @@ abbrev pub is_done : Phase → Bool
 is_done (phase.TheVariants.Between at) = is_complete at
 is_done _ = false
 
--- what is asked of the machine behind a first word, where there is one
+-- the answer of the line machine, or `none` if there is no such machine
 abbrev pub asked : {A : Type 0} → A → (LineMachine → A) → Option LineMachine → A
 asked none ask None = none
 asked none ask (Some line) = ask line
 
--- memory is asked for by that machine alone
+-- only the line machine may allocate
 abbrev pub asks : ProofState → ℕ → Move → Bool
 asks s b (Give r) = asked false (λ i. line_automaton.asks i b) s.line
 asks s b _ = false
@@ -96,19 +96,19 @@ proofs = record {
   spent = λ s. asked 0 line_automaton.spent s.line;
 }
 
--- the stages with gaps before their statements
+-- the stages that allow white space and comments before their statements
 abbrev pub HasGaps : Stage → Type 0
 HasGaps stage.TheVariants.Opening = ⊥
 HasGaps stage.TheVariants.Complete = ⊥
 HasGaps _ = Unit {0}
 
--- a comment stands in a gap, and words are not read to their end
+-- a comment is in a stage that allows one, and words are not read to their end
 abbrev pub PhaseFits : Phase → Type 0
 PhaseFits (phase.TheVariants.Comment at) = HasGaps at
 PhaseFits (phase.TheVariants.Spelling f k) = (0 < k) × (k < length (words_of f))
 PhaseFits _ = Unit {0}
 
--- What stands with what was read last.
+-- What holds in each phase.
 abbrev pub Holds : ProofState → Phase → Type 0
 Holds s (phase.TheVariants.Inside r) = (i : LineMachine) × (s.line ≡ Some i) × (line_automaton.done i ≡ false) × IsState line_automaton i
 Holds s _ = s.line ≡ None

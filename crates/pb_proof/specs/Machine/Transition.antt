@@ -1,4 +1,4 @@
--- The machine of a proof: what it does with one byte.
+-- The machine for proofs: what it does with one byte.
 use Rattle.std.specs.Prelude.{ℕ, ◌+◌, ◌-◌, Bool, true, false, cond, ◌&&◌, List, [], ◌∷◌, ◌++◌, length, slice_index, nat_eq}
 use Rattle.pb_text.specs.Classes.{is_blank, is_white}
 use Rattle.pb_proof.specs.Lines.{pseudo_word, proof_word, version_word, two_word, f_word, pol_word, rup_word, del_word, id_word, output_word, none_word, conclusion_word, end_word}
@@ -16,7 +16,7 @@ use Rattle.pb_proof.specs.declared.machine.phase.Move.TheVariants.{To, Begin, Gi
 abbrev pub sol_word : List ℕ
 sol_word = 115 ∷ 111 ∷ 108 ∷ []
 
--- the words that a statement begins with; a space stands for one or more blanks
+-- the words that a statement begins with; a space in them is for one or more blanks
 abbrev pub words_of : Keyword → List ℕ
 words_of keyword.Header = pseudo_word ++ 32 ∷ proof_word ++ 32 ∷ version_word ++ 32 ∷ two_word
 words_of keyword.Formula = f_word
@@ -28,7 +28,7 @@ words_of keyword.Output = output_word ++ 32 ∷ none_word
 words_of keyword.Conclusion = conclusion_word
 words_of keyword.End = end_word ++ 32 ∷ pseudo_word ++ 32 ∷ proof_word
 
--- behind the words
+-- the action after the words
 abbrev pub behind : Keyword → Move
 behind keyword.Header = To phase.TheVariants.HeaderEnd
 behind keyword.Formula = Begin kind.Count
@@ -40,16 +40,16 @@ behind keyword.Output = To (phase.TheVariants.OutputEnd true)
 behind keyword.Conclusion = Begin kind.Conclusion
 behind keyword.End = EndProof
 
--- the byte is this one of the words, or a blank where that is a space
+-- the byte is the expected byte of the words or, if that is a space, a blank
 abbrev pub meets : ℕ → ℕ → Bool
 meets c b = cond (nat_eq c 32) (is_blank b) (nat_eq b c)
 
--- the next byte of the words, of which k were read, or else
+-- the action for the next byte of the words, after k bytes of them, or else another action
 abbrev pub spell : Keyword → ℕ → ℕ → Move → Move
 spell f k b other =
     cond (meets (slice_index (words_of f) k) b) (cond (nat_eq (k + 1) (length (words_of f))) (behind f) (To (phase.TheVariants.Spelling f (k + 1)))) other
 
--- the first byte of a step or the output
+-- the words of the step that begins with the byte, or else those of the output
 abbrev pub step_keyword : ℕ → Keyword
 step_keyword b =
     cond (nat_eq b 112) keyword.Pol
@@ -57,7 +57,7 @@ step_keyword b =
     (cond (nat_eq b 115) keyword.Solution
     (cond (nat_eq b 100) keyword.Delete keyword.Output)))
 
--- the first byte of a statement
+-- the action for the first byte of a statement
 abbrev pub enter : Stage → ℕ → Move
 enter stage.TheVariants.Opening b = spell keyword.Header 0 b Stop
 enter stage.TheVariants.Formula b = spell keyword.Formula 0 b Stop
@@ -66,7 +66,7 @@ enter stage.TheVariants.Claim b = spell keyword.Conclusion 0 b Stop
 enter stage.TheVariants.Closing b = spell keyword.End 0 b Stop
 enter stage.TheVariants.Complete b = Stop
 
--- between two statements
+-- the action between two statements
 abbrev pub pass : Stage → ℕ → Move
 pass at b =
     cond (is_white b) (To (phase.TheVariants.Between at))

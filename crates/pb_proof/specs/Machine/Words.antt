@@ -1,4 +1,4 @@
--- The words of a statement at the front of a text.
+-- The words of a statement at the start of a text.
 use Rattle.std.specs.Prelude.{◌≡◌, ◌≢◌, ℕ, List, length, take, drop}
 use Rattle.pb_proof.specs.Machine.Transition.{words_of, behind}
 use Rattle.pb_proof.specs.declared.machine.phase.Keyword.{Keyword}
@@ -6,10 +6,10 @@ use Rattle.pb_proof.specs.declared.machine.phase.Phase.{Phase}
 use Rattle.pb_proof.specs.declared.machine.phase.Phase as phase
 use Rattle.pb_proof.specs.declared.machine.phase.Move.{Move}
 
--- words have begun, this is the rest of them, and a machine does this behind them
+-- words have begun, this is the rest of them, and the machine takes this action after them
 abbrev pub IsRest : Phase → List ℕ → Move → Type 0
 IsRest p text m = (f : Keyword) × (k : ℕ) × (p ≡ phase.TheVariants.Spelling f k) × (text ≡ drop k (words_of f)) × (m ≡ behind f)
 
--- The rest of the words that have begun does not stand at the front.
+-- The text does not begin with the rest of the words that have begun.
 abbrev pub LacksRest : Phase → List ℕ → Type 0
 LacksRest p text = (f : Keyword) (k : ℕ) → p ≡ phase.TheVariants.Spelling f k → take (length (drop k (words_of f))) text ≢ drop k (words_of f)

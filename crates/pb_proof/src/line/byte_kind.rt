@@ -1,10 +1,10 @@
-//! What a byte is to a line of numbers, and to a line of names.
+//! The class of a byte in a line of numbers, and in a line of names.
 
-/// What a byte is to a line of numbers.
+/// The class of a byte in a line of numbers.
 #[derive(Clone, Copy)]
 pub enum NumberByte {
     Blank,
-    /// A digit, by its value.
+    /// A digit, given by its value.
     Digit(u8),
     Minus,
     Semicolon,
@@ -12,13 +12,13 @@ pub enum NumberByte {
     Other,
 }
 
-/// What a byte is to a line of names.
+/// The class of a byte in a line of names.
 #[derive(Clone, Copy)]
 pub enum NameByte {
     Blank,
     /// A byte that may begin a name.
     Letter(u8),
-    /// Another byte that a name may hold.
+    /// Another byte that a name may contain.
     Inner(u8),
     Tilde,
     Semicolon,

@@ -1,4 +1,4 @@
-//! The machine of claims.
+//! The machine for conclusions.
 
 ghost use Rattle.std.specs.Prelude.{◌≡◌};
 ghost use Rattle.pb_text.specs.Limits.{largest, top_of};
@@ -17,7 +17,7 @@ use pb_text::{Limits, Machine, Push, Sequence};
 use std::alloc::Global;
 use std::marker::Model;
 
-/// A machine that reads what stands behind `conclusion`, through the line feed.
+/// A machine that reads the rest of a line after `conclusion`, through the line feed.
 #[derive(Drop)]
 pub struct ClaimMachine {
     alloc: Global,
@@ -47,7 +47,7 @@ impl Model for ClaimMachine {
     }) };
 }
 
-/// The conclusion that is claimed, with the literals that are shown.
+/// The conclusion, with the literals that are given for it.
 fn showing_value(showing: Showing, shown: Option<Sequence<Literal>>) -> Conclusion
     ensures { result ≡ showing_value showing shown }
 {
@@ -62,7 +62,7 @@ fn showing_value(showing: Showing, shown: Option<Sequence<Literal>>) -> Conclusi
     }
 }
 
-/// The conclusion that is claimed, without literals.
+/// The conclusion, without literals.
 fn claim_value(claim: Claim) -> Conclusion
     ensures { result ≡ claim_value claim }
 {
@@ -76,7 +76,7 @@ fn claim_value(claim: Claim) -> Conclusion
 impl ClaimMachine {
     ghost use Rattle.pb_proof.specs.Line.ClaimState.{claim_first};
 
-    /// A machine before a claim. It takes no memory.
+    /// A machine at the start of its text. Creating it does not allocate.
     pub fn new(alloc: Global, limits: Limits) -> Self
         ensures begins { result ≡ claim_first (largest limits) (top_of limits) }
     {
@@ -119,7 +119,7 @@ impl ClaimMachine {
         }
     }
 
-    /// Gives a byte to the machine of literals.
+    /// Gives a byte to the machine for literals.
     fn give(&mut self, showing: Showing, byte: u8) -> Push<Conclusion>
         requires { plan self.old.limit self.old.top self.old.phase byte ≡ Move.Give showing }
         ensures { Pushes claim_automaton self.old byte result self.new }

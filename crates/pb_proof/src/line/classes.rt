@@ -1,4 +1,4 @@
-//! What a byte is to a line of numbers, and to a line of names.
+//! The class of a byte in a line of numbers, and in a line of names.
 
 ghost use Rattle.std.specs.Prelude.{◌≡◌};
 ghost use Rattle.pb_proof.specs.Line.ByteKind.{symbol, number_byte, name_byte, NumberByteFits, NameByteFits};
@@ -6,7 +6,7 @@ ghost use Rattle.pb_proof.specs.Line.ByteKind.{symbol, number_byte, name_byte, N
 use crate::line::byte_kind::{NameByte, NumberByte};
 use pb_text::bytes::{is_blank, is_digit, is_letter, is_name_byte};
 
-/// What the byte is to a line of numbers.
+/// The class of the byte in a line of numbers.
 pub fn number_byte(byte: u8) -> NumberByte
     ensures kind { result ≡ number_byte byte }
     ensures fits { NumberByteFits result }
@@ -44,7 +44,7 @@ fn symbol(byte: u8) -> NameByte
     NameByte::Other
 }
 
-/// What the byte is to a line of names.
+/// The class of the byte in a line of names.
 pub fn name_byte(byte: u8) -> NameByte
     ensures kind { result ≡ name_byte byte }
     ensures fits { NameByteFits result }

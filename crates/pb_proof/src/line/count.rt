@@ -1,4 +1,4 @@
-//! The machine of what stands behind `f`.
+//! The machine for the rest of a line after `f`.
 
 ghost use Rattle.std.specs.Prelude.{◌≡◌, ◌<◌, ◌≤◌, ◌^◌};
 ghost use Rattle.pb_text.specs.Limits.{top_of};
@@ -15,7 +15,7 @@ use pb_text::decimal::next_digit_u64;
 use pb_text::{Limits, Machine, Push};
 use std::marker::Model;
 
-/// A machine that reads a count or none, with blanks before it, through the line feed.
+/// A machine that reads an optional count, with blanks before it, through the line feed.
 #[derive(Drop)]
 pub struct CountMachine {
     top: u64,
@@ -32,7 +32,7 @@ impl Model for CountMachine {
     ghost invariant = { λ m. IsCountInOrder (record { top = m.top; phase = m.phase }) };
 }
 
-/// The next digit of a count.
+/// The action for the next digit of a count.
 fn digits(top: u64, value: u64, digit: u8) -> CountMove
     requires top { top < 2 ^ 63 }
     requires value { value ≤ top }
@@ -46,7 +46,7 @@ fn digits(top: u64, value: u64, digit: u8) -> CountMove
     }
 }
 
-/// What a machine does where the line may end, with a count or none.
+/// The action for a byte at which the line may end, with a count or none.
 fn behind(count: Option<u64>, gap: CountPhase, kind: NumberByte) -> CountMove
     ensures { result ≡ behind count gap kind }
 {
@@ -58,7 +58,7 @@ fn behind(count: Option<u64>, gap: CountPhase, kind: NumberByte) -> CountMove
     }
 }
 
-/// What a machine does with a byte.
+/// What the machine does with a byte.
 fn plan(top: u64, phase: CountPhase, kind: NumberByte) -> CountMove
     requires top { top < 2 ^ 63 }
     requires phase { PhaseFits top phase }
@@ -87,7 +87,7 @@ fn is_done(phase: CountPhase) -> bool
 }
 
 impl CountMachine {
-    /// A machine before its line. It takes no memory.
+    /// A machine at the start of its text. Creating it does not allocate.
     pub fn new(limits: Limits) -> Self
         ensures begins { result ≡ counting (top_of limits) }
     {

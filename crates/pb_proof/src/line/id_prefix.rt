@@ -1,11 +1,12 @@
-//! Ids at the front of a text.
+//! Ids at the start of a text.
 
 ghost use Rattle.std.specs.Prelude.{◌≡◌, ◌≤◌, IfSome, None, length, take};
 ghost use Rattle.pb_proof.specs.Line.IdPrefix.{IsSpacedId, LacksId};
 
 use pb_text::digits::number_prefix;
 
-/// An id and a space behind it at the front: how many bytes they are, and the id, where it is soon read.
+/// Reads an id and the space after it at the start of a text, on a fast path.
+/// Returns their length in bytes and the id.
 #[inline(always)]
 pub fn id_prefix(top: u64, text: &[u8]) -> Option<(usize, u64)>
     ensures bound { IfSome result (λ r. r.0 ≤ length text.now) }

@@ -1,4 +1,4 @@
-//! The machine of ids.
+//! The machine for ids.
 
 ghost use Rattle.std.specs.Prelude.{◌≡◌, ◌<◌, ◌≤◌, ◌^◌, ℕ};
 ghost use Rattle.pb_text.specs.Limits.{top_of};
@@ -19,7 +19,7 @@ use std::alloc::Global;
 use std::marker::Model;
 use std::mem;
 
-/// A machine that reads one id or more with blanks before each, through the line feed.
+/// A machine that reads one or more ids, with blanks before each, through the line feed.
 #[derive(Drop)]
 pub struct IdsMachine {
     alloc: Global,
@@ -38,7 +38,7 @@ impl Model for IdsMachine {
     ghost invariant = { λ m. IsIdsInOrder (record { top = m.top; ids = m.ids; phase = m.phase }) };
 }
 
-/// The next digit of an id.
+/// The action for the next digit of an id.
 fn digits(top: u64, negative: bool, value: u64, digit: u8) -> IdsMove
     requires top { top < 2 ^ 63 }
     requires value { value ≤ top }
@@ -52,7 +52,7 @@ fn digits(top: u64, negative: bool, value: u64, digit: u8) -> IdsMove
     }
 }
 
-/// What a machine does where an id may begin.
+/// The action for a byte at which an id may begin.
 fn before(top: u64, kind: NumberByte) -> IdsMove
     requires top { top < 2 ^ 63 }
     requires kind { NumberByteFits kind }
@@ -66,7 +66,7 @@ fn before(top: u64, kind: NumberByte) -> IdsMove
     }
 }
 
-/// What a machine does where an id may end.
+/// The action for a byte at which an id may end.
 fn behind(id: i64, kind: NumberByte) -> IdsMove
     ensures plan { result ≡ behind id kind }
     ensures fits { (top : ℕ) → MoveFits top result }
@@ -79,7 +79,7 @@ fn behind(id: i64, kind: NumberByte) -> IdsMove
     }
 }
 
-/// What a machine does with a byte. It asks for no memory.
+/// What the machine does with a byte. This does not allocate.
 #[inline(always)]
 fn plan(top: u64, phase: IdsPhase, kind: NumberByte) -> IdsMove
     requires top { top < 2 ^ 63 }
@@ -121,7 +121,7 @@ fn is_done(phase: IdsPhase) -> bool
 }
 
 impl IdsMachine {
-    /// A machine before its ids. It takes no memory.
+    /// A machine at the start of its text. Creating it does not allocate.
     pub fn new(alloc: Global, limits: Limits) -> Self
         ensures begins { result ≡ ids_first (top_of limits) }
     {
@@ -139,7 +139,7 @@ impl IdsMachine {
     ghost use Rattle.pb_text.specs.Automaton.{IsState, Runs};
     ghost use Rattle.pb_proof.specs.Line.Ids.{ids_automaton};
 
-    /// Takes the digits of an id, where one may begin.
+    /// Takes the digits of an id, if an id may begin here.
     #[inline(always)]
     fn take_digits(&mut self, text: &[u8]) -> usize
         ensures bound { result ≤ length text.now }

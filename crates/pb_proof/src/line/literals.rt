@@ -1,4 +1,4 @@
-//! The machine of literals.
+//! The machine for literals.
 
 ghost use Rattle.std.specs.Prelude.{true, ◌≡◌, ℕ, ◌-◌, ◌^◌, ◌<◌, List, [], IfOk, OnOk, OnErr, min};
 ghost use Rattle.pb_proof.specs.Line.ByteKind.{NameByteFits};
@@ -15,7 +15,7 @@ use std::alloc::{AllocError, Global};
 use std::marker::Model;
 use std::mem;
 
-/// A machine that reads literals with blanks before each, through the line feed.
+/// A machine that reads literals, with blanks before each, through the line feed.
 #[derive(Drop)]
 pub struct LiteralsMachine {
     alloc: Global,
@@ -35,7 +35,7 @@ impl Model for LiteralsMachine {
     ghost invariant = { λ m. IsLiteralsInOrder (record { joined = m.joined; literals = m.literals; name = m.name; phase = m.phase }) };
 }
 
-/// What a machine does where the line may end.
+/// The action for a byte at which the line may end.
 fn behind(kind: NameByte) -> LiteralsMove
     ensures plan { result ≡ behind kind }
     ensures fits { MoveFits result }
@@ -48,7 +48,7 @@ fn behind(kind: NameByte) -> LiteralsMove
     }
 }
 
-/// What a machine does where a literal may begin, or the line end.
+/// The action for a byte at which a literal may begin, or the line may end.
 fn before(kind: NameByte) -> LiteralsMove
     requires { NameByteFits kind }
     ensures plan { result ≡ before kind }
@@ -61,7 +61,7 @@ fn before(kind: NameByte) -> LiteralsMove
     }
 }
 
-/// What a machine does with a byte. It asks for no memory.
+/// What the machine does with a byte. This does not allocate.
 #[inline(always)]
 fn plan(joined: bool, phase: LiteralsPhase, kind: NameByte) -> LiteralsMove
     requires { NameByteFits kind }
@@ -92,7 +92,7 @@ fn is_done(phase: LiteralsPhase) -> bool
     matches!(phase, LiteralsPhase::Done)
 }
 
-/// How many literals have a name and are not whole.
+/// How many literals have begun a name and are not complete.
 fn in_hand(phase: LiteralsPhase) -> usize
     ensures { result ≡ in_hand phase }
 {
@@ -102,7 +102,7 @@ fn in_hand(phase: LiteralsPhase) -> usize
     }
 }
 
-/// Ends the literal whose name is whole.
+/// Stores the literal whose name is complete, if there is one.
 fn flush(
     alloc: Global,
     literals: &mut Sequence<Literal>,
@@ -126,7 +126,7 @@ fn flush(
     Ok(())
 }
 
-/// Ends the line: gives its literals, and keeps nothing.
+/// Ends the line: returns its literals, and keeps none.
 fn finish(
     alloc: Global,
     literals: &mut Sequence<Literal>,
@@ -142,7 +142,7 @@ fn finish(
     Ok(mem::replace(literals, Sequence::new(alloc)))
 }
 
-/// How many literals are kept, and bytes of their names. The count stays at its largest.
+/// The number of literals plus the number of bytes of their names. The sum saturates.
 fn count_units(literals: &[Literal]) -> usize
     ensures { result ≡ min (units literals.now) (2 ^ 64 - 1) }
 {
@@ -157,7 +157,8 @@ fn count_units(literals: &[Literal]) -> usize
 impl LiteralsMachine {
     ghost use Rattle.pb_proof.specs.Line.Literals.{literals_first};
 
-    /// A machine before its literals, which are joined to what stands before them or not. It takes no memory.
+    /// A machine at the start of its text. `joined` says whether the literals are joined to what comes before them.
+    /// Creating it does not allocate.
     pub fn new(alloc: Global, joined: bool) -> Self
         ensures begins { result ≡ literals_first joined }
     {

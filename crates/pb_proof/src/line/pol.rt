@@ -1,4 +1,4 @@
-//! The machine of postfix words.
+//! The machine for postfix words.
 
 ghost use Rattle.std.specs.Prelude.{◌≡◌, ◌&&◌, if◌then◌else◌};
 ghost use Rattle.pb_text.specs.Automaton.{IsState};
@@ -28,7 +28,7 @@ use pb_text::{Limits, Machine, Push, Sequence};
 use std::alloc::Global;
 use std::marker::Model;
 
-/// A machine that reads the words of one expression, from behind `pol` through the line feed.
+/// A machine that reads the words of one expression, from after `pol` through the line feed.
 #[derive(Drop)]
 pub struct PolMachine {
     alloc: Global,
@@ -60,7 +60,7 @@ impl Model for PolMachine {
     }) };
 }
 
-/// The answer to a byte that is not grammatical.
+/// The answer to a byte that the grammar does not allow.
 fn refusal(phase: Phase, byte: u8) -> Push<Sequence<PolWord>>
     ensures { result ≡ (if is_in_number phase && is_digit byte then Push.Large else Push.No) }
 {
@@ -74,7 +74,7 @@ fn refusal(phase: Phase, byte: u8) -> Push<Sequence<PolWord>>
 impl PolMachine {
     ghost use Rattle.pb_proof.specs.Line.PolState.{pol_first};
 
-    /// A machine before its words. It takes no memory.
+    /// A machine at the start of its text. Creating it does not allocate.
     pub fn new(alloc: Global, limits: Limits) -> Self
         ensures begins { result ≡ pol_first (largest limits) (top_of limits) }
     {
@@ -95,7 +95,7 @@ impl PolMachine {
     ghost use Rattle.pb_text.specs.Automaton.{IsState, Runs};
     ghost use Rattle.pb_proof.specs.Line.PolState.{pol_automaton};
 
-    /// Takes an id and the space behind it, where a word may begin.
+    /// Takes an id and the space after it, if a word may begin here.
     #[inline(always)]
     fn take_id(&mut self, text: &[u8]) -> usize
         ensures bound { result ≤ length text.now }
@@ -119,7 +119,7 @@ impl PolMachine {
         length
     }
 
-    /// Takes an operator and the space behind it, where one may stand.
+    /// Takes an operator and the space after it, if an operator may come here.
     #[inline(always)]
     fn take_operator(&mut self, text: &[u8]) -> usize
         ensures bound { result ≤ length text.now }
@@ -151,7 +151,7 @@ impl PolMachine {
         2
     }
 
-    /// Takes a word and the space behind it, where that is soon done.
+    /// Takes a word and the space after it, on a fast path.
     #[inline(always)]
     fn take_word(&mut self, text: &[u8]) -> usize
         requires { 0 < length text.now }

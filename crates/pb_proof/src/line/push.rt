@@ -1,4 +1,4 @@
-//! What the machines behind the first word of a statement do, as one machine.
+//! The line machines as one machine.
 
 ghost use Rattle.std.specs.Prelude.{◌≡◌};
 ghost use Rattle.pb_text.specs.Limits.{largest, top_of};
@@ -16,7 +16,7 @@ use crate::statement::Statement;
 use pb_text::{Limits, Machine, Push};
 use std::alloc::Global;
 
-/// What the machine answers that reads this statement.
+/// The answer of the machine that reads this statement.
 macro_rules! whichever {
     ($line:expr, $machine:ident => $answer:expr) => {
         match $line {
@@ -31,7 +31,7 @@ macro_rules! whichever {
     };
 }
 
-/// The answer of a machine behind a first word, as that of all of them.
+/// The answer of one line machine, as an answer of `LineMachine`.
 fn carried<E, F: FnOnce(E) -> Statement + Drop>(answer: Push<E>, statement: F) -> Push<Statement>
     requires { F.IsAlwaysCallable statement }
     ensures { IsCarried (F.post statement) answer result }
@@ -45,7 +45,7 @@ fn carried<E, F: FnOnce(E) -> Statement + Drop>(answer: Push<E>, statement: F) -
     }
 }
 
-/// The event of a machine behind a first word, as that of all of them.
+/// The event of one line machine, as an event of `LineMachine`.
 #[inline(always)]
 fn ended<E, F: FnOnce(E) -> Statement + Drop>(event: Option<E>, statement: F) -> Option<Statement>
     requires { F.IsAlwaysCallable statement }
@@ -57,7 +57,7 @@ fn ended<E, F: FnOnce(E) -> Statement + Drop>(event: Option<E>, statement: F) ->
     }
 }
 
-/// The machine of what stands behind a first word, before its text. It takes no memory.
+/// The line machine for this kind of line, at the start of its text. Creating it does not allocate.
 pub fn line_first(alloc: Global, limits: Limits, kind: LineKind) -> LineMachine
     ensures { result ≡ line_first (largest limits) (top_of limits) kind }
 {

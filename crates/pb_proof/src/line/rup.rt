@@ -1,4 +1,4 @@
-//! The machine of `rup`.
+//! The machine for `rup`.
 
 ghost use Rattle.std.specs.Prelude.{◌≡◌, ◌-◌, ◌^◌, min};
 ghost use Rattle.pb_text.specs.Limits.{largest};
@@ -15,7 +15,7 @@ use std::alloc::Global;
 use std::marker::Model;
 use std::mem;
 
-/// A machine that reads what stands behind `rup`, through the line feed.
+/// A machine that reads the rest of a line after `rup`, through the line feed.
 #[derive(Drop)]
 pub(crate) struct RupMachine {
     phase: RupPhase,
@@ -33,7 +33,7 @@ impl Model for RupMachine {
     ghost invariant = { λ m. IsRupInOrder (record { phase = m.phase; sums = m.sums; linear = m.linear }) };
 }
 
-/// What a machine does with a byte.
+/// What the machine does with a byte.
 fn rup_plan(phase: RupPhase, byte: u8) -> RupMove
     ensures { result ≡ rup_plan phase byte }
 {
@@ -47,14 +47,14 @@ fn rup_plan(phase: RupPhase, byte: u8) -> RupMove
     }
 }
 
-/// Whether all has been read.
+/// Whether the line has ended.
 fn is_done(phase: RupPhase) -> bool
     ensures { result ≡ rup_done phase }
 {
     matches!(phase, RupPhase::Done)
 }
 
-/// The constraint that a machine of sums has read.
+/// The constraint that a machine for sums has read.
 fn linear_of(event: SumEvent) -> Linear
     ensures { result ≡ linear_of event }
 {
@@ -68,7 +68,7 @@ fn linear_of(event: SumEvent) -> Linear
     }
 }
 
-/// How much is kept of a constraint.
+/// How much of a constraint is stored.
 fn units_in(linear: &Option<Linear>) -> usize
     ensures { result ≡ min (units_in linear.now) (2 ^ 64 - 1) }
 {
@@ -82,7 +82,7 @@ impl RupMachine {
     ghost use Rattle.pb_text.specs.Automaton.{IsState, Pushes};
     ghost use Rattle.pb_proof.specs.Line.Rup.{rup_automaton, rup_first, rup_plan};
 
-    /// A machine before its text. It takes no memory.
+    /// A machine at the start of its text. Creating it does not allocate.
     pub(crate) fn new(alloc: Global, limits: Limits) -> Self
         ensures begins { result ≡ rup_first (largest limits) }
     {
@@ -108,7 +108,7 @@ impl RupMachine {
         }
     }
 
-    /// Gives a byte to the machine of sums.
+    /// Gives a byte to the machine for sums.
     fn give(&mut self, byte: u8) -> Push<Linear>
         requires { rup_plan self.old.phase byte ≡ RupMove.Give }
         ensures { Pushes rup_automaton self.old byte result self.new }
@@ -149,7 +149,7 @@ impl RupMachine {
     ghost use Rattle.pb_text.specs.Automaton.{Goes, IsState, Runs};
     ghost use Rattle.pb_proof.specs.Line.Rup.{rup_automaton, rup_plan};
 
-    /// Gives a byte to the machine of sums, where that is done soon.
+    /// Gives a byte to the machine for sums. Returns whether the byte was taken.
     fn gives(&mut self, byte: u8) -> bool
         requires { rup_plan self.old.phase byte ≡ RupMove.Give }
         ensures { Goes rup_automaton self.old byte result self.new }
@@ -160,7 +160,7 @@ impl RupMachine {
         }
     }
 
-    /// Gives bytes at the front of a text to the machine of sums, where it has begun.
+    /// Gives bytes at the start of a text to the machine for sums, if it has begun. Returns how many it took.
     fn give_front(&mut self, text: &[u8]) -> usize
         ensures bound { result ≤ length text.now }
         ensures runs { Runs rup_automaton self.old (take result text.now) self.new }

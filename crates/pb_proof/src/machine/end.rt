@@ -12,7 +12,7 @@ use crate::statement::Statement;
 use pb_text::Machine;
 
 impl ProofMachine {
-    /// Ends a statement behind its first word with a byte, where it is whole and no memory is refused.
+    /// Ends a statement with a byte after its first word, if the statement is complete and no allocation fails.
     #[inline(always)]
     pub(super) fn end(&mut self, byte: u8) -> Option<Statement>
         ensures { Closes proofs self.old byte result self.new }
@@ -23,7 +23,7 @@ impl ProofMachine {
         }
     }
 
-    /// Ends the line of the machine behind the first word.
+    /// Ends the line that the line machine reads.
     #[inline(always)]
     fn end_line(&mut self, kind: LineKind, byte: u8) -> Option<Statement>
         requires { plan self.old.phase byte ≡ Move.Give kind }

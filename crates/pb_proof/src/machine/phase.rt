@@ -1,4 +1,4 @@
-//! What a machine of proofs has read last, and what it does with a byte.
+//! What the machine for proofs has read last, and what it does with a byte.
 
 /// How far a proof has come: which statements may come next.
 #[derive(Clone, Copy, Drop, PartialEq, Eq)]
@@ -32,52 +32,52 @@ pub enum Keyword {
     End,
 }
 
-/// What stands behind the first word of a statement, and is given to a machine of its own.
+/// The rest of a statement after its first word, which a line machine reads.
 #[derive(Clone, Copy, Drop)]
 pub enum LineKind {
-    /// Behind `f`.
+    /// After `f`.
     Count,
-    /// Behind `pol`.
+    /// After `pol`.
     Pol,
-    /// Behind `rup`.
+    /// After `rup`.
     Rup,
-    /// Behind `soli`.
+    /// After `soli`.
     Soli,
-    /// Behind `solx`.
+    /// After `solx`.
     Solx,
-    /// Behind `del id`.
+    /// After `del id`.
     Delete,
-    /// Behind `conclusion`.
+    /// After `conclusion`.
     Conclusion,
 }
 
-/// What a machine has read last.
+/// What the machine has read last.
 #[derive(Clone, Copy, Drop)]
 pub enum Phase {
     /// A whole statement, or nothing, and perhaps white space and comments.
     Between(Stage),
-    /// The star of a comment, and bytes of it.
+    /// The `*` of a comment, and perhaps further bytes of it.
     Comment(Stage),
-    /// So many bytes of a statement's words, and perhaps more blanks behind a blank.
+    /// This many bytes of a statement's words, and perhaps more blanks after a blank.
     Spelling(Keyword, usize),
     /// `sol`.
     Solution,
     /// The words of the header, and perhaps blanks.
     HeaderEnd,
-    /// The words of the output, and perhaps blanks. A `;` may come, or not.
+    /// The words of the output, and perhaps blanks. The flag says whether a `;` may still come.
     OutputEnd(bool),
-    /// A part of what is given to a machine of its own.
+    /// A part of what a line machine reads.
     Inside(LineKind),
 }
 
-/// What a machine does with a byte.
+/// What the machine does with a byte.
 #[derive(Clone, Copy, Drop)]
 pub enum Move {
-    /// Goes on.
+    /// Continues in this phase.
     To(Phase),
-    /// Begins the machine of what stands behind the first word.
+    /// Starts the line machine.
     Begin(LineKind),
-    /// Gives the byte to that machine.
+    /// Gives the byte to the line machine.
     Give(LineKind),
     EndHeader,
     EndOutput,

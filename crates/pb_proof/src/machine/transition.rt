@@ -1,4 +1,4 @@
-//! What a machine of proofs does with a byte, by what it has read last.
+//! What the machine for proofs does with a byte, given what it has read last.
 
 ghost use Rattle.std.specs.Prelude.{◌≡◌, ◌<◌, ◌≤◌, IfSome, None, length, take};
 ghost use Rattle.pb_proof.specs.Machine.Transition.{words_of, behind, meets, spell, step_keyword, enter, pass, between, plan};
@@ -8,7 +8,7 @@ ghost use Rattle.pb_proof.specs.Machine.Words.{IsRest, LacksRest};
 use crate::machine::phase::{Keyword, LineKind, Move, Phase, Stage};
 use pb_text::bytes::{is_blank, is_white};
 
-/// The words that a statement begins with, where a space stands for one or more blanks.
+/// The words that a statement begins with. A space in them is for one or more blanks.
 fn words_of(keyword: Keyword) -> &'static [u8]
     ensures { result.now ≡ words_of keyword }
 {
@@ -25,7 +25,7 @@ fn words_of(keyword: Keyword) -> &'static [u8]
     }
 }
 
-/// What a machine does behind the words.
+/// What the machine does after the words.
 fn behind(keyword: Keyword) -> Move
     ensures { result ≡ behind keyword }
 {
@@ -42,7 +42,7 @@ fn behind(keyword: Keyword) -> Move
     }
 }
 
-/// Whether a byte is this one of the words, or a blank where that is a space.
+/// Whether a byte is the expected byte of the words or, if that is a space, a blank.
 fn meets(expected: u8, byte: u8) -> bool
     ensures { result ≡ meets expected byte }
 {
@@ -53,7 +53,7 @@ fn meets(expected: u8, byte: u8) -> bool
     }
 }
 
-/// The next byte of the words, of which some were read, or else another move.
+/// The action for the next byte of the words, after `read` bytes of them. For any other byte it is `other`.
 fn spell(keyword: Keyword, read: usize, byte: u8, other: Move) -> Move
     requires { read < length (words_of keyword) }
     ensures { result ≡ spell keyword read byte other }
@@ -69,7 +69,7 @@ fn spell(keyword: Keyword, read: usize, byte: u8, other: Move) -> Move
     }
 }
 
-/// The words that begin with this byte, of a step or the output.
+/// The words of the step that begins with this byte, or else those of the output.
 fn step_keyword(byte: u8) -> Keyword
     ensures { result ≡ step_keyword byte }
 {
@@ -82,7 +82,7 @@ fn step_keyword(byte: u8) -> Keyword
     }
 }
 
-/// The first byte of a statement.
+/// The action for the first byte of a statement.
 fn enter(stage: Stage, byte: u8) -> Move
     ensures { result ≡ enter stage byte }
 {
@@ -96,7 +96,7 @@ fn enter(stage: Stage, byte: u8) -> Move
     }
 }
 
-/// White space, a comment, or the first byte of a statement.
+/// The action for white space, the start of a comment, or the first byte of a statement.
 fn pass(stage: Stage, byte: u8) -> Move
     ensures { result ≡ pass stage byte }
 {
@@ -109,7 +109,7 @@ fn pass(stage: Stage, byte: u8) -> Move
     }
 }
 
-/// What may stand between two statements.
+/// The action for a byte between two statements.
 fn between(stage: Stage, byte: u8) -> Move
     ensures { result ≡ between stage byte }
 {
@@ -120,7 +120,7 @@ fn between(stage: Stage, byte: u8) -> Move
     }
 }
 
-/// What may stand within the words.
+/// The action for a byte within the words.
 fn within(keyword: Keyword, read: usize, byte: u8) -> Move
     requires { PhaseFits (Phase.Spelling keyword read) }
     ensures { result ≡ plan (Phase.Spelling keyword read) byte }
@@ -133,8 +133,8 @@ fn within(keyword: Keyword, read: usize, byte: u8) -> Move
     spell(keyword, read, byte, other)
 }
 
-/// The rest of the words that have begun, where it stands at the front with one space for blanks: how many bytes it is, and
-/// what a machine does behind it.
+/// The rest of the words that have begun, if the text begins with it and has one space for blanks. Returns its length
+/// in bytes, and what the machine does after it.
 #[inline(always)]
 pub fn words_prefix(phase: Phase, text: &[u8]) -> Option<(usize, Move)>
     requires { PhaseFits phase }
@@ -152,7 +152,7 @@ pub fn words_prefix(phase: Phase, text: &[u8]) -> Option<(usize, Move)>
     Some((rest.len(), behind(keyword)))
 }
 
-/// What a machine does with a byte.
+/// What the machine does with a byte.
 #[inline(always)]
 pub fn plan(phase: Phase, byte: u8) -> Move
     requires { PhaseFits phase }
@@ -188,7 +188,7 @@ pub fn is_done(phase: Phase) -> bool
     matches!(phase, Phase::Between(Stage::Complete))
 }
 
-/// What may come behind a statement.
+/// The stage after a statement.
 pub fn stage_behind(kind: LineKind) -> Stage
     ensures { result ≡ stage_behind kind }
 {

@@ -1,4 +1,4 @@
-//! Puts the statements of a proof together.
+//! Collects the statements of a proof.
 
 ghost use Rattle.std.specs.Prelude.{◌≡◌, OnOk};
 
@@ -8,7 +8,7 @@ use crate::statement::Statement;
 use pb_text::{Gather, Sequence};
 use std::alloc::{AllocError, Global};
 
-/// The proof of the statements so far.
+/// The proof that the statements so far make up.
 #[derive(Drop)]
 pub struct ProofSoFar {
     pub proof: Proof,
@@ -17,7 +17,7 @@ pub struct ProofSoFar {
 impl ProofSoFar {
     ghost use Rattle.pb_proof.specs.Gather.{nothing};
 
-    /// Before any statement.
+    /// The proof before any statement.
     pub fn new(alloc: Global) -> Self
         ensures { result.proof ≡ nothing }
     {

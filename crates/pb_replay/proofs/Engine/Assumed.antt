@@ -45,7 +45,7 @@ assumed-next given old _ i d inside free (added absent opened) a =
 pub within-none : (list given : List NumberedLiteral) → list ≡ [] → IsWithin list given
 within-none list given e l h = absurd (both_ways _ (has-none l) (sym (ap (λ xs. has xs l) e) ∙ h))
 
--- the list as it is given
+-- the list as given
 pub on-has : (list : List NumberedLiteral) → Matches list list
 unfolding has
 on-has [] v n = refl

@@ -62,7 +62,7 @@ pub total-open : (f : Form) (x : Shape) (new old : List NumberedLiteral) → IsK
 total-open f x new old k m =
     omega (arith, total-sum (opened new) f.terms, sum_by-IsPermutation (counted (opened new)) (map entry_of x.terms) f.terms k.terms, sum-entries (counted (opened new)) (open_part old) (counted-open new old m) x.terms)
 
--- past its variable a literal has no coefficient
+-- beyond its variable a literal has no coefficient
 rising-past : (n v : ℕ) (b : Bool) (es : List Entry) → v < n → IsRising n es → total (only v b) es ≡ 0
 rising-past n v b [] h r = refl
 rising-past n v b (x ∷ xs) h r =
@@ -97,7 +97,7 @@ rising-only n v b (x ∷ xs) r h =
     later : (y : Entry) (ys : List Entry) (e e' : Entry) → e ≡ e' → Contains ys e → Contains (y ∷ ys) e'
     later y ys e e' s (k, inside, is) = subst (Contains (y ∷ ys)) s (suc k, omega (arith, inside), is)
 
--- the kept forms are the set's, each perhaps in another order, and some that say nothing
+-- the stored forms are the set's, each perhaps in another order, and some empty ones
 pub record AreKept (F : Form → Type 0) (shapes : List Shape) : Type 0 where
   pub forth : (x : Shape) → Contains shapes x → ((f : Form) × F f × IsKeptAs f x) ⊎ ((x.terms ≡ []) × (x.degree ≡ 0))
   pub back : (f : Form) → F f → (x : Shape) × Contains shapes x × IsKeptAs f x
@@ -166,7 +166,7 @@ conflicts F shapes new old a m (low x among less) =
       | inl found ↦ broken found.0 found.1 (omega (arith, total-open found.0 x new old found.2 m, less, found.2.degree))
     ]
 
--- where each kept form is settled the list is closed, and has no conflict
+-- if each stored form is settled, the list is closed and has no conflict
 pub is-closed : (F : Form → Type 0) (shapes : List Shape) (new old : List NumberedLiteral) → AreKept F shapes → Matches new old → ((x : Shape) → Contains shapes x → IsSettled x old) → (l : NumberedLiteral) → MayPut F new l → ⊥
 is-closed F shapes new old a m settled l p =
     let found = a.back p.form p.among in

@@ -1,4 +1,4 @@
--- The store after a form came, left, or was made empty.
+-- The store after a form was added, removed or emptied.
 use Rattle.std.specs.Prelude.{Option, None}
 use Rattle.std.proofs.Common.{◌≡◌, ℕ, ◌+◌, ◌<◌, ◌++◌, ◌∷◌, [], List, Vec, Global, refl, sym, ◌∙◌, ap, subst, arith, inl, inr, length, get_or, take, set, length-set, length-append, get_or-set_same, get_or-set_other, zero, suc}
 use Rattle.std.proofs.Math.Seq.{set-append_seam}
@@ -7,8 +7,8 @@ use Rattle.pb_normal.specs.Form.{Form}
 use Rattle.std.proofs.lemmas.List.{get_or-take, set-set, take-map, map-append, length-map, get_or_past, take_more, take_all, length-take-le, get_or_append_left, map-set}
 use Rattle.std.proofs.lemmas.List.Elements.{All-push, All-set, All-take}
 use Rattle.pb_replay.specs.declared.propagate.term.Term.{Term}
-use Rattle.pb_replay.specs.declared.propagate.term.Occurrence.{Occurrence}
-use Rattle.pb_replay.specs.declared.propagate.kept.Kept.{Kept}
+use Rattle.pb_replay.specs.declared.propagate.store.Occurrence.{Occurrence}
+use Rattle.pb_replay.specs.declared.propagate.store.kept.Kept.{Kept}
 use Rattle.pb_replay.specs.Engine.Lists.{Shape, AreInside}
 use Rattle.pb_replay.specs.Engine.Fields.{shapes_of, kept_shape, forms_of, spots_of, entries_of}
 use Rattle.pb_replay.specs.Engine.Terms.{terms_of}
@@ -19,7 +19,7 @@ use Rattle.pb_replay.proofs.Engine.Links.{cut-length}
 use Rattle.pb_replay.proofs.Engine.Storages.{linked-named, link-start, link-end, link-vacant, cut-all}
 use Rattle.pb_replay.proofs.Engine.Weights.{entries-apart, others-named, others-past, terms-before, terms-set}
 
--- what stands at the end is replaced
+-- the element at the end is replaced
 pub set-end : {X : Type 0} (xs ys : List X) (n : ℕ) (y z : X) → ys ≡ xs ++ (y ∷ []) → n ≡ length xs → set ys n z ≡ xs ++ (z ∷ [])
 set-end xs ys n y z e at = ap (λ zs. set zs n z) e ∙ ap (λ m. set (xs ++ (y ∷ [])) m z) at ∙ set-append_seam xs y [] z
 
@@ -30,7 +30,7 @@ empty-end keep keep' k n e at empty =
 none_inside : (n : ℕ) (ts : List Term) → ts ≡ [] → AreInside n ts
 none_inside n ts h i d less = absurd (omega (arith, less, ap length h))
 
--- an empty form behind the others
+-- an empty form after the others
 pub widened-forms : (keep : List Kept) (k : Kept) (sp : List (Vec ℕ Global)) (v : Vec ℕ Global) (occ : List (Vec Occurrence Global)) (n : ℕ) → (terms_of k.terms) ≡ [] → v.items ≡ [] →
     IsStored (shapes_of keep) (spots_of sp) (entries_of (shapes_of keep) occ) n → IsStored (shapes_of (keep ++ (k ∷ []))) (spots_of (sp ++ (v ∷ []))) (entries_of (shapes_of (keep ++ (k ∷ []))) occ) n
 widened-forms keep k sp v occ n empty no_spots old =
@@ -61,7 +61,7 @@ widened-forms keep k sp v occ n empty no_spots old =
       ];
     })
 
--- a form where an empty one stood
+-- a form in the slot of an empty one
 pub filled-stored : (keep : List Kept) (k : Kept) (sp : List (Vec ℕ Global)) (v : Vec ℕ Global) (occ occ' : List (Vec Occurrence Global)) (n form : ℕ) (terms : List Term) →
     form < length keep → terms_at (shapes_of keep) form ≡ [] → terms ≡ (terms_of k.terms) → length occ' ≡ length occ → length v.items ≡ length terms → AreInside n (terms_of k.terms) →
     ((base : List Shape) (all : List (List ℕ)) → form < length base → terms_at base form ≡ terms → form < length all → IsLinked (cut base form 0) (set all form []) (entries_of base occ) → IsLinked (cut base form (length terms)) (set all form v.items) (entries_of base occ')) →
@@ -166,7 +166,7 @@ vacated-stored keep k sp sp0 v occ occ0 n form inside empty no_spots sizes rooms
 pub take-at : {X : Type 0} (xs ys : List X) (a b : ℕ) → a ≡ b → xs ≡ ys → take a xs ≡ take b ys
 take-at xs ys a b e f = ap (λ n. take n xs) e ∙ ap (take b) f
 
--- an empty form more is none of the forms
+-- one more empty form is none of the forms
 pub forms-more : (keep keep' : List Kept) (k : Kept) (s : ℕ) → keep' ≡ keep ++ (k ∷ []) → k.terms.form ≡ None → get_or (forms_of keep') s None ≡ get_or (forms_of keep) s None
 forms-more keep keep' k s same e = ap (λ ks. get_or (forms_of ks) s None) same ∙ at keep s
   where
@@ -176,7 +176,7 @@ forms-more keep keep' k s same e = ap (λ ks. get_or (forms_of ks) s None) same 
     at (x ∷ ks) zero = refl
     at (x ∷ ks) (suc n) = at ks n
 
--- the forms, as one comes or goes
+-- the forms, as one is added or removed
 pub forms-widened : (keep keep' : List Kept) (k : Kept) → keep' ≡ keep ++ (k ∷ []) → k.terms.form ≡ None → forms_of keep' ≡ forms_of keep ++ (None ∷ [])
 forms-widened keep keep' k same e = ap forms_of same ∙ map-append (λ (x : Kept). x.terms.form) keep (k ∷ []) ∙ ap (λ o. forms_of keep ++ (o ∷ [])) e
 

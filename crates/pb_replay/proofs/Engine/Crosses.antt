@@ -1,4 +1,4 @@
--- What names what, as terms and entries come and go.
+-- What names what, as terms and entries are added and removed.
 use Rattle.std.specs.Prelude.{Option, Some, None}
 use Rattle.std.proofs.Common.{◌≡◌, ℕ, ◌⊎◌, sym, ◌∙◌, ap, inl, inr, refl, arith}
 use Rattle.std.proofs.lemmas.Bool.{cases_eq}
@@ -13,7 +13,7 @@ to p q w = Some record { row = p; column = q; weight = w }
 abbrev pub Same : ℕ → ℕ → ℕ → ℕ → Type 0
 Same a b c d = (a ≡ c) × (b ≡ d)
 
--- what the first names names it
+-- what the first names, names it back
 abbrev pub Answers : Grid → Grid → Type 0
 Answers f g = (a b c d w : ℕ) → f a b ≡ to c d w → g c d ≡ to a b w
 
@@ -102,7 +102,7 @@ crossed-drop f f' g g' a0 b0 c0 d0 w0 f_was f_none f_old g_none g_old old a b c 
   drop-half g g' f f' c0 d0 a0 b0 w0 g_none g_old f_old f_was (λ r s p q v. (old p q r s v).1) c d a b w,
 )
 
--- one pair less, and the entry of another moves to its place
+-- one pair less, and the entry of another moves to its position
 move-half : (f f' g g' : Grid) (an bn a1 b1 c1 d1 w1 : ℕ) → f' an bn ≡ None → f' a1 b1 ≡ to c1 d1 w1 → g' c1 d1 ≡ to a1 b1 w1 → ((a b : ℕ) → (Same a b an bn → ⊥) → (Same a b a1 b1 → ⊥) → f' a b ≡ f a b) → ((a b c d w : ℕ) → (Same a b an bn → ⊥) → (Same a b a1 b1 → ⊥) → g c d ≡ to a b w → g' c d ≡ to a b w) → Answers f g → Answers f' g'
 move-half f f' g g' an bn a1 b1 c1 d1 w1 f_none f_new g_new f_old g_old old a b c d w h =
     elim (same-or a b an bn) [

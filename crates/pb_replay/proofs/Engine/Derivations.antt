@@ -23,7 +23,7 @@ pub record Moved (forms : List Shape) (given list : List NumberedLiteral) : Type
   pub within : IsWithin whole list
   pub covers : IsWithin list whole
 
--- a form is settled where each term that would be put is on the list or falsified
+-- a form is settled if each term that would be propagated is on the list or falsified
 pub settled-of_terms : (f : Shape) (list : List NumberedLiteral) → f.degree ≤ open_sum list f.terms → ((k : ℕ) (d : Term) → k < length f.terms → open_sum list f.terms < f.degree + (get_or f.terms k d).coefficient → has list (get_or f.terms k d).literal ≡ false → has list (negation (get_or f.terms k d).literal) ≡ false → ⊥) → IsSettled f list
 settled-of_terms f list met each = record { met = met; idle = λ l m. idle_at l m }
   where

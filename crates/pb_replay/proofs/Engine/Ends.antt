@@ -1,4 +1,4 @@
--- Over a list of forms some derivation cannot be made longer: each literal that is put leaves fewer terms open.
+-- Over a list of forms some derivation cannot be extended: each propagated literal leaves fewer terms open.
 use Rattle.std.specs.Prelude.{Contains}
 use Rattle.std.proofs.Common.{◌≡◌, ℕ, zero, suc, ◌+◌, ◌<◌, ◌≤◌, ◌⊎◌, ◌||◌, Bool, true, false, not, cond, List, [], ◌∷◌, refl, sym, ◌∙◌, ap, arith, inl, inr}
 use Rattle.std.proofs.lemmas.Bool.{cases_Bool, cases_lt}
@@ -32,7 +32,7 @@ forced_or list f v n =
       ]
     ]
 
--- a literal that stands in the terms is that of one of them
+-- a literal that occurs in the terms is that of one of them
 among_terms : (list : List NumberedLiteral) (f : Form) (ts : List Entry) →
     ((v : ℕ) × ((n : Bool) × Forced list f v n)) ⊎ ((v : ℕ) (n : Bool) → 0 < total (only v n) ts → Forced list f v n → ⊥)
 among_terms list f [] = inr (λ v n stands r. absurd (omega (arith, stands)))

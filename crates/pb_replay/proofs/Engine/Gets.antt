@@ -1,4 +1,4 @@
--- What stands at a place of a list.
+-- The elements at positions of a list.
 use Rattle.std.specs.Prelude.{Contains, Option, Some, None, slice_get, map}
 use Rattle.std.proofs.Common.{◌≡◌, ℕ, zero, suc, ◌+◌, ◌<◌, ◌≤◌, ◌++◌, ◌∷◌, [], List, refl, sym, ◌∙◌, ap, arith, inl, inr, length, get_or, take, set}
 use Rattle.std.proofs.lemmas.Bool.{cases_lt}
@@ -7,7 +7,7 @@ use Rattle.std.proofs.lemmas.Bool.{cases_lt}
 pub lt_of_apart : (a b : ℕ) → a ≤ b → (b ≡ a → ⊥) → a < b
 lt_of_apart a b h n = grind arith
 
--- nothing stands on the empty list
+-- the empty list has no element
 pub contains-none : {X : Type 0} (xs : List X) (x : X) → xs ≡ [] → Contains xs x → ⊥
 contains-none [] x e (k, lt, is) = omega (arith, lt)
 contains-none (y ∷ xs) x e c = cc
@@ -68,7 +68,7 @@ get-push_other [] (suc k) y n = refl
 get-push_other (x ∷ xs) zero y n = refl
 get-push_other (x ∷ xs) (suc k) y n = get-push_other xs k y (λ e. n (omega (arith, e)))
 
--- the last of two lists that differ there alone
+-- the last element of two lists that differ only there
 pub last-is : {X : Type 0} (xs : List X) (y d : X) (k : ℕ) → k ≡ length xs → get_or (xs ++ (y ∷ [])) k d ≡ y
 last-is [] y d zero h = refl
 last-is [] y d (suc k) h = absurd (omega (arith, h))

@@ -4,7 +4,7 @@ use Rattle.pb_replay.specs.declared.numbered.NumberedLiteral.{NumberedLiteral}
 use Rattle.pb_replay.specs.Engine.Lists.{negation, has, Shape, Puts, Conflicts, broken, IsWithin}
 use Rattle.pb_replay.proofs.Engine.Literals.{open_sum-within, open_sum-lower}
 
--- a literal that may be put on a list is on each longer one, may be put on it, or that one has a conflict
+-- a literal that may be propagated from a list: on each longer list it is there, may be propagated, or there is a conflict
 pub data Lasting (forms : List Shape) (list : List NumberedLiteral) (l : NumberedLiteral) : Type 0 where
   on_it : has list l ≡ true → Lasting forms list l
   still : Puts forms list l → Lasting forms list l

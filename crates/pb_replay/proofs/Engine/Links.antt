@@ -1,4 +1,4 @@
--- One term more or less stands in the lists.
+-- One term is added to the lists or removed.
 use Rattle.std.specs.Prelude.{sum_by, Some, None, slice_get}
 use Rattle.std.proofs.Common.{◌≡◌, ℕ, ◌+◌, ◌<◌, ◌≤◌, ◌++◌, ◌∷◌, [], List, refl, sym, ◌∙◌, ap, arith, inl, inr, length, get_or, take, set, length-set, length-append, get_or-set_same, get_or-set_other}
 use Rattle.std.proofs.lemmas.Bool.{cases_eq, cases_Bool}
@@ -152,7 +152,7 @@ entry-is lists p q e h = ap entry_cross h
 pub entry-none : (lists : List (List Weighted)) (p q : ℕ) → slice_get (get_or lists p []) q ≡ None → entry_at lists p q ≡ None
 entry-none lists p q h = ap entry_cross h
 
--- a term is entered
+-- a term is added
 pub link-next : (base : List Shape) (spots spots' : List (List ℕ)) (lists lists' : List (List Weighted)) (s0 i : ℕ) (t : Term) (e : Weighted) → s0 < length base → i < length (terms_at base s0) → t ≡ get_or (terms_at base s0) i t → place t.literal < length lists →
     e.form ≡ s0 → e.index ≡ i → e.coefficient ≡ t.coefficient → lists' ≡ set lists (place t.literal) (get_or lists (place t.literal) [] ++ (e ∷ [])) →
     slice_get (get_or spots' s0 []) i ≡ Some (length (get_or lists (place t.literal) [])) → ((s j : ℕ) → (Same s j s0 i → ⊥) → slice_get (get_or spots' s []) j ≡ slice_get (get_or spots s []) j) → length spots' ≡ length spots →

@@ -109,7 +109,7 @@ shuffle_here fx gx a b h = omega arith
 shuffle_there : (fx gx a b p q : ℕ) → fx ≤ gx → a + q ≤ b + p → (fx + a) + q ≤ (gx + b) + p
 shuffle_there fx gx a b p q h k = omega arith
 
--- where one part of a sum is lower, and no other higher
+-- if one part of a sum is lower, and no other is higher
 sum_by-lower_at : {X : Type 0} (f g : X → ℕ) → ((x : X) → f x ≤ g x) → (xs : List X) (k : ℕ) (d : X) → k < length xs → sum_by f xs + g (get_or xs k d) ≤ sum_by g xs + f (get_or xs k d)
 sum_by-lower_at f g le [] k d h = absurd (omega (arith, h))
 sum_by-lower_at f g le (x ∷ xs) zero d h =
@@ -120,7 +120,7 @@ sum_by-lower_at f g le (x ∷ xs) (suc k) d h =
     let more = sum_by-lower_at f g le xs k d here in
     rw (sum_by-cons f x xs, sum_by-cons g x xs) (shuffle_there (f x) (g x) (sum_by f xs) (sum_by g xs) (f (get_or xs k d)) (g (get_or xs k d)) (le x) more)
 
--- a literal that the longer list falsifies opens its coefficient less
+-- a literal that the longer list falsifies takes its coefficient from the open sum
 pub open_sum-lower : (a b : List NumberedLiteral) → IsWithin a b → (terms : List Term) (t : Term) → Contains terms t → has a (negation t.literal) ≡ false → has b (negation t.literal) ≡ true → open_sum b terms + t.coefficient ≤ open_sum a terms
 open_sum-lower a b w terms t (k, inside, is) opened gone =
     let low = sum_by-lower_at (open_part b) (open_part a) (open_part-within a b w) terms k t inside in
@@ -129,7 +129,7 @@ open_sum-lower a b w terms t (k, inside, is) opened gone =
     let all = open_part-open a t opened in
     omega (arith, at, zero, all)
 
--- what stands on a list
+-- which literals are on a list
 pub has-get : (list : List NumberedLiteral) (i : ℕ) (d : NumberedLiteral) → i < length list → has list (get_or list i d) ≡ true
 unfolding has
 has-get [] i d inside = absurd (omega (arith, inside))

@@ -7,13 +7,13 @@ use Rattle.pb_replay.specs.declared.numbered.NumberedLiteral.{NumberedLiteral}
 use Rattle.pb_replay.specs.declared.propagate.term.Term.{Term}
 use Rattle.pb_replay.specs.Engine.Lists.{Shape, AreInside, open_sum, size, Derives, begin, put, Conflicts, broken, Weighted}
 use Rattle.pb_replay.specs.Engine.Counts.{IsCounted, IsTidy, IsPaid, IsAbsent, Adopted, kept, added, IsCalm, IsDone, AreFound, Grown, pushed, spared, spent, weight_in}
-use Rattle.pb_replay.specs.declared.propagate.kept.Kept.{Kept}
+use Rattle.pb_replay.specs.declared.propagate.store.kept.Kept.{Kept}
 use Rattle.pb_replay.specs.Engine.Fields.{shapes_of, kept_shape}
 use Rattle.pb_replay.specs.Engine.Terms.{terms_of}
 use Rattle.pb_replay.specs.Engine.Links.{coefficient_at}
 use Rattle.pb_replay.proofs.Engine.Runs.{Tidy-pass, Tidy-settle, done-new}
 
--- a form's terms are being passed; the second state is that before the first of them
+-- a form's terms are being passed; the second state is the one before the first of them
 pub record IsLooking (aside : List ℕ) (forms : List Shape) (lists : List (List Weighted)) (form : ℕ) (list0 : List NumberedLiteral) (cands0 work0 : List ℕ) (visits0 : ℕ) (opens cands : List ℕ) (list : List NumberedLiteral) (work trail : List ℕ) (next visits : ℕ) : Type 0 where
   pub derived : Derives forms list0 list
   pub counted : IsCounted forms opens list []
@@ -113,7 +113,7 @@ Looking-conflict forms opens list form f inside is c low =
     let low_is : get_or opens form 0 < (get_or forms form f).degree = rw (is f) low in
     broken (get_or forms form f) (Contains-get_or forms form f inside) (omega (arith, now, low_is))
 
--- by what the program reads
+-- in terms of what the program reads
 pub shape-at : (keep : List Kept) (form : ℕ) (k : Kept) → form < length keep → k ≡ get_or keep form k → (d : Shape) → get_or (shapes_of keep) form d ≡ kept_shape k
 shape-at keep form k inside is d = get_or-map kept_shape keep form k d inside ∙ ap kept_shape (sym is)
 
@@ -180,7 +180,7 @@ term-inside keep n form k items c t inside is items_is here item all =
     let of_term = of_kept c t (omega (arith, here, ap length items_is)) in
     rw (← item_k) at of_term
 
--- a number that need not be put behind a list
+-- a number that need not be appended to a list
 pub grown-by : {P Q : Type 0} (x : ℕ) (old new : List ℕ) → (P → Q) → Grown P x old new → Grown Q x old new
 grown-by x old _ f pushed = pushed
 grown-by x old _ f (spared p) = spared (f p)

@@ -1,4 +1,4 @@
--- The forms by number, where they are kept by slot.
+-- The forms by number, which are stored by slot.
 use Rattle.std.specs.Prelude.{sum_by, Option, Some, None, slice_get}
 use Rattle.std.proofs.Common.{◌≡◌, ℕ, zero, suc, ◌-◌, ◌^◌, ◌<◌, ◌≤◌, ◌⊎◌, ◌++◌, ◌∷◌, [], List, refl, sym, ◌∙◌, ap, arith, inl, inr, length, get_or, set, get_or-set_same, get_or-set_other, length-set, length-append}
 use Rattle.std.proofs.lemmas.Bool.{cases_eq, cases_lt}
@@ -6,7 +6,7 @@ use Rattle.std.proofs.lemmas.List.{length-map, map-append, get_or-map, get_or_pa
 use Rattle.std.proofs.lemmas.List.Sums.{sum_by-set, sum_by_push, sum_by-cons}
 use Rattle.std.proofs.lemmas.Option.{slice_get_within, slice_get-get_or, get_or_from_slice_get}
 use Rattle.pb_normal.specs.Form.{Form}
-use Rattle.pb_replay.specs.declared.propagate.kept.Kept.{Kept}
+use Rattle.pb_replay.specs.declared.propagate.store.kept.Kept.{Kept}
 use Rattle.pb_replay.specs.Engine.Fields.{forms_of}
 use Rattle.pb_replay.specs.Engine.Lists.{Shape}
 use Rattle.pb_replay.specs.Engine.Live.{Live}
@@ -70,7 +70,7 @@ placed-with forms places g xs p a = kept-same (With (Live forms) g) (With (Live 
     back f (inl live) = inl (live-back forms places f live)
     back f (inr e) = inr e
 
--- slots that say the same
+-- slots with the same forms
 pub numbered-same : (forms forms' : List (Option Form)) (places : List ℕ) → ((n s : ℕ) → slice_get places n ≡ Some s → form_at forms' s ≡ form_at forms s) → numbered forms' places ≡ numbered forms places
 numbered-same forms forms' [] h = refl
 numbered-same forms forms' (p ∷ ps) h = rw (h 0 p refl, numbered-same forms forms' ps (λ n s k. h (suc n) s k)) refl
@@ -101,7 +101,7 @@ placed-agree forms forms' places h p = record {
   alike = λ w z. ap (sum_by w) (numbered-same forms forms' places (λ n s k. h s)) ∙ p.alike w z ∙ sym (agree-sum w z forms' forms h);
 }
 
--- a form takes an empty slot
+-- a form is stored in an empty slot
 slot-empty : (forms : List (Option Form)) (slot : ℕ) → slice_get forms slot ≡ Some None → form_at forms slot ≡ None
 slot-empty forms slot h = get_or_from_slice_get forms slot None None h
 
@@ -167,7 +167,7 @@ placed-filled forms places slot f none small p = record {
           inr (end, some-one (slice_get (places ++ (slot ∷ [])) n) s slot h (get-push_same places n slot end))
     ]
 
--- a form leaves its slot
+-- a form is removed from its slot
 numbered-set : (forms forms' : List (Option Form)) (places : List ℕ) (number v : ℕ) → form_at forms' v ≡ None → ((n s : ℕ) → (n ≡ number → ⊥) → slice_get places n ≡ Some s → form_at forms' s ≡ form_at forms s) → numbered forms' (set places number v) ≡ set (numbered forms places) number None
 numbered-set forms forms' [] number v none h = refl
 numbered-set forms forms' (p ∷ ps) zero v none h = rw (none, numbered-same forms forms' ps (λ n s k. h (suc n) s (λ e. omega (arith, e)) k)) refl
@@ -234,7 +234,7 @@ placed-left forms places number slot t p = record {
           absurd (none-some (form_at (set forms slot None) s) g (ap (form_at (set forms slot None)) past ∙ none-past forms slot t.short) e)
     ]
 
--- nothing leaves where nothing was
+-- removing the form of a number without a slot changes nothing
 pub numbered-none : (forms : List (Option Form)) (places : List ℕ) (number s : ℕ) → number < length places → s ≡ get_or places number s → length forms ≤ s → numbered forms places ≡ set (numbered forms places) number None
 numbered-none forms places number s inside is past =
     let got : slice_get places number ≡ Some s = slice_get-get_or places number s inside ∙ ap (λ z. Some z) (sym is) in

@@ -1,11 +1,11 @@
--- Entering and leaving, by what the program reads.
+-- Adding and removing terms, in terms of what the program reads.
 use Rattle.std.specs.Prelude.{map, Some, slice_get, swap_remove, All}
 use Rattle.std.proofs.Common.{◌≡◌, ℕ, ◌+◌, ◌-◌, ◌*◌, ◌<◌, ◌≤◌, ◌⊎◌, ◌++◌, ◌∷◌, [], List, Vec, false, Global, refl, sym, ◌∙◌, ap, subst, arith, inl, inr, length, get_or, set, length-set, get_or-set_same, get_or-set_other}
 use Rattle.std.proofs.lemmas.Bool.{cases_eq, cases_lt}
 use Rattle.std.proofs.lemmas.List.{get_or_default, map-append, map-set, length-map, get_or-map, set_past}
 use Rattle.std.proofs.lemmas.Option.{slice_get-get_or, slice_get_within, get_or_from_slice_get}
 use Rattle.pb_replay.specs.declared.propagate.term.Term.{Term}
-use Rattle.pb_replay.specs.declared.propagate.term.Occurrence.{Occurrence}
+use Rattle.pb_replay.specs.declared.propagate.store.Occurrence.{Occurrence}
 use Rattle.pb_replay.specs.Engine.Lists.{Shape, Weighted, AreInside}
 use Rattle.pb_replay.specs.Engine.Counts.{place}
 use Rattle.pb_replay.specs.Engine.Fields.{entries_of, lists_of, spots_of}
@@ -15,7 +15,7 @@ use Rattle.pb_replay.proofs.Engine.Gets.{get-push_same, get-push_other}
 use Rattle.pb_replay.proofs.Engine.Crosses.{Same}
 use Rattle.pb_replay.proofs.Engine.Links.{link-next}
 use Rattle.pb_replay.proofs.Engine.Unlinks.{swap-here, swap-length, unlink-next, named-spot, named-entry}
-use Rattle.pb_replay.specs.declared.propagate.kept.Kept.{Kept}
+use Rattle.pb_replay.specs.declared.propagate.store.kept.Kept.{Kept}
 use Rattle.pb_replay.specs.Engine.Fields.{shapes_of, kept_shape}
 use Rattle.pb_replay.proofs.Engine.Links.{cut-length}
 use Rattle.pb_replay.proofs.Engine.Looks.{shape-at, term-inside}
@@ -60,7 +60,7 @@ link-by base all occ form i terms d p idx v0 v1 spots spots' spot inside same wi
         let was : get_or (set all form spots) s [] ≡ spots = ap (λ k. get_or (set all form spots) k []) here ∙ get_or-set_same all form spots [] wide in
         ap (λ (xs : List ℕ). slice_get xs j) (now ∙ longer) ∙ get-push_other spots j spot (λ h. n (here, h ∙ size)) ∙ sym (ap (λ (xs : List ℕ). slice_get xs j) was)
 
--- an entry is taken out
+-- an entry is removed
 pub taken-lists : (occ : List (Vec Occurrence Global)) (p q : ℕ) (v0 v1 : Vec Occurrence Global) (e : Occurrence) → p < length occ → v0 ≡ get_or occ p v0 → e ≡ get_or v0.items q e → v1.items ≡ swap_remove v0.items q e → (x : Occurrence) × (x ≡ get_or (get_or (lists_of occ) p []) q x) × (lists_of (set occ p v1) ≡ set (lists_of occ) p (swap_remove (get_or (lists_of occ) p []) q x))
 taken-lists occ p q v0 v1 e room value item gone =
     let es = lists-at occ p p v0 room value refl in
@@ -131,7 +131,7 @@ unlink-read keep keep' sp occ n form left j k t w q p same count inside kept_is 
       next = λ spots' occ' taken moved. unlink-next base (spots_of sp) spots' (entries_of base occ) (entries_of base occ') form j q t (weighted base taken.0) inside_base within is spot room (item-taken base occ (place t.literal) q taken.0 taken.1) (entries-taken base occ occ' (place t.literal) q taken.0 taken.2) (shifted base occ (place t.literal) q (spots_of sp) spots' moved) linked;
     })
 
--- a move leaves the sizes as they were
+-- a move does not change the sizes
 pub moved-rooms : (es : List Occurrence) (q : ℕ) (spots spots' : List (List ℕ)) → Moved es q spots spots' → (s : ℕ) → length (get_or spots' s []) ≡ length (get_or spots s [])
 moved-rooms es q spots _ (none end) s = refl
 moved-rooms es q spots _ (last m more at) s = elim (cases_eq s m.form) [

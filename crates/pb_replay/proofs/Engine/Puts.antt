@@ -3,14 +3,14 @@ use Rattle.std.proofs.Common.{◌≡◌, ℕ, ◌+◌, ◌-◌, ◌*◌, ◌^◌
 use Rattle.std.proofs.lemmas.List.{drop_more, get_or-map, length-map}
 use Rattle.std.proofs.Math.ListN.{get_or-map as get_or-map-default}
 use Rattle.pb_replay.specs.declared.numbered.NumberedLiteral.{NumberedLiteral}
-use Rattle.pb_replay.specs.declared.propagate.term.Occurrence.{Occurrence}
+use Rattle.pb_replay.specs.declared.propagate.store.Occurrence.{Occurrence}
 use Rattle.pb_replay.specs.Engine.Lists.{Shape, Weighted, negation, size}
 use Rattle.pb_replay.specs.Engine.Counts.{place, IsCounted, IsTidy, IsAbsent, IsCalm, Grown}
 use Rattle.pb_replay.specs.Engine.Fields.{entries_of, lists_of}
 use Rattle.pb_replay.specs.Engine.Links.{weighted, coefficient_at}
 use Rattle.pb_replay.proofs.Engine.Runs.{Counted-fits, Counted-lower, Tidy-lower, grown-before, grown-length}
 
--- the first j entries were taken from the open sums
+-- the first j entries were subtracted from the open sums
 pub record IsPutting (forms : List Shape) (es : List Weighted) (opens0 cands : List ℕ) (list : List NumberedLiteral) (work0 trail0 : List ℕ) (next visits0 : ℕ) (opens work trail : List ℕ) (visits j : ℕ) : Type 0 where
   pub counted : IsCounted forms opens list (drop j es)
   pub tidy : (aside : List ℕ) (busy : ℕ) → IsTidy aside forms opens0 cands list work0 trail0 next busy → IsTidy aside forms opens cands list work trail next busy
@@ -55,7 +55,7 @@ Putting-next forms es opens0 cands list work0 trail0 next visits0 opens work tra
     least_upper : (v w a i : ℕ) → w ≡ min (v + 1) (2 ^ 64 - 1) → v ≤ a + i → w ≤ a + (i + 1)
     least_upper v w a i e h = omega arith
 
--- by what the program reads
+-- in terms of what the program reads
 pub lists-at : (occ : List (Vec Occurrence Global)) (p q : ℕ) (v : Vec Occurrence Global) → q < length occ → v ≡ get_or occ q v → q ≡ p → get_or (lists_of occ) p [] ≡ v.items
 lists-at occ p q v inside is same =
     let at : get_or (lists_of occ) q [] ≡ (get_or occ q v).items = get_or-map (λ (w : Vec Occurrence Global). w.items) occ q v [] inside in

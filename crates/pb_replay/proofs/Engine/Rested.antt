@@ -17,7 +17,7 @@ open_sum-empty (t ∷ ts) =
     let right = sum_by-cons (λ (x : Term). x.coefficient) t ts in
     omega (arith, first, rest, left, right)
 
--- forms that cannot propagate from the empty list stand aside; all others begin on the work list
+-- forms that cannot propagate with nothing assigned are set aside; all others start on the work list
 pub record IsEager (forms : List Shape) (work : List ℕ) : Type 0 where
   pub named : All (λ s. s < length forms) work
   pub aside : (s : ℕ) (d : Shape) → s < length forms → IsAbsent work 0 s → IsCalm (get_or forms s d) (size (get_or forms s d).terms) 0
@@ -29,7 +29,7 @@ absent-both xs ys s p q i from less at = elim (cases_lt i (length xs)) [
   | inr after ↦ q (i - length xs) (omega arith) (omega (arith, less, after, length-append xs ys)) (sym (get_or-append_right xs ys (length xs) i 0 refl after) ∙ at)
 ]
 
--- what a propagation from no literals needs of its beginning holds where each form is as it was made
+-- what a propagation from no literals needs at its start holds if each form is as it was made
 pub rest-counted : (forms : List Shape) (opens cands : List ℕ) → IsUndone forms opens cands [] 0 → IsCounted forms opens [] []
 rest-counted forms opens cands u = record {
   each = λ s d inside.

@@ -9,7 +9,7 @@ use Rattle.std.proofs.lemmas.List.Elements.{Contains-push_cases, Contains-append
 use Rattle.pb_normal.specs.Form.{Form}
 use Rattle.pb_normal.specs.Rules.{opposite}
 use Rattle.pb_normal.specs.declared.entry.Entry.{Entry}
-use Rattle.pb_replay.specs.declared.propagate.kept.Kept.{Kept}
+use Rattle.pb_replay.specs.declared.propagate.store.kept.Kept.{Kept}
 use Rattle.pb_replay.specs.Engine.Lists.{Shape, size}
 use Rattle.pb_replay.specs.Engine.Forms.{IsKeptAs}
 use Rattle.pb_replay.specs.Engine.Counts.{IsAbsent, IsCalm, IsUndone, IsTidy}
@@ -20,6 +20,8 @@ use Rattle.pb_replay.specs.Propagation.{With}
 use Rattle.pb_replay.proofs.Engine.Rested.{IsEager as IsCalmBut, rest-tidy}
 use Rattle.pb_replay.proofs.Engine.Bridge.{AreKept}
 use Rattle.pb_replay.proofs.Engine.Gets.{last-is}
+use Rattle.pb_replay.specs.Clauses.Shapes.{joined, AreJoined}
+use Rattle.pb_replay.proofs.Clauses.Slots.{joined-push, AreJoined-push}
 
 pub record Element {X : Type 0} (xs : List X) (s : ℕ) : Type 0 where
   pub value : X
@@ -109,7 +111,7 @@ filter-all P p (x ∷ xs) all = by_head (p x) refl (filter-all P p xs (λ i d h.
     by_head true e a = rw e (grown (filter p xs) a)
     by_head false e a = rw e a
 
--- the list without the forms that left
+-- the list without the forms that were removed
 pub eager-filter : (keep : List Kept) (eager : List ℕ) → IsEager keep eager → IsEager keep (filter (waits keep) eager)
 eager-filter keep eager e = record {
   named = filter-all (λ s. s < length keep) (waits keep) eager e.named;
@@ -119,7 +121,7 @@ eager-filter keep eager e = record {
   ];
 }
 
--- a form has come
+-- a form was added
 pub waits-before : (keep : List Kept) (k : Kept) (s : ℕ) → s < length keep → waits (keep ++ (k ∷ [])) s ≡ waits keep s
 waits-before [] k s h = absurd (omega (arith, h))
 waits-before (x ∷ xs) k zero h = refl
@@ -172,9 +174,12 @@ slots-more [] (y ∷ ys) p x a k = absurd (let e : true ≡ false = a in cc)
 slots-more (o ∷ os) [] p x a k = absurd (let e : true ≡ false = a in cc)
 slots-more (o ∷ os) (y ∷ ys) p x a k = (a.0, slots-more os ys p x a.1 k)
 
-pub slots-entered : (os : List (Option Form)) (f : Form) (keep keep' : List Kept) (opens opens' cands cands' : List ℕ) → HasEntered f keep keep' opens opens' cands cands' → AreSlots os (shapes_of keep) → AreSlots (os ++ (Some f ∷ [])) (shapes_of keep')
-slots-entered os f keep keep' opens opens' cands cands' h a =
-    rw (h.keeps, map-append kept_shape keep (h.kept ∷ [])) (slots-more os (shapes_of keep) (Some f) (kept_shape h.kept) a h.is)
+pub slots-entered : (os : List (Option Form)) (f : Form) (keep keep' : List Kept) (clauses : List (List ℕ)) (opens opens' cands cands' : List ℕ) → length clauses ≤ length (shapes_of keep) → HasEntered f keep keep' opens opens' cands cands' → AreSlots os (joined (shapes_of keep) clauses) → AreSlots (os ++ (Some f ∷ [])) (joined (shapes_of keep') clauses)
+slots-entered os f keep keep' clauses opens opens' cands cands' short h a =
+    rw (h.keeps, map-append kept_shape keep (h.kept ∷ []), joined-push (shapes_of keep) clauses (kept_shape h.kept) short) (slots-more os (joined (shapes_of keep) clauses) (Some f) (kept_shape h.kept) a h.is)
+
+pub joined-entered : (f : Form) (keep keep' : List Kept) (clauses : List (List ℕ)) (opens opens' cands cands' : List ℕ) → HasEntered f keep keep' opens opens' cands cands' → AreJoined (shapes_of keep) clauses → AreJoined (shapes_of keep') clauses
+joined-entered f keep keep' clauses opens opens' cands cands' h j = rw (h.keeps, map-append kept_shape keep (h.kept ∷ [])) (AreJoined-push (shapes_of keep) clauses (kept_shape h.kept) j)
 
 pub slots-length : (os : List (Option Form)) (xs : List Shape) → AreSlots os xs → length xs ≡ length os
 slots-length [] [] a = refl
@@ -182,7 +187,7 @@ slots-length [] (y ∷ ys) a = absurd (let e : true ≡ false = a in cc)
 slots-length (o ∷ os) [] a = absurd (let e : true ≡ false = a in cc)
 slots-length (o ∷ os) (y ∷ ys) a = let rest = slots-length os ys a.1 in omega (arith, rest)
 
--- the last form has left
+-- the last form was removed
 front-of : {X : Type 0} (xs ys : List X) (y : X) → xs ≡ ys ++ (y ∷ []) → take (length xs - 1) xs ≡ ys
 front-of xs ys y e = rw e (ap (λ n. take n (ys ++ (y ∷ []))) short ∙ take-append_seam ys (y ∷ []))
   where
@@ -201,7 +206,7 @@ rest-left f keep keep' keep'' opens opens' cands cands' opens1 opens2 cands1 can
       },
     )
 
--- the kept forms and the live ones
+-- the stored forms and the live ones
 slots-forth : (os : List (Option Form)) (xs : List Shape) → AreSlots os xs → (x : Shape) → Contains xs x → ((f : Form) × Live os f × IsKeptAs f x) ⊎ ((x.terms ≡ []) × (x.degree ≡ 0))
 slots-forth [] [] a x (i, inside, is) = absurd (omega (arith, inside))
 slots-forth [] (y ∷ ys) a x c = absurd (let e : true ≡ false = a in cc)
@@ -277,7 +282,7 @@ opposite-inside es n all k d h =
     let small : (get_or es k e.value).variable < n = all k e.value inside in
     omega (arith, ap (λ (x : Entry). x.variable) is, ap (λ (x : Entry). x.variable) (e.at e.value), small)
 
--- what a propagation from no literals needs of its beginning, where all that may put one on the empty list waits
+-- what a propagation from no literals needs at its start, if all forms that may propagate with nothing assigned wait
 pub rest-tidy-all : (keep : List Kept) (eager opens cands : List ℕ) → AreAtRest keep opens cands → IsEager keep eager → IsTidy (filter (waits keep) eager) (shapes_of keep) opens cands [] [] [] 0 (length keep)
 rest-tidy-all keep eager opens cands rest e =
     let waiting = filter (waits keep) eager in
@@ -285,7 +290,7 @@ rest-tidy-all keep eager opens cands rest e =
     let tidy = rest-tidy waiting (shapes_of keep) opens cands [] (rest-undone keep opens cands rest) (λ i d less. absurd (omega (arith, less))) (calm-but keep (waiting ++ []) whole) in
     rw (length-map keep kept_shape) at tidy
 
--- the same, where one of the forms is put to work first
+-- the same, if one of the forms is put to work first
 filter-twice : (p : ℕ → Bool) (x : ℕ) → filter p (filter p (x ∷ [])) ≡ filter p (x ∷ [])
 filter-twice p x = at (p x) refl
   where

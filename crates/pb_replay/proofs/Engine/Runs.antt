@@ -41,7 +41,7 @@ same-negation k l other =
           absurd (both_ways _ other one)
     ]
 
--- a literal put on the list takes the coefficients on its negation from an open sum
+-- an assigned literal subtracts the coefficients on its negation from an open sum
 open_part-push : (list : List NumberedLiteral) (l : NumberedLiteral) → has list l ≡ false → (t : Term) → open_part list t ≡ open_part (list ++ (l ∷ [])) t + term_weight (negation l) t
 open_part-push list l absent t =
     elim (cases_Bool (same t.literal (negation l))) [
@@ -101,7 +101,7 @@ done-push list l k h =
 pub done-new : (list : List NumberedLiteral) (l : NumberedLiteral) → IsDone (list ++ (l ∷ [])) l
 done-new list l = or_left (has (list ++ (l ∷ [])) l) (has (list ++ (l ∷ [])) (negation l)) (has-push_new list l)
 
--- a literal is put on the list: its entries are still to be taken from the open sums
+-- a literal is assigned: its entries are still to be subtracted from the open sums
 pub Counted-put : (forms : List Shape) (opens : List ℕ) (list next : List NumberedLiteral) (l : NumberedLiteral) (entries : List Weighted) → next ≡ list ++ (l ∷ []) → has list l ≡ false → ((s : ℕ) (d : Shape) → s < length forms → weight_in s entries ≡ weight_on (negation l) (get_or forms s d).terms) → IsCounted forms opens list [] → IsCounted forms opens next entries
 Counted-put forms opens list next l entries e absent linked r = rw e (record {
   each = λ s d inside.
@@ -123,7 +123,7 @@ Tidy-put aside forms opens cands list longer work trail next busy l e r = rw e (
   traced = r.traced;
 })
 
--- an entry is taken from its form's open sum
+-- an entry is subtracted from its form's open sum
 pub Counted-fits : (forms : List Shape) (opens : List ℕ) (list : List NumberedLiteral) (e : Weighted) (rest : List Weighted) (d : Shape) → e.form < length forms → IsCounted forms opens list (e ∷ rest) → e.coefficient ≤ get_or opens e.form 0
 Counted-fits forms opens list e rest d inside r =
     let total = r.each e.form d inside in
@@ -148,7 +148,7 @@ Counted-lower forms opens lower list e rest is room r = rw is (record { each = �
         let now = get_or-set_other opens e.form s (get_or opens e.form 0 - e.coefficient) 0 other in
         omega (arith, now, total, head, part)
 
--- what a list that may grow by a number has
+-- the elements of a list that may grow by a number
 grown-absent : {needless : Type 0} (x : ℕ) (old new : List ℕ) (n s : ℕ) → Grown needless x old new → IsAbsent new n s → IsAbsent old n s
 grown-absent x old _ n s pushed gone = absent-push old x n s gone
 grown-absent x old _ n s (spared p) gone = gone
@@ -239,7 +239,7 @@ Tidy-pass aside forms opens cands passed list work trail next busy c terms e is 
     last_one : (a b : ℕ) → b ≤ a → a < b + 1 → a ≡ b
     last_one a b h k = grind arith
 
--- the next form of the work list is looked at
+-- the next form of the work list is visited
 pub Tidy-next : (aside : List ℕ) (forms : List Shape) (opens cands : List ℕ) (list : List NumberedLiteral) (work trail : List ℕ) (next : ℕ) → IsTidy aside forms opens cands list work trail next (length forms) → IsTidy aside forms opens cands list work trail (next + 1) (get_or work next 0)
 Tidy-next aside forms opens cands list work trail next r = record {
   calm = λ s d inside idle off gone. r.calm s d inside (λ e. absurd (omega (arith, e, inside))) off (λ i from less at. elim (cases_eq i next) [

@@ -1,4 +1,4 @@
--- A list of numbers, each once, and where each stands in it.
+-- A list of numbers, each once, and the position of each in it.
 use Rattle.std.specs.Prelude.{Some, slice_get, swap_remove}
 use Rattle.std.proofs.Common.{◌≡◌, ℕ, zero, suc, ◌+◌, ◌-◌, ◌<◌, ◌⊎◌, ◌++◌, ◌∷◌, [], List, Bool, true, false, if◌then◌else◌, sym, ◌∙◌, ap, arith, inl, inr, length, get_or, set}
 use Rattle.std.proofs.lemmas.Bool.{cases_eq, cases_lt}
@@ -11,7 +11,7 @@ use Rattle.pb_replay.proofs.Engine.Unlinks.{swap-other, swap-last, swap-here, sw
 abbrev pub AreSeated : List ℕ → List ℕ → Type 0
 AreSeated list seats = (i s : ℕ) → slice_get list i ≡ Some s → slice_get seats s ≡ Some i
 
--- a number that is not absent stands somewhere
+-- a number that is not absent has a position
 pub stands : (xs : List ℕ) (x : ℕ) → ((i : ℕ) × (slice_get xs i ≡ Some x)) ⊎ IsAbsent xs 0 x
 stands [] x = inr (λ i from less at. omega (arith, less))
 stands (y ∷ ys) x = elim (cases_eq y x) [
@@ -81,7 +81,7 @@ seat-got list seats form seat there old is =
     let same : seat ≡ at.0 = is ∙ get_or_from_slice_get seats form at.0 seat (old at.0 form at.1) in
     ap (slice_get list) same ∙ at.1
 
--- what is taken is the form
+-- the element that is removed is the form
 pub taken-is : (list : List ℕ) (seat form x : ℕ) → slice_get list seat ≡ Some form → x ≡ get_or list seat x → x ≡ form
 taken-is list seat form x got is = is ∙ get_or_from_slice_get list seat form x got
 
@@ -94,7 +94,7 @@ moved-last list list' q d m inside gone more is =
     let read : m ≡ get_or list (length list - 1) m = is ∙ ap (λ xs. get_or xs q m) gone ∙ get_or_from_slice_get (swap_remove list q d) q (get_or list (length list - 1) m) m here in
     (beyond, last ∙ ap (λ z. Some z) (sym read))
 
--- what is left of a list stood there at another place, and all else is left
+-- what is left of a list was in it at another position, and all else is left
 pub swap-from : (xs : List ℕ) (q d i t : ℕ) → q < length xs → slice_get (swap_remove xs q d) i ≡ Some t → (j : ℕ) × (slice_get xs j ≡ Some t) × (j ≡ q → ⊥)
 swap-from xs q d i t inside h = elim (cases_eq i (length xs - 1)) [
   | inl end ↦ absurd (none-some (slice_get (swap_remove xs q d) i) t (ap (slice_get (swap_remove xs q d)) end ∙ swap-last xs q d) h)
@@ -114,7 +114,7 @@ swap-to xs q d j t inside h other = elim (cases_eq j (length xs - 1)) [
   | inl end ↦ (q, swap-here xs q d t (omega (arith, inside, end, lt_of_apart q j (omega (arith, inside, end)) other)) (ap (slice_get xs) (sym end) ∙ h))
 ]
 
--- one number more may stand on the list
+-- one more number may be on the list
 pub seated-widened : (list seats seats' : List ℕ) (b : Bool) → seats' ≡ (if b then seats ++ (0 ∷ []) else seats) → AreSeated list seats → AreSeated list seats'
 seated-widened list seats seats' true e old i s h = rw e (get-push_less seats s 0 (slice_get_within seats s i (old i s h)) ∙ old i s h)
 seated-widened list seats seats' false e old i s h = rw e (old i s h)

@@ -1,12 +1,13 @@
 -- Forms take slots and leave them.
 use Rattle.std.specs.Prelude.{map, filter, sum_by, Option, Some, None, slice_get, swap_remove}
-use Rattle.std.proofs.Common.{◌≡◌, ℕ, zero, suc, ◌+◌, ◌<◌, ◌≤◌, ◌++◌, ◌∷◌, [], List, Bool, true, false, if◌then◌else◌, Vec, Global, refl, sym, ◌∙◌, ap, arith, inl, inr, length, get_or, set, length-set, length-append}
+use Rattle.std.proofs.Common.{◌≡◌, ℕ, zero, suc, ◌+◌, ◌<◌, ◌≤◌, ◌*◌, ◌++◌, ◌∷◌, [], List, Bool, true, false, if◌then◌else◌, Vec, Global, refl, sym, ◌∙◌, ap, arith, inl, inr, length, get_or, set, length-set, length-append}
 use Rattle.std.proofs.lemmas.Bool.{cases_eq, cases_lt, cases_Bool, both_ways}
-use Rattle.std.proofs.lemmas.List.{length-map, map-append, map-set, append-nil, get_or_append_left}
+use Rattle.std.proofs.lemmas.List.{length-map, map-append, map-set, append-nil, get_or_append_left, get_or-map}
+use Rattle.std.proofs.Math.Seq.{map-set_same}
 use Rattle.std.proofs.lemmas.List.Sums.{sum_by-set, sum_by_push}
 use Rattle.std.proofs.lemmas.Option.{slice_get_within, slice_get-get_or, get_or_from_slice_get}
 use Rattle.pb_normal.specs.Form.{Form}
-use Rattle.pb_replay.specs.declared.propagate.kept.Kept.{Kept}
+use Rattle.pb_replay.specs.declared.propagate.store.kept.Kept.{Kept}
 use Rattle.pb_replay.specs.declared.propagate.store.Store.{Store}
 use Rattle.pb_replay.specs.declared.propagate.run.Run.{Run}
 use Rattle.pb_replay.specs.declared.propagate.eager.Eager.{Eager}
@@ -17,10 +18,20 @@ use Rattle.pb_replay.specs.Engine.Links.{terms_at}
 use Rattle.pb_replay.specs.Engine.Rest.{AreSlots, waits, kept_waits, eager_one, AllWait, IsEager, IsAtRest}
 use Rattle.pb_replay.proofs.Engine.Gets.{lt_of_apart, get-set_same, get-set_other, get-push_less, get-push_same, last-is}
 use Rattle.pb_replay.proofs.Engine.Runs.{absent-push, absent-new}
-use Rattle.pb_replay.proofs.Engine.Rests.{map-zero, slots-set, slots-more, slots-length, waits-before}
+use Rattle.pb_replay.proofs.Engine.Rests.{element, map-zero, slots-set, slots-more, slots-length, waits-before}
 use Rattle.pb_replay.proofs.Engine.Seats.{AreSeated, absent-get, get-absent, swap-from, swap-to}
 use Rattle.pb_replay.proofs.Engine.Unlinks.{swap-length}
 use Rattle.pb_replay.proofs.lemmas.Options.{some-one}
+use Rattle.pb_replay.specs.declared.propagate.clauses.Clauses.{Clauses}
+use Rattle.pb_replay.specs.Engine.Lists.{Shape}
+use Rattle.pb_replay.specs.Engine.Fields.{IsUnlisted}
+use Rattle.pb_replay.specs.Engine.Terms.{terms_of}
+use Rattle.pb_replay.specs.Clauses.Runs.{AreReady}
+use Rattle.pb_replay.specs.Clauses.Shapes.{code, joined, clauses_of, clause_shape, IsClause}
+use Rattle.pb_normal.specs.Form.{IsNormal}
+use Rattle.pb_replay.proofs.Clauses.Linked.{lists-length}
+use Rattle.pb_replay.proofs.Clauses.Slots.{IsVacant, slots-vacant, joined-widen, AreJoined-widen, joined-set, AreJoined-set, joined-clause, AreJoined-clause, joined-cleared, AreJoined-cleared, clause-kept, rising-different}
+use Rattle.pb_replay.proofs.Clauses.Shapes.{joined-length}
 
 -- what an empty slot is
 pub record IsBare (keep : List Kept) (s : ℕ) : Type 0 where
@@ -28,24 +39,23 @@ pub record IsBare (keep : List Kept) (s : ℕ) : Type 0 where
   pub terms : terms_at (shapes_of keep) s ≡ []
   pub idle : waits keep s ≡ false
 
-pub slots-bare : (os : List (Option Form)) (keep : List Kept) (s : ℕ) → AreSlots os (shapes_of keep) → slice_get os s ≡ Some None → IsBare keep s
-slots-bare [] keep s a h = absurd (let less = slice_get_within [] s None h in omega (arith, less))
-slots-bare (o ∷ os) [] s a h = absurd (let e : true ≡ false = a in cc)
-slots-bare (o ∷ os) (k ∷ ks) (suc s) a h =
-    let rest = slots-bare os ks s a.1 h in
-    record { inside = omega (arith, rest.inside); terms = rest.terms; idle = rest.idle }
-slots-bare (Some f ∷ os) (k ∷ ks) zero a h = absurd (apart f h)
-  where
-    apart : (g : Form) → ◌≡◌ {A = Option (Option Form)} (Some (Some g)) (Some None) → ⊥
-    apart g e = cc e
-slots-bare (None ∷ os) (k ∷ ks) zero a h = record {
-  inside = omega arith;
-  terms = a.0.0;
-  idle = elim (cases_Bool k.eager) [
-    | inr idle ↦ idle
-    | inl eager ↦ absurd (let some = k.busy eager in omega (arith, some, ap length a.0.0, a.0.1))
-  ];
-}
+pub vacant-bare : (keep : List Kept) (clauses : List (List ℕ)) (s : ℕ) → IsVacant (shapes_of keep) clauses s → IsBare keep s
+vacant-bare keep clauses s v =
+    let inside : s < length keep = omega (arith, v.inside, length-map keep kept_shape) in
+    let e = element keep s inside in
+    let k = e.value in
+    let shape : get_or (shapes_of keep) s (kept_shape k) ≡ kept_shape k = get_or-map kept_shape keep s k (kept_shape k) inside ∙ ap kept_shape (e.at k) in
+    record {
+      inside = inside;
+      terms = v.terms (record { terms = []; degree = 0 });
+      idle = ap kept_waits e.got ∙ elim (cases_Bool k.eager) [
+        | inr idle ↦ idle
+        | inl eager ↦ absurd (let some = k.busy eager in omega (arith, some, ap (λ (x : Shape). length x.terms) shape, ap (λ (x : Shape). x.degree) shape, ap length (v.terms (kept_shape k)), v.degree (kept_shape k)))
+      ];
+    }
+
+pub slots-bare : (os : List (Option Form)) (keep : List Kept) (clauses : List (List ℕ)) (s : ℕ) → AreSlots os (joined (shapes_of keep) clauses) → slice_get os s ≡ Some None → IsBare keep s
+slots-bare os keep clauses s a h = vacant-bare keep clauses s (slots-vacant os (shapes_of keep) clauses s a h)
 
 waits-other : (keep : List Kept) (s t : ℕ) (k : Kept) → (t ≡ s → ⊥) → waits (set keep s k) t ≡ waits keep t
 waits-other keep s t k n = ap kept_waits (get-set_other keep s t k n)
@@ -70,7 +80,7 @@ exact-absent keep list s exact idle = get-absent list s (λ i h. both_ways _ idl
 pub eager-there : (keep : List Kept) (list : List ℕ) (s : ℕ) → IsEager keep list → waits keep s ≡ true → IsAbsent list 0 s → ⊥
 eager-there keep list s e w gone = both_ways _ (e.aside s (waits-inside keep s w) gone) w
 
--- an empty form behind the others
+-- an empty form after the others
 one-of : (k : Kept) (b : Bool) → k.eager ≡ b → eager_one k ≡ (if b then 1 else 0)
 one-of k b e = ap (λ c. if c then 1 else 0) e
 
@@ -93,16 +103,22 @@ exact-widened keep k list e x =
       few = omega (arith, x.few, sum_by_push eager_one keep k);
     }
 
-pub rest-widened : (store store' : Store) (run run' : Run) (waiting waiting' : Eager) (forms : List (Option Form)) (k : Kept) → IsSound store' → IsEmpty k → store'.kept.items ≡ store.kept.items ++ (k ∷ []) → run'.opens.items ≡ run.opens.items ++ (0 ∷ []) → run'.candidates.items ≡ run.candidates.items ++ (0 ∷ []) →
+pub rest-widened : (store store' : Store) (run run' : Run) (waiting waiting' : Eager) (clauses clauses' : Clauses) (forms : List (Option Form)) (k : Kept) → IsSound store' → IsEmpty k → store'.kept.items ≡ store.kept.items ++ (k ∷ []) → run'.opens.items ≡ run.opens.items ++ (0 ∷ []) → run'.candidates.items ≡ run.candidates.items ++ (0 ∷ []) →
     store'.variables ≡ store.variables → run'.trail ≡ run.trail → ((run'.assignment ≡ run.assignment) × (run'.work ≡ run.work) × (run'.next ≡ run.next) × (run'.visits ≡ run.visits)) → waiting'.list.items ≡ waiting.list.items → length waiting'.seats.items ≡ length waiting.seats.items + 1 →
-    IsAtRest store run waiting forms → IsAtRest store' run' waiting' (forms ++ (None ∷ []))
-rest-widened store store' run run' waiting waiting' forms k sound e keeps opens cands variables trail same list seats r =
+    AreReady clauses' → clauses_of clauses' ≡ clauses_of clauses ++ ([] ∷ []) → clauses'.lists ≡ clauses.lists →
+    IsAtRest store run waiting clauses forms → IsAtRest store' run' waiting' clauses' (forms ++ (None ∷ []))
+rest-widened store store' run run' waiting waiting' clauses clauses' forms k sound e keeps opens cands variables trail same list seats ready literals lists r =
     let keep = store.kept.items in
+    let sizes : length (clauses_of clauses) ≡ length (shapes_of keep) = omega (arith, lists-length clauses.literals.items, r.known, length-map keep kept_shape) in
     let x = exact-widened keep k waiting.list.items e (record { eager = r.eager; exact = r.exact; few = r.few }) in
     let y : IsExact store'.kept.items waiting'.list.items = rw (keeps, list) x in
     record {
       sound = sound;
-      slots = rw (keeps, map-append kept_shape keep (k ∷ [])) (slots-more forms (shapes_of keep) None (kept_shape k) r.slots (e.terms, e.degree));
+      slots = rw (keeps, map-append kept_shape keep (k ∷ []), literals, joined-widen (shapes_of keep) (clauses_of clauses) (kept_shape k) sizes) (slots-more forms (joined (shapes_of keep) (clauses_of clauses)) None (kept_shape k) r.slots (e.terms, e.degree));
+      joined = rw (keeps, map-append kept_shape keep (k ∷ []), literals) (AreJoined-widen (shapes_of keep) (clauses_of clauses) (kept_shape k) r.joined);
+      ready = ready;
+      widths = ap (λ (v : Vec (Vec ℕ Global) Global). length v.items) lists ∙ r.widths ∙ ap (λ n. 2 * n) (sym variables);
+      known = omega (arith, ap length literals, length-append (clauses_of clauses) ([] ∷ []), lists-length clauses.literals.items, lists-length clauses'.literals.items, r.known, ap length keeps, length-append keep (k ∷ []));
       rest = record {
         opened = opens ∙ ap (λ (xs : List ℕ). xs ++ (0 ∷ [])) r.rest.opened ∙ ap (λ n. map (λ (z : Kept). z.total) keep ++ (n ∷ [])) (sym e.total) ∙ sym (ap (map (λ z. z.total)) keeps ∙ map-append (λ (z : Kept). z.total) keep (k ∷ []));
         passed = cands ∙ ap (λ (xs : List ℕ). xs ++ (0 ∷ [])) r.rest.passed ∙ sym (ap (map (λ z. 0)) keeps ∙ map-append (λ (z : Kept). 0) keep (k ∷ []));
@@ -118,7 +134,7 @@ rest-widened store store' run run' waiting waiting' forms k sound e keeps opens 
       seats = omega (arith, seats, r.seats, ap length keeps, length-append keep (k ∷ []));
     }
 
--- a form where an empty one stood
+-- a form in the slot of an empty one
 exact-filled : (keep keep' : List Kept) (k : Kept) (list list' : List ℕ) (s : ℕ) → IsBare keep s → keep' ≡ set keep s k → list' ≡ list ++ filter (waits keep') (s ∷ []) → IsExact keep list → IsExact keep' list'
 exact-filled keep keep' k list list' s bare keeps more x = rw (more, keeps) (by_head k.eager refl)
   where
@@ -167,17 +183,22 @@ exact-filled keep keep' k list list' s bare keeps more x = rw (more, keeps) (by_
       few = omega (arith, x.few, change, was, one-of k false e);
     })
 
-pub rest-filled : (store store' : Store) (run run' : Run) (waiting waiting' : Eager) (forms : List (Option Form)) (f : Form) (s : ℕ) → IsSound store' → slice_get forms s ≡ Some None → HasFilled f s store.kept.items store'.kept.items run.opens.items run'.opens.items →
+pub rest-filled : (store store' : Store) (run run' : Run) (waiting waiting' : Eager) (clauses : Clauses) (forms : List (Option Form)) (f : Form) (s : ℕ) → IsSound store' → slice_get forms s ≡ Some None → HasFilled f s store.kept.items store'.kept.items run.opens.items run'.opens.items →
     store'.variables ≡ store.variables → run'.trail ≡ run.trail → ((run'.candidates ≡ run.candidates) × (run'.assignment ≡ run.assignment) × (run'.work ≡ run.work) × (run'.next ≡ run.next) × (run'.visits ≡ run.visits)) → waiting'.list.items ≡ waiting.list.items ++ filter (waits store'.kept.items) (s ∷ []) → length waiting'.seats.items ≡ length waiting.seats.items →
-    IsAtRest store run waiting forms → IsAtRest store' run' waiting' (set forms s (Some f))
-rest-filled store store' run run' waiting waiting' forms f s sound none h variables trail same list seats r =
+    IsAtRest store run waiting clauses forms → IsAtRest store' run' waiting' clauses (set forms s (Some f))
+rest-filled store store' run run' waiting waiting' clauses forms f s sound none h variables trail same list seats r =
     let keep = store.kept.items in
     let k = h.kept in
-    let bare = slots-bare forms keep s r.slots none in
+    let vacant = slots-vacant forms (shapes_of keep) (clauses_of clauses) s r.slots none in
+    let bare = vacant-bare keep (clauses_of clauses) s vacant in
     let y = exact-filled keep store'.kept.items k waiting.list.items waiting'.list.items s bare h.keeps list (record { eager = r.eager; exact = r.exact; few = r.few }) in
     record {
       sound = sound;
-      slots = rw (h.keeps, map-set kept_shape keep s k) (slots-set forms (shapes_of keep) s (Some f) (kept_shape k) h.is r.slots);
+      slots = rw (h.keeps, map-set kept_shape keep s k, joined-set (shapes_of keep) (clauses_of clauses) s (kept_shape k) vacant.clause) (slots-set forms (joined (shapes_of keep) (clauses_of clauses)) s (Some f) (kept_shape k) h.is r.slots);
+      joined = rw (h.keeps, map-set kept_shape keep s k) (AreJoined-set (shapes_of keep) (clauses_of clauses) s (kept_shape k) vacant.clause r.joined);
+      ready = r.ready;
+      widths = r.widths ∙ ap (λ n. 2 * n) (sym variables);
+      known = omega (arith, r.known, ap length h.keeps, length-set keep s k);
       rest = record {
         opened = h.opened ∙ ap (λ (xs : List ℕ). set xs s k.total) r.rest.opened ∙ sym (ap (map (λ z. z.total)) h.keeps ∙ map-set (λ (z : Kept). z.total) keep s k);
         passed = ap (λ (v : Vec ℕ Global). v.items) same.0 ∙ r.rest.passed ∙ sym (ap (map (λ z. 0)) h.keeps ∙ map-zero keep s k);
@@ -193,7 +214,7 @@ rest-filled store store' run run' waiting waiting' forms f s sound none h variab
       seats = omega (arith, seats, r.seats, ap length h.keeps, length-set keep s k);
     }
 
--- an empty form where one has left
+-- an empty form in the slot of a removed one
 exact-quit : (keep : List Kept) (k : Kept) (list list' seats : List ℕ) (s : ℕ) → s < length keep → k.eager ≡ false → AreSeated list seats →
     (waits keep s ≡ true → (q : ℕ) × (slice_get list q ≡ Some s) × (list' ≡ swap_remove list q s)) → (waits keep s ≡ false → list' ≡ list) → IsExact keep list → IsExact (set keep s k) list'
 exact-quit keep k list list' seats s inside idle seated out same x = by_head (waits keep s) refl
@@ -248,18 +269,79 @@ exact-quit keep k list list' seats s inside idle seated out same x = by_head (wa
           few = omega (arith, x.few, change, was true e, one-of k false idle, swap-length list q s q_in);
         })
 
-pub rest-quit : (store store' : Store) (run run' : Run) (waiting waiting' : Eager) (forms : List (Option Form)) (k : Kept) (s : ℕ) → s < length forms → IsSound store' → IsEmpty k → store'.kept.items ≡ set store.kept.items s k → run'.opens.items ≡ set run.opens.items s 0 →
+-- a clause in the slot of an empty form
+shape-made : (a b : Shape) → a.terms ≡ b.terms → a.degree ≡ b.degree → a ≡ b
+shape-made a b p q =
+    let first : record { terms = a.terms; degree = a.degree } ≡ record { terms = b.terms; degree = a.degree } = ap (λ ts. let x : Shape = record { terms = ts; degree = a.degree } in x) p in
+    let second : record { terms = b.terms; degree = a.degree } ≡ record { terms = b.terms; degree = b.degree } = ap (λ n. let x : Shape = record { terms = b.terms; degree = n } in x) q in
+    first ∙ second
+
+pub shapes-watched : (keep keep' : List Kept) (k : Kept) (clauses : List (List ℕ)) (s : ℕ) → IsVacant (shapes_of keep) clauses s → IsUnlisted k → keep' ≡ set keep s k → shapes_of keep' ≡ shapes_of keep
+shapes-watched keep keep' k clauses s v e keeps =
+    let inside : s < length keep = omega (arith, v.inside, length-map keep kept_shape) in
+    let x = element keep s inside in
+    let shape : get_or (shapes_of keep) s (kept_shape k) ≡ kept_shape (get_or keep s k) = get_or-map kept_shape keep s k (kept_shape k) inside in
+    let same : kept_shape k ≡ kept_shape (get_or keep s k) = shape-made (kept_shape k) (get_or (shapes_of keep) s (kept_shape k)) (e.terms ∙ sym (v.terms (kept_shape k))) (e.degree ∙ sym (v.degree (kept_shape k))) ∙ shape in
+    ap shapes_of keeps ∙ map-set_same kept_shape keep s k k same
+
+nothing-total : (k : Kept) → terms_of k.terms ≡ [] → k.total ≡ 0
+nothing-total k h = k.sum ∙ ap (sum_by (λ t. t.coefficient)) h
+
+pub rest-watched : (store store' : Store) (run : Run) (waiting : Eager) (clauses clauses' : Clauses) (forms : List (Option Form)) (f : Form) (k : Kept) (s : ℕ) → slice_get forms s ≡ Some None → IsUnlisted k → store'.kept.items ≡ set store.kept.items s k →
+    store'.spots ≡ store.spots → store'.occurrences ≡ store.occurrences → store'.variables ≡ store.variables → IsNormal f → IsClause f → AreReady clauses' → clauses_of clauses' ≡ set (clauses_of clauses) s (map code f.terms) → length clauses'.lists.items ≡ length clauses.lists.items →
+    IsAtRest store run waiting clauses forms → IsAtRest store' run waiting clauses' (set forms s (Some f))
+rest-watched store store' run waiting clauses clauses' forms f k s none e keeps spots occ variables normal clause ready literals lists r =
+    let keep = store.kept.items in
+    let codes = map code f.terms in
+    let vacant = slots-vacant forms (shapes_of keep) (clauses_of clauses) s r.slots none in
+    let bare = vacant-bare keep (clauses_of clauses) s vacant in
+    let same = shapes-watched keep store'.kept.items k (clauses_of clauses) s vacant e keeps in
+    let room : s < length (clauses_of clauses) = omega (arith, bare.inside, r.known, lists-length clauses.literals.items) in
+    let some : 0 < length codes = omega (arith, clause.two, length-map f.terms code) in
+    let x = exact-quit keep k waiting.list.items waiting.list.items waiting.seats.items s bare.inside e.eager waiting.seated (λ w. absurd (both_ways _ bare.idle w)) (λ w. refl) (record { eager = r.eager; exact = r.exact; few = r.few }) in
+    let y : IsExact store'.kept.items waiting.list.items = rw keeps x in
+    let was = element keep s bare.inside in
+    let shape : get_or (shapes_of keep) s (kept_shape was.value) ≡ kept_shape was.value = get_or-map kept_shape keep s was.value (kept_shape was.value) bare.inside ∙ ap kept_shape (was.at was.value) in
+    let nothing : k.total ≡ (get_or keep s k).total = e.total ∙ sym (ap (λ (z : Kept). z.total) (was.at k) ∙ nothing-total was.value (sym (ap (λ (z : Shape). z.terms) shape) ∙ vacant.terms (kept_shape was.value))) in
+    record {
+      sound = rw (same, spots, occ, variables) r.sound;
+      slots = rw (same, literals, joined-clause (shapes_of keep) (clauses_of clauses) s codes room some) (slots-set forms (joined (shapes_of keep) (clauses_of clauses)) s (Some f) (clause_shape codes) (clause-kept f normal clause) r.slots);
+      joined = rw (same, literals) (AreJoined-clause (shapes_of keep) (clauses_of clauses) s codes room (λ d. (vacant.terms d, vacant.degree d)) (rising-different 0 f.terms normal.ordered) r.joined);
+      ready = ready;
+      widths = omega (arith, lists, r.widths, variables);
+      known = omega (arith, ap length literals, length-set (clauses_of clauses) s codes, lists-length clauses.literals.items, lists-length clauses'.literals.items, r.known, ap length keeps, length-set keep s k);
+      rest = record {
+        opened = r.rest.opened ∙ sym (ap (map (λ z. z.total)) keeps ∙ map-set_same (λ (z : Kept). z.total) keep s k k nothing);
+        passed = r.rest.passed ∙ sym (ap (map (λ z. 0)) keeps ∙ map-zero keep s k);
+      };
+      values = r.values ∙ sym variables;
+      list = r.list;
+      work = r.work;
+      trail = r.trail;
+      next = r.next;
+      eager = y.eager;
+      exact = y.exact;
+      few = y.few;
+      seats = omega (arith, r.seats, ap length keeps, length-set keep s k);
+    }
+
+pub rest-quit : (store store' : Store) (run run' : Run) (waiting waiting' : Eager) (clauses clauses' : Clauses) (forms : List (Option Form)) (k : Kept) (s : ℕ) → s < length forms → IsSound store' → IsEmpty k → store'.kept.items ≡ set store.kept.items s k → run'.opens.items ≡ set run.opens.items s 0 →
     store'.variables ≡ store.variables → run'.trail ≡ run.trail → ((run'.candidates ≡ run.candidates) × (run'.assignment ≡ run.assignment) × (run'.work ≡ run.work) × (run'.next ≡ run.next) × (run'.visits ≡ run.visits)) →
     (waits store.kept.items s ≡ true → (q : ℕ) × (slice_get waiting.list.items q ≡ Some s) × (waiting'.list.items ≡ swap_remove waiting.list.items q s)) → (waits store.kept.items s ≡ false → waiting'.list.items ≡ waiting.list.items) → length waiting'.seats.items ≡ length waiting.seats.items →
-    IsAtRest store run waiting forms → IsAtRest store' run' waiting' (set forms s None)
-rest-quit store store' run run' waiting waiting' forms k s less sound e keeps opens variables trail same out still seats r =
+    AreReady clauses' → clauses_of clauses' ≡ set (clauses_of clauses) s [] → length clauses'.lists.items ≡ length clauses.lists.items →
+    IsAtRest store run waiting clauses forms → IsAtRest store' run' waiting' clauses' (set forms s None)
+rest-quit store store' run run' waiting waiting' clauses clauses' forms k s less sound e keeps opens variables trail same out still seats ready literals lists r =
     let keep = store.kept.items in
-    let inside : s < length keep = omega (arith, less, slots-length forms (shapes_of keep) r.slots, length-map keep kept_shape) in
+    let inside : s < length keep = omega (arith, less, slots-length forms (joined (shapes_of keep) (clauses_of clauses)) r.slots, joined-length (shapes_of keep) (clauses_of clauses), length-map keep kept_shape) in
     let x = exact-quit keep k waiting.list.items waiting'.list.items waiting.seats.items s inside e.eager waiting.seated out still (record { eager = r.eager; exact = r.exact; few = r.few }) in
     let y : IsExact store'.kept.items waiting'.list.items = rw keeps x in
     record {
       sound = sound;
-      slots = rw (keeps, map-set kept_shape keep s k) (slots-set forms (shapes_of keep) s None (kept_shape k) (e.terms, e.degree) r.slots);
+      slots = rw (keeps, map-set kept_shape keep s k, literals, joined-cleared (shapes_of keep) (clauses_of clauses) s (kept_shape k)) (slots-set forms (joined (shapes_of keep) (clauses_of clauses)) s None (kept_shape k) (e.terms, e.degree) r.slots);
+      joined = rw (keeps, map-set kept_shape keep s k, literals) (AreJoined-cleared (shapes_of keep) (clauses_of clauses) s (kept_shape k) (omega (arith, inside, r.known, lists-length clauses.literals.items)) r.joined);
+      ready = ready;
+      widths = omega (arith, lists, r.widths, variables);
+      known = omega (arith, ap length literals, length-set (clauses_of clauses) s [], lists-length clauses.literals.items, lists-length clauses'.literals.items, r.known, ap length keeps, length-set keep s k);
       rest = record {
         opened = opens ∙ ap (λ (xs : List ℕ). set xs s 0) r.rest.opened ∙ sym (ap (map (λ z. z.total)) keeps ∙ map-set (λ (z : Kept). z.total) keep s k ∙ ap (set (map (λ (z : Kept). z.total) keep) s) e.total);
         passed = ap (λ (v : Vec ℕ Global). v.items) same.0 ∙ r.rest.passed ∙ sym (ap (map (λ z. 0)) keeps ∙ map-zero keep s k);

@@ -1,4 +1,4 @@
--- A form's terms, as they are read and put in order.
+-- A form's terms, as they are read and sorted.
 use Rattle.std.specs.Prelude.{ℤ, unsigned_abs, All, map, sum_by, IsPermutation}
 use Rattle.std.proofs.Common.{FitsSigned, pos, to_z, of_z, ◌≡◌, ℕ, ◌+◌, ◌-◌, ◌^◌, ◌<◌, ◌≤◌, ◌++◌, ◌∷◌, [], List, false, refl, sym, ◌∙◌, ap, subst, arith, length, get_or, take}
 use Rattle.std.proofs.lemmas.List.{take_more, take_all, map-append, length-map, get_or-map, get_or_default}
@@ -120,7 +120,7 @@ bound-calm terms degree bound e falling some is opened c low = record {
 pub bound-none : (terms : List Term) (degree : ℕ) → length terms ≡ 0 → (opened c : ℕ) → degree ≤ opened → IsCalm (record { terms = terms; degree = degree }) opened c
 bound-none terms degree none opened c low = record { met = low; waiting = λ d here. absurd (omega (arith, none, here)) }
 
--- where the first coefficient is the last, all are that one
+-- if the first coefficient is equal to the last, all are equal
 pub even-falling : (terms : List Term) (e d : Term) (i : ℕ) → AreFalling terms → (get_or terms 0 e).coefficient ≡ (get_or terms (length terms - 1) e).coefficient → i < length terms → (get_or terms i d).coefficient ≡ (get_or terms 0 d).coefficient
 even-falling terms e d i falling same inside =
     let above = falling 0 i d (omega arith) inside in

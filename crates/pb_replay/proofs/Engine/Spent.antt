@@ -51,7 +51,7 @@ sum-clear xs p =
           omega (arith, zero_there, ap sum same_list)
     ]
 
--- the places of different literals are counted once
+-- the lists of different literals are counted once
 single-sum : (list : List NumberedLiteral) → AreSingle list → (xs : List ℕ) → sum_by (λ l. get_or xs (place (negation l)) 0) list ≤ sum xs
 single-sum _ none xs = omega arith
 single-sum _ (more {list} l d absent) xs =

@@ -1,4 +1,4 @@
--- The store when a form has come or gone.
+-- The store when a form was added or removed.
 use Rattle.std.specs.Prelude.{sum_by, All, slice_get, map, IsPermutation}
 use Rattle.std.proofs.Common.{◌≡◌, ℕ, suc, ◌+◌, ◌<◌, ◌≤◌, ◌++◌, ◌∷◌, [], List, refl, sym, ◌∙◌, ap, arith, inl, inr, length, get_or, set, length-set, length-append, get_or-set_same, get_or-set_other}
 use Rattle.std.proofs.lemmas.Bool.{cases_eq, cases_lt}
@@ -115,7 +115,7 @@ pub cut-all : (base : List Shape) (s i : ℕ) → length (terms_at base s) ≤ i
 cut-all base s i all =
     ap (λ ts. set base s (record { terms = ts; degree = degree_at base s })) (take_all i (terms_at base s) all) ∙ set-get_or base s (record { terms = []; degree = 0 })
 
--- an empty form where the cut one was
+-- an empty form in the slot of the cut one
 vacant-terms : (base : List Shape) (s : ℕ) (x : Shape) → s < length base → x.terms ≡ [] → (k : ℕ) (d : Shape) → (get_or (set base s x) k d).terms ≡ (get_or (cut base s 0) k d).terms
 vacant-terms base s x inside e k d = elim (cases_eq k s) [
   | inl here ↦ rw here (ap (λ (f : Shape). f.terms) (get_or-set_same base s x d inside) ∙ e ∙ sym (cut-here base s 0 inside d))

@@ -1,7 +1,7 @@
 use Rattle.std.proofs.Common.{◌≡◌, ℕ, ◌+◌, ◌<◌, ◌⊎◌, List, sym, ◌∙◌, ap, inl, inr, arith, length, get_or, set, get_or-set_same, get_or-set_other}
 use Rattle.std.proofs.lemmas.Bool.{cases_eq}
 use Rattle.std.proofs.lemmas.List.{get_or_read, length-map}
-use Rattle.pb_replay.specs.declared.propagate.kept.Kept.{Kept}
+use Rattle.pb_replay.specs.declared.propagate.store.kept.Kept.{Kept}
 use Rattle.pb_replay.specs.Engine.Lists.{Shape, size}
 use Rattle.pb_replay.specs.Engine.Counts.{IsAbsent, IsUndone}
 use Rattle.pb_replay.specs.Engine.Fields.{shapes_of, kept_shape}

@@ -1,4 +1,4 @@
--- A term's entry is taken out.
+-- A term's entry is removed.
 use Rattle.std.specs.Prelude.{sum_by, Option, Some, None, slice_get, swap_remove}
 use Rattle.std.proofs.Common.{◌≡◌, ℕ, ◌+◌, ◌-◌, ◌<◌, [], List, refl, sym, ◌∙◌, ap, arith, inl, inr, length, get_or, set, length-set, get_or-set_same, get_or-set_other}
 use Rattle.std.proofs.lemmas.Bool.{cases_eq, cases_lt}
@@ -36,7 +36,7 @@ swap-length es q d inside =
     let rest = length-take-le (length es - 1) (set es q (get_or es (length es - 1) d)) (omega (arith, put)) in
     omega (arith, rest, inside)
 
--- what stands behind a name
+-- the entry that a name refers to
 pub record EntryNamed (o : Option Weighted) (s i w : ℕ) : Type 0 where
   pub entry : Weighted
   pub is : o ≡ Some entry
@@ -87,7 +87,7 @@ named-spot forms spots lists p q e is old =
       | inr past ↦ absurd (omega (arith, h, ap length (get_or_past ss s [] past)))
     ]
 
--- what taking an entry out of a list does to the places that terms name
+-- what removing an entry from a list does to the positions that terms name
 pub data Shifted (es : List Weighted) (q : ℕ) (spots : List (List ℕ)) : List (List ℕ) → Type 0 where
   stays : q + 1 ≡ length es → Shifted es q spots spots
   goes : (e : Weighted) → q + 1 < length es → slice_get es (length es - 1) ≡ Some e → Shifted es q spots (set spots e.form (set (get_or spots e.form []) e.index q))

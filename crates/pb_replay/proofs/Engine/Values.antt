@@ -136,7 +136,7 @@ pub Agree-widen : (values : List (Option Bool)) (list : List NumberedLiteral) �
 unfolding says
 Agree-widen values list a l = a l ∙ ap (λ o. holds o l.negated) (sym (value-widen values l.variable))
 
--- some values were taken away
+-- some values were removed
 abbrev pub Forgotten : List (Option Bool) → List NumberedLiteral → Type 0
 Forgotten values rest = (l : NumberedLiteral) → says values l ≡ true → has rest l ≡ true
 

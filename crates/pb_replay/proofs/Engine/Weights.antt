@@ -5,7 +5,7 @@ use Rattle.std.proofs.Math.ListN.{get_or-map}
 use Rattle.std.proofs.lemmas.List.{get_or_default, take-map, map-set, length-map}
 use Rattle.std.proofs.lemmas.Option.{slice_get-map, slice_get-get_or, slice_get_within}
 use Rattle.pb_replay.specs.declared.propagate.term.Term.{Term}
-use Rattle.pb_replay.specs.declared.propagate.term.Occurrence.{Occurrence}
+use Rattle.pb_replay.specs.declared.propagate.store.Occurrence.{Occurrence}
 use Rattle.pb_replay.specs.Engine.Lists.{Shape, Weighted}
 use Rattle.pb_replay.specs.Engine.Counts.{NameForms}
 use Rattle.pb_replay.specs.Engine.Fields.{entries_of, lists_of}
@@ -31,7 +31,7 @@ entry-weighted forms occ p q o h =
 pub entries-size : (forms : List Shape) (occ : List (Vec Occurrence Global)) (p : ℕ) → length (get_or (entries_of forms occ) p []) ≡ length (get_or (lists_of occ) p [])
 entries-size forms occ p = ap length (entries-get forms occ p) ∙ length-map (get_or (lists_of occ) p []) (weighted forms)
 
--- an entry that is taken out, and the one that moves
+-- an entry that is removed, and the one that moves
 swap-map : {X Y : Type 0} (f : X → Y) (xs : List X) (q : ℕ) (d : X) → map f (swap_remove xs q d) ≡ swap_remove (map f xs) q (f d)
 swap-map f xs q d =
     let n = length xs - 1 in
@@ -84,7 +84,7 @@ map-agree f g (x ∷ xs) all =
     let rest : map f xs ≡ map g xs = map-agree f g xs (λ k d h. all (suc k) d (omega (arith, h))) in
     rw (here, rest) refl
 
--- where one form is another, the entries that do not name it stay as they were
+-- if one form is replaced, the entries that do not name it stay as they were
 pub entries-apart : (forms forms' : List Shape) (occ : List (Vec Occurrence Global)) (s : ℕ) → ((k : ℕ) → (k ≡ s → ⊥) → terms_at forms' k ≡ terms_at forms k) → NameOthers s occ → entries_of forms' occ ≡ entries_of forms occ
 entries-apart forms forms' [] s same others = refl
 entries-apart forms forms' (v ∷ occ) s same others =

@@ -3,7 +3,7 @@ use Rattle.std.specs.Prelude.{All, slice_get, map}
 use Rattle.std.proofs.Common.{◌≡◌, ℕ, zero, suc, ◌+◌, ◌*◌, ◌/◌, ◌<◌, ◌++◌, ◌∷◌, [], List, Vec, Global, refl, sym, ◌∙◌, ap, subst, arith, length, get_or, length-append}
 use Rattle.std.proofs.lemmas.List.{map-append}
 use Rattle.std.proofs.lemmas.List.Sums.{sum_by_push}
-use Rattle.pb_replay.specs.declared.propagate.term.Occurrence.{Occurrence}
+use Rattle.pb_replay.specs.declared.propagate.store.Occurrence.{Occurrence}
 use Rattle.pb_replay.specs.Engine.Lists.{Shape, Weighted}
 use Rattle.pb_replay.specs.Engine.Counts.{place, weight_in}
 use Rattle.pb_replay.specs.Engine.Fields.{entries_of}

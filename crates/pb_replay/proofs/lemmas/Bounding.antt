@@ -1,4 +1,4 @@
--- A conclusion goes on behind its tests
+-- A conclusion continues after its tests
 use Rattle.std.specs.Prelude.{Result, Ok, Err, Option, Some, None, Contains, ℤ, option_map}
 use Rattle.std.proofs.Common.{◌≡◌, ◌⊎◌, ℕ, ◌≤ℤ◌, List, [], refl, sym, ◌∙◌, ap, arith, inl, inr, subst}
 use Rattle.std.proofs.lemmas.Int.{ints}
@@ -72,7 +72,7 @@ reached-to logged None u r h k = inr (λ some. contains-none logged some.0 h som
 reached-to logged (Some z) u r h (inl (le, k)) = let one = h.0 in inl ((one.0, one.1), inl ((one.0, one.1, omega (arith, ints, one.2, le)), k))
 reached-to logged (Some z) u r h (inr (late, k)) = let one = h.0 in inl ((one.0, one.1), inr (λ some. late (omega (arith, ints, h.1 some.0 some.1, some.2)), k))
 
--- the id names a form, or none is asked for
+-- the id names a form, or there is no id
 pub named-some : (live : List (Option Form)) (id : Option ℤ) (i : ℤ) (f : Form) → id ≡ Some i → IsLive live i f → (x : Option Form) × IsNamed live id x
 named-some live id i f e h = (Some f, subst (λ (o : Option ℤ). IsNamed live o (Some f)) (sym e) (f, h, refl))
 
@@ -116,7 +116,7 @@ pub lower-infinite : (r : Running) (id : Option ℤ) (result : Result Unit Fault
 lower-infinite r id (Ok u) h = λ logged o best has. h logged best
 lower-infinite r id (Err e) h = inr (λ logged o best has. h logged best)
 
--- what follows a bound
+-- what comes after a bound
 form-then : {A : Type 0} (limit : ℕ) (names : List (List ℕ)) (linear : Linear) (P : Form → Type 0) (next : Answer A) (r : Result A Fault) (u : Unit {0}) → normal_form limit names least linear (λ g. need (P g) NotBound (gives (tt {0}))) (Ok u) → next r → normal_form limit names least linear (λ g. need (P g) NotBound next) r
 form-then limit names linear P next r u (inl (fits, (g, made, inl (h, k)))) n = inl (fits, (g, made, inl (h, n)))
 form-then limit names linear P next r u (inl (fits, (g, made, inr (h, k)))) n = ok_or_err k

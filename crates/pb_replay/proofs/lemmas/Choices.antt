@@ -6,7 +6,7 @@ use Rattle.pb_normal.specs.declared.entry.Entry.{Entry}
 use Rattle.pb_normal.specs.Form.{IsRising, total, counted}
 use Rattle.pb_normal.specs.Rules.{only}
 
--- two choices that do not meet, both within a third
+-- two disjoint choices, both within a third
 one_fits : (p r q : Bool) (c : ℕ) → (p ≡ true → q ≡ true) → (r ≡ true → q ≡ true) → (p ≡ true → r ≡ true → ⊥) → cond p c 0 + cond r c 0 ≤ cond q c 0
 one_fits true true q c f g h = absurd (h refl refl)
 one_fits true false true c f g h = omega arith
@@ -58,7 +58,7 @@ total-has p (x ∷ xs) e (suc k, inside, is) h =
     let rest = total-has p xs e (k, omega (arith, inside), is) h in
     omega (arith, rest)
 
--- the entries of a rising list count
+-- the entries of an increasing list count
 pub rising-positive : (n : ℕ) (es : List Entry) (e : Entry) → IsRising n es → Contains es e → 0 < e.coefficient
 rising-positive n [] e r (k, inside, is) = absurd (omega (arith, inside))
 rising-positive n (x ∷ xs) e r (zero, inside, is) = omega (arith, r.1, ap (λ (y : Entry). y.coefficient) is)

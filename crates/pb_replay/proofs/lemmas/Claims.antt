@@ -1,4 +1,4 @@
--- Once a proof has concluded there is a verdict.
+-- After a conclusion there is a verdict.
 use Rattle.std.specs.Prelude.{Option, Some, None, Ok, ℤ, IsSome}
 use Rattle.std.proofs.Common.{subst, sym, ◌≡◌, ℕ, List, [], ◌∷◌, ◌++◌, refl}
 use Rattle.pb_sums.specs.declared.Literal.{Literal}
@@ -26,7 +26,7 @@ use Rattle.pb_replay.specs.Statements.{Does, Accepts, mentioned}
 use Rattle.pb_replay.proofs.lemmas.Accepting.{needed, followed, ok-same}
 use Rattle.pb_replay.proofs.lemmas.Concluded.{contradicted-has}
 
--- an accepted conclusion goes on
+-- an accepted conclusion continues
 left_next : (s : State) (id : Option ℤ) (next : Answer State) (t : State) → none_left s id next (Ok t) → next (Ok t)
 left_next s id next t h = (contradicted-has s.live id next t (needed h).1).1
 

@@ -19,7 +19,7 @@ opened-part a b w v n h =
 at_literal : (list : List NumberedLiteral) (l : NumberedLiteral) (v : ℕ) (n : Bool) → v ≡ l.variable → n ≡ l.negated → (b : Bool) → on list l.variable (not l.negated) ≡ b → on list v (not n) ≡ b
 at_literal list l v n e f b h = rw (e, f) h
 
--- a literal that may be put on a list is on each longer one, may be put on it, or that one has a conflict
+-- a literal that may be propagated from a list: on each longer list it is there, may be propagated, or there is a conflict
 pub data Lasting (forms : Form → Type 0) (list : List NumberedLiteral) (l : NumberedLiteral) : Type 0 where
   on_it : on list l.variable l.negated ≡ true → Lasting forms list l
   still : MayPut forms list l → Lasting forms list l

@@ -1,4 +1,4 @@
--- What an accepted conclusion means
+-- What an accepted conclusion means. Offered to other crates.
 use Rattle.std.specs.Prelude.{Contains, Option, Some, None, Ok, ℤ}
 use Rattle.std.proofs.Common.{◌≡◌, ℕ, Bool, List, [], length, sym, ◌∙◌, arith, inl, inr, ◌≤ℤ◌}
 use Rattle.std.proofs.lemmas.Bool.{cases_lt}

@@ -39,7 +39,7 @@ next_names old names new ws i w lt e before k =
 pub front_of : (old names new others : List (List ℕ)) → names ≡ with_names old others → new ≡ names → IsFront old new
 front_of old names new others e k = let f = front old others in (f.0, k ∙ e ∙ f.1)
 
--- where the words stand
+-- the state between two words
 pub record Standing (limit top : ℕ) (names : List (List ℕ)) (live : List (Option Form)) (ws : List PolWord) (i : ℕ) (stack : List Form) : Type 0 where
   pub leaves : Leaves (length stack) (drop i ws)
   pub named : HasNames names (word_names (drop i ws))

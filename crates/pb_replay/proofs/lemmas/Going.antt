@@ -1,4 +1,4 @@
--- From the state once a statement's names have appeared to the state before
+-- From the state after a statement's names have appeared to the state before
 use Rattle.std.specs.Prelude.{Result, Ok, Err, Option, Some, ℤ}
 use Rattle.std.proofs.Common.{◌≡◌, ℕ, List, [], ◌∷◌, ◌++◌, sym, ◌∙◌, inl, inr, subst, pos, ◌-ℤ◌}
 use Rattle.std.proofs.lemmas.Option.{same_Some}
@@ -42,7 +42,7 @@ module _ (old m : Running) (st : Statement) (named : HasNamed (mentioned st) old
   goes-from (Err e) new (inl memory) = inl memory
   goes-from (Err e) new (inr g) = inr (λ logged best. does-from logged (Err e) (g logged (best-from logged best)))
 
--- a step that took nothing but looks
+-- a step that changed nothing but the number of visits
 module _ (old m : Running) (named : HasNamed [] old m) (kept : Keeps old m) where
   moved : (before after : List Logged) (form : Form) (r : Result State Fault) → added (top_of m.limits) (state_of m before) after form r → added (top_of old.limits) (state_of old before) after form r
   moved before after form r =
@@ -79,7 +79,7 @@ demands-from old m named proper kept z (Ok u) new h = λ before g o best is has.
 demands-from old m named proper kept z (Err e) new (inl memory) = inl memory
 demands-from old m named proper kept z (Err e) new (inr h) = inr (λ before g o is has. demand-moved old m named kept before g o (Err e) (h before g o is (kept.objective ∙ has)))
 
--- the form that an objective has
+-- the form of an objective
 pub form-of : (limit : ℕ) (names : List (List ℕ)) (objective : Option (List Term)) (side : Side) (degree : ℤ) (form : Form) → HasObjective limit names objective side degree (Ok form) → (o : List Term) → objective ≡ Some o
     → Fits limit (objective_with o degree) × IsSideOf names side (objective_with o degree) form
 form-of limit names objective side degree form (inl (p, is, inl (fits, (r, made, same)))) o has =

@@ -24,7 +24,7 @@ use Rattle.pb_replay.specs.Conclusions.{named, objective_with, lower_bound, Conc
 use Rattle.pb_replay.specs.Statements.{Does, mentioned}
 use Rattle.pb_replay.specs.Laws.{OpensMore, AcceptsMore}
 
--- for any result that is `Ok`: a bare variable lets the arguments of the lemmas be found
+-- for any result that is `Ok`: a bare variable lets the prover find the arguments of the lemmas
 abbrev GrowsAt : {A : Type 0} → Answer A → Answer A → Type 0
 GrowsAt {A} m n = (r : Result A Fault) → (x : A) × (r ≡ Ok x) → m r → n r
 

@@ -1,4 +1,4 @@
--- What every live form lies within
+-- The variables that every live form lies within
 use Rattle.std.specs.Prelude.{Option, Some, Contains, false}
 use Rattle.std.proofs.Common.{◌≡◌, ℕ, ◌≤◌, List, [], ◌∷◌, ◌++◌, length, map, ◌∙◌, ap, arith, inl, inr, subst, length-append}
 use Rattle.std.proofs.lemmas.List.Elements.{Contains-push_cases}

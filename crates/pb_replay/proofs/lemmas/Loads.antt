@@ -1,4 +1,4 @@
--- The forms of an instance hold exactly where it is solved, and what a verdict means of them it means of the instance.
+-- The forms of an instance hold if and only if it is solved. What a verdict means for them, it means for the instance.
 use Rattle.std.specs.Prelude.{Contains, Option, Some, ◌↔◌, All, Ok}
 use Rattle.std.proofs.Common.{◌≡◌, ℕ, zero, suc, ◌<◌, Bool, true, List, [], ◌∷◌, ◌++◌, length, length-append, get_or, refl, sym, ◌∙◌, ap, arith}
 use Rattle.std.proofs.lemmas.List.{get_or_append_left, get_or_default}
@@ -31,7 +31,7 @@ use Rattle.pb_replay.proofs.lemmas.Naming.{Holds-agree, back, true_sum-agree, va
 use Rattle.pb_replay.proofs.lemmas.Sound.{first-sound, run-sound}
 use Rattle.pb_replay.proofs.Engine.Gets.{contains-none}
 
--- of each member of a longer list
+-- for each member of a longer list
 module _ {X : Type 0} (P : X → Type 0) where
   all_cons : (x : X) (xs : List X) → P x → ((y : X) → Contains xs y → P y) → (y : X) → Contains (x ∷ xs) y → P y
   all_cons x xs first rest y (zero, lt, is) = let e : x ≡ y = is in rw (← e) first
@@ -75,7 +75,7 @@ all_same names a (c ∷ cs) forms d h f =
       λ w. let back = both.1 w in all_cons W c cs back.0 back.1,
     )
 
--- each form reads names alone
+-- a form depends only on its names
 are_named : (names : List (List ℕ)) (sides : List (Side × Linear)) (forms : List Form) → AreFormsOf names sides forms → (r : Form) → Contains forms r → All (λ t. t.variable < length names) r.terms
 are_named names [] [] f r c = absurd (contains-none [] r refl c)
 are_named names [] (g ∷ forms) f r c = absurd f

@@ -1,4 +1,4 @@
--- The looks of a `rup`
+-- The visits of a `rup`
 use Rattle.std.specs.Prelude.{Result, Ok, Err, Option, sum_by}
 use Rattle.std.proofs.Common.{◌≡◌, ◌⊎◌, ℕ, Bool, true, false, ◌+◌, ◌*◌, ◌≤◌, List, [], length, refl, sym, ◌∙◌, ap, arith, inl, inr, subst}
 use Rattle.pb_text.specs.Limits.{top_of}
@@ -70,7 +70,7 @@ module _ (linear : Linear) (mid live : List (Option Form)) (names new : List (Li
   pub looks-not : (list : List NumberedLiteral) × IsCompletion (With (Live mid) (negation_of form)) [] list × (length list ≤ count) → Looks live (with_names names (names_of linear.terms)) linear (Err NotImplied) visits
   looks-not done = record {
     few = few-of;
-    conflict = λ e goal h. ok_or_err (sym e);
+    conflict = λ e goal h. absurd (elim e [ inl ok ↦ ok_or_err (sym ok) | inr spent ↦ let bad : NotImplied ≡ IdsSpent = same_err spent in cc ]);
     completion = λ e goal h.
         let at : CoversCompletion mid form visits = (done.0, done.1, omega (arith, done.2, same)) in
         subst (λ (f : Form). CoversCompletion live f visits) (over goal h) (subst (λ (l : List (Option Form)). CoversCompletion l form visits) forms at);
@@ -82,11 +82,11 @@ module _ (linear : Linear) (mid live : List (Option Form)) (names new : List (Li
       late (inl e) = let bad = same_err e in cc
       late (inr e) = let bad = same_err e in cc
 
-  -- memory ran out in the midst
+  -- memory ran out in the middle
   pub looks-memory : (result : Result Unit Fault) → result ≡ Err Memory → Looks live (with_names names (names_of linear.terms)) linear result visits
   looks-memory result memory = record {
     few = few-of;
-    conflict = λ h goal k. ok_or_err (sym h ∙ memory);
+    conflict = λ h goal k. absurd (elim h [ inl ok ↦ ok_or_err (sym ok ∙ memory) | inr spent ↦ let bad : IdsSpent ≡ Memory = same_err (sym spent ∙ memory) in cc ]);
     completion = λ h goal k. absurd (other NotImplied h (inr (inr refl)));
     unasked = unasked-of;
     refused = λ bad. absurd (elim bad [ inl h ↦ other Order h (inl refl) | inr h ↦ other Overflow h (inr (inl refl)) ]);
@@ -106,7 +106,7 @@ module _ (linear : Linear) (mid live : List (Option Form)) (names new : List (Li
 pub looks-none : (linear : Linear) (live : List (Option Form)) (names : List (List ℕ)) {P : Type 0} (e : Fault) (result : Result Unit Fault) (visits : ℕ) → result ≡ Err e → visits ≡ 0 → (e ≡ Memory) ⊎ ((e ≡ Overflow) × P) → Looks live names linear result visits
 looks-none linear live names e result visits same none bad = record {
   few = λ goal h. omega (arith, none);
-  conflict = λ h goal k. ok_or_err (sym h ∙ same);
+  conflict = λ h goal k. absurd (elim h [ inl ok ↦ ok_or_err (sym ok ∙ same) | inr spent ↦ late (same_err (sym same ∙ spent)) bad ]);
   completion = λ h goal k. absurd (other (same_err (sym same ∙ h)) bad);
   unasked = λ goal h zero. none;
   refused = λ h. none;
@@ -115,3 +115,7 @@ looks-none linear live names e result visits same none bad = record {
     other : {P : Type 0} → e ≡ NotImplied → (e ≡ Memory) ⊎ ((e ≡ Overflow) × P) → ⊥
     other h (inl k) = let bad = sym h ∙ k in cc
     other h (inr k) = let bad = sym h ∙ k.0 in cc
+
+    late : {P : Type 0} → e ≡ IdsSpent → (e ≡ Memory) ⊎ ((e ≡ Overflow) × P) → ⊥
+    late h (inl k) = let bad = sym h ∙ k in cc
+    late h (inr k) = let bad = sym h ∙ k.0 in cc

@@ -1,4 +1,4 @@
--- Options that are told apart.
+-- Options that are distinct.
 use Rattle.std.specs.Prelude.{Option, Some, None, is_some}
 use Rattle.std.proofs.Common.{◌≡◌, false, refl, sym, ◌∙◌}
 use Rattle.std.proofs.lemmas.Option.{same_Some, none-some as none-is_some}

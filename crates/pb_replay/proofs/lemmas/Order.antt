@@ -1,4 +1,4 @@
--- The order in which literals are put on a list does not matter.
+-- The order in which literals are propagated does not matter.
 use Rattle.std.proofs.Common.{◌≡◌, ◌⊎◌, true, List, ◌∷◌, inl, inr}
 use Rattle.std.proofs.lemmas.Bool.{or_left, or_right}
 use Rattle.pb_normal.specs.Form.{Form}
@@ -9,7 +9,7 @@ use Rattle.pb_replay.specs.Propagation.{on, Derivation, begin, put, HasConflict,
 use Rattle.pb_replay.proofs.lemmas.Completing.{IsPart, on_it, still, conflicting, lasting, put-part, derivation-keeps, conflict-part, completion-one}
 use Rattle.pb_replay.proofs.lemmas.Choices.{only-self}
 
--- a list made longer until it has a conflict, or the literals of another one
+-- a list is extended until it has a conflict, or the literals of another one
 pub record Reached (forms : Form → Type 0) (from other : List NumberedLiteral) : Type 0 where
   pub list : List NumberedLiteral
   pub derived : Derivation forms from list

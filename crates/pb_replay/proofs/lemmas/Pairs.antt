@@ -33,7 +33,7 @@ pub record IsMet (m n : Bool) (f : Form) : Type 0 where
   pub holds : Holds (assignment (values m n)) f
   pub outside : (x : ℕ) (b : Bool) → total (only (suc (suc x)) b) f.terms ≡ 0
 
--- the variables behind those two
+-- the variables after those two
 far-total : (m n : Bool) (d x : ℕ) (b : Bool) → total (only (suc (suc x)) b) (pair m n d).terms ≡ 0
 far-total m n d x b =
     let first : eqb 0 (suc (suc x)) ≡ false = ne_eqb 0 (suc (suc x)) (λ e. omega (arith, e)) in

@@ -43,7 +43,7 @@ pub meant : (v : Problem) (s : State) (o : Option Verdict) → IsSound v s → o
 meant v s None sound e = tt
 meant v s (Some w) sound e = sound.meant w (sym e)
 
--- the names of the instance stay in front
+-- the names of the instance stay a prefix
 own_names : (own : ℕ) (names new : List (List ℕ)) → own ≤ length names → IsFront names new → take own new ≡ take own names
 own_names own names new le (more, e) = ap (take own) e ∙ take-append-le own names more le
 
@@ -78,7 +78,7 @@ ready_after old new st value ready comes k linked =
       sound = (after.0, after.1, rw same sound);
     }
 
--- a state that a replay stands for
+-- a state that a replay represents
 pub stood : (r : Running) (s : State) → s.live ≡ r.engine.forms → s.names ≡ r.names → s.next ≡ r.next → s.concluded ≡ r.concluded → state_of r s.logged ≡ s
 stood r s e f g h = sym (same-state e f g h)
 
@@ -130,7 +130,7 @@ opened_ok limit i forms o start names cs same objective begins grown fits magnit
       (forms, last, let to : Problem → Result Problem Fault = λ v. Ok v in ap to (same_fields forms forms o i.objective (take own names) (names_in i) refl objective whole)),
     )
 
--- a constraint that does not fit is why it does not open
+-- an instance does not open because of a constraint that does not fit
 pub opened_err : (limit : ℕ) (i : Instance) (cs : List Linear) (e : NormalFault) (fault : Fault) → cs ≡ i.constraints → fault ≡ fault_of e → (e ≡ normal.Overflow → (c : Linear) × Contains cs c × (Fits limit c → ⊥)) → (fault ≡ Memory) ⊎ Opened limit i (Err fault)
 opened_err limit i cs normal.Memory fault same is past = inl is
 opened_err limit i cs normal.Overflow fault same is past =
@@ -140,12 +140,12 @@ opened_err limit i cs normal.Overflow fault same is past =
 pub own-length : (r : Running) → IsProper r → r.own ≡ length (take r.own r.names)
 own-length r p = sym (length-take-le r.own r.names p.own)
 
--- what a verdict means of each instance that opens as the problem
+-- what a verdict means for each instance that opens as the problem
 pub meant-written : (v : Problem) (o : Option Verdict) → IfSome o (Means v) → IfSome o (λ w. (limit : ℕ) (i : Instance) → Opened limit i (Ok v) → MeansWritten i w)
 meant-written v None h = tt
 meant-written v (Some w) h = λ limit i opened. meanings-agree limit i v w opened h
 
--- a name that gets no value was there before
+-- a name that gets no value existed before
 pub step-unvalued : (old new : Running) (st : Statement) (d : Fault) (n : ℕ) → IsReady old → Comes old st (Err d) new → (let r : Result Unit Fault = Err d in r) ≡ Err (NotTotal n) → n < length old.names
 step-unvalued old new st d n ready (inl memory) e = absurd (let bad = sym memory ∙ same_err e in cc)
 step-unvalued old new st d n ready (inr h) e =
@@ -153,7 +153,7 @@ step-unvalued old new st d n ready (inr h) e =
     unvalued-old (largest old.limits) (top_of old.limits) (problem_of old) (state_of old s.0) st n (s.2).distinct
     (subst (λ (f : Fault). Outcome (largest old.limits) (top_of old.limits) (problem_of old) (state_of old s.0) st (Err f)) (same_err e) (h s.0 s.1))
 
--- what is true behind a statement
+-- what is true after a statement
 pub kept-ok : (old new : Running) (st : Statement) (fault : Option Fault) → IsStatementValue (largest old.limits) (top_of old.limits) st → IsKept old fault → Comes old st (Ok tt) new → Keeps old new → IsLinked new → IsKept new fault
 kept-ok old new st fault value is comes k linked = record {
   ready = λ none. ready_after old new st value (is.ready none) comes k linked;

@@ -20,6 +20,7 @@ use Rattle.pb_replay.specs.declared.fault.Fault.{Fault}
 use Rattle.pb_replay.specs.declared.fault.Fault.TheVariants.{Memory, NotImplied, Overflow}
 use Rattle.std.specs.Prelude.{Option, Some}
 use Rattle.std.proofs.Common.{subst, map, length}
+use Rattle.pb_text.proofs.Results.{same_err}
 use Rattle.pb_replay.proofs.lemmas.States.{same-state, added-over}
 use Rattle.pb_replay.specs.declared.state.Running.{Running}
 use Rattle.pb_replay.specs.Propagation.{IsRup}
@@ -36,7 +37,7 @@ fits_of r x limit n e h =
       | inr le ↦ le
     ]
 
--- what is said of each list of logged solutions
+-- what holds for each list of logged solutions
 pub goes-ok : (old new : Running) (st : Statement) → new.best ≡ old.best
     → ((logged : List Logged) → Does (largest old.limits) (top_of old.limits) (problem_of old) (with_mentioned (state_of old logged) st) st (Ok (state_of new logged)))
     → Goes old st (Ok tt) new
@@ -82,7 +83,16 @@ rup_unmade old linear e new (Err d) same (inr (is, none)) =
     let over : d ≡ Overflow = cc in
     goes-err old new (Rup linear) d (λ logged. inr (none, let to : Fault → Result State Fault = λ x. Err x in ap to over))
 
--- names that appeared stand behind the others
+-- if memory ran out, the constraint fits
+pub unmade : {P Q : Type 0} (e : Fault) → ((e ≡ Memory) × P) ⊎ ((e ≡ Overflow) × Q) → (e ≡ Memory) ⊎ ((e ≡ Overflow) × Q)
+unmade e (inl h) = inl h.0
+unmade e (inr h) = inr h
+
+pub unmade-fits : {A P Q : Type 0} (e : Fault) (result : Result A Fault) → result ≡ Err e → result ≡ Err Memory → ((e ≡ Memory) × P) ⊎ ((e ≡ Overflow) × Q) → P
+unmade-fits e result is memory (inl h) = h.1
+unmade-fits e result is memory (inr h) = absurd (let bad : Overflow ≡ Memory = sym h.0 ∙ same_err (sym is ∙ memory) in cc)
+
+-- names that appeared come after the others
 pub front_after : (old new others : List (List ℕ)) → new ≡ with_names old others → IsFront old new
 front_after old new others e = let f = front old others in (f.0, e ∙ f.1)
 
@@ -98,7 +108,7 @@ keeps_then a b c h k = record {
   names = front_then a.names b.names c.names h.names k.names;
 }
 
--- a statement that comes where it may
+-- a statement at a stage where it may come
 pub came : (old : Running) (st : Statement) (result : Result Unit Fault) (new : Running) → old.next ≡ stage_of st → Goes old st result new → Comes old st result new
 came old st (Ok u) new next g = λ logged best. let h = g logged best in (h.0, h.1, inl (next, h.2))
 came old st (Err d) new next (inl memory) = inl memory

@@ -1,4 +1,4 @@
--- Solutions that are shown, and the conclusions by them
+-- Shown solutions, and the conclusions by them
 use Rattle.std.specs.Prelude.{Result, Ok, Err, IfOk, IfErr, Option, Some, None, Contains, ℤ, is_some}
 use Rattle.std.proofs.Common.{◌≡◌, ◌⊎◌, ℕ, true, List, map, sym, ◌∙◌, ap, arith, inl, inr, subst}
 use Rattle.std.proofs.lemmas.List.{get_or-map, length-map}

@@ -60,7 +60,7 @@ taken-known v forms names given g a t holds h k lt =
           ]
     ]
 
--- where the clause fails, all given literals are true
+-- if the clause fails, all given literals are true
 not_off : (given : List NumberedLiteral) (x : ℕ) (n : Bool) → on given x n ≡ true → on given x (not (not n)) ≡ true
 not_off given x true h = h
 not_off given x false h = h

@@ -77,7 +77,7 @@ module _ (v : Problem) (list : List NumberedLiteral) (given : List (Option Bool)
       let bad = given-err given names e g in
       inr (bad.0, bad.1, λ h. has-none list bad.0 (get_or given bad.0 None) (says bad.0) bad.2 h, λ j lt. has-value list j (get_or given j None) (says j) (bad.3 j lt), is ∙ ap (λ d. Err d) bad.4)
 
--- over a set of forms that is the same
+-- the same over a set of forms
 module _ (F G : Form → Type 0) (to : (f : Form) → F f → G f) where
   put-to : (list : List NumberedLiteral) (l : NumberedLiteral) → MayPut F list l → MayPut G list l
   put-to list l m = record {

@@ -1,4 +1,4 @@
--- Every accepted statement keeps what is true of a state
+-- Every accepted statement preserves what is true of a state
 use Rattle.std.specs.Prelude.{Option, Some, None, Ok, ℤ, set, All}
 use Rattle.std.proofs.Common.{◌≡◌, ◌⊎◌, ℕ, ◌<◌, Bool, List, [], ◌∷◌, ◌++◌, length, refl, arith, inl, inr, pos, negsuc, ◌+ℤ◌, ◌-ℤ◌, ◌≤ℤ◌, append-nil, sym}
 use Rattle.std.proofs.lemmas.Bool.{cases_lt}
@@ -68,7 +68,7 @@ proper limit top (Divided a k) h =
 proper limit top (Saturated a) h = proper limit top a (all_left (IsWord limit top) (words a) _ h)
 proper limit top (Weakened a name) h = proper limit top a (all_left (IsWord limit top) (words a) _ h)
 
--- a step that changes the live forms alone
+-- a step that changes only the live forms
 live-sound : (v : Problem) (s : State) (live : List (Option Form)) (names : List (List ℕ)) (next : Stage) → IsSound v s → IsFront v.names names → AreDistinct names → ((a : ℕ → Bool) → IsSolution v a → HoldAll a (Live s.live) → HoldAll a (Live live)) → IsSound v (record { live = live; names = names; logged = s.logged; next = next; concluded = s.concluded })
 live-sound v s live names next sound begins apart kept =
     record {
@@ -112,7 +112,7 @@ Deleted-live live (i ∷ ids) rest h f c =
     let at = needed h in
     Live-deleted live (place (length live) i) f (Deleted-live (set live (place (length live) i) None) ids rest at.2 f c)
 
--- where the demand of a smaller value fails, the value is no smaller
+-- if the constraint that requires a smaller value fails, the value is no smaller
 no_smaller : (v : Problem) (s : State) (o : List Term) (a : ℕ → Bool) (r : Form) (w : ℤ) → IsProblem v → IsSound v s → v.objective ≡ Some o → IsSideOf s.names most (objective_with o (w -ℤ pos 1)) r → total (true_at a) r.terms < r.degree → w ≤ℤ value v a
 no_smaller v s o a r w p sound e normal low =
     let over = value-over v s.names o a p sound.names e in

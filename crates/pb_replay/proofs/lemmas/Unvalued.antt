@@ -1,4 +1,4 @@
--- A name that gets no value was there before the statement.
+-- A name that gets no value existed before the statement.
 use Rattle.std.specs.Prelude.{Result, Err, Option, Some, None, ℤ, set}
 use Rattle.std.proofs.Common.{◌≡◌, ℕ, ◌+◌, ◌<◌, ◌≤◌, Bool, true, false, cond, List, [], ◌∷◌, ◌++◌, length, get_or, refl, sym, ◌∙◌, ap, arith, inl, inr, length-append, pos, ◌-ℤ◌}
 use Rattle.std.proofs.lemmas.Bool.{cases_lt, or_left, or_right}
@@ -15,7 +15,7 @@ use Rattle.pb_replay.specs.declared.fault.Fault.TheVariants as fault
 use Rattle.pb_replay.specs.declared.numbered.NumberedLiteral.{NumberedLiteral}
 use Rattle.pb_replay.specs.Propagation.{on}
 use Rattle.pb_replay.specs.Replay.{State, Live, IsLive, place, TreeForm, limited, normal_form, HasValue, Completed, Shown, IsClause, Deleted, added, numbered}
-use Rattle.pb_replay.specs.Statements.{Does, literal_names, mentioned}
+use Rattle.pb_replay.specs.Statements.{Does, MayWant, PassesFirst, literal_names, mentioned}
 use Rattle.pb_sums.specs.declared.Term.{Term}
 use Rattle.pb_sums.specs.declared.Linear.{Linear}
 use Rattle.pb_proof.specs.declared.Bound.{Bound}
@@ -32,11 +32,11 @@ use Rattle.pb_replay.specs.Replay.{Logged}
 use Rattle.pb_replay.specs.Answer.{Answer, gives, need, found, some, after}
 use Rattle.pb_replay.specs.Problem.{Problem}
 use Rattle.pb_replay.specs.Conclusions.{none_left, named, objective_with, lower_bound, upper_bound, Concludes}
-use Rattle.pb_replay.specs.Laws.{UnvaluedAreOld}
+use Rattle.pb_replay.specs.Laws.{UnvaluedAreOld, UnvaluedMayWant}
 use Rattle.pb_replay.proofs.lemmas.Completing.{derivation-keeps}
 use Rattle.pb_replay.proofs.lemmas.Choices.{only-self}
 
--- one of the names that appeared stands at each new place
+-- at each new index is one of the names that appeared
 data Among (q : List ℕ) : List (List ℕ) → Type 0 where
   first : {n : List ℕ} {ns : List (List ℕ)} → q ≡ n → Among q (n ∷ ns)
   later : {n : List ℕ} {ns : List (List ℕ)} → Among q ns → Among q (n ∷ ns)
@@ -216,3 +216,26 @@ does limit top v s End n r d is h = absurd (never-gives _ r n is h)
 pub unvalued-old : UnvaluedAreOld
 unvalued-old limit top v s st n d (inl h) = does limit top v s st n (Err (fault.NotTotal n)) d refl h.1
 unvalued-old limit top v s st n d (inr h) = absurd (let r : Result State Fault = Err (fault.NotTotal n) in let o : fault.Order ≡ fault.NotTotal n = err_same r _ _ refl h.1 in cc)
+
+-- such a statement may allocate
+concludes-wants : (limit top : ℕ) (v : Problem) (s : State) (c : Conclusion) (next : Answer State) (n : ℕ) (r : Result State Fault) → Never next → r ≡ Err (fault.NotTotal n) → Concludes limit v s c next r → MayWant (Conclude c) × PassesFirst limit top v (Conclude c)
+concludes-wants limit top v s c next n r never is h = absurd (never-concludes limit v s c next never r n is h)
+
+wants : (limit top : ℕ) (v : Problem) (s : State) (st : Statement) (n : ℕ) (r : Result State Fault) → r ≡ Err (fault.NotTotal n)
+    → Does limit top v (record s { names = with_names s.names (mentioned st) }) st r → MayWant st × PassesFirst limit top v st
+wants limit top v s Header n r is h = absurd (never-gives _ r n is h)
+wants limit top v s (F count) n r is h = absurd (never-need _ _ _ (λ n h. cc) (never-need _ _ _ (λ n h. cc) (never-gives _)) r n is h)
+wants limit top v s (Pol ws) n r is h = (tt, tt)
+wants limit top v s (Rup linear) n r is h =
+    absurd (never-normal limit _ least linear _ (λ f. never-need _ _ _ (λ n h. cc) (never-added top (record s { names = with_names s.names (mentioned (Rup linear)) }) s.logged f)) r n is h)
+wants limit top v s (Soli given) n r is (inl (o, e, h)) = (tt, (o, e))
+wants limit top v s (Soli given) n r is (inr h) = absurd (let o : fault.NoObjective ≡ fault.NotTotal n = err_same r _ _ is h.1 in cc)
+wants limit top v s (Solx given) n r is h = (tt, tt)
+wants limit top v s (Delete ids) n r is h = absurd (never-after (Deleted s.live ids) _ (never-deleted s.live ids) (λ live. never-gives _) r n is h)
+wants limit top v s Output n r is h = absurd (never-gives _ r n is h)
+wants limit top v s (Conclude c) n r is h = concludes-wants limit top v (record s { names = with_names s.names (mentioned (Conclude c)) }) c _ n r (never-gives _) is h
+wants limit top v s End n r is h = absurd (never-gives _ r n is h)
+
+pub unvalued-wants : UnvaluedMayWant
+unvalued-wants limit top v s st n (inl h) = let w = wants limit top v s st n (Err (fault.NotTotal n)) refl h.1 in (h.0, w.0, w.1)
+unvalued-wants limit top v s st n (inr h) = absurd (let r : Result State Fault = Err (fault.NotTotal n) in let o : fault.Order ≡ fault.NotTotal n = err_same r _ _ refl h.1 in cc)

@@ -27,7 +27,7 @@ true_sum-append a (x ∷ xs) ys = omega (arith, ints, true_sum-append a xs ys)
 pub magnitude-front : (ts : List Term) (k : ℕ) → magnitude (take k ts) ≤ magnitude ts
 magnitude-front ts k = omega (arith, magnitude-append (take k ts) (drop k ts), ap magnitude (take-append-drop k ts))
 
--- one term more
+-- one more term
 module _ (ts : List Term) (i : ℕ) (t : Term) (lt : i < length ts) (e : t ≡ get_or ts i t) where
   pub sum-more : (a : List ℕ → Bool) → true_sum a (take (i + 1) ts) ≡ (true_sum a (take i ts) +ℤ true_sum a (t ∷ []))
   sum-more a = ap (true_sum a) (take_read ts i t t lt e) ∙ true_sum-append a (take i ts) (t ∷ [])

@@ -1,4 +1,4 @@
--- Proofs over two names that are accepted, and conclusions that are refused
+-- Proofs over two names that are accepted, and conclusions that are rejected
 use Rattle.std.specs.Prelude.{Option, Some, None, Ok, Contains, slice_get, All, ◌++◌, ◌≤ℤ◌, neg_ℤ}
 use Rattle.std.proofs.Common.{◌≡◌, ℕ, zero, suc, ◌<◌, Bool, true, false, List, [], ◌∷◌, cond, eqb, ◌&&◌, ◌+◌, refl, sym, subst, arith, inl, inr, pos, ◌+ℤ◌, ◌-ℤ◌}
 use Rattle.pb_sums.specs.declared.Term.{Term}
@@ -34,7 +34,7 @@ unit = record { terms = entry 0 false ∷ []; degree = 1 }
 abbrev nothing : Form
 nothing = record { terms = []; degree = 1 }
 
--- statements that are accepted, and more behind them
+-- statements that are accepted, and more after them
 then : (limit top : ℕ) (v : Problem) (s u t : State) (sts more : List Statement) → Accepts limit top v s sts u → Accepts limit top v u more t → Accepts limit top v s (sts ++ more) t
 then limit top v s u t [] more e h = rw e h
 then limit top v s u t (st ∷ sts) more (w, out, rest) h = (w, out, then limit top v w u t sts more rest h)
@@ -112,7 +112,7 @@ live_4 = Some (pair false false 1) ∷ Some (pair true true 1) ∷ Some (pair tr
 abbrev live_5 : List (Option Form)
 live_5 = Some (pair false false 1) ∷ Some (pair true true 1) ∷ Some (pair true false 1) ∷ Some (pair false true 1) ∷ Some unit ∷ []
 
--- no x1: then x2, by the first form, and the fourth is broken
+-- with x1 false: then x2 is true, by the first form, and the fourth is violated
 unit_rup : IsRup (Live live_4) unit
 unit_rup = inr (record {
   list = literal 1 false ∷ literal 0 true ∷ [];
@@ -126,7 +126,7 @@ unit_rup = inr (record {
     second : MayPut (With (Live live_4) (negation_of unit)) (literal 0 true ∷ []) (literal 1 false)
     second = record { absent = refl; not_falsified = refl; form = pair false false 1; among = inl (0, omega arith, refl); stands = omega arith; forced = omega arith }
 
--- x1: then no x2, by the second form, and the third is broken
+-- with x1 true: then x2 is false, by the second form, and the third is violated
 nothing_rup : IsRup (Live live_5) nothing
 nothing_rup = inr (record {
   list = literal 1 true ∷ literal 0 false ∷ [];
@@ -223,7 +223,7 @@ shown-verified = (
   refl,
 )
 
--- the sum of a form and the demand of a better value
+-- the sum of a form and the constraint that requires a better value
 cancels : (b c : Bool) → (pos 0 -ℤ pos 0) ≡ ((pos (cond (b && true) 1 0 + (cond (c && true) 1 0 + 0)) -ℤ pos (cond (b && false) 1 0 + (cond (c && false) 1 0 + 0))) +ℤ (pos (cond (b && false) 1 0 + (cond (c && false) 1 0 + 0)) -ℤ pos (cond (b && true) 1 0 + (cond (c && true) 1 0 + 0))))
 cancels true true = refl
 cancels true false = refl

@@ -1,9 +1,10 @@
 -- The engine's fields as lists.
 use Rattle.std.specs.Prelude.{◌≡◌, ℕ, false, [], ◌∷◌, ◌++◌, List, Option, Some, None, map, slice_set, Vec}
 use Rattle.std.specs.Global.{Global}
-use Rattle.pb_replay.specs.declared.propagate.term.Occurrence.{Occurrence}
-use Rattle.pb_replay.specs.declared.propagate.kept.Kept.{Kept}
+use Rattle.pb_replay.specs.declared.propagate.store.Occurrence.{Occurrence}
+use Rattle.pb_replay.specs.declared.propagate.store.kept.Kept.{Kept}
 use Rattle.pb_replay.specs.declared.propagate.store.Store.{Store}
+use Rattle.pb_replay.specs.declared.propagate.store.Visited.{Visited}
 use Rattle.pb_replay.specs.Engine.Lists.{Shape, Weighted}
 use Rattle.pb_normal.specs.Form.{Form}
 use Rattle.pb_replay.specs.Engine.Forms.{IsKeptAs}
@@ -16,12 +17,16 @@ kept_shape k = record { terms = terms_of k.terms; degree = k.degree }
 abbrev pub shapes_of : List Kept → List Shape
 shapes_of kept = map kept_shape kept
 
--- the forms, where one has left none
+-- the forms, none in the slot of a removed one
 abbrev pub forms_of : List Kept → List (Option Form)
 forms_of kept = map (λ k. k.terms.form) kept
 
 abbrev pub lists_of : List (Vec Occurrence Global) → List (List Occurrence)
 lists_of lists = map (λ v. v.items) lists
+
+-- the entry that was visited
+abbrev pub entry_at : Visited → Occurrence
+entry_at v = record { form = v.form; index = v.index }
 
 -- the lists of entries, each with the coefficient of its term
 abbrev pub entries_of : List Shape → List (Vec Occurrence Global) → List (List Weighted)
@@ -34,7 +39,7 @@ spots_of spots = map (λ v. v.items) spots
 abbrev pub IsSound : Store → Type 0
 IsSound s = IsStored (shapes_of s.kept.items) (spots_of s.spots.items) (entries_of (shapes_of s.kept.items) s.occurrences.items) s.variables
 
--- a form stands behind the others, with its open sum and its candidate as at rest
+-- a form is added after the others, with its open sum and its candidate as at rest
 pub record HasEntered (f : Form) (keep keep' : List Kept) (opens opens' cands cands' : List ℕ) : Type 0 where
   pub kept : Kept
   pub is : IsKeptAs f (kept_shape kept)
@@ -43,7 +48,7 @@ pub record HasEntered (f : Form) (keep keep' : List Kept) (opens opens' cands ca
   pub opened : opens' ≡ opens ++ (kept.total ∷ [])
   pub candidates : cands' ≡ cands ++ (0 ∷ [])
 
--- a form stands where an empty one stood, with its open sum as at rest
+-- a form is stored in the slot of an empty one, with its open sum as at rest
 pub record HasFilled (f : Form) (slot : ℕ) (keep keep' : List Kept) (opens opens' : List ℕ) : Type 0 where
   pub kept : Kept
   pub is : IsKeptAs f (kept_shape kept)
@@ -51,7 +56,14 @@ pub record HasFilled (f : Form) (slot : ℕ) (keep keep' : List Kept) (opens ope
   pub keeps : keep' ≡ slice_set keep slot kept
   pub opened : opens' ≡ slice_set opens slot kept.total
 
--- a form that says nothing
+-- the form has nothing in the occurrence lists
+pub record IsUnlisted (k : Kept) : Type 0 where
+  pub terms : terms_of k.terms ≡ []
+  pub degree : k.degree ≡ 0
+  pub total : k.total ≡ 0
+  pub eager : k.eager ≡ false
+
+-- an empty form
 pub record IsEmpty (k : Kept) : Type 0 where
   pub form : k.terms.form ≡ None
   pub terms : terms_of k.terms ≡ []

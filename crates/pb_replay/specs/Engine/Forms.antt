@@ -1,4 +1,4 @@
--- A form as the engine keeps it.
+-- A form as the engine stores it.
 use Rattle.std.specs.Prelude.{◌≡◌, ℕ, ◌<◌, false, List, [], Option, Some, None, map, length, slice_index_or, IsPermutation}
 use Rattle.pb_normal.specs.declared.entry.Entry.{Entry}
 use Rattle.pb_normal.specs.Form.{Form, IsNormal}
@@ -19,11 +19,11 @@ entries_in (Some f) = f.terms
 abbrev pub entry_at_place : List Entry → ℕ → Entry
 entry_at_place es p = slice_index_or es p record { variable = 0; negated = false; coefficient = 0 }
 
--- the terms at some places
+-- the terms at some positions
 abbrev pub picked : List Entry → List ℕ → List Term
 picked es places = map (λ p. as_term (entry_at_place es p)) places
 
--- the place is one of the list, and the coefficient is its own
+-- the position is inside the list, and the coefficient is that of its entry
 abbrev pub IsPlaced : List Entry → Rank → Type 0
 IsPlaced es r = (r.place < length es) × (r.coefficient ≡ (entry_at_place es r.place).coefficient)
 

@@ -1,11 +1,11 @@
--- Forms, the lists of their literals' entries, and where each entry stands.
+-- Forms, the lists of their literals' entries, and the position of each entry.
 use Rattle.std.specs.Prelude.{◌≡◌, ℕ, false, ◌+◌, ◌-◌, ◌*◌, ◌<◌, ◌↔◌, List, [], take, slice_set, length, sum_by, All, Option, Some, None, slice_get, slice_index_or}
 use Rattle.pb_replay.specs.declared.propagate.term.Term.{Term}
-use Rattle.pb_replay.specs.declared.propagate.term.Occurrence.{Occurrence}
+use Rattle.pb_replay.specs.declared.propagate.store.Occurrence.{Occurrence}
 use Rattle.pb_replay.specs.Engine.Lists.{Shape, Weighted, AreInside}
 use Rattle.pb_replay.specs.Engine.Counts.{place, AreLinked, NameForms}
 
--- where the other end of a term or an entry stands, with the coefficient
+-- the position of the other end of a term or an entry, with the coefficient
 pub record Cross : Type 0 where
   pub row : ℕ
   pub column : ℕ
@@ -32,11 +32,11 @@ term_cross None o = None
 term_cross (Some t) None = None
 term_cross (Some t) (Some q) = Some record { row = place t.literal; column = q; weight = t.coefficient }
 
--- the entry at a place of a list names a term
+-- the entry at a position of a list names a term
 abbrev pub entry_at : List (List Weighted) → ℕ → ℕ → Option Cross
 entry_at lists p q = entry_cross (slice_get (slice_index_or lists p []) q)
 
--- the term at a place of a form names an entry
+-- the term at a position of a form names an entry
 abbrev pub term_at : List Shape → List (List ℕ) → ℕ → ℕ → Option Cross
 term_at forms spots s i = term_cross (slice_get (terms_at forms s) i) (slice_get (slice_index_or spots s []) i)
 
@@ -45,7 +45,7 @@ abbrev pub AreCrossed : (ℕ → ℕ → Option Cross) → (ℕ → ℕ → Opti
 AreCrossed terms entries = (s i p q w : ℕ) →
     (terms s i ≡ Some record { row = p; column = q; weight = w }) ↔ (entries p q ≡ Some record { row = s; column = i; weight = w })
 
--- the first forms' terms stand in the lists
+-- the terms of the first forms are in the lists
 pub record IsLinked (forms : List Shape) (spots : List (List ℕ)) (lists : List (List Weighted)) : Type 0 where
   pub linked : AreLinked forms lists
   pub totals : sum_by length lists ≡ sum_by (λ f. length f.terms) forms
@@ -66,7 +66,7 @@ degree_at forms s = (slice_index_or forms s record { terms = []; degree = 0 }).d
 abbrev pub cut : List Shape → ℕ → ℕ → List Shape
 cut forms s i = slice_set forms s record { terms = take i (terms_at forms s); degree = degree_at forms s }
 
--- what taking an entry out of a list does to the places that terms name
+-- what removing an entry from a list does to the positions that terms name
 pub data Moved (es : List Occurrence) (q : ℕ) (spots : List (List ℕ)) : List (List ℕ) → Type 0 where
   none : q + 1 ≡ length es → Moved es q spots spots
   last : (e : Occurrence) → q + 1 < length es → slice_get es (length es - 1) ≡ Some e → Moved es q spots (slice_set spots e.form (slice_set (slice_index_or spots e.form []) e.index q))

@@ -4,11 +4,11 @@ use Rattle.std.specs.Bool.{beq}
 use Rattle.pb_replay.specs.declared.numbered.NumberedLiteral.{NumberedLiteral}
 use Rattle.pb_replay.specs.declared.propagate.term.Term.{Term}
 
--- the literal that is true where this one is false
+-- the literal that is true if this one is false
 abbrev pub negation : NumberedLiteral → NumberedLiteral
 negation l = record { variable = l.variable; negated = not l.negated }
 
--- the two literals are one
+-- the two literals are equal
 unfoldable pub same : NumberedLiteral → NumberedLiteral → Bool
 same a b = (a.variable == b.variable) && (beq a.negated b.negated)
 
@@ -21,13 +21,13 @@ pub record Shape : Type 0 where
   pub terms : List Term
   pub degree : ℕ
 
--- an entry of a literal's list: a form in which the literal stands, the place of its term there, and the term's coefficient
+-- an entry of a literal's list: a form that contains the literal, the position of its term there, and the coefficient
 pub record Weighted : Type 0 where
   pub form : ℕ
   pub index : ℕ
   pub coefficient : ℕ
 
--- what a term adds to the open sum: nothing where its literal is falsified
+-- what a term adds to the open sum: nothing if its literal is falsified
 unfoldable pub open_part : List NumberedLiteral → Term → ℕ
 open_part list t = if has list (negation t.literal) then 0 else t.coefficient
 
@@ -35,7 +35,7 @@ open_part list t = if has list (negation t.literal) then 0 else t.coefficient
 abbrev pub open_sum : List NumberedLiteral → List Term → ℕ
 open_sum list terms = sum_by (open_part list) terms
 
--- the literal may be put on the list
+-- the literal may be propagated
 pub record Puts (forms : List Shape) (list : List NumberedLiteral) (l : NumberedLiteral) : Type 0 where
   pub absent : has list l ≡ false
   pub not_falsified : has list (negation l) ≡ false
@@ -45,17 +45,17 @@ pub record Puts (forms : List Shape) (list : List NumberedLiteral) (l : Numbered
   pub term : Contains form.terms (record { literal = l; coefficient = coefficient })
   pub forced : open_sum list form.terms < form.degree + coefficient
 
--- the list begins with the given literals, and each further one was put on it
+-- the list starts with the given literals, and each further one was propagated
 pub data Derives (forms : List Shape) (given : List NumberedLiteral) : List NumberedLiteral → Type 0 where
   begin : Derives forms given given
   put : {list : List NumberedLiteral} (l : NumberedLiteral) → Derives forms given list → Puts forms list l → Derives forms given (list ++ (l ∷ []))
 
--- the list holds a literal and its negation, or falsifies too much of a constraint
+-- the list holds a literal and its negation, or a constraint has negative slack
 pub data Conflicts (forms : List Shape) (list : List NumberedLiteral) : Type 0 where
   opposed : (l : NumberedLiteral) → has list l ≡ true → has list (negation l) ≡ true → Conflicts forms list
   broken : (form : Shape) → Contains forms form → open_sum list form.terms < form.degree → Conflicts forms list
 
--- no literal may be put on the list
+-- no literal may be propagated
 abbrev pub IsClosed : List Shape → List NumberedLiteral → Type 0
 IsClosed forms list = (l : NumberedLiteral) → Puts forms list l → ⊥
 
@@ -71,7 +71,7 @@ holds (Some m) n = beq (not m) n
 unfoldable pub says : List (Option Bool) → NumberedLiteral → Bool
 says values l = holds (slice_index_or values l.variable None) l.negated
 
--- one where there is no value
+-- one if there is no value
 abbrev pub vacancy : Option Bool → ℕ
 vacancy None = 1
 vacancy (Some m) = 0
@@ -80,11 +80,11 @@ vacancy (Some m) = 0
 abbrev pub size : List Term → ℕ
 size terms = sum_by (λ t. t.coefficient) terms
 
--- each variable is one of the first so many
+-- the variables are below this number
 abbrev pub AreInside : ℕ → List Term → Type 0
 AreInside variables terms = All (λ t. t.literal.variable < variables) terms
 
--- the form is not falsified, and no literal of it may be put on the list
+-- the form is not falsified, and none of its literals may be propagated
 pub record IsSettled (form : Shape) (list : List NumberedLiteral) : Type 0 where
   pub met : form.degree ≤ open_sum list form.terms
   pub idle : IsClosed (form ∷ []) list

@@ -5,7 +5,7 @@ use Rattle.pb_replay.specs.Propagation.{on}
 use Rattle.pb_replay.specs.declared.numbered.NumberedLiteral.{NumberedLiteral}
 pub use Rattle.pb_replay.specs.Replay.{Live}
 
--- the forms by number, the variables, the looks of the last test, and whether memory was refused in the middle of a call
+-- the forms by number, the variables, the visits of the last test, and whether an allocation failed in the middle of a call
 pub record Standing : Type 0 where
   pub forms : List (Option Form)
   pub variables : ℕ
@@ -17,7 +17,7 @@ abbrev pub value_says : Option Bool → Bool → Bool
 value_says None n = false
 value_says (Some m) n = if n then not m else m
 
--- a literal stands on the list exactly where its variable has a value and the literal is true at it
+-- a literal is on the list if and only if its variable has a value and the literal is true at it
 abbrev pub Gives : List NumberedLiteral → List (Option Bool) → Type 0
 Gives list values = (v : ℕ) (n : Bool) → on list v n ≡ value_says (slice_index_or values v None) n
 

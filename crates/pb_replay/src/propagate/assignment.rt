@@ -1,4 +1,4 @@
-//! The list of literals.
+//! The list of assigned literals.
 
 ghost use Rattle.std.specs.Prelude.{◌≡◌, ℕ, ◌+◌, ◌≤◌, ◌<◌, ◌++◌, ◌∷◌, [], Bool, None, true, false, length, sum_by, OnOk, OnErr, IfOk, slice_index_or};
 ghost use Rattle.pb_replay.specs.declared.numbered.NumberedLiteral.{NumberedLiteral};
@@ -7,17 +7,17 @@ ghost use Rattle.pb_replay.specs.Engine.Lists.{has, says, vacancy, negation};
 use crate::numbered::NumberedLiteral;
 use std::alloc::{AllocError, Global};
 
-/// A list of literals, with the value that it gives each variable.
+/// A list of literals, with the value that it gives to each variable.
 #[derive(Drop)]
 pub struct Assignment {
-    // The truth value of each variable with a literal on the list.
+    // The value of each variable that has a literal on the list.
     pub values: Vec<Option<bool>>,
     pub list: Vec<NumberedLiteral>,
     ghost agrees: { (l : NumberedLiteral) → has list.items l ≡ says values.items l },
     ghost room: { length list.items + sum_by vacancy values.items ≡ length values.items },
 }
 
-// Takes the values of a list's literals away.
+// Removes the values of a list's literals.
 fn forget(values: &mut Vec<Option<bool>>, list: &[NumberedLiteral])
     requires agrees { (l : NumberedLiteral) → has list.now l ≡ says values.old.items l }
     ensures values { length values.new.items ≡ length values.old.items }
@@ -39,7 +39,7 @@ impl Assignment {
         }
     }
 
-    /// One more variable.
+    /// Adds a variable.
     pub fn widen(&mut self) -> Result<(), AllocError>
         ensures values { OnOk result (length self.new.values.items ≡ length self.old.values.items + 1) }
         ensures list { self.new.list.items ≡ self.old.list.items }
@@ -48,7 +48,7 @@ impl Assignment {
         Ok(())
     }
 
-    /// Takes all literals from the list.
+    /// Removes all literals from the list.
     pub fn clear(&mut self)
         ensures values { length self.new.values.items ≡ length self.old.values.items }
         ensures list { self.new.list.items ≡ [] }
@@ -68,7 +68,7 @@ impl Assignment {
         }
     }
 
-    /// Puts a literal on the list.
+    /// Adds a literal to the list.
     pub fn put(&mut self, literal: NumberedLiteral) -> Result<(), AllocError>
         requires inside { literal.variable < length self.old.values.items }
         requires absent { has self.old.list.items literal ≡ false }

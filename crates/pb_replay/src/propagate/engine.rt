@@ -1,39 +1,47 @@
-//! The engine: live forms by number, and what propagation over them answers.
+//! The engine: live forms by number, and the results of propagation over them.
+
+pub mod visits;
 
 ghost use Rattle.std.specs.Prelude.{◌≡◌, ℕ, List, Option, Some, None, ◌+◌, ◌*◌, ◌<◌, ◌≤◌, ◌++◌, ◌∷◌, [], ◌⊎◌, true, false, All, length, filter, slice_index_or, slice_get, slice_set, sum_by, OnOk, OnErr, IfOk, IfSome, IfNone, map};
 ghost use Rattle.pb_normal.specs.Form.{Form};
 ghost use Rattle.pb_normal.specs.Rules.{negation_of};
 ghost use Rattle.pb_replay.specs.declared.numbered.NumberedLiteral.{NumberedLiteral};
-ghost use Rattle.pb_replay.specs.declared.propagate.kept.Kept.{Kept};
+ghost use Rattle.pb_replay.specs.declared.propagate.store.kept.Kept.{Kept};
 ghost use Rattle.pb_replay.specs.Engine.Live.{Standing, Live, Gives, terms_in, one_in};
 ghost use Rattle.pb_replay.specs.Engine.Lists.{has, negation, IsWithin};
 ghost use Rattle.pb_replay.specs.Engine.Counts.{IsCounted, IsTidy, IsUndone, AreSingle};
 ghost use Rattle.pb_replay.specs.Engine.Fields.{shapes_of, IsSound};
 ghost use Rattle.pb_replay.specs.Propagation.{With, MeetsConflict, IsCompletion, IsRup};
 ghost use Rattle.pb_replay.specs.Engine.Rest.{AreAtRest, waits, IsRefuted, IsEnded};
+ghost use Rattle.pb_replay.specs.Clauses.Runs.{AreReady, IsRunning};
+ghost use Rattle.pb_replay.specs.Clauses.Shapes.{AreJoined, clauses_of, all_of};
 
 use crate::numbered::NumberedLiteral;
 use crate::propagate::assignment::Assignment;
+use crate::propagate::clauses::Clauses;
 use crate::propagate::eager::Eager;
-use crate::propagate::links::{enter, leave};
+use crate::propagate::engine::visits::Visits;
 use crate::propagate::run::{Run, choose, propagate, try_put, undo_forms};
 use crate::propagate::slots::{occupy, quit, vacancy};
 use crate::propagate::store::Store;
+use crate::propagate::store::links::{enter, leave};
 use pb_normal::{Normal, NormalFault};
 use std::alloc::{AllocError, Global};
 use std::marker::Model;
+use std::mem;
 
-/// Forms by number. Propagation over those that are live looks only at what it touches.
+/// Forms by number. Propagation over the live ones visits only what it touches.
 #[derive(Drop)]
 pub struct Engine {
     store: Store,
     run: Run,
     eager: Eager,
-    // For each number the slot of its form, and no slot where it has left. A slot that a form has left is used again.
+    clauses: Clauses,
+    // For each number the slot of its form, or no slot if the form was removed. The slot of a removed form is used again.
     places: Vec<usize>,
-    // The slots that forms have left.
+    // The slots of removed forms.
     free: Vec<usize>,
-    // Set while a call runs: memory was refused in the middle of one.
+    // Set while a call runs. It stays set if an allocation failed in the middle of the call.
     spent: bool,
 }
 
@@ -49,10 +57,10 @@ impl Model for Engine {
 
     ghost view = { λ e. record { forms = numbered (forms_of e.store.kept.items) e.places.items; variables = e.store.variables; visits = e.run.visits; spent = e.spent } };
 
-    ghost invariant = { λ e. e.spent ≡ false → IsAtRest e.store e.run e.eager (forms_of e.store.kept.items) × ArePlaced (forms_of e.store.kept.items) e.places.items };
+    ghost invariant = { λ e. e.spent ≡ false → IsAtRest e.store e.run e.eager e.clauses (forms_of e.store.kept.items) × ArePlaced (forms_of e.store.kept.items) e.places.items };
 }
 
-// Puts the given literals on the list; whether two of them are opposite.
+// Assigns the given literals. Returns whether two of them are opposite.
 fn assume(store: &Store, run: &mut Run, given: &[NumberedLiteral]) -> Result<bool, AllocError>
     requires store { IsSound store.now }
     requires inside { All (λ l. l.variable < store.now.variables) given.now }
@@ -82,9 +90,10 @@ fn assume(store: &Store, run: &mut Run, given: &[NumberedLiteral]) -> Result<boo
     Ok(false)
 }
 
-// Propagates from the given literals; whether a conflict is met.
+// Propagates from the given literals. Returns whether a conflict is met.
 fn settle(
     store: &Store,
+    clauses: &mut Clauses,
     run: &mut Run,
     given: &[NumberedLiteral],
     waiting: &[usize],
@@ -99,25 +108,34 @@ fn settle(
     requires empty { run.old.assignment.list.items ≡ [] }
     requires counted { IsCounted (shapes_of store.now.kept.items) run.old.opens.items run.old.assignment.list.items [] }
     requires tidy { IsTidy (filter (waits store.now.kept.items) waiting.now) (shapes_of store.now.kept.items) run.old.opens.items run.old.candidates.items run.old.assignment.list.items run.old.work.items run.old.trail.items run.old.next (length store.now.kept.items) }
+    requires joined { AreJoined (shapes_of store.now.kept.items) (clauses_of clauses.old) }
+    requires ready { AreReady clauses.old }
+    requires widths { length clauses.old.lists.items ≡ 2 * store.now.variables }
+    ensures literals { clauses.new.literals ≡ clauses.old.literals }
+    ensures running { OnOk result (IsRunning run.new.assignment.values.items clauses.new) }
     ensures values { OnOk result (length run.new.assignment.values.items ≡ length run.old.assignment.values.items) }
     ensures opens { OnOk result (length run.new.opens.items ≡ length store.now.kept.items) }
     ensures candidates { OnOk result (length run.new.candidates.items ≡ length store.now.kept.items) }
     ensures undone { OnOk result (IsUndone (shapes_of store.now.kept.items) run.new.opens.items run.new.candidates.items run.new.trail.items 0) }
-    ensures refuted { IfOk result (λ found. found ≡ true → IsRefuted (shapes_of store.now.kept.items) given.now run.new.assignment.list.items) }
-    ensures ended { IfOk result (λ found. found ≡ false → IsEnded (shapes_of store.now.kept.items) given.now run.new.assignment.list.items) }
+    ensures refuted { IfOk result (λ found. found ≡ true → IsRefuted (all_of store.now clauses.old) given.now run.new.assignment.list.items) }
+    ensures ended { IfOk result (λ found. found ≡ false → IsEnded (all_of store.now clauses.old) given.now run.new.assignment.list.items) }
 {
     if assume(store, run, given)? {
         return Ok(true);
     }
-    let found = propagate(store, run, waiting)?;
+    let found = propagate(store, clauses, run, waiting)?;
     Ok(found)
 }
 
-// Makes all as it was before a propagation.
-fn rest(store: &Store, run: &mut Run)
+// Undoes a propagation.
+fn rest(store: &Store, clauses: &mut Clauses, run: &mut Run)
     requires opens { length run.old.opens.items ≡ length store.now.kept.items }
     requires candidates { length run.old.candidates.items ≡ length store.now.kept.items }
     requires undone { IsUndone (shapes_of store.now.kept.items) run.old.opens.items run.old.candidates.items run.old.trail.items 0 }
+    requires running { IsRunning run.old.assignment.values.items clauses.old }
+    ensures ready { AreReady clauses.new }
+    ensures literals { clauses.new.literals ≡ clauses.old.literals }
+    ensures lists { clauses.new.lists ≡ clauses.old.lists }
     ensures rest { AreAtRest store.now.kept.items run.new.opens.items run.new.candidates.items }
     ensures values { length run.new.assignment.values.items ≡ length run.old.assignment.values.items }
     ensures list { run.new.assignment.list.items ≡ [] }
@@ -127,6 +145,7 @@ fn rest(store: &Store, run: &mut Run)
     ensures visits { run.new.visits ≡ run.old.visits }
 {
     undo_forms(store, run);
+    clauses.rest();
     run.assignment.clear();
     run.work.clear();
     run.trail.clear();
@@ -154,16 +173,17 @@ impl Engine {
                 work: Vec::new(alloc),
                 next: 0,
                 trail: Vec::new(alloc),
-                visits: 0,
+                visits: Visits::none(),
             },
             eager: Eager::new(alloc),
+            clauses: Clauses::new(alloc),
             places: Vec::new(alloc),
             free: Vec::new(alloc),
             spent: false,
         }
     }
 
-    /// One more variable.
+    /// Adds a variable.
     pub fn widen(&mut self) -> Result<(), AllocError>
         requires ready { self.old.spent ≡ false }
         ensures forms { self.new.forms ≡ self.old.forms }
@@ -176,12 +196,13 @@ impl Engine {
         self.store.occurrences.push(Vec::new(alloc))?;
         self.store.occurrences.push(Vec::new(alloc))?;
         self.run.assignment.widen()?;
+        self.clauses.widen()?;
         self.store.variables = self.store.occurrences.len() / 2;
         self.spent = false;
         Ok(())
     }
 
-    /// One more form, behind the others.
+    /// Adds a form after the others.
     pub fn insert(&mut self, form: Normal) -> Result<(), AllocError>
         requires ready { self.old.spent ≡ false }
         requires inside { All (λ t. t.variable < self.old.variables) form.terms }
@@ -196,15 +217,23 @@ impl Engine {
             &mut self.store,
             &mut self.run,
             &mut self.eager,
+            &mut self.clauses,
             &mut self.free,
         )?;
-        occupy(&mut self.store, &mut self.run, &mut self.eager, slot, form)?;
+        occupy(
+            &mut self.store,
+            &mut self.run,
+            &mut self.eager,
+            &mut self.clauses,
+            slot,
+            form,
+        )?;
         self.places.push(slot)?;
         self.spent = false;
         Ok(())
     }
 
-    /// Takes a form away. Its number stays free.
+    /// Removes a form. Its number stays empty.
     pub fn remove(&mut self, number: usize)
         requires ready { self.old.spent ≡ false }
         requires number { number < length self.old.forms }
@@ -218,18 +247,24 @@ impl Engine {
             return;
         }
         self.places[number] = usize::MAX;
-        quit(&mut self.store, &mut self.run, &mut self.eager, slot);
+        quit(
+            &mut self.store,
+            &mut self.run,
+            &mut self.eager,
+            &mut self.clauses,
+            slot,
+        );
         let _noted = self.free.push(slot);
     }
 
-    /// The form of a number.
+    /// The form with this number.
     pub fn form(&self, number: usize) -> Option<&Normal>
         requires { number < length self.now.forms }
         ensures some { IfSome result (λ f. slice_index_or self.now.forms number None ≡ Some f.now) }
         ensures none { IfNone result (slice_index_or self.now.forms number None ≡ None) }
     {
         match self.store.kept.get(self.places[number]) {
-            Some(kept) => kept.terms.form.as_ref(),
+            Some(kept) => kept.terms.form(),
             None => None,
         }
     }
@@ -241,11 +276,12 @@ impl Engine {
         self.places.len()
     }
 
-    /// How often the last `rup` looked at a term or an entry of one.
+    /// The number of visits of the last `rup`. Visits to entries of occurrence lists, to terms, and to watches and literals
+    /// of clauses are counted.
     pub fn visits(&self) -> u64
         ensures { result ≡ self.now.visits }
     {
-        self.run.visits
+        self.run.visits.number()
     }
 
     /// Whether propagation over the live forms and the negation of the goal meets a conflict, or the goal has degree 0.
@@ -258,13 +294,13 @@ impl Engine {
         ensures implied { IfOk result (λ found. found ≡ true → IsRup (Live self.old.forms) goal.now) }
         ensures not_implied { IfOk result (λ found. found ≡ false → IsRup (Live self.old.forms) goal.now → ⊥) }
 
-        // How often the propagation looked, from above and from below.
+        // Upper and lower bounds on the number of visits.
         ensures unasked { goal.now.degree ≡ 0 → self.new.visits ≡ 0 }
         ensures most { self.new.visits ≤ 3 * (sum_by terms_in self.old.forms + length goal.now.terms) + (sum_by one_in self.old.forms + 1) }
         ensures conflict { IfOk result (λ found. found ≡ true → (goal.now.degree ≡ 0) ⊎ ((m : MeetsConflict (With (Live self.old.forms) (negation_of goal.now)) []) × (length m.list ≤ self.new.visits))) }
         ensures completion { IfOk result (λ found. found ≡ false → (list : List NumberedLiteral) × IsCompletion (With (Live self.old.forms) (negation_of goal.now)) [] list × (length list ≤ self.new.visits)) }
     {
-        self.run.visits = 0;
+        self.run.visits = Visits::none();
         if goal.degree() == 0 {
             return Ok(true);
         }
@@ -276,8 +312,13 @@ impl Engine {
         enter(&mut self.store, &mut self.run, negation)?;
         choose(&self.store, number, &mut self.run.trail)?;
         choose(&self.store, number, &mut self.run.work)?;
-        let found = propagate(&self.store, &mut self.run, self.eager.list.as_slice())?;
-        rest(&self.store, &mut self.run);
+        let found = propagate(
+            &self.store,
+            &mut self.clauses,
+            &mut self.run,
+            self.eager.list.as_slice(),
+        )?;
+        rest(&self.store, &mut self.clauses, &mut self.run);
         leave(&mut self.store, &mut self.run);
         self.spent = false;
         if found {
@@ -286,8 +327,8 @@ impl Engine {
         Ok(false)
     }
 
-    /// The values of the completion of given literals over the live forms, or `None` where a conflict is met.
-    /// There is one for each variable: `Some(true)` where the variable is true, `None` where it is open.
+    /// The values of the completion of given literals over the live forms, or `None` if a conflict is met. There is one
+    /// value for each variable: `Some(true)` if the variable is true, `None` if it is open.
     pub fn complete(
         &mut self,
         given: &[NumberedLiteral],
@@ -303,17 +344,18 @@ impl Engine {
         ensures count { IfOk result (λ found. IfSome found (λ values. length values.items ≡ self.old.variables)) }
         ensures completed { IfOk result (λ found. IfSome found (λ values. (list : List NumberedLiteral) × IsCompletion (Live self.old.forms) given.now list × Gives list values.items)) }
     {
-        let visits = self.run.visits;
+        let visits = mem::replace(&mut self.run.visits, Visits::none());
         self.spent = true;
         let found = settle(
             &self.store,
+            &mut self.clauses,
             &mut self.run,
             given,
             self.eager.list.as_slice(),
         )?;
         let mut values = Vec::new(*self.places.allocator());
         values.extend_from_slice(self.run.assignment.values.as_slice())?;
-        rest(&self.store, &mut self.run);
+        rest(&self.store, &mut self.clauses, &mut self.run);
         self.run.visits = visits;
         self.spent = false;
         if found {

@@ -2,7 +2,7 @@
 
 ghost use Rattle.pb_replay.specs.Engine.Laws.{CompletionsExist};
 
-/// Propagation over a list of constraints comes to an end: a derivation that cannot be made longer exists.
+/// Propagation over a list of constraints ends: there is a derivation that cannot be extended.
 pub fn propagation_ends()
     ensures { CompletionsExist }
 {}

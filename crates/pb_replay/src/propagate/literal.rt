@@ -1,4 +1,4 @@
-//! The other literal of a variable.
+//! The negation of a literal.
 
 ghost use Rattle.std.specs.Prelude.{◌≡◌};
 
@@ -7,7 +7,7 @@ use crate::numbered::NumberedLiteral;
 impl NumberedLiteral {
     ghost use Rattle.pb_replay.specs.Engine.Lists.{negation};
 
-    /// The literal that is true where this one is false.
+    /// The literal that is true if this one is false.
     pub fn negation(self) -> NumberedLiteral
         ensures { result ≡ negation self }
     {

@@ -1,4 +1,4 @@
-//! Literals are put, and the constraints that they touch are looked at.
+//! Literals are assigned, and the constraints that they touch are visited.
 
 ghost use Rattle.std.specs.Prelude.{◌≡◌, ℕ, ◌≤◌, ◌+◌, ◌-◌, ◌*◌, ◌^◌, ◌<◌, ◌++◌, ◌∷◌, [], true, false, List, All, filter, length, OnOk, IfOk, slice_index, slice_index_or, slice_set, sum, sum_by, Contains};
 ghost use Rattle.pb_replay.specs.declared.numbered.NumberedLiteral.{NumberedLiteral};
@@ -9,15 +9,19 @@ ghost use Rattle.pb_replay.specs.Engine.Rest.{waits};
 ghost use Rattle.pb_replay.specs.Engine.Fields.{shapes_of, entries_of, IsSound};
 ghost use Rattle.pb_replay.specs.Engine.Links.{terms_at, coefficient_at};
 ghost use Rattle.pb_replay.specs.Engine.Terms.{terms_of};
+ghost use Rattle.pb_replay.specs.Clauses.Runs.{AreReady, IsRunning};
+ghost use Rattle.pb_replay.specs.Clauses.Shapes.{AreJoined, clauses_of, all_of};
 
 use crate::numbered::NumberedLiteral;
 use crate::propagate::assignment::Assignment;
-use crate::propagate::kept::{Kept, is_below};
-use crate::propagate::store::{Store, visit, visit_term};
-use crate::propagate::term::Occurrence;
+use crate::propagate::clauses::Clauses;
+use crate::propagate::engine::visits::Visits;
+use crate::propagate::store::kept::is_below;
+use crate::propagate::store::{Store, Visited, visit, visit_term, weight_of};
+use crate::propagate::walk::walk;
 use std::alloc::AllocError;
 
-/// A propagation under way.
+/// A propagation in progress.
 #[derive(Drop)]
 pub struct Run {
     pub opens: Vec<u128>,
@@ -27,10 +31,10 @@ pub struct Run {
     pub next: usize,
     // The forms that the propagation has changed.
     pub trail: Vec<usize>,
-    pub visits: u64,
+    pub visits: Visits,
 }
 
-// Puts a form on the trail where its open sum is still the whole one.
+// Adds a form to the trail if its open sum is still the total.
 fn note(trail: &mut Vec<usize>, form: usize, opened: u128, total: u128) -> Result<(), AllocError>
     ensures { OnOk result (Grown (opened ≡ total → ⊥) form trail.old.items trail.new.items) }
 {
@@ -41,7 +45,7 @@ fn note(trail: &mut Vec<usize>, form: usize, opened: u128, total: u128) -> Resul
     Ok(())
 }
 
-// Puts a form on the work list where its open sum is below its bound.
+// Adds a form to the work list if its open sum is below its bound.
 fn queue(work: &mut Vec<usize>, form: usize, left: u128, bound: u128) -> Result<(), AllocError>
     ensures { OnOk result (Grown (bound ≤ left) form work.old.items work.new.items) }
 {
@@ -52,20 +56,9 @@ fn queue(work: &mut Vec<usize>, form: usize, left: u128, bound: u128) -> Result<
     Ok(())
 }
 
-// The coefficient of a kept form's term. Where all are equal the bound tells it, and the terms need not be read.
-fn weight_of(kept: &Kept, index: usize) -> u128
-    requires { index < length (terms_of kept.now.terms) }
-    ensures { (d : Term) → result ≡ (slice_index_or (terms_of kept.now.terms) index d).coefficient }
-{
-    if kept.even {
-        return kept.bound - kept.degree;
-    }
-    kept.terms.term(index).coefficient
-}
-
-/// Takes an entry from its form's open sum, and puts the form on the work list where it then may put a literal or is falsified.
-/// Reading its coefficient belongs to the look at the entry.
-fn lower(store: &Store, run: &mut Run, entry: Occurrence) -> Result<(), AllocError>
+/// Subtracts a visited entry from its form's open sum. Adds the form to the work list if it may then propagate or is
+/// falsified.
+fn lower(store: &Store, run: &mut Run, entry: Visited) -> Result<(), AllocError>
     requires form { entry.form < length store.now.kept.items }
     requires index { entry.index < length (terms_at (shapes_of store.now.kept.items) entry.form) }
     requires inside { entry.form < length run.old.opens.items }
@@ -81,13 +74,13 @@ fn lower(store: &Store, run: &mut Run, entry: Occurrence) -> Result<(), AllocErr
     let kept = &store.kept[entry.form];
     let opened = run.opens[entry.form];
     note(&mut run.trail, entry.form, opened, kept.total)?;
-    let left = opened - weight_of(kept, entry.index);
+    let left = opened - weight_of(kept, &entry);
     queue(&mut run.work, entry.form, left, kept.bound)?;
     run.opens[entry.form] = left;
     Ok(())
 }
 
-/// The list of a literal's entries.
+/// The index of a literal's occurrence list.
 pub fn place_of(literal: NumberedLiteral) -> usize
     requires fits { place literal < 2 ^ 64 }
     ensures place { result ≡ place literal }
@@ -99,7 +92,7 @@ pub fn place_of(literal: NumberedLiteral) -> usize
     }
 }
 
-/// Puts a literal on the list, and takes its entries from the open sums.
+/// Assigns a literal, and subtracts the entries of its negation from the open sums.
 pub fn put(store: &Store, run: &mut Run, literal: NumberedLiteral) -> Result<(), AllocError>
     requires store { IsSound store.now }
     requires inside { literal.variable < store.now.variables }
@@ -131,7 +124,7 @@ pub fn put(store: &Store, run: &mut Run, literal: NumberedLiteral) -> Result<(),
     Ok(())
 }
 
-/// Puts a literal on the list where its variable has no value.
+/// Assigns a literal if its variable has no value.
 pub fn try_put(store: &Store, run: &mut Run, literal: NumberedLiteral) -> Result<(), AllocError>
     requires store { IsSound store.now }
     requires inside { literal.variable < store.now.variables }
@@ -162,7 +155,8 @@ pub fn try_put(store: &Store, run: &mut Run, literal: NumberedLiteral) -> Result
     Ok(())
 }
 
-/// Looks at a form until its candidate demands nothing; whether it is falsified. Those that wait are looked at later.
+/// Visits a form until its candidate requires nothing. Returns whether the form is falsified. Waiting forms are visited
+/// later.
 fn look(store: &Store, run: &mut Run, form: usize, waiting: &[usize]) -> Result<bool, AllocError>
     requires store { IsSound store.now }
     requires form { form < length store.now.kept.items }
@@ -210,7 +204,7 @@ fn look(store: &Store, run: &mut Run, form: usize, waiting: &[usize]) -> Result<
     }
 }
 
-/// Puts a form to work if it may put a literal on the empty list.
+/// Adds a form to the work list if it may propagate with nothing assigned.
 pub fn choose(store: &Store, form: usize, work: &mut Vec<usize>) -> Result<(), AllocError>
     requires { form < length store.now.kept.items }
     ensures { OnOk result (work.new.items ≡ work.old.items ++ filter (waits store.now.kept.items) (form ∷ [])) }
@@ -222,9 +216,15 @@ pub fn choose(store: &Store, form: usize, work: &mut Vec<usize>) -> Result<(), A
     Ok(())
 }
 
-/// Looks at the forms of the work list until none is left, and then at one that waits and at those that it touches, until
-/// none waits; whether a conflict was met.
-pub fn propagate(store: &Store, run: &mut Run, waiting: &[usize]) -> Result<bool, AllocError>
+/// Visits the forms of the work list, then the clauses in which a falsified literal is watched. When neither is left, the
+/// next waiting form is taken, until none waits. A unit that is falsified so ends a question before further clauses are
+/// visited. Returns whether a conflict was met.
+pub fn propagate(
+    store: &Store,
+    clauses: &mut Clauses,
+    run: &mut Run,
+    waiting: &[usize],
+) -> Result<bool, AllocError>
     requires store { IsSound store.now }
     requires values { length run.old.assignment.values.items ≡ store.now.variables }
     requires opens { length run.old.opens.items ≡ length store.now.kept.items }
@@ -234,18 +234,24 @@ pub fn propagate(store: &Store, run: &mut Run, waiting: &[usize]) -> Result<bool
     requires single { AreSingle run.old.assignment.list.items }
     requires counted { IsCounted (shapes_of store.now.kept.items) run.old.opens.items run.old.assignment.list.items [] }
     requires tidy { IsTidy (filter (waits store.now.kept.items) waiting.now) (shapes_of store.now.kept.items) run.old.opens.items run.old.candidates.items run.old.assignment.list.items run.old.work.items run.old.trail.items run.old.next (length store.now.kept.items) }
+    requires joined { AreJoined (shapes_of store.now.kept.items) (clauses_of clauses.old) }
+    requires ready { AreReady clauses.old }
+    requires widths { length clauses.old.lists.items ≡ 2 * store.now.variables }
+    ensures literals { clauses.new.literals ≡ clauses.old.literals }
+    ensures running { OnOk result (IsRunning run.new.assignment.values.items clauses.new) }
     ensures values { OnOk result (length run.new.assignment.values.items ≡ length run.old.assignment.values.items) }
     ensures opens { OnOk result (length run.new.opens.items ≡ length store.now.kept.items) }
     ensures candidates { OnOk result (length run.new.candidates.items ≡ length store.now.kept.items) }
-    ensures derived { OnOk result (Derives (shapes_of store.now.kept.items) run.old.assignment.list.items run.new.assignment.list.items) }
+    ensures derived { OnOk result (Derives (all_of store.now clauses.old) run.old.assignment.list.items run.new.assignment.list.items) }
     ensures bounded { sum run.new.candidates.items ≤ sum_by (λ f. length f.terms) (shapes_of store.now.kept.items) }
     ensures undone { OnOk result (IsUndone (shapes_of store.now.kept.items) run.new.opens.items run.new.candidates.items run.new.trail.items 0) }
-    ensures conflict { IfOk result (λ found. found ≡ true → Conflicts (shapes_of store.now.kept.items) run.new.assignment.list.items) }
-    ensures settled { IfOk result (λ found. found ≡ false → (f : Shape) → Contains (shapes_of store.now.kept.items) f → IsSettled f run.new.assignment.list.items) }
-    ensures upper { run.new.visits + sum run.old.candidates.items ≤ run.old.visits + ((length run.old.work.items + length (filter (waits store.now.kept.items) waiting.now)) - run.old.next) + 2 * sum_by length (entries_of (shapes_of store.now.kept.items) store.now.occurrences.items) + sum run.new.candidates.items }
+    ensures conflict { IfOk result (λ found. found ≡ true → Conflicts (all_of store.now clauses.old) run.new.assignment.list.items) }
+    ensures settled { IfOk result (λ found. found ≡ false → (f : Shape) → Contains (all_of store.now clauses.old) f → IsSettled f run.new.assignment.list.items) }
+    ensures upper { run.new.visits + sum run.old.candidates.items ≤ run.old.visits + ((length run.old.work.items + length (filter (waits store.now.kept.items) waiting.now)) - run.old.next) + 2 * sum_by length (entries_of (shapes_of store.now.kept.items) store.now.occurrences.items) + sum run.new.candidates.items + 3 * sum_by length (clauses_of clauses.old) }
     ensures found { OnOk result (AreFound (length run.old.assignment.list.items) (length run.new.assignment.list.items) run.old.visits run.new.visits) }
 {
     let mut taken = 0;
+    let mut walked = 0;
     'work: loop {
         if run.next < run.work.len() {
             let form = run.work[run.next];
@@ -253,6 +259,12 @@ pub fn propagate(store: &Store, run: &mut Run, waiting: &[usize]) -> Result<bool
             if look(store, run, form, &waiting[taken..])? {
                 return Ok(true);
             }
+        } else if walked < run.assignment.list.len() {
+            let literal = run.assignment.list[walked];
+            if walk(store, clauses, run, place_of(literal.negation()))? {
+                return Ok(true);
+            }
+            walked += 1;
         } else if taken < waiting.len() {
             choose(store, waiting[taken], &mut run.trail)?;
             choose(store, waiting[taken], &mut run.work)?;
@@ -263,7 +275,7 @@ pub fn propagate(store: &Store, run: &mut Run, waiting: &[usize]) -> Result<bool
     }
 }
 
-/// Makes the forms that were changed what they were before the propagation; no other form is looked at, and no memory is taken.
+/// Restores the forms that the propagation changed. No other form is visited, and nothing is allocated.
 pub fn undo_forms(store: &Store, run: &mut Run)
     requires opens { length run.old.opens.items ≡ length store.now.kept.items }
     requires candidates { length run.old.candidates.items ≡ length store.now.kept.items }

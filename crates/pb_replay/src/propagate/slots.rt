@@ -5,35 +5,38 @@ ghost use Rattle.pb_replay.specs.Engine.Counts.{IsAbsent};
 ghost use Rattle.pb_replay.specs.Engine.Fields.{forms_of};
 ghost use Rattle.pb_replay.specs.Engine.Rest.{IsAtRest, waits};
 
+use crate::propagate::clause::is_clause;
+use crate::propagate::clauses::Clauses;
 use crate::propagate::eager::Eager;
-use crate::propagate::kept::Kept;
-use crate::propagate::links::{fill, vacate, widen};
 use crate::propagate::run::Run;
 use crate::propagate::store::Store;
+use crate::propagate::store::kept::Kept;
+use crate::propagate::store::links::{fill, vacate, watch, widen};
 use pb_normal::Normal;
 use std::alloc::AllocError;
 
-// A slot that a form has left.
+// The slot of a removed form.
 fn left_slot(kept: &[Kept], free: &mut Vec<usize>) -> Option<usize>
     ensures { IfSome result (λ slot. slice_get (forms_of kept.now) slot ≡ Some None) }
 {
     let slot = free.pop()?;
     let kept = kept.get(slot)?;
-    if kept.terms.form.is_some() {
+    if kept.terms.has_form() {
         return None;
     }
     Some(slot)
 }
 
-/// A slot that no form is in: one that a form has left, or a new one.
+/// A slot without a form: that of a removed form, or a new one.
 pub fn vacancy(
     store: &mut Store,
     run: &mut Run,
     eager: &mut Eager,
+    clauses: &mut Clauses,
     free: &mut Vec<usize>,
 ) -> Result<usize, AllocError>
-    requires rest { IsAtRest store.old run.old eager.old (forms_of store.old.kept.items) }
-    ensures rest { OnOk result (IsAtRest store.new run.new eager.new (forms_of store.new.kept.items)) }
+    requires rest { IsAtRest store.old run.old eager.old clauses.old (forms_of store.old.kept.items) }
+    ensures rest { OnOk result (IsAtRest store.new run.new eager.new clauses.new (forms_of store.new.kept.items)) }
     ensures slot { IfOk result (λ slot. slice_get (forms_of store.new.kept.items) slot ≡ Some None) }
     ensures forms { (s : ℕ) → slice_index_or (forms_of store.new.kept.items) s None ≡ slice_index_or (forms_of store.old.kept.items) s None }
     ensures variables { store.new.variables ≡ store.old.variables }
@@ -45,12 +48,13 @@ pub fn vacancy(
     let slot = store.kept.len();
     widen(store, run)?;
     eager.widen()?;
-    // Room for each slot, so that none is lost when its form leaves.
+    clauses.extend()?;
+    // Reserves room for each slot, so that none is lost when its form is removed.
     free.reserve(slot.saturating_add(1).saturating_sub(free.len()))?;
     Ok(slot)
 }
 
-// Puts a form on the list of those that may put a literal on the empty list, if it is one.
+// Adds a form to the list of those that may propagate with nothing assigned, if it is one.
 fn seat(store: &Store, eager: &mut Eager, slot: usize) -> Result<(), AllocError>
     requires slot { slot < length store.now.kept.items }
     requires seats { length eager.old.seats.items ≡ length store.now.kept.items }
@@ -65,30 +69,35 @@ fn seat(store: &Store, eager: &mut Eager, slot: usize) -> Result<(), AllocError>
     Ok(())
 }
 
-/// A form takes an empty slot.
+/// Stores a form in an empty slot.
 pub fn occupy(
     store: &mut Store,
     run: &mut Run,
     eager: &mut Eager,
+    clauses: &mut Clauses,
     slot: usize,
     form: Normal,
 ) -> Result<(), AllocError>
-    requires rest { IsAtRest store.old run.old eager.old (forms_of store.old.kept.items) }
+    requires rest { IsAtRest store.old run.old eager.old clauses.old (forms_of store.old.kept.items) }
     requires slot { slice_get (forms_of store.old.kept.items) slot ≡ Some None }
     requires inside { All (λ t. t.variable < store.old.variables) form.terms }
-    ensures rest { OnOk result (IsAtRest store.new run.new eager.new (forms_of store.new.kept.items)) }
+    ensures rest { OnOk result (IsAtRest store.new run.new eager.new clauses.new (forms_of store.new.kept.items)) }
     ensures forms { OnOk result (forms_of store.new.kept.items ≡ slice_set (forms_of store.old.kept.items) slot (Some form)) }
-    // The form may have its slot, and be out of the list of those that may put a literal on the empty list.
+    // On failure the form may be in its slot, but not on the list of those that may propagate with nothing assigned.
     ensures refused { OnErr result ((forms_of store.new.kept.items ≡ forms_of store.old.kept.items) ⊎ (forms_of store.new.kept.items ≡ slice_set (forms_of store.old.kept.items) slot (Some form))) }
     ensures variables { store.new.variables ≡ store.old.variables }
     ensures visits { run.new.visits ≡ run.old.visits }
 {
+    if is_clause(&form) {
+        watch(store, clauses, slot, form)?;
+        return Ok(());
+    }
     fill(store, run, slot, form)?;
     seat(store, eager, slot)?;
     Ok(())
 }
 
-// Takes a form from the list of those that may put a literal on the empty list, if it is one.
+// Removes a form from the list of those that may propagate with nothing assigned, if it is one.
 fn unseat(store: &Store, eager: &mut Eager, slot: usize)
     requires slot { slot < length store.now.kept.items }
     requires there { waits store.now.kept.items slot ≡ true → IsAbsent eager.old.list.items 0 slot → ⊥ }
@@ -102,15 +111,16 @@ fn unseat(store: &Store, eager: &mut Eager, slot: usize)
     eager.take(slot);
 }
 
-/// A form leaves its slot, which is then empty.
-pub fn quit(store: &mut Store, run: &mut Run, eager: &mut Eager, slot: usize)
-    requires rest { IsAtRest store.old run.old eager.old (forms_of store.old.kept.items) }
+/// Removes the form of a slot, which is then empty.
+pub fn quit(store: &mut Store, run: &mut Run, eager: &mut Eager, clauses: &mut Clauses, slot: usize)
+    requires rest { IsAtRest store.old run.old eager.old clauses.old (forms_of store.old.kept.items) }
     requires slot { slot < length store.old.kept.items }
-    ensures rest { IsAtRest store.new run.new eager.new (forms_of store.new.kept.items) }
+    ensures rest { IsAtRest store.new run.new eager.new clauses.new (forms_of store.new.kept.items) }
     ensures forms { forms_of store.new.kept.items ≡ slice_set (forms_of store.old.kept.items) slot None }
     ensures variables { store.new.variables ≡ store.old.variables }
     ensures visits { run.new.visits ≡ run.old.visits }
 {
     unseat(store, eager, slot);
+    clauses.empty(slot);
     vacate(store, run, slot);
 }

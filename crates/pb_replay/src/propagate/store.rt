@@ -1,50 +1,79 @@
-//! The kept forms and the lists of their literals.
+//! The stored forms and the occurrence lists.
 
-ghost use Rattle.std.specs.Prelude.{◌≡◌, ◌≤◌, ◌+◌, ◌-◌, ◌^◌, ◌<◌, length, min, slice_index_or};
+pub mod falling;
+pub mod kept;
+pub mod links;
+
+ghost use Rattle.std.specs.Prelude.{◌≡◌, ℕ, ◌≤◌, ◌+◌, ◌-◌, ◌^◌, ◌<◌, length, min, slice_index_or};
 ghost use Rattle.pb_replay.specs.declared.propagate.term.Term.{Term};
 ghost use Rattle.pb_replay.specs.Engine.Terms.{terms_of};
+ghost use Rattle.pb_replay.specs.Engine.Fields.{entry_at};
 
-use crate::propagate::falling::Falling;
-use crate::propagate::kept::Kept;
-use crate::propagate::term::{Occurrence, Term};
+use crate::propagate::engine::visits::Visits;
+use crate::propagate::store::falling::Falling;
+use crate::propagate::store::kept::Kept;
+use crate::propagate::term::Term;
 
-/// The kept forms, and for each literal the forms in which it stands.
+/// A form that contains a literal, and the position of its term there. The fields are private: other modules learn them only by
+/// `visit`.
+#[derive(Clone, Copy)]
+pub struct Occurrence {
+    form: usize,
+    index: usize,
+}
+
+/// An entry that was visited. Only `visit` makes one.
+#[derive(Drop)]
+pub struct Visited {
+    pub form: usize,
+    index: usize,
+}
+
+/// The stored forms, and for each literal the forms that contain it.
 #[derive(Drop)]
 pub struct Store {
     pub kept: Vec<Kept>,
-    // For each form, where the entry of each of its terms stands in the list of its literal.
+    // For each form, the position of the entry of each of its terms in the list of its literal.
     pub spots: Vec<Vec<usize>>,
     pub occurrences: Vec<Vec<Occurrence>>,
     pub variables: usize,
 }
 
-/// The only way to an entry of an occurrence list: each look is counted. The look at an entry is also at the term that it names,
-/// whose coefficient is taken from the open sum.
-pub fn visit(entries: &[Occurrence], i: usize, visits: &mut u64) -> Occurrence
+/// Reads an entry of an occurrence list, and counts the visit. This is also a visit to the entry's term, whose coefficient
+/// `weight_of` returns.
+pub fn visit(entries: &[Occurrence], i: usize, visits: &mut Visits) -> Visited
     requires { i < length entries.now }
-    ensures item { result ≡ slice_index_or entries.now i result }
+    ensures item { entry_at result ≡ slice_index_or entries.now i (entry_at result) }
     ensures rising { visits.old ≤ visits.new }
     ensures count { visits.new ≡ min (visits.old + 1) (2 ^ 64 - 1) }
 {
-    count(visits);
-    entries[i]
+    visits.count();
+    let entry = entries[i];
+    Visited {
+        form: entry.form,
+        index: entry.index,
+    }
 }
 
-/// The only way to a candidate: each look is counted.
-pub fn visit_term(terms: &Falling, i: usize, visits: &mut u64) -> Term
+/// The coefficient of a visited entry's term. If all are equal, the bound gives it, and the terms need
+/// not be read.
+pub fn weight_of(kept: &Kept, entry: &Visited) -> u128
+    requires { entry.now.index < length (terms_of kept.now.terms) }
+    ensures { (d : Term) → result ≡ (slice_index_or (terms_of kept.now.terms) entry.now.index d).coefficient }
+{
+    if kept.even {
+        return kept.bound - kept.degree;
+    }
+    kept.terms.term(entry.index).coefficient
+}
+
+/// Reads a candidate, and counts the visit.
+pub fn visit_term(terms: &Falling, i: usize, visits: &mut Visits) -> Term
     requires { i < length (terms_of terms.now) }
     ensures item { (d : Term) → result ≡ slice_index_or (terms_of terms.now) i d }
     ensures rising { visits.old ≤ visits.new }
     ensures count { visits.new ≡ min (visits.old + 1) (2 ^ 64 - 1) }
 {
-    count(visits);
+    visits.count();
     terms.term(i)
-}
-
-// One look more.
-fn count(visits: &mut u64)
-    ensures rising { visits.old ≤ visits.new }
-    ensures count { visits.new ≡ min (visits.old + 1) (2 ^ 64 - 1) }
-{
-    *visits = visits.saturating_add(1);
 }

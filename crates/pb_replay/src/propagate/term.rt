@@ -1,4 +1,4 @@
-//! Terms as the engine keeps them, and where they stand.
+//! Terms as the engine stores them, and their positions.
 
 ghost use Rattle.std.specs.Prelude.{◌≡◌};
 
@@ -11,16 +11,9 @@ pub struct Term {
     pub coefficient: u128,
 }
 
-/// The place of a form's term, and its coefficient.
+/// The position of a form's term, and its coefficient.
 #[derive(Clone, Copy)]
 pub struct Rank {
     pub place: usize,
     pub coefficient: u128,
-}
-
-/// A form in which a literal stands, and the place of its term there.
-#[derive(Clone, Copy)]
-pub struct Occurrence {
-    pub form: usize,
-    pub index: usize,
 }

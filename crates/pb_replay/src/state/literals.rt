@@ -12,7 +12,7 @@ use pb_normal::Names;
 use pb_sums::Literal;
 use std::alloc::{AllocError, AllocFailed, Global};
 
-/// Numbers the names of the literals in turn.
+/// Numbers the names of the literals in order.
 pub(crate) fn number_names(names: &mut Names, given: &[Literal]) -> Result<(), AllocError>
     ensures names { OnOk result (names.new ≡ with_names names.old (literal_names given.now)) }
     ensures front { IsFront names.old names.new }

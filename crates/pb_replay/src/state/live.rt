@@ -10,7 +10,7 @@ use crate::state::Running;
 use pb_normal::Normal;
 use std::alloc::{AllocError, Global};
 
-/// Gives the engine variables up to that number.
+/// Adds variables to the engine, up to this number.
 pub(crate) fn widen(engine: &mut Engine, from: usize, to: usize) -> Result<(), Fault>
     requires ready { engine.old.spent ≡ false }
     requires from { engine.old.variables ≡ from }
@@ -26,7 +26,7 @@ pub(crate) fn widen(engine: &mut Engine, from: usize, to: usize) -> Result<(), F
     Ok(())
 }
 
-/// An engine over so many variables.
+/// An engine over this many variables.
 pub(crate) fn engine_over(alloc: Global, variables: usize) -> Result<Engine, Fault>
     ensures forms { IfOk result (λ e. e.forms ≡ []) }
     ensures variables { IfOk result (λ e. e.variables ≡ variables) }
@@ -38,7 +38,7 @@ pub(crate) fn engine_over(alloc: Global, variables: usize) -> Result<Engine, Fau
     Ok(engine)
 }
 
-/// An engine with copies of the forms, over so many variables.
+/// An engine with copies of the forms, over this many variables.
 pub(crate) fn engine_of(alloc: Global, forms: &[Normal], variables: usize) -> Result<Engine, Fault>
     requires inside { (f : Form) → Contains forms.now f → IsInside variables f }
     ensures forms { IfOk result (λ e. e.forms ≡ map (λ f. Some f) forms.now) }
@@ -54,7 +54,7 @@ pub(crate) fn engine_of(alloc: Global, forms: &[Normal], variables: usize) -> Re
     Ok(engine)
 }
 
-/// Adds a form, with the next id.
+/// Adds a form with the next id.
 pub(crate) fn add(running: &mut Running, form: Normal) -> Result<(), Fault>
     requires linked { IsLinked running.old }
     requires inside { IsInside (length running.old.names) form }

@@ -39,7 +39,7 @@ fn objective_of_terms(
     Ok(linear)
 }
 
-/// The same where there is an objective.
+/// The same, if there is an objective.
 fn kept_objective(
     alloc: Global,
     names: &mut Names,
@@ -60,7 +60,7 @@ fn kept_objective(
     }
 }
 
-/// Whether each constraint fits, and the coefficients of the objective do together. It asks for no memory.
+/// Whether each constraint fits, and the coefficients of the objective fit together. Nothing is allocated.
 fn fits_all(instance: &Instance, limits: Limits) -> bool
     ensures { IsTrue result ↔ FitsAll (largest limits) instance.now }
 {
@@ -68,7 +68,7 @@ fn fits_all(instance: &Instance, limits: Limits) -> bool
         && constraints_fit(instance.constraints.as_slice(), limits)
 }
 
-/// Whether the coefficients of an objective fit together, where there is one.
+/// Whether the coefficients of the objective, if there is one, fit together.
 fn objective_fits(objective: &Option<Sequence<Term>>, limits: Limits) -> bool
     ensures { IsTrue result ↔ (magnitude (objective_of objective.now) ≤ largest limits) }
 {
@@ -87,7 +87,7 @@ fn constraints_fit(constraints: &[Linear], limits: Limits) -> bool
         .all(|constraint| fits(constraint, limits))
 }
 
-/// What a replay of the instance begins with, where the names are hashed by these keys.
+/// The start of a replay of the instance, with the names hashed with these keys.
 pub(crate) fn open(
     alloc: Global,
     keys: HashKeys,
@@ -106,7 +106,7 @@ pub(crate) fn open(
     begun(alloc, keys, instance, limits)
 }
 
-/// The same, where the numbers are tested as they are loaded.
+/// The same, with the numbers tested while they are loaded.
 fn begun(
     alloc: Global,
     keys: HashKeys,

@@ -19,7 +19,7 @@ use pb_normal::{Normal, NormalFault, Side};
 use pb_proof::Bound;
 use std::alloc::AllocError;
 
-/// Whether the form of the id is a contradiction, or its sum with the negation of the goal is one.
+/// Whether the form with this id is a contradiction, or its sum with the negation of the goal is one.
 fn is_refuted(engine: &Engine, id: Option<i64>, goal: &Normal) -> Result<bool, Fault>
     requires { 0 < goal.now.degree }
     ensures ok { IfOk result (λ b. (f : Option Form) → IsNamed engine.now.forms id f → (IsTrue b ↔ Refutes f goal.now)) }
@@ -67,7 +67,7 @@ fn is_below_best(best: Option<i128>, bound: i128) -> bool
     }
 }
 
-/// Whether the id, where there is one, is that of a live form.
+/// Whether the id, if there is one, is that of a live form.
 fn is_found(engine: &Engine, id: Option<i64>) -> Result<(), Fault>
     ensures ok { OnOk result ((f : Option Form) × IsNamed engine.now.forms id f) }
     ensures err { IfErr result (λ e. (i : ℤ) × (id ≡ Some i) × (e ≡ Fault.NoSuchId i) × ((f : Form) → IsLive engine.now.forms i f → ⊥)) }

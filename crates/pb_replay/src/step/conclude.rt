@@ -4,8 +4,9 @@ ghost use Rattle.std.specs.Prelude.{◌≡◌, ◌<◌, All, Err, IfSome, IsSome
 ghost use Rattle.pb_sums.specs.declared.values.Literal.{Literal as Written};
 ghost use Rattle.pb_replay.specs.Bounds.{Both};
 ghost use Rattle.pb_replay.specs.Replay.{numbered};
-ghost use Rattle.pb_replay.specs.Kept.{Keeps, Goes, GoesAt, HasNamed, IsLinked, IsProper, IsReady};
-ghost use Rattle.pb_replay.specs.Statements.{MayWant};
+ghost use Rattle.pb_replay.specs.Kept.{Keeps, Goes, GoesAt, HasNamed, IsLinked, IsProper, IsReady, problem_of};
+ghost use Rattle.pb_text.specs.Limits.{largest, top_of};
+ghost use Rattle.pb_replay.specs.Statements.{MayWant, PassesFirst};
 
 use crate::fault::Fault;
 use crate::numbered::NumberedLiteral;
@@ -70,7 +71,7 @@ fn sat_shown(running: &mut Running, given: &Sequence<Literal>) -> Result<(), Fau
     claim_sat(running, numbers.as_slice())
 }
 
-/// `SAT` by what was logged.
+/// `SAT` by a logged solution.
 fn sat_logged(running: &mut Running) -> Result<(), Fault>
     requires { IsReady running.old }
     ensures goes { Goes running.old (Statement.Conclude (Conclusion.Sat None)) result running.new }
@@ -165,6 +166,8 @@ fn bounds(
     ensures linked { OnOk result (IsLinked running.new) }
     ensures kept { Keeps running.old running.new }
     ensures visits { running.new.visits ≡ running.old.visits }
+    ensures memory { result ≡ Err Fault.Memory →
+        PassesFirst (largest running.old.limits) (top_of running.old.limits) (problem_of running.old) (Statement.Conclude (Conclusion.Bounds lower id upper shown.now)) }
 {
     if running.objective.is_none() {
         return Err(Fault::NoObjective);
@@ -187,14 +190,15 @@ fn no_claim(running: &mut Running) -> Result<(), Fault>
     Ok(())
 }
 
-/// The claim of a proof.
+/// The conclusion of a proof.
 pub(crate) fn conclude(running: &mut Running, conclusion: &Conclusion) -> Result<(), Fault>
     requires { IsReady running.old }
     ensures goes { Goes running.old (Statement.Conclude conclusion.now) result running.new }
     ensures linked { OnOk result (IsLinked running.new) }
     ensures kept { Keeps running.old running.new }
     ensures visits { running.new.visits ≡ running.old.visits }
-    ensures memory { result ≡ Err Fault.Memory → MayWant (Statement.Conclude conclusion.now) }
+    ensures memory { result ≡ Err Fault.Memory → MayWant (Statement.Conclude conclusion.now)
+        × PassesFirst (largest running.old.limits) (top_of running.old.limits) (problem_of running.old) (Statement.Conclude conclusion.now) }
 {
     match conclusion {
         Conclusion::NoClaim => no_claim(running),

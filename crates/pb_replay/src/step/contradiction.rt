@@ -14,7 +14,7 @@ use crate::state::Running;
 use crate::state::find::find;
 use pb_normal::Normal;
 
-/// Whether the form of that number is a live contradiction.
+/// Whether the form with this number is a live contradiction.
 fn is_contradiction_at(engine: &Engine, number: usize) -> bool
     requires { number < length engine.now.forms }
     ensures { IsTrue result ↔ ((f : Form) × (get_or engine.now.forms number None ≡ Some f) × IsContradiction f) }
@@ -37,7 +37,7 @@ fn some_contradiction(engine: &Engine) -> Result<(), Fault>
     Err(Fault::NotContradiction)
 }
 
-/// Whether the live form of that id is a contradiction.
+/// Whether the live form with this id is a contradiction.
 fn named_contradiction(engine: &Engine, id: i64) -> Result<(), Fault>
     ensures { has_contradiction engine.now.forms (Some id) result }
 {

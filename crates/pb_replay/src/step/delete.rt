@@ -12,7 +12,7 @@ use pb_normal::Normal;
 use pb_proof::Statement;
 use pb_text::Sequence;
 
-/// Deletes the constraints of these ids one after the other, up to the first id that has none.
+/// Deletes the constraints with these ids in order, up to the first id that has none.
 fn delete_each(engine: &mut Engine, ids: &[i64]) -> Result<(), Fault>
     requires { engine.old.spent ≡ false }
     ensures ok { OnOk result (Deleted engine.old.forms ids.now (Ok engine.new.forms)) }
@@ -32,7 +32,7 @@ fn delete_each(engine: &mut Engine, ids: &[i64]) -> Result<(), Fault>
     Ok(())
 }
 
-/// `del id`: the constraints of these ids are no longer live.
+/// `del id`: the constraints with these ids are no longer live.
 pub(crate) fn delete(running: &mut Running, ids: &Sequence<i64>) -> Result<(), Fault>
     requires { IsReady running.old }
     ensures goes { Goes running.old (Statement.Delete ids.now) result running.new }

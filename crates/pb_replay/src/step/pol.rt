@@ -24,7 +24,7 @@ use pb_proof::{PolWord, Statement};
 use pb_text::{Limits, Sequence};
 use std::alloc::{AllocError, Global};
 
-/// Takes the last form.
+/// Removes the last form from the stack.
 fn pop(stack: &mut Vec<Normal>) -> Normal
     requires { 0 < length stack.old.items }
     ensures { stack.old.items ≡ stack.new.items ++ result ∷ [] }
@@ -86,7 +86,7 @@ fn weakening_of(form: &Normal, variable: usize) -> Result<Normal, Fault>
     Ok(weakening)
 }
 
-/// Puts a form on the stack.
+/// Pushes a form on the stack.
 fn push(stack: &mut Vec<Normal>, form: Normal) -> Result<(), Fault>
     ensures ok { OnOk result (stack.new.items ≡ stack.old.items ++ form ∷ []) }
     ensures err { IfErr result (λ e. e ≡ Fault.Memory) }
@@ -97,7 +97,7 @@ fn push(stack: &mut Vec<Normal>, form: Normal) -> Result<(), Fault>
     }
 }
 
-/// The form that a word puts on the stack, for which it takes some.
+/// The form that a word pushes on the stack, in place of the forms that it takes.
 fn made(
     alloc: Global,
     names: &Names,
@@ -146,7 +146,7 @@ fn made(
     }
 }
 
-/// Numbers the name of a word, where it has one.
+/// Numbers the name of a word, if it has one.
 fn number_word(names: &mut Names, word: &PolWord) -> Result<(), AllocError>
     ensures names { OnOk result (names.new ≡ with_names names.old (word_names (word.now ∷ []))) }
     ensures err { OnErr result (names.new ≡ names.old) }
@@ -160,7 +160,7 @@ fn number_word(names: &mut Names, word: &PolWord) -> Result<(), AllocError>
     Ok(())
 }
 
-/// Numbers the names of the words in turn.
+/// Numbers the names of the words in order.
 fn number_words(names: &mut Names, words: &[PolWord]) -> Result<(), AllocError>
     ensures names { OnOk result (names.new ≡ with_names names.old (word_names words.now)) }
     ensures front { IsFront names.old names.new }

@@ -26,7 +26,7 @@ fn entered(running: &mut Running, linear: &Linear) -> Result<Normal, Fault>
     ensures fits { OnOk result (Fits (largest running.old.limits) linear.now) }
     ensures form { IfOk result (λ r. IsSideOf running.new.names Side.AtLeast linear.now r) }
     ensures inside { IfOk result (λ r. IsInside (length running.new.names) r) }
-    ensures err { IfErr result (λ e. (e ≡ Fault.Memory) ⊎ ((e ≡ Fault.Overflow) × (Fits (largest running.old.limits) linear.now → ⊥))) }
+    ensures err { IfErr result (λ e. ((e ≡ Fault.Memory) × Fits (largest running.old.limits) linear.now) ⊎ ((e ≡ Fault.Overflow) × (Fits (largest running.old.limits) linear.now → ⊥))) }
     ensures named { OnOk result (HasNamed (names_of linear.now.terms) running.old running.new) }
     ensures linked { OnOk result (IsLinked running.new) }
     ensures kept { Keeps running.old running.new }
@@ -44,7 +44,7 @@ fn entered(running: &mut Running, linear: &Linear) -> Result<Normal, Fault>
     Ok(form)
 }
 
-/// Whether propagation implies the form. Its looks are counted.
+/// Whether propagation implies the form. Its visits are counted.
 fn is_implied(running: &mut Running, form: &Normal) -> Result<bool, Fault>
     requires linked { IsLinked running.old }
     requires inside { IsInside (length running.old.names) form.now }
@@ -65,7 +65,7 @@ fn is_implied(running: &mut Running, form: &Normal) -> Result<bool, Fault>
     Ok(implied)
 }
 
-/// A form that is implied is added, and any other refused.
+/// Adds a form that is implied, and rejects any other.
 fn judge(running: &mut Running, form: Normal, implied: bool) -> Result<(), Fault>
     requires linked { IsLinked running.old }
     requires inside { IsInside (length running.old.names) form }
@@ -83,7 +83,7 @@ fn judge(running: &mut Running, form: Normal, implied: bool) -> Result<(), Fault
     }
 }
 
-/// `rup`: a constraint that propagation implies is added.
+/// `rup`: adds a constraint that propagation implies.
 pub(crate) fn rup(running: &mut Running, linear: &Linear) -> Result<(), Fault>
     requires ready { IsReady running.old }
     requires visits { running.old.visits ≡ 0 }
@@ -91,6 +91,7 @@ pub(crate) fn rup(running: &mut Running, linear: &Linear) -> Result<(), Fault>
     ensures linked { OnOk result (IsLinked running.new) }
     ensures kept { Keeps running.old running.new }
     ensures looks { Looks running.old.engine.forms (with_names running.old.names (names_of linear.now.terms)) linear.now result running.new.visits }
+    ensures memory { result ≡ Err Fault.Memory → Fits (largest running.old.limits) linear.now }
 {
     let form = entered(running, linear)?;
     let implied = is_implied(running, &form)?;

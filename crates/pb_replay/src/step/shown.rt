@@ -63,7 +63,7 @@ pub(crate) fn shown(running: &Running, given: &[NumberedLiteral]) -> Result<i128
     }
 }
 
-/// The literals of a conclusion by number, where it shows some, once their names have one.
+/// The literals that a conclusion shows, if any, by number, once their names have one.
 pub(crate) fn take_shown(
     running: &mut Running,
     shown: &Option<Sequence<Literal>>,

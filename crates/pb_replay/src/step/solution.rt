@@ -5,7 +5,8 @@ ghost use Rattle.pb_replay.specs.Engine.Live.{Live, Gives};
 ghost use Rattle.pb_replay.specs.Propagation.{MeetsConflict, IsCompletion, on};
 ghost use Rattle.pb_replay.specs.Replay.{Completed, IsClause, Logged, numbered};
 ghost use Rattle.pb_replay.specs.Kept.{Keeps, Goes, GoesAt, Logs, HasNamed, IsBetter, IsInside, IsLinked, IsProper, IsReady, problem_of};
-ghost use Rattle.pb_replay.specs.Statements.{literal_names};
+ghost use Rattle.pb_text.specs.Limits.{largest, top_of};
+ghost use Rattle.pb_replay.specs.Statements.{PassesFirst, literal_names};
 ghost use Rattle.pb_sums.specs.declared.values.Literal.{Literal as Written};
 ghost use Rattle.pb_replay.specs.Bounds.{Demands};
 ghost use Rattle.pb_replay.specs.declared.numbered.NumberedLiteral.{NumberedLiteral as ANumberedLiteral};
@@ -65,7 +66,7 @@ pub(crate) fn completion(
     }
 }
 
-/// The least value so far, with another.
+/// The lesser of the best value so far, if there is one, and another value.
 fn better(best: Option<i128>, value: i128) -> i128
     ensures { IsBetter best value result }
 {
@@ -116,7 +117,7 @@ fn clause_of(alloc: Global, given: &[NumberedLiteral]) -> Result<Normal, Fault>
     Ok(clause)
 }
 
-/// Logs a solution with that value, and adds a form.
+/// Logs a solution with this value, and adds a form.
 fn log(running: &mut Running, value: i128, form: Normal) -> Result<(), Fault>
     requires linked { IsLinked running.old }
     requires inside { IsInside (length running.old.names) form }
@@ -153,7 +154,7 @@ fn exclude(running: &mut Running, given: &[NumberedLiteral]) -> Result<(), Fault
     }
 }
 
-/// `solx`: a solution is logged and excluded.
+/// `solx`: logs a solution and excludes it.
 pub(crate) fn solx(running: &mut Running, given: &Sequence<Literal>) -> Result<(), Fault>
     requires { IsReady running.old }
     ensures goes { Goes running.old (Statement.Solx given.now) result running.new }
@@ -165,7 +166,7 @@ pub(crate) fn solx(running: &mut Running, given: &Sequence<Literal>) -> Result<(
     exclude(running, numbers.as_slice())
 }
 
-/// The greatest value below that one.
+/// The greatest value below this one.
 fn below(value: i128) -> i128
     requires { unsigned_abs value < 2 ^ 127 }
     ensures { result ≡ (value -ℤ pos 1) }
@@ -173,7 +174,7 @@ fn below(value: i128) -> i128
     value - 1
 }
 
-/// Logs a solution with that value, and demands a lower one.
+/// Logs a solution with this value, and requires a lower one.
 fn demand_less(running: &mut Running, value: i128) -> Result<(), Fault>
     requires proper { IsProper running.old }
     requires linked { IsLinked running.old }
@@ -189,7 +190,7 @@ fn demand_less(running: &mut Running, value: i128) -> Result<(), Fault>
     }
 }
 
-/// Logs the solution that the literals complete to, and demands a lower value.
+/// Logs the solution that the literals complete to, and requires a lower value.
 fn improve(running: &mut Running, given: &[NumberedLiteral]) -> Result<(), Fault>
     requires proper { IsProper running.old }
     requires linked { IsLinked running.old }
@@ -206,13 +207,14 @@ fn improve(running: &mut Running, given: &[NumberedLiteral]) -> Result<(), Fault
     }
 }
 
-/// `soli`: a solution is logged, and a lower value demanded.
+/// `soli`: logs a solution, and requires a lower value.
 pub(crate) fn soli(running: &mut Running, given: &Sequence<Literal>) -> Result<(), Fault>
     requires { IsReady running.old }
     ensures goes { Goes running.old (Statement.Soli given.now) result running.new }
     ensures linked { OnOk result (IsLinked running.new) }
     ensures kept { Keeps running.old running.new }
     ensures visits { running.new.visits ≡ running.old.visits }
+    ensures memory { result ≡ Err Fault.Memory → PassesFirst (largest running.old.limits) (top_of running.old.limits) (problem_of running.old) (Statement.Soli given.now) }
 {
     if running.objective.is_none() {
         return Err(Fault::NoObjective);

@@ -1,4 +1,4 @@
-//! Ends a text in one go.
+//! Ends a text at once.
 
 ghost use Rattle.std.specs.Prelude.{◌≡◌, None};
 ghost use Rattle.pb_text.specs.Automaton.{Closes, IsState};
@@ -12,12 +12,12 @@ use crate::values::{Linear, SumEvent};
 use pb_text::Machine;
 
 impl SumMachine {
-    /// Ends the text with `;`, where it is whole and no memory is refused.
+    /// Ends the text with `;`, if that completes it and no allocation is refused.
     #[inline(always)]
     pub(super) fn end(&mut self) -> Option<SumEvent>
         ensures closes { Closes sums self.old 59 result self.new }
         ensures state { IsState sums self.new }
-        // It leaves the byte only where that may ask for memory or ends nothing.
+        // It leaves the byte only if that may allocate or ends nothing.
         ensures leaves { result ≡ None → MayStay sums self.old 59 }
     {
         let _ = self.is_done();

@@ -1,5 +1,6 @@
-//! Laws of checks. These functions do nothing: what they ensure are the laws.
+//! Laws of checks. These functions do nothing: the laws are what they ensure.
 
+ghost use Rattle.pb_tool.specs.Fields.{KeepsItsParts};
 ghost use Rattle.pb_tool.specs.Decided.{AnswersExactly, OneAnswer};
 ghost use Rattle.pb_tool.specs.Headline.{UnsatIsExact, UnsatIsTrue, VerdictsAreTrue};
 ghost use Rattle.pb_tool.specs.Pieces.{AnyCutting};
@@ -10,7 +11,7 @@ use pb_proof::laws::values::{one_value, proofs_are_values};
 use pb_replay::laws::{outcomes_are_single, verdicts_are_true};
 use pb_text::Sink;
 
-/// However the text of a proof is cut, what a checker answers is said of all bytes joined.
+/// However the text of a proof is cut, the results of a checker hold for all pieces joined.
 pub fn any_cut_of_a_proof()
     ensures { AnyCutting }
 {
@@ -25,7 +26,7 @@ pub fn verified_is_true()
     proofs_are_values();
 }
 
-/// Where `check` answers that UNSAT is verified, the first input is an instance that no assignment of its names solves.
+/// If `check` returns that UNSAT is verified, the first input is an instance that no assignment of its names solves.
 pub fn unsat_is_true<W: Sink>()
     ensures { UnsatIsTrue W.contents W.faults }
 {
@@ -33,16 +34,18 @@ pub fn unsat_is_true<W: Sink>()
     proofs_are_values();
 }
 
-/// Of two inputs whose bytes are known, `check` answers a verdict exactly where the first is an instance, the second a
-/// proof, and the rules accept its statements with that verdict: but where a reader or a writer failed or memory ran out.
+/// Two inputs have known bytes, no reader or writer failed, and memory did not run out. Then `check` returns a verdict
+/// if and only if two things hold. The first input is an instance and the second a proof. The rules accept the
+/// statements of the proof with that verdict.
 pub fn answers_are_exact<W: Sink>()
     ensures { AnswersExactly W.contents W.faults }
 {
     all_is_single();
 }
 
-/// Where nothing fails to be read or written and memory does not run out, `check` answers `verified UNSAT` exactly where the bytes
-/// spell an instance and a proof of UNSAT that the rules accept, and then no assignment of its names solves that instance.
+/// Two inputs have known bytes, and I/O and allocation succeed. Then `check` returns `verified UNSAT` if and only if
+/// the bytes are an instance and a proof of UNSAT that the rules accept. In that case no assignment of its names solves
+/// that instance.
 pub fn unsat_is_exact<W: Sink>()
     ensures { UnsatIsExact W.contents W.faults }
 {
@@ -50,14 +53,20 @@ pub fn unsat_is_exact<W: Sink>()
     verified_is_true();
 }
 
-/// What `check` answers of two inputs their bytes decide: but where a reader or a writer failed or memory ran out.
+/// The bytes of two inputs decide the result of `check`, unless a reader or a writer failed or memory ran out.
 pub fn one_answer<W: Sink>()
     ensures { OneAnswer W.contents W.faults }
 {
     all_is_single();
 }
 
-/// What the laws say that is single.
+/// A checker consists of its feeder, its replay and its fault, as contracts see these. This says nothing about what the
+/// types of the fields hide.
+pub fn keeps_its_parts()
+    ensures { KeepsItsParts }
+{}
+
+/// The uniqueness that the laws state.
 fn all_is_single()
     ensures { AllSingle }
 {

@@ -1,4 +1,4 @@
-//! Why the words of the command line ask for nothing.
+//! Why the arguments of the command line give no job.
 
 ghost use Rattle.std.specs.Prelude.{◌≡◌, IfOk};
 ghost use Rattle.clap.specs.Words.{kind_of};
@@ -8,13 +8,13 @@ use clap::error::ErrorKind;
 use std::alloc::{AllocError, Global};
 use thiserror::Error;
 
-/// Why the words ask for nothing.
+/// Why the arguments give no job.
 #[derive(Debug, Drop, Error)]
 pub enum WordsFault {
-    /// They ask for help, or are wrong, or memory ran out while they were read.
+    /// They ask for help or are a usage error, or memory ran out while they were parsed.
     #[error(transparent)]
     Words(clap::Error),
-    /// Memory ran out after the words were found to be right.
+    /// Memory ran out after the arguments were found to be valid.
     #[error("out of memory")]
     Memory,
 }
@@ -39,7 +39,7 @@ impl From<AllocError> for WordsFault {
     }
 }
 
-/// The error of a flag whose text is no number from `low` to `high`.
+/// The error of a flag whose text is not a number from `low` to `high`.
 pub(crate) fn wrong_number(
     alloc: Global,
     name: &str,
@@ -56,7 +56,7 @@ pub(crate) fn wrong_number(
     wrong_words(alloc, name, ErrorKind::ValueValidation, message.as_str())
 }
 
-/// The error of wrong words of a kind, with the usage of the subcommand.
+/// A usage error of a kind, with the usage of the subcommand.
 pub(crate) fn wrong_words(
     alloc: Global,
     name: &str,

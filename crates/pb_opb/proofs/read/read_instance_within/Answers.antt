@@ -1,8 +1,8 @@
 use Rattle.pb_text.specs.Automaton.{Accepts, MayAsk}
 use Rattle.pb_text.specs.Limits.{largest, top_of}
 use Rattle.pb_opb.specs.State.{opb, begin}
-use Rattle.pb_opb.proofs.Exactly.{read_exactly, stops_exactly, wants_exactly}
-use Rattle.pb_opb.proofs.Gathered.{is_read, stops_in, wants_in}
+use Rattle.pb_opb.proofs.Exactly.{read_exactly, stops_exactly}
+use Rattle.pb_opb.proofs.Gathered.{is_read, stops_in}
 use Rattle.pb_opb.proofs.read.read_instance_within.Goals as goal
 
 pub returns-in-Ok-clause-reads : goal.returns-in-Ok-clause-reads
@@ -13,9 +13,9 @@ returns-in-Ok-clause-reads g c =
 
 pub returns-in-Ok-clause-given : goal.returns-in-Ok-clause-given
 returns-in-Ok-clause-given g c =
-    let r = rw c.new-machine.ensures.begins at c.in-Ok.ensures.given in
-    let value = is_read (Accepts opb (begin (largest c.args.limits) (top_of c.args.limits))) c.args.longest c.new.result c.new.ensures.instance c.new.ensures.ended r.0 c.in-Ok.read r.2 in
-    (r.0, r.1, read_exactly (largest c.args.limits) (top_of c.args.limits) c.args.longest r.0 _ value)
+    let (given, seen, are, r) = rw c.new-machine.ensures.begins at c.in-Ok.ensures.given in
+    let value = is_read (Accepts opb (begin (largest c.args.limits) (top_of c.args.limits))) c.args.longest c.new.result c.new.ensures.instance c.new.ensures.ended r.0 c.in-Ok.read r.3 in
+    (given, seen, are, (r.0, r.1, r.2, read_exactly (largest c.args.limits) (top_of c.args.limits) c.args.longest r.0 _ value))
 
 pub returns-in-Err-clause-reads : goal.returns-in-Err-clause-reads
 returns-in-Err-clause-reads g c =
@@ -26,14 +26,7 @@ returns-in-Err-clause-reads g c =
 
 pub returns-in-Err-clause-given : goal.returns-in-Err-clause-given
 returns-in-Err-clause-given g c =
-    let r = rw c.new-machine.ensures.begins at c.in-Err.ensures.given in
+    let (given, left, are, r) = rw c.new-machine.ensures.begins at c.in-Err.ensures.given in
     let start = begin (largest c.args.limits) (top_of c.args.limits) in
     let stops = stops_in (Accepts opb start) c.args.longest c.new.result c.new.ensures.instance c.new.ensures.ended r.0 (MayAsk opb start) r.1 c.in-Err.stop r.3 in
-    (r.0, r.1, r.2, stops_exactly (largest c.args.limits) (top_of c.args.limits) c.args.longest r.0 r.1 c.in-Err.stop stops)
-
-pub returns-in-Err-clause-memory : goal.returns-in-Err-clause-memory
-returns-in-Err-clause-memory g c = λ e.
-    let r = rw c.new-machine.ensures.begins at c.in-Err.ensures.reads in
-    let start = begin (largest c.args.limits) (top_of c.args.limits) in
-    let wants = wants_in (Accepts opb start) c.args.longest c.new.result c.new.ensures.instance c.new.ensures.ended r.0 (MayAsk opb start) r.1 c.in-Err.stop r.3 e in
-    (r.0, r.1, r.2, wants_exactly (largest c.args.limits) (top_of c.args.limits) c.args.longest r.0 r.1 c.in-Err.stop wants)
+    (given, left, are, (r.0, r.1, r.2, stops_exactly (largest c.args.limits) (top_of c.args.limits) c.args.longest r.0 r.1 c.in-Err.stop stops))

@@ -3,6 +3,6 @@ use Rattle.pb_text.specs.Limits.{largest}
 use Rattle.pb_opb.specs.Values.{AreLinears}
 use Rattle.pb_opb.proofs.validity.are_linears.Given as goal
 
--- all are, where the rest are
+-- all meet the rules if the rest do
 abbrev pub invariant-loop-linear : goal.invariant-loop-linear
 invariant-loop-linear l = AreLinears (largest l.limits) l.constraints ↔ AreLinears (largest l.limits) (drop l.linear-index l.constraints)

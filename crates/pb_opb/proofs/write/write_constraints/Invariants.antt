@@ -4,7 +4,7 @@ use Rattle.pb_opb.specs.Canonical.{in_order, constraint_events}
 use Rattle.pb_opb.specs.Led.{led_lines}
 use Rattle.pb_opb.proofs.write.write_constraints.Given as goal
 
--- what was written, and what the rest is
+-- what was written, and what is left
 abbrev pub invariant-loop-index : goal.invariant-loop-index
 invariant-loop-index g l =
     (front : List ℕ)

@@ -1,4 +1,4 @@
--- Where the machine of claims asks.
+-- Where the conclusion machine may allocate.
 use Rattle.std.proofs.Common.{◌≡◌, ℕ, ◌+◌, ◌-◌, ◌*◌, Bool, true, false, ◌&&◌, List, [], ◌∷◌, ◌++◌, refl, sym, ap, subst, ◌∙◌, append_assoc, Some, None}
 use Rattle.std.proofs.lemmas.Bool.{false≢true, cond_both}
 use Rattle.std.specs.Prelude.{ℤ, nat_eq, nat_le, slice_index}
@@ -80,7 +80,7 @@ module _ (s : ClaimState) (b : ℕ) where
   after_ids owner.Unsat id = behinds (claim.Unsat (Some id))
   after_ids (owner.Lower x) id = cond_both (is_blank b) _ _ Quiet (λ _. refl) (λ _. refl)
 
-  -- only within literals that are shown
+  -- only within shown literals
   shows_only : (ph : Phase) → asks s b (plan s.limit s.top ph b) ≡ true → (x : Showing) × (ph ≡ phase.Shown x)
   shows_only (phase.Shown x) h = (x, refl)
   shows_only phase.Start h = absurd (false≢true (sym (cond_both (is_blank b) _ _ Quiet (λ _. refl) (λ _. refl)) ∙ h))
@@ -104,7 +104,7 @@ module _ (s : ClaimState) (b : ℕ) where
       absurd (false≢true (sym (cond_both (is_digit b) _ _ Quiet (λ _. id_digit s.top x negative n) (λ _. cond_both (nat_eq n 0) _ _ Quiet (λ _. refl) (λ _. after_ids x _))) ∙ h))
   shows_only phase.Done h = absurd (false≢true h)
 
--- What is read there shows literals.
+-- What is read there is shown literals.
 shown_step : (s : ClaimState) (b : ℕ) (x : Showing) → s.phase ≡ phase.Shown x → claim_automaton.step s b ≡ over s x (literals_automaton.step s.literals b)
 shown_step s b x e = ap (λ q. act s b (plan s.limit s.top q b)) e
 

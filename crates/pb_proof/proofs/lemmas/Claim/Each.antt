@@ -1,4 +1,4 @@
--- A machine of claims reads each claim.
+-- The conclusion machine reads each conclusion.
 use Rattle.std.proofs.Common.{◌≡◌, ℕ, ◌<◌, Bool, true, List, [], ◌∷◌, ◌++◌, refl, sym, ap, subst, ◌∙◌}
 use Rattle.std.specs.Prelude.{IsTrue, ℤ, Option, Some, None}
 use Rattle.pb_text.specs.Automaton.{Go, Reads}
@@ -37,11 +37,11 @@ module _ (limit top : ℕ) where
   abbrev here : Phase → ClaimState
   here p = at limit top p
 
-  -- with what the machine of literals has read
+  -- the state with this state of the literals machine
   abbrev pub shown_at : Showing → LiteralsState → ClaimState
   shown_at x inner = giving (here (phase.Shown x)) inner
 
-  -- What the machine of literals reads is read as the literals that are shown.
+  -- What the literals machine reads is read as the shown literals.
   pub shown_reads : (x : Showing) (t : List Letter) (inner : LiteralsState) (ls : List Literal) (last : LiteralsState)
       → Reads literals_automaton inner t ls last → Reads claim_automaton (shown_at x inner) t (showing_value x (Some ls)) (claim_last limit top)
   shown_reads x [] inner ls last r = absurd r
@@ -60,7 +60,7 @@ module _ (limit top : ℕ) where
       (reads_behind claim_automaton a b (claim_first limit top) mid (claim_last limit top) (claim_value c) w
       (line_reads claim_automaton mid (here (phase.Behind c)) (here (phase.Semicolon c)) (claim_last limit top) (claim_value c) (may_end limit top c mid o) b k))
 
-  -- literals that are shown, and the end of the line
+  -- shown literals, and the end of the line
   colon_reads : (x : Showing) (ls : List Literal) (s : ClaimState) → Follows limit top (phase.Behind (claim.Shows x)) s
       → (t : List Letter) → (Byte 58 ⋅ SpellsJoined true ls) t → Reads claim_automaton s t (showing_value x (Some ls)) (claim_last limit top)
   colon_reads x ls s f t (a, b, e, h, k) =
@@ -81,7 +81,7 @@ module _ (limit top : ℕ) where
   start_carries : Carries limit top (Is limit top phase.Start) Blanks1 (Is limit top phase.Before)
   start_carries = leads_carry limit top phase.Start phase.Before Blanks1 (blanks1_lead claim_automaton (here phase.Start) (here phase.Before) (start_blanks limit top))
 
-  -- the parts of a line with literals that are shown
+  -- the parts of a line with shown literals
   shown_parts : (x : Showing) (ls : List Literal) (t : List Letter) → (Blanks1 ⋅ (Body limit top x ⋅ (Blanks0 ⋅ SpellsShown ls)) ⋅ LineEnd) t
       → (Blanks1 ⋅ (Body limit top x ⋅ (Blanks0 ⋅ (SpellsShown ls ⋅ LineEnd)))) t
   shown_parts x ls t h =
@@ -91,7 +91,7 @@ module _ (limit top : ℕ) where
       (λ q k. behind_it B (Blanks0 ⋅ S ⋅ LineEnd) (Blanks0 ⋅ (S ⋅ LineEnd)) q (regroup Blanks0 S LineEnd) (regroup B (Blanks0 ⋅ S) LineEnd q k))
       (regroup Blanks1 (B ⋅ (Blanks0 ⋅ S)) LineEnd t h)
 
-  -- a claim that literals may be shown for
+  -- a conclusion that may show literals
   showing_reads : (x : Showing) (shown : Option (List Literal)) → Carries limit top (Is limit top phase.Before) (Body limit top x) (Follows limit top (phase.Behind (claim.Shows x)))
       → (t : List Letter) → (Blanks1 ⋅ (Body limit top x ⋅ Shown shown) ⋅ LineEnd) t → Reads claim_automaton (claim_first limit top) t (showing_value x shown) (claim_last limit top)
   showing_reads x None f t h =
@@ -106,7 +106,7 @@ module _ (limit top : ℕ) where
       (reads_behind claim_automaton a (c ++ d) (claim_first limit top) mid (claim_last limit top) (showing_value x (Some ls)) w
       (reads_behind claim_automaton c d mid new (claim_last limit top) (showing_value x (Some ls)) v (some_shown x ls new o d j)))
 
-  -- blank*, and what holds before and behind it
+  -- blank*, and what holds before and after it
   blanks_carry : (A C : ClaimState → Type 0) (gap : ClaimState) → ((s : ClaimState) → A s → TakesBlanks claim_automaton s gap × C s) → C gap → Carries limit top A Blanks0 C
   blanks_carry A C gap f c s t i ([], k, e) = (s, subst (λ y. Walks claim_automaton s y s) (sym e) refl, (f s i).1)
   blanks_carry A C gap f c s t i (b ∷ bs, k, e) = (gap, blanks1_lead claim_automaton s gap (f s i).0 t (b, bs, k.0, k.1, e), c)
@@ -131,11 +131,11 @@ module _ (limit top : ℕ) where
       (leads_carry limit top (phase.BeforeId x) (phase.BeforeId x) Blanks0 (blanks0_lead claim_automaton (here (phase.BeforeId x)) (id_blanks limit top x))))
       (id_carries limit top x id)
 
-  -- nothing
+  -- the empty text
   empty_carries : (A : ClaimState → Type 0) → Carries limit top A Empty A
   empty_carries A s t i h = (s, subst (λ y. Walks claim_automaton s y s) (sym h) refl, i)
 
-  -- another set that holds these
+  -- a larger set of states after the text
   carries_to : (A B C : ClaimState → Type 0) (P : Language) → ((s : ClaimState) → B s → C s) → Carries limit top A P B → Carries limit top A P C
   carries_to A B C P g f s t i h = let (new, w, k) = f s t i h in (new, w, g new k)
 
@@ -223,7 +223,7 @@ module _ (limit top : ℕ) where
       (gap_carries x id))
       (bound_carries limit top (side.Upper x id) y)
 
-  -- a claim without literals, behind the first blanks
+  -- a conclusion without literals, after the first blanks
   plain_reads : (c : Claim) (P : Language) → Carries limit top (Is limit top phase.Before) P (Follows limit top (phase.Behind c))
       → (t : List Letter) → (Blanks1 ⋅ P ⋅ LineEnd) t → Reads claim_automaton (claim_first limit top) t (claim_value c) (claim_last limit top)
   plain_reads c P f =

@@ -1,4 +1,4 @@
--- What a machine of claims reads is a claim.
+-- What the conclusion machine reads is a conclusion.
 use Rattle.std.proofs.Common.{◌≡◌, ℕ, ◌+◌, ◌-◌, ◌*◌, ◌<◌, ◌≤◌, Bool, true, false, ◌&&◌, List, [], ◌∷◌, ◌++◌, length, take, refl, sym, ap, subst, inl, inr, ◌∙◌}
 use Rattle.std.proofs.lemmas.Bool.{eqb-true, cond_both, and_parts}
 use Rattle.std.specs.Prelude.{ℤ, Some, None, nat_eq, nat_le, slice_index}
@@ -39,7 +39,7 @@ use Rattle.pb_proof.proofs.lemmas.Line.Ends.{Gapped, Closing, blank_more, blank_
 use Rattle.pb_proof.proofs.lemmas.Literals.Theorems.{literals_reads, literals_of_one}
 use Rattle.pb_proof.proofs.lemmas.NumberTests.{positive}
 
--- what the machine of literals has read
+-- what the literals machine has read
 abbrev pub Walked : LiteralsState → Language
 Walked inner = λ p. Walks literals_automaton (literals_first true) p inner
 
@@ -73,7 +73,7 @@ module _ (s : ClaimState) (l : Letter) (p : List Letter) where
   abbrev At : Phase → Type 0
   At q = front s.limit s.top (literals_first true) q (p ++ l ∷ [])
 
-  -- what is known of an outcome, and after a move
+  -- what holds of an outcome, and after a move
   abbrev Leaves : Next ClaimState Conclusion → Type 0
   Leaves n = On claim_automaton Front Told n l (p ++ l ∷ [])
 
@@ -132,7 +132,7 @@ module _ (s : ClaimState) (l : Letter) (p : List Letter) where
       cond_both (nat_eq l.byte 83) _ _ After (first word.Sat 83 refl h) (λ _.
       cond_both (nat_eq l.byte 66) _ _ After (first word.Bounds 66 refl h) (λ _. tt))))
 
-  -- behind a claim
+  -- after a conclusion
   in_colon : (c : Claim) → nat_eq l.byte 58 ≡ true → Gapped (ClaimOf c) p → After (colon c)
   in_colon claim.NoClaim e h = tt
   in_colon (claim.Unsat None) e h = λ u n.
@@ -181,7 +181,7 @@ module _ (s : ClaimState) (l : Letter) (p : List Letter) where
       cond_both (nat_eq l.byte 73) _ _ After (λ e u n. next B (Bytes (take 1 inf_word)) p l h (byte 73 n e)) (λ _.
       first_digit x false (none_yet B (Sign false) p (inl refl) h))))
 
-  -- behind the lower bound, and behind either
+  -- after the lower bound, and after either bound
   in_between : (x : Bound) → Lower x p → After (between x l.byte)
   in_between x h =
       cond_both (is_blank l.byte) _ _ After (λ e u n. blanks_begin (Lower x) l p e n h) (λ _.
@@ -211,7 +211,7 @@ module _ (s : ClaimState) (l : Letter) (p : List Letter) where
       spelled (LeadOf (side.Upper x id) ⋅ Blanks1) inf_word j (phase.Infinity (side.Upper x id) (j + 1)) (behind_bound (side.Upper x id) Infinite) (λ n. n) (λ n. n) (λ r. r)
       (λ r. gapped (ClaimOf (claim.Shows (showing.Bounds x id Infinite))) (p ++ l ∷ []) (bounds_body s.limit s.top x id Infinite (p ++ l ∷ []) r)) i h
 
-  -- blanks behind the lower bound
+  -- blanks after the lower bound
   in_spaced : (x : Bound) → (Lower x ⋅ Blanks1) p → After (plan s.limit s.top (phase.Spaced x) l.byte)
   in_spaced x h =
       cond_both (is_blank l.byte) _ _ After (λ e u n. blanks_go_on (Lower x) l p e n h) (λ _.
@@ -292,7 +292,7 @@ module _ (s : ClaimState) (l : Letter) (p : List Letter) where
   sound (phase.Shown x) at f h = in_shown x at h (literals_automaton.step s.literals l.byte) refl
   sound phase.Done at f h = absurd h
 
--- with what is known of the phase
+-- with what holds of the phase
 abbrev pub Known : ClaimState → Language
 Known s = λ p. PhaseFits s.limit s.top s.phase × Front s p
 

@@ -1,4 +1,4 @@
--- A machine of claims on the way through bounds and ids.
+-- How the conclusion machine walks through bounds and ids.
 use Rattle.std.proofs.Common.{◌≡◌, ℕ, ◌+◌, ◌-◌, ◌*◌, ◌<◌, ◌≤◌, Bool, true, false, cond, List, [], ◌∷◌, ◌++◌, length, drop, refl, sym, ap, subst, arith, inl, inr, ◌∙◌}
 use Rattle.std.proofs.lemmas.Bool.{le-leb}
 use Rattle.std.proofs.lemmas.Bool.Decides.{nat_tests}
@@ -24,7 +24,7 @@ use Rattle.pb_proof.specs.declared.line.claim.phase.Move.TheVariants.{To, Stop}
 use Rattle.pb_proof.proofs.lemmas.Claim.Walk.{at, Carries, Is, Follows, number_follows, Spelled, left_walk}
 use Rattle.pb_text.proofs.DigitWalks.{TakesDigits, digits_lead}
 
--- digits are no other bytes
+-- a digit differs from each byte that is not a digit
 digit-not : (d b : ℕ) → d < 10 → is_digit b ≡ false → nat_eq (48 + d) b ≡ false
 digit-not d b h e = grind (arith, nat_tests)
 
@@ -74,7 +74,7 @@ module _ (limit top : ℕ) where
         rw (digit_blank d h, digit-not d 58 h refl, digit-not d 43 h refl, digit-not d 45 h refl, digit-not d 73 h refl, digits_first (side.Upper x None) false d h l) refl;
   }
 
-  -- the digits behind a first byte
+  -- the digits after a first byte
   number_lead : (x : Side) (negative : Bool) (s : ClaimState) → ((d : ℕ) → d < 10 → d ≤ limit → claim_automaton.step s (48 + d) ≡ Go (here (phase.Digits x negative d)))
       → (n : ℕ) → n ≤ limit → Leads claim_automaton s (Digits n) (here (phase.Digits x negative n))
   number_lead x negative s f n l = digits_lead claim_automaton (λ m. here (phase.Digits x negative m)) limit (takes_digits x negative) s f n l
@@ -110,8 +110,7 @@ module _ (limit top : ℕ) where
     subst (λ y. Follows limit top (behind_bound x (Finite y)) (here (phase.Digits x false n))) (sym e) (number_follows limit top x false n),
   )
 
-  -- `INF`
-  -- what is left of it
+  -- the rest of `INF`
   infinity_spelled : (x : Side) → is_within (behind_bound x Infinite) ≡ true → is_in_number (here (behind_bound x Infinite)) (behind_bound x Infinite) ≡ false
       → Spelled limit top inf_word (λ k. phase.Infinity x k) (behind_bound x Infinite)
   infinity_spelled x i n = record { planned = λ k b. refl; within = λ k. refl; number = λ k. refl; within_whole = i; number_whole = n }
@@ -162,7 +161,7 @@ module _ (limit top : ℕ) where
   pub signed_id_step : (x : Owner) (d : ℕ) → d < 10 → d ≤ top → claim_automaton.step (here (phase.IdSigned x)) (48 + d) ≡ Go (here (phase.IdDigits x true d))
   signed_id_step x d h l = ap (λ y. act (here (phase.IdSigned x)) (48 + d) y) (id_first x true d h l)
 
-  -- behind an id
+  -- after an id
   abbrev pub AtId : Owner → ℤ → ClaimState → Type 0
   AtId x id s = (negative : Bool) × (n : ℕ) × (0 < n) × (id ≡ signed negative n) × (s ≡ here (phase.IdDigits x negative n))
 

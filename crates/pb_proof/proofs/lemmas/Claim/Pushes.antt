@@ -1,4 +1,4 @@
--- A push of a machine of claims does what was planned.
+-- A push of the conclusion machine does what its transition says.
 use Rattle.std.proofs.Common.{◌≡◌, ℕ, ◌-◌, ◌^◌, ◌<◌, ◌≤◌, false, ◌&&◌, List, IsTrue, refl, sym, ap, subst, arith, ◌∙◌}
 use Rattle.std.proofs.Math.Pow.{pow_mono}
 use Rattle.pb_text.specs.Automaton.{Next, Go, End, Refuse, Admits, is_large}

@@ -1,4 +1,4 @@
--- What a machine of claims keeps from byte to byte.
+-- What a byte preserves in the conclusion machine.
 use Rattle.std.proofs.Common.{◌≡◌, ℕ, ◌+◌, ◌-◌, ◌*◌, ◌^◌, ◌<◌, ◌≤◌, Bool, true, false, cond, ◌&&◌, nat_eq, nat_le, length, refl, sym, ap, subst, arith}
 use Rattle.std.proofs.lemmas.Bool.{leb-true, false≢true, cond_both, and_parts}
 use Rattle.std.specs.Prelude.{ℤ, Some, None, slice_index, List}
@@ -33,7 +33,7 @@ use Rattle.pb_proof.proofs.lemmas.Literals.Theorems.{literals_of_one}
 abbrev N : Type 0
 N = Next ClaimState Conclusion
 
--- the claim goes on
+-- the conclusion continues
 abbrev IsNext : ClaimState → Phase → Phase → Type 0
 IsNext s p q = (is_within q ≡ true) × (PhaseFits s.limit s.top p → PhaseFits s.limit s.top q)
 
@@ -105,7 +105,7 @@ module _ (s : ClaimState) (p : Phase) where
       (on_cond (nat_eq b 83) (To (phase.Word word.Sat 1)) _ (refl, λ f. omega arith)
       (on_cond (nat_eq b 66) (To (phase.Word word.Bounds 1)) Stop (refl, λ f. omega arith) tt)))
 
--- the plan of each phase
+-- the transitions of each phase
 module _ (s : ClaimState) where
   next_word : (w : Word) (k : ℕ) → IsNext s (phase.Word w k) (behind_word w)
   next_word word.NoClaim k = (refl, λ f. tt)
@@ -151,7 +151,7 @@ module _ (s : ClaimState) where
   on_plan (phase.Shown shows) b = refl
   on_plan phase.Done b = tt
 
--- what a byte leads to
+-- what holds after a byte
 pub record Goes (s next : ClaimState) : Type 0 where
   pub fits : PhaseFits s.limit s.top s.phase → PhaseFits next.limit next.top next.phase
   pub within : claim_automaton.begun next ≡ true
@@ -164,7 +164,7 @@ Stepped s (Go next) = Goes s next
 Stepped s (End e next) = next ≡ claim_last s.limit s.top
 Stepped s Refuse = Unit {0}
 
--- a byte that the machine of literals takes
+-- a byte that the literals machine takes
 module _ (s : ClaimState) (shows : Showing) (p : s.phase ≡ phase.Shown shows) (b : ℕ) where
   given_order : (inner : LiteralsState) → literals_automaton.step s.literals b ≡ Go inner → IsClaimInOrder s → IsClaimInOrder (giving s inner)
   given_order inner e h = record {
@@ -184,7 +184,7 @@ module _ (s : ClaimState) (shows : Showing) (p : s.phase ≡ phase.Shown shows) 
   given (End literals inner) e = refl
   given Refuse e = tt
 
--- nothing is held where no literal is read
+-- nothing is stored if no literal is read
 idle_holds : (limit top : ℕ) (p : Phase) → Holds (claim_at limit top p) p
 idle_holds limit top phase.Start = refl
 idle_holds limit top phase.Before = refl
@@ -248,7 +248,7 @@ goes s next b e = subst (Stepped s) e (stepped s b)
 pub ends : (s next : ClaimState) (b : ℕ) (c : Conclusion) → claim_automaton.step s b ≡ End c next → next ≡ claim_last s.limit s.top
 ends s next b c e = subst (Stepped s) e (stepped s b)
 
--- where nothing is read, and where all is
+-- phases within a conclusion, before it and after it
 pub not_done : (p : Phase) → is_within p ≡ true → is_done p ≡ false
 not_done phase.Start h = absurd (false≢true h)
 not_done phase.Done h = absurd (false≢true h)
@@ -268,6 +268,6 @@ nothing_spent s phase.Start h = refl
 nothing_spent s phase.Done h = refl
 nothing_spent s _ h = absurd (false≢true (sym h))
 
--- bytes are given where literals are shown
+-- bytes are given to the literals machine only where literals are shown
 pub give_phase : (s : ClaimState) (b : ℕ) (x : Showing) → plan s.limit s.top s.phase b ≡ Give x → s.phase ≡ phase.Shown x
 give_phase s b x e = subst (OnMove s s.phase) e (on_plan s s.phase b)

@@ -1,4 +1,4 @@
--- The texts of claims, part by part.
+-- The texts of conclusions, part by part.
 use Rattle.std.proofs.Common.{ℕ, true, List, [], ◌∷◌, refl}
 use Rattle.std.specs.Prelude.{ℤ, Option, Some, None}
 use Rattle.pb_text.specs.Languages.{Language, ◌⋅◌, Empty, Byte, Bytes, Blanks0, Blanks1}
@@ -19,12 +19,12 @@ use Rattle.pb_proof.specs.declared.line.claim.phase.Showing.TheVariants as showi
 use Rattle.pb_proof.specs.declared.line.claim.phase.Claim.{Claim}
 use Rattle.pb_proof.specs.declared.line.claim.phase.Claim.TheVariants as claim
 
--- one part less before the last one
+-- the part before the last one, split in two
 pub within_last : (B P Q : Language) (R : Language) (p : List Letter) → ((q : List Letter) → P q → (B ⋅ Q) q) → (P ⋅ R) p → (B ⋅ (Q ⋅ R)) p
 within_last B P Q R p f h = regroup B Q R p (inside P (B ⋅ Q) R p f h)
 
 module _ (limit top : ℕ) where
-  -- a claim without literals, behind the first blanks
+  -- a conclusion without literals, after the first blanks
   abbrev pub Body : Showing → Language
   Body showing.Sat = Bytes sat_word
   Body (showing.Bounds lower id upper) =
@@ -39,16 +39,16 @@ module _ (limit top : ℕ) where
   abbrev pub Claimed : Claim → Language
   Claimed c = Blanks1 ⋅ ClaimBody c
 
-  -- through the lower bound
+  -- the text through the lower bound
   abbrev pub LowerRead : Bound → Language
   LowerRead x = Blanks1 ⋅ Bytes bounds_word ⋅ Blanks1 ⋅ SpellsBound limit x
 
-  -- what stands before the blanks before a bound
+  -- the text before the blanks before a bound
   abbrev pub Lead : Side → Language
   Lead side.Lower = Blanks1 ⋅ Bytes bounds_word
   Lead (side.Upper x id) = LowerRead x ⋅ IdShown limit top id
 
-  -- what stands before `:` and an id, and before that id
+  -- the text before `:` and an id, and the text before that id
   abbrev pub IdLead : Owner → Language
   IdLead owner.Unsat = Blanks1 ⋅ Bytes unsat_word
   IdLead (owner.Lower x) = LowerRead x
@@ -59,7 +59,7 @@ module _ (limit top : ℕ) where
   abbrev pub BeforeIdRead : Owner → Language
   BeforeIdRead x = Colon (IdLead x) ⋅ Blanks0
 
-  -- an id behind `:` is one that is shown
+  -- an id after `:` is one that is shown
   pub id_shown : (P : Language) (id : ℤ) (p : List Letter) → (Colon P ⋅ Blanks0 ⋅ SpellsId top id) p → (P ⋅ IdShown limit top (Some id)) p
   id_shown P id p h =
       within_last P (Colon P ⋅ Blanks0) (Blanks0 ⋅ Byte 58 ⋅ Blanks0) (SpellsId top id) p

@@ -1,4 +1,4 @@
--- The laws of the machine of claims.
+-- The laws of the conclusion machine.
 use Rattle.std.proofs.Common.{◌≡◌, ℕ, zero, suc, ◌<◌, ◌≤◌, Bool, true, false, List, [], ◌∷◌, ◌++◌, drop, refl, inl, inr, ◌⊎◌, sym, ap, subst, arith, ◌↔◌}
 use Rattle.std.proofs.lemmas.Bool.{false≢true}
 use Rattle.std.specs.Prelude.{ℤ, Option, Some, None}
@@ -45,7 +45,7 @@ module _ (limit top : ℕ) where
   abbrev here : Phase → ClaimState
   here p = at limit top p
 
-  -- letters in front
+  -- letters before a text
   in_front : (t : List Letter) (s new : ClaimState) → Walks claim_automaton s t new → SomeText new → SomeText s
   in_front t s new w (u, e, after, r) = (t ++ u, e, after, reads_behind claim_automaton t u s new after e w r)
 
@@ -124,7 +124,7 @@ module _ (limit top : ℕ) where
   some_text (phase.Shown x) z f d = shown_text x (literals_first true) (λ i. (refl, refl)) refl
   some_text phase.Done z f d = absurd (false≢true (sym d))
 
--- literals are shown, or none is read
+-- literals are shown, or no literal is being read
 shown_or_idle : (s : ClaimState) (p : Phase) → Holds s p → ((x : Showing) × (p ≡ phase.Shown x)) ⊎ (s.literals ≡ literals_first true)
 shown_or_idle s (phase.Shown x) h = inl (x, refl)
 shown_or_idle s _ h = inr h
@@ -175,11 +175,11 @@ claim_of_one = record {
   bounds = λ s. bounded s s.phase;
 }
 
--- Behind the line the machine has ended.
+-- After the line the machine has ended.
 pub claim_ends : (s after : ClaimState) (text : List Letter) (e : Conclusion) → Reads claim_automaton s text e after → after ≡ claim_last s.limit s.top
 claim_ends s after text e r = reads_last claim_automaton IsClaimInOrder last claim_of_one text s e after r
 
--- A new machine reads exactly the claims.
+-- A new machine reads exactly the conclusions.
 pub claim_reads : (limit top : ℕ) (text : List Letter) (e : Conclusion) (after : ClaimState) →
     Reads claim_automaton (claim_first limit top) text e after ↔ (SpellsClaim limit top e text × (after ≡ claim_last limit top))
 claim_reads limit top text e after = (

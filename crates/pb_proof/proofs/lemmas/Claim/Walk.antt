@@ -1,4 +1,4 @@
--- A machine of claims on the way through the parts of a claim.
+-- How the conclusion machine walks through the parts of a conclusion.
 use Rattle.std.proofs.Common.{◌≡◌, ℕ, ◌+◌, ◌<◌, Bool, true, false, cond, List, [], ◌∷◌, ◌++◌, length, drop, take, refl, sym, ap, subst, arith, ◌∙◌, append_assoc, length-append, take-append-drop}
 use Rattle.std.proofs.Math.Seq.{get_or-append_seam}
 use Rattle.std.proofs.lemmas.List.{length-take-le, append-nil}
@@ -36,7 +36,7 @@ module _ (limit top : ℕ) where
   abbrev pub at : Phase → ClaimState
   at p = claim_at limit top p
 
-  -- from each state of A a text of P leads to one of B
+  -- from each state of A, a text of P leads to one of B
   abbrev pub Carries : (ClaimState → Type 0) → Language → (ClaimState → Type 0) → Type 0
   Carries A P B = (s : ClaimState) (t : List Letter) → A s → P t → (new : ClaimState) × Walks claim_automaton s t new × B new
 
@@ -87,7 +87,7 @@ module _ (limit top : ℕ) where
             (spelled w more whole h (front ++ b ∷ []) left c (e ∙ sym (append_assoc front (b ∷ []) (c ∷ left)))),
       )
 
-  -- what is left of a word
+  -- the rest of a word
   pub left_walk : (w : List ℕ) (more : ℕ → Phase) (whole : Phase) → Spelled w more whole → (k : ℕ) → k < length w → Walks claim_automaton (at (more k)) (plain (drop k w)) (at whole)
   left_walk w more whole h k i = go (drop k w) (sym (take-append-drop k w))
     where
@@ -136,7 +136,7 @@ module _ (limit top : ℕ) where
   pub id_blanks : (x : Owner) → TakesBlanks claim_automaton (at (phase.BeforeId x)) (at (phase.BeforeId x))
   id_blanks x = blanks_behind (phase.BeforeId x) (phase.BeforeId x) (λ b h. rw h refl) (λ b h. rw h refl) refl refl
 
-  -- A state that does with each byte but a digit what that of a phase does.
+  -- A state that has, for each byte but a digit, the same step as that of a phase.
   abbrev pub Follows : Phase → ClaimState → Type 0
   Follows p s = (b : ℕ) → is_digit b ≡ false → claim_automaton.step s b ≡ claim_automaton.step (at p) b
 
@@ -149,7 +149,7 @@ module _ (limit top : ℕ) where
   pub between_blanks : (x : Bound) → TakesBlanks claim_automaton (at (phase.Between x)) (at (phase.Spaced x))
   between_blanks x = blanks_behind (phase.Between x) (phase.Spaced x) (λ b h. rw h refl) (λ b h. rw h refl) refl refl
 
-  -- the end of the line behind a claim
+  -- the end of the line after a conclusion
   semicolon_blanks : (c : Claim) → TakesBlanks claim_automaton (at (phase.Semicolon c)) (at (phase.Semicolon c))
   semicolon_blanks c = blanks_behind (phase.Semicolon c) (phase.Semicolon c) (λ b h. rw h refl) (λ b h. rw h refl) refl refl
 
@@ -163,7 +163,7 @@ module _ (limit top : ℕ) where
     last = record { blanks = semicolon_blanks c; ends = refl; ends_gap = refl };
   }
 
-  -- the plan behind a bound or an id is that behind the claim, whatever was read last
+  -- the transition after a bound or an id is that after the conclusion, whatever was read last
   act_cond : (p q : Phase) (b : ℕ) (c : Bool) (x y : Move) → act (at p) b x ≡ act (at q) b x → act (at p) b y ≡ act (at q) b y → act (at p) b (cond c x y) ≡ act (at q) b (cond c x y)
   act_cond p q b true x y h k = h
   act_cond p q b false x y h k = k

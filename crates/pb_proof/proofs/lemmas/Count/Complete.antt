@@ -1,4 +1,4 @@
--- A machine of counts reads each text of its grammar.
+-- The count machine reads each text of its grammar.
 use Rattle.std.proofs.Common.{◌≡◌, ℕ, ◌+◌, ◌*◌, ◌<◌, ◌≤◌, List, refl, sym, ap, subst, arith, ◌∙◌}
 use Rattle.std.proofs.lemmas.Bool.{le-leb}
 use Rattle.std.specs.Prelude.{IsTrue, Option, Some, None}

@@ -1,4 +1,4 @@
--- What a machine of counts has read in each of its states.
+-- What the count machine has read in each of its states.
 use Rattle.std.proofs.Common.{◌≡◌, ℕ, ◌+◌, ◌*◌, ◌≤◌, true, false, List, [], ◌∷◌, ◌++◌, refl, ◌∙◌}
 use Rattle.std.proofs.lemmas.Bool.{leb-true, cond_both}
 use Rattle.std.specs.Prelude.{IsTrue, nat_le, Option, Some, None}
@@ -23,7 +23,7 @@ use Rattle.pb_proof.proofs.lemmas.Line.ByteKinds.{NumberMeans, number_means}
 use Rattle.pb_proof.proofs.lemmas.Line.Ends as ends
 
 module _ (top : ℕ) where
-  -- what stands before the end of the line
+  -- what is read before the end of the line
   abbrev body : Option ℕ → Language
   body None = Empty
   body (Some n) = Blanks1 ⋅ Count top n
@@ -61,7 +61,7 @@ module _ (limit top : ℕ) where
   behind_sound count gap Feed l p i m h f = λ n. whole count (p ++ l ∷ []) (ends.line_behind_blanks (body top count) l p m n h)
   behind_sound count gap _ l p i m h f = tt
 
-  -- digits that are whole
+  -- complete digits
   counted : (n : ℕ) (p : List Letter) → n ≤ top → (Blanks1 ⋅ DigitsOf n) p → body top (Some n) p
   counted n p l h = behind_it Blanks1 (DigitsOf n) (Count top n) p (λ q k. (l, k)) h
 

@@ -1,4 +1,4 @@
--- The laws of the machine of counts.
+-- The laws of the count machine.
 use Rattle.std.proofs.Common.{◌≡◌, ℕ, ◌+◌, ◌*◌, ◌^◌, ◌<◌, true, false, List, [], ◌∷◌, refl, sym, ap, subst, arith, ◌↔◌}
 use Rattle.std.proofs.lemmas.Bool.{leb-true, cond_both}
 use Rattle.std.specs.Prelude.{nat_le, Option, Some, None}
@@ -24,7 +24,7 @@ use Rattle.pb_text.proofs.Living.{ReadsOn}
 abbrev N : Type 0
 N = Next CountState (Option ℕ)
 
--- What the plan leads to is midway, and a count in hand is at most top.
+-- The phase that `plan` leads to is midway, and a count that is being read is at most top.
 digits_fit : (top n d : ℕ) → MoveFits top (digits top n d)
 digits_fit top n d = cond_both (nat_le (10 * n + d) top) _ _ (MoveFits top) (λ e. (leb-true (10 * n + d) top e, refl)) (λ _. tt)
 
@@ -44,7 +44,7 @@ plan_fits top (Closing count) Blank = (tt, refl)
 plan_fits top (Closing count) Feed = tt
 plan_fits _ _ _ = tt
 
--- A step that goes on keeps what it has begun.
+-- What holds after a step that continues.
 record Steps (top : ℕ) (next : CountState) : Type 0 where
   same_top : next.top ≡ top
   fits : PhaseFits top next.phase
@@ -84,7 +84,7 @@ plain : (ph : CountPhase) → is_midway ph ≡ false → count_automaton.in_numb
 plain (Digits n) h = h
 plain _ h = refl
 
--- the line feed ends each state
+-- the line feed ends the line from each state
 some_text : (top : ℕ) (ph : CountPhase) → is_done ph ≡ false → ReadsOn count_automaton (at top ph)
 some_text top Start h = (unmarked 10 ∷ [], None, count_last top, (refl, refl))
 some_text top Gap h = (unmarked 10 ∷ [], None, count_last top, (refl, refl))
@@ -108,11 +108,11 @@ count_of_one = record {
   bounds = λ s. omega arith;
 }
 
--- Behind the line the machine has ended.
+-- After the line the machine has ended.
 pub count_ends : (s after : CountState) (text : List Letter) (e : Option ℕ) → Reads count_automaton s text e after → after ≡ count_last s.top
 count_ends s after text e r = reads_last count_automaton IsCountInOrder last count_of_one text s e after r
 
--- A new machine reads exactly what stands behind `f`.
+-- A new machine reads exactly the text after `f`.
 pub count_reads : (limit top : ℕ) (text : List Letter) (e : Option ℕ) (after : CountState) →
     Reads count_automaton (counting top) text e after ↔ (SpellsCount limit top e text × (after ≡ count_last top))
 count_reads limit top text e after = (

@@ -1,4 +1,4 @@
--- The digits of an id, taken at once, and the run that they are.
+-- The digits of an id that are taken in one call are a run of the automaton.
 use Rattle.std.proofs.Common.{◌≡◌, ℕ, ◌+◌, ◌-◌, ◌*◌, ◌<◌, ◌≤◌, ◌^◌, true, false, List, [], ◌∷◌, length, refl, subst, ap, arith, ◌∙◌}
 use Rattle.std.proofs.lemmas.Bool.{le-leb}
 use Rattle.std.specs.Prelude.{IsTrue, ℤ}

@@ -1,4 +1,4 @@
--- A machine of ids reads each text of its grammar.
+-- The ids machine reads each text of its grammar.
 use Rattle.std.proofs.Common.{◌≡◌, ℕ, ◌+◌, ◌*◌, ◌<◌, ◌≤◌, Bool, true, false, cond, List, [], ◌∷◌, ◌++◌, refl, sym, ap, subst, arith, append_assoc, ◌∙◌}
 use Rattle.std.proofs.lemmas.Bool.{le-leb}
 use Rattle.std.specs.Prelude.{IsTrue, ℤ, nat_eq}
@@ -41,7 +41,7 @@ module _ (limit top : ℕ) where
   by_digit : (s : S) (d : ℕ) → d < 10 → ids_automaton.step s (48 + d) ≡ step s (kind.Digit d)
   by_digit s d h = by_kind s (48 + d) (kind.Digit d) (number_digit d h)
 
-  -- The line may end here with these ids, and a further one may come.
+  -- The line may end here with these ids, or a further one may come.
   pub record IsBehind (ids : List ℤ) (s : S) : Type 0 where
     pub blank : (b : ℕ) → IsTrue (is_blank b) → ids_automaton.step s b ≡ Go (at ids Between)
     pub semicolon : ids_automaton.step s 59 ≡ Go (at ids Closing)
@@ -111,7 +111,7 @@ module _ (limit top : ℕ) where
       subst (λ x. Walks ids_automaton s x (at ids (Digits false n))) (sym (e ∙ ap (λ x. x ++ b) f))
       (digits_lead ids_automaton (λ v. at ids (Digits false v)) top (takes_digits ids false) s o.digit n l b h)
 
-  -- an id leads to where a further one may come
+  -- an id leads to a state after which a further one may come
   abbrev Led : S → List ℤ → List Letter → Type 0
   Led s ids t = (after : S) × Walks ids_automaton s t after × IsBehind ids after
 

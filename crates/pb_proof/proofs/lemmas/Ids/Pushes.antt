@@ -1,4 +1,4 @@
--- A push of a machine of ids does what was planned.
+-- A push of the ids machine does what its transition says.
 use Rattle.std.proofs.Common.{◌≡◌, ℕ, ◌<◌, ◌^◌, true, List, sym, ap, ◌∙◌}
 use Rattle.std.specs.Prelude.{IsTrue, ℤ}
 use Rattle.pb_text.specs.Automaton.{Refuse, Admits, IsState}
@@ -23,7 +23,7 @@ kept_acts top ids move.Stop h e = cc
 pub moved : (top : ℕ) (ids : List ℤ) (p : IdsPhase) (b : ℕ) (k : NumberByte) (m : IdsMove) → k ≡ number_byte b → m ≡ plan top p k → ids_automaton.step (ids_at top ids p) b ≡ act top ids m
 moved top ids p b k m f g = ap (λ x. act top ids x) (ap (λ x. plan top p x) (sym f) ∙ sym g)
 
--- memory is asked for at a byte that ends an id, and only where the byte is taken
+-- a push may allocate at a byte that ends an id, and only if the byte is taken
 pub wants : (top : ℕ) (ids : List ℤ) (p : IdsPhase) (b : ℕ) (k : NumberByte) (m : IdsMove) → IsIdsInOrder (ids_at top ids p) → k ≡ number_byte b → m ≡ plan top p k → keeps m ≡ true
     → IsTrue (ids_automaton.asks (ids_at top ids p) b) × Admits ids_automaton (ids_at top ids p) b
 wants top ids p b k m o f g h =
@@ -32,6 +32,6 @@ wants top ids p b k m o f g h =
       admits ids_automaton IsIdsInOrder _ ids_of_one (ids_at top ids p) b (act top ids m) o (ap (λ x. act top ids x) i) (kept_acts top ids m h),
     )
 
--- a state on the way through the ids
+-- a state within the ids
 pub midway_state : (top : ℕ) (ids : List ℤ) (p : IdsPhase) → top < 2 ^ 63 → 0 < top → PhaseFits top p → is_midway p ≡ true → IsState ids_automaton (ids_at top ids p)
 midway_state top ids p a b f h = ids_is_state (ids_at top ids p) (a, b, f, (λ i. never (is_midway p) h i))

@@ -1,4 +1,4 @@
--- What a machine of ids has read in each of its states.
+-- What the ids machine has read in each of its states.
 use Rattle.std.proofs.Common.{◌≡◌, ℕ, ◌+◌, ◌*◌, ◌<◌, ◌≤◌, Bool, true, false, List, [], ◌∷◌, ◌++◌, length, refl, sym, ap, subst, arith}
 use Rattle.std.proofs.lemmas.Bool.{leb-true, cond_both}
 use Rattle.std.proofs.lemmas.List.{length-append}
@@ -55,7 +55,7 @@ module _ (limit top : ℕ) where
   digits_sound ids negative n d l q h =
       cond_both (nat_le (10 * n + d) top) (move.To (Digits negative (10 * n + d))) move.Stop (λ m. OnNext (act top ids m) l q) (λ e _ i. (leb-true (10 * n + d) top e, h i)) (λ _. tt)
 
-  -- an id is whole
+  -- an id is complete
   id_ends : (ids : List ℤ) (negative : Bool) (n : ℕ) (p : List Letter) → 0 < n → n ≤ top → (Before top ids ⋅ Sign negative ⋅ DigitsOf n) p
       → Row top (ids ++ signed negative n ∷ []) p
   id_ends ids negative n p z i h =

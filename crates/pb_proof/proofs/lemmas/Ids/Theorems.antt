@@ -1,4 +1,4 @@
--- The laws of the machine of ids.
+-- The laws of the ids machine.
 use Rattle.std.proofs.Common.{◌≡◌, ℕ, zero, suc, ◌+◌, ◌*◌, ◌-◌, ◌^◌, ◌<◌, ◌≤◌, Bool, true, false, List, [], ◌∷◌, ◌++◌, length, refl, sym, ap, subst, arith, ◌↔◌}
 use Rattle.std.proofs.Math.Nat.{min-le_left}
 use Rattle.std.proofs.lemmas.Bool.{leb-true, le-leb, cond_both}
@@ -28,7 +28,7 @@ use Rattle.pb_text.proofs.Living.{ReadsOn}
 abbrev N : Type 0
 N = Next IdsState (List ℤ)
 
--- What the plan leads to is midway, and an id in hand is at most top.
+-- The phase that `plan` leads to is midway, and an id that is being read is at most top.
 digits_fit : (top : ℕ) (negative : Bool) (n d : ℕ) → MoveFits top (digits top negative n d)
 digits_fit top negative n d = cond_both (nat_le (10 * n + d) top) _ _ (MoveFits top) (λ e. (leb-true (10 * n + d) top e, refl)) (λ _. tt)
 
@@ -57,7 +57,7 @@ plan_fits top Closing kind.Blank = (tt, refl)
 plan_fits top Closing kind.Feed = tt
 plan_fits _ _ _ = tt
 
--- A step that goes on keeps what it has begun.
+-- What holds after a step that continues.
 record Steps (top : ℕ) (ids : List ℤ) (next : IdsState) : Type 0 where
   same_top : next.top ≡ top
   fits : PhaseFits top next.phase
@@ -167,7 +167,7 @@ ids_of_one = record {
   bounds = λ s. min-le_left (length s.ids) (2 ^ 64 - 1);
 }
 
--- Behind the line the machine has ended.
+-- After the line the machine has ended.
 pub ids_ends : (s after : IdsState) (text : List Letter) (e : List ℤ) → Reads ids_automaton s text e after → after ≡ ids_last s.top
 ids_ends s after text e r = reads_last ids_automaton IsIdsInOrder last ids_of_one text s e after r
 

@@ -1,4 +1,4 @@
--- Where the machines of ids, literals and linear texts ask.
+-- Where the machines of ids, literals and linear texts may allocate.
 use Rattle.std.proofs.Common.{◌≡◌, ℕ, ◌+◌, ◌-◌, ◌*◌, ◌<◌, Bool, true, false, cond, ◌||◌, List, [], ◌∷◌, ◌++◌, map, refl, sym, ap, subst, ◌∙◌, inl}
 use Rattle.std.proofs.lemmas.Bool.{false≢true, cond_both}
 use Rattle.std.specs.Prelude.{IsTrue, ℤ, nat_eq, nat_le}
@@ -39,7 +39,7 @@ use Rattle.pb_proof.proofs.lemmas.Ids.Sound as ids
 use Rattle.pb_proof.proofs.lemmas.Literals.Sound as sound
 use Rattle.pb_proof.proofs.lemmas.Line.ByteKinds.{NameMeans, name_means}
 
--- ---- what a text ends in
+-- ---- ends of texts
 pub joined_end : (a c t : List Letter) (end : List ℕ) → t ≡ a ++ c → EndsIn (bytes c) end → EndsIn (bytes t) end
 joined_end a c t end e h =
     subst (λ (x : List ℕ). EndsIn x end) (sym (ap bytes e ∙ bytes-append a c)) (ends_behind (bytes a) (bytes c) end h)
@@ -49,12 +49,12 @@ digits_last d [] h = (48 + d, ([], refl), digit_byte d h.0)
 digits_last d (e ∷ ds) h =
     let (c, f, k) = digits_last e ds h.1 in (c, ends_behind ((48 + d) ∷ []) (bytes (map digit (e ∷ ds))) (c ∷ []) f, k)
 
--- digits end in one
+-- digits end in a digit
 pub digits_end : (n : ℕ) (t : List Letter) → DigitsOf n t → (c : ℕ) × EndsIn (bytes t) (c ∷ []) × IsTrue (is_digit c)
 digits_end n t (d, ds, h, e, v) =
     let (c, f, k) = digits_last d ds h in (c, subst (λ (x : List Letter). EndsIn (bytes x) (c ∷ [])) (sym e) f, k)
 
--- behind digits, at a byte that is none
+-- after digits, at a byte that is not a digit
 pub number_end : (P : Language) (n : ℕ) (t : List Letter) (b : ℕ) → (P ⋅ DigitsOf n) t → is_digit b ≡ false → EndsNumber (bytes t) b
 number_end P n t b (a, c, e, h, k) dark =
     let (d, f, g) = digits_end n c k in (d, joined_end a c t (d ∷ []) e f, g, dark)

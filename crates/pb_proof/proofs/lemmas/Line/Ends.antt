@@ -1,4 +1,4 @@
--- How a machine reads the end of a line, and what it has read where a line may end.
+-- How a machine reads the end of a line, and what it has read at a position where a line may end.
 use Rattle.std.proofs.Common.{◌≡◌, ℕ, true, false, List, [], ◌∷◌, ◌++◌, refl, ap, subst, inl, inr, sym, ◌∙◌, append_assoc}
 use Rattle.std.proofs.lemmas.List.{append-nil}
 use Rattle.std.specs.Prelude.{IsTrue}
@@ -12,7 +12,7 @@ use Rattle.pb_text.proofs.Letters.{as_unmarked}
 use Rattle.pb_proof.specs.Lines.{Feed, LineEnd, Listed}
 
 module _ {S E : Type 0} (m : Automaton S E) where
-  -- A blank leads from the one state to the other, and from there no further.
+  -- A blank leads from `s` to `gap`, and further blanks stay there.
   pub record TakesBlanks (s gap : S) : Type 0 where
     pub enters : (b : ℕ) → IsTrue (is_blank b) → m.step s b ≡ Go gap
     pub stays : (b : ℕ) → IsTrue (is_blank b) → m.step gap b ≡ Go gap
@@ -24,22 +24,22 @@ module _ {S E : Type 0} (m : Automaton S E) where
   blanks_stay s gap h (b ∷ bs) i t e =
       subst (λ x. Walks m gap x gap) (sym e) (gap, h.stays b i.0, h.begun, sym h.plain, blanks_stay s gap h bs i.1 _ refl)
 
-  -- blank+ leads to the state behind it
+  -- blank+ leads from `s` to `gap`
   pub blanks1_lead : (s gap : S) → TakesBlanks s gap → Leads m s Blanks1 gap
   blanks1_lead s gap h t (b, bs, i, j, e) =
       subst (λ x. Walks m s x gap) (sym e) (gap, h.enters b i, h.begun, sym h.plain, blanks_stay s gap h bs j _ refl)
 
-  -- and blank* does where the state is that one
+  -- and blank* leads from `gap` to itself
   pub blanks0_lead : (gap : S) → TakesBlanks gap gap → Leads m gap Blanks0 gap
   blanks0_lead gap h t (bs, i, e) = blanks_stay gap gap h bs i t e
 
-  -- A line feed, with blanks before it or not, ends the line with an event.
+  -- A line feed, with or without blanks before it, ends the line with an event.
   pub record Feeds (s gap : S) (e : E) (after : S) : Type 0 where
     pub blanks : TakesBlanks s gap
     pub ends : m.step s 10 ≡ End e after
     pub ends_gap : m.step gap 10 ≡ End e after
 
-  -- blank*, and what stands behind it in either state
+  -- blank*, and the text after it, which either state reads
   pub behind_blanks : (s gap after : S) (e : E) (t u : List Letter) → TakesBlanks s gap → Blanks0 t → Reads m s u e after → Reads m gap u e after → Reads m s (t ++ u) e after
   behind_blanks s gap after e t u h ([], i, f) r q = subst (λ x. Reads m s (x ++ u) e after) (sym f) r
   behind_blanks s gap after e t u h (b ∷ bs, i, f) r q =
@@ -50,7 +50,7 @@ module _ {S E : Type 0} (m : Automaton S E) where
       subst (λ x. Reads m s x e after) (sym (f ∙ ap (λ x. a ++ x) g))
       (behind_blanks s gap after e a (unmarked 10 ∷ []) h.blanks i (h.ends, refl) (h.ends_gap, refl))
 
-  -- A line may end: at a line feed, or at a `;` that leads to the last state, with blanks before it or not.
+  -- A line may end: at a line feed, or at a `;` that leads to the last state. Blanks may come before either.
   pub record MayEnd (s gap closing : S) (e : E) (after : S) : Type 0 where
     pub feeds : Feeds s gap e after
     pub closes : m.step s 59 ≡ Go closing
@@ -75,7 +75,7 @@ module _ {S E : Type 0} (m : Automaton S E) where
       (semicolon_reads s closing after e c d h.closes h.begun h.plain p r)
       (semicolon_reads gap closing after e c d h.closes_gap h.begun h.plain p r))
 
--- What has been read where a line may end, behind a text of P: blanks, and then a `;` and blanks.
+-- What has been read where a line may end, after a text of P: blanks, and then a `;` and blanks.
 abbrev pub Gapped : Language → Language
 Gapped P = P ⋅ Blanks0
 
@@ -89,11 +89,11 @@ fed = ([], unmarked 10 ∷ [], refl, ([], tt, refl), refl)
 pub ended : LineEnd (unmarked 10 ∷ [])
 ended = inl fed
 
--- nothing behind a text
+-- nothing after a text
 pub nil_last : (P : Language) (p : List Letter) → (P ⋅ Empty) p → P p
 nil_last P p (a, b, e, h, k) = subst P (sym (e ∙ (ap (λ x. a ++ x) k ∙ append-nil a))) h
 
--- no blank yet, and some of them
+-- no blank yet, or some blanks
 pub gapped : (P : Language) (p : List Letter) → P p → Gapped P p
 gapped P p h = none_yet P Blanks0 p ([], tt, refl) h
 
@@ -157,7 +157,7 @@ module _ (P : Language) (l : Letter) (p : List Letter) where
       grown P (Blanks0 ⋅ Byte 59 ⋅ Blanks0) LineEnd p l
       (λ q i. inr (grown (Blanks0 ⋅ Byte 59) Blanks0 Feed q l (feed h n) i)) k
 
--- One more of a list, with blanks before it.
+-- One more item of a list, with blanks before it.
 module _ {A : Type 0} (P : A → Language) where
   pub listed_append : (xs : List A) (x : A) (p : List Letter) → (Listed P xs ⋅ Blanks1 ⋅ P x) p → Listed P (xs ++ x ∷ []) p
   listed_append [] x p (ab, c, e, (a, b, f, h, i), k) =
@@ -167,7 +167,7 @@ module _ {A : Type 0} (P : A → Language) where
       let L : Language = Listed P xs in
       behind_it B (L ⋅ Blanks1 ⋅ P x) (Listed P (xs ++ x ∷ [])) p (listed_append xs x) (regroup3 B L Blanks1 (P x) p h)
 
-  -- A state behind some of a list is led to one behind all of it, where each further one leads on.
+  -- If each further item leads on, a state after a part of a list leads to a state after the whole list.
   pub listed_walks : {S E : Type 0} (m : Automaton S E) (At : List A → S → Type 0)
       → ((xs : List A) (x : A) (s : S) (t : List Letter) → At xs s → (Blanks1 ⋅ P x) t → (next : S) × Walks m s t next × At (xs ++ x ∷ []) next)
       → (xs ys : List A) (s : S) (t : List Letter) → At xs s → Listed P ys t → (next : S) × Walks m s t next × At (xs ++ ys) next

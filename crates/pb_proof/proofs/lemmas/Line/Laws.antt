@@ -1,4 +1,4 @@
--- What stands behind the first word of a statement: what is known of the machines that read it.
+-- What holds of the machines that read the text after the first word of a statement.
 use Rattle.std.proofs.Common.{◌≡◌, ℕ, ◌<◌, ◌^◌, false, List, refl, sym, subst}
 use Rattle.pb_text.specs.Automaton.{Reads, IsState}
 use Rattle.pb_text.specs.Spelling.{Letter}
@@ -61,7 +61,7 @@ line_begins (line.TheVariants.Delete s) next b e = begins_in _ _ _ _ delete_carr
 line_begins (line.TheVariants.Conclusion s) next b e = begins_in _ _ _ _ conclusion_carries claim_of_one.begins s next b e
 
 module _ (limit top : ℕ) where
-  -- What a new one reads is what stands behind the first word.
+  -- What a new one reads is the text after the first word.
   pub line_only : (r : LineKind) (t : List Letter) (e : Statement) (after : LineMachine) → Reads line_automaton (line_first limit top r) t e after → SpellsRest limit top r e t
   line_only Count t e after h =
       let (c, last, f, k) = reads_out _ _ _ _ count_carries t (counting top) e after h in
@@ -101,7 +101,7 @@ module _ (limit top : ℕ) where
   line_each Conclusion t (statement.TheVariants.Conclude c) h = (line.TheVariants.Conclusion (claim_last limit top), reads_in _ _ _ _ conclusion_carries t (claim_first limit top) c (claim_last limit top) ((claim_reads limit top t c (claim_last limit top)).1 (h, refl)))
   line_each Conclusion t _ h = absurd h
 
-  -- Before its text none has begun or ended, and no number is read.
+  -- A new one has not begun, has not ended, and reads no number.
   pub line_fresh : (r : LineKind) → (line_automaton.done (line_first limit top r) ≡ false) × (line_automaton.begun (line_first limit top r) ≡ false) × (line_automaton.in_number (line_first limit top r) ≡ false)
   line_fresh Count = (refl, refl, refl)
   line_fresh Pol = (refl, refl, refl)
@@ -111,7 +111,7 @@ module _ (limit top : ℕ) where
   line_fresh Delete = (refl, refl, refl)
   line_fresh Conclusion = (refl, refl, refl)
 
-  -- It is a state, where there are ids.
+  -- A new one satisfies `IsState`, if there are ids.
   pub line_first_state : limit < 2 ^ 127 → top < 2 ^ 63 → 0 < top → (r : LineKind) → IsState line_automaton (line_first limit top r)
   line_first_state l t some Count = state_in _ _ _ _ count_carries (counting top) (count_is_state (counting top) (t, tt))
   line_first_state l t some Pol = state_in _ _ _ _ pol_carries (pol_first limit top) (pol_is_state (pol_first limit top) (pol_first_in_order limit top some))

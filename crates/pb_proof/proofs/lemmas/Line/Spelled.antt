@@ -1,4 +1,4 @@
--- The canonical text of a statement that meets the rules spells it.
+-- The canonical text of a statement that meets the rules is a text of it.
 use Rattle.std.proofs.Common.{ℕ, suc, ◌<◌, ◌≤◌, ◌^◌, List, [], ◌∷◌, ◌++◌, refl, arith, true, false, Option, Some, None, All}
 use Rattle.std.specs.Prelude.{ℤ, pos, negsuc, decimal}
 use Rattle.std.proofs.lemmas.Int.{ints}

@@ -64,12 +64,12 @@ claim_text (Sat shown) = plain sat_word ++ shown_text shown
 claim_text (Bounds lower id upper shown) =
     plain bounds_word ++ space ++ bound_text lower ++ id_shown_text id ++ space ++ bound_text upper ++ shown_text shown
 
--- what stands behind `f`
+-- the text after `f`
 abbrev pub count_text : Option ℕ → List Letter
 count_text None = feed
 count_text (Some n) = space ++ digits_of (decimal n) ++ feed
 
--- a statement with its line feed, where it has one
+-- a statement with its line feed, if it has one
 abbrev pub line_text : Statement → List Letter
 line_text Header = plain pseudo_word ++ space ++ plain proof_word ++ space ++ plain version_word ++ space ++ plain two_word ++ feed
 line_text (F count) = plain f_word ++ count_text count
@@ -93,7 +93,7 @@ join a b x y h k = bytes-append a b ∙ ap₂ (λ (p q : List ℕ). p ++ q) h k
 bytes-literal : (l : Literal) → bytes (literal_text l) ≡ literal_line l
 bytes-literal l = bytes-plain (literal_bytes l.negated l.name)
 
--- with a space and one byte behind it
+-- with a space and one byte after it
 behind : (a : List Letter) (x : List ℕ) (b : ℕ) → bytes a ≡ x → bytes (a ++ space ++ one b) ≡ x ++ (32 ∷ b ∷ [])
 behind a x b h = join (a ++ space) (one b) (x ++ (32 ∷ [])) (b ∷ []) (join a space x (32 ∷ []) h refl) refl ∙ append_assoc x (32 ∷ []) (b ∷ [])
 

@@ -1,4 +1,4 @@
--- A machine of literals reads each text of its grammar.
+-- The literals machine reads each text of its grammar.
 use Rattle.std.proofs.Common.{◌≡◌, ℕ, Bool, true, false, List, [], ◌∷◌, ◌++◌, map, refl, sym, ap, subst, inl, inr, append_assoc, ◌∙◌}
 use Rattle.std.proofs.lemmas.List.{append-nil}
 use Rattle.std.specs.Prelude.{IsTrue}
@@ -34,7 +34,7 @@ module _ (joined : Bool) where
   by_kind : (s : S) (b : ℕ) (k : NameByte) → name_byte b ≡ k → literals_automaton.step s b ≡ step s k
   by_kind s b k e = ap (λ x. step s x) e
 
-  -- The line may end here with these literals, and a further one may come.
+  -- The line may end here with these literals, or a further one may come.
   pub record IsBehind (ls : List Literal) (s : S) : Type 0 where
     pub blank : (b : ℕ) → IsTrue (is_blank b) → literals_automaton.step s b ≡ Go (at_gap ls)
     pub semicolon : literals_automaton.step s 59 ≡ Go (at_closing ls)
@@ -163,7 +163,7 @@ first_behind false = record { blank = λ b h. by_kind false (literals_first fals
 first_opens : Opens true [] (literals_first true)
 first_opens = record { tilde = refl; letter = λ b h. by_kind true (literals_first true) b (kind.Letter b) (name_letter b h) }
 
--- the first literal where it is joined
+-- the first literal, if it is joined
 first_joined : (l : Literal) (t : List Letter) → (Blanks0 ⋅ SpellsLiteral l) t → Walks literals_automaton (literals_first true) t (at_more true [] l.negated l.name)
 first_joined l t (a, b, e, ([], i, f), k) =
     let g : t ≡ b = e ∙ ap (λ x. x ++ b) f in

@@ -1,4 +1,4 @@
--- A push of a machine of literals does what was planned.
+-- A push of the literals machine does what its transition says.
 use Rattle.std.proofs.Common.{◌≡◌, ℕ, ◌+◌, ◌-◌, ◌^◌, ◌<◌, min, take, get_or, Bool, true, ◌||◌, List, [], length, sym, ap, ◌∙◌}
 use Rattle.std.proofs.lemmas.List.{take_more}
 use Rattle.std.specs.Prelude.{IsTrue}
@@ -35,7 +35,7 @@ module _ (joined : Bool) (ls : List Literal) (name : List ℕ) (p : LiteralsPhas
       → literals_automaton.step (literals_at joined ls name p) b ≡ act joined (flushed p ls name) ls name m
   moved m f g = ap (λ x. act joined (flushed p ls name) ls name x) (planned m f g)
 
-  -- memory is asked for at a byte of a name or one that ends a literal, and only where the byte is taken
+  -- a push may allocate at a byte of a name or one that ends a literal, and only if the byte is taken
   pub wants : (m : LiteralsMove) → IsLiteralsInOrder (literals_at joined ls name p) → k ≡ name_byte b → m ≡ plan joined p k → IsTaken m
       → (adds m || is_more p) ≡ true → IsTrue (literals_automaton.asks (literals_at joined ls name p) b) × Admits literals_automaton (literals_at joined ls name p) b
   wants m o f g t a = (
@@ -52,11 +52,11 @@ module _ (joined : Bool) (ls : List Literal) (name : List ℕ) (p : LiteralsPhas
 pub same_state : (joined : Bool) (ls ms : List Literal) (m n : List ℕ) (p q : LiteralsPhase) → ls ≡ ms → m ≡ n → p ≡ q → literals_at joined ls m p ≡ literals_at joined ms n q
 same_state joined ls ms m n p q e f g = cc
 
--- a state on the way through the literals
+-- a state within the literals
 pub midway_state : (joined : Bool) (ls : List Literal) (name : List ℕ) (q : LiteralsPhase) → is_midway q ≡ true → IsState literals_automaton (literals_at joined ls name q)
 midway_state joined ls name q h = literals_is_state (literals_at joined ls name q) (λ i. never (is_midway q) h i)
 
--- a count that stays at its largest
+-- a count that stays at its maximum
 pub count_more : (ls : List Literal) (i : ℕ) (d : Literal) (c m r : ℕ) → i < length ls → c ≡ min (units (take i ls)) (2 ^ 64 - 1) → m ≡ min (length (get_or ls i d).name + 1) (2 ^ 64 - 1)
     → r ≡ min (c + m) (2 ^ 64 - 1) → r ≡ min (units (take (i + 1) ls)) (2 ^ 64 - 1)
 count_more ls i d c m r h e f g =

@@ -1,4 +1,4 @@
--- What a machine of literals has read in each of its states.
+-- What the literals machine has read in each of its states.
 use Rattle.std.proofs.Common.{◌≡◌, ℕ, Bool, true, false, cond, List, [], ◌∷◌, ◌++◌, refl, sym, ap, subst, ◌∙◌}
 use Rattle.std.specs.Prelude.{IsTrue}
 use Rattle.pb_text.proofs.Languages.{grown, next, regroup3, none_yet, behind_it, nil_first}
@@ -23,13 +23,13 @@ use Rattle.pb_proof.proofs.lemmas.Line.ByteKinds.{NameMeans, name_means}
 use Rattle.pb_proof.proofs.lemmas.Literals.Names.{first_grown, more_grown}
 use Rattle.pb_proof.proofs.lemmas.Line.Ends as ends
 
--- what stands before the end of the line
+-- what is read before the end of the line
 abbrev pub Row : Bool → List Literal → Language
 Row false ls = Listed SpellsLiteral ls
 Row true [] = Empty
 Row true (l ∷ ls) = Blanks0 ⋅ SpellsLiteral l ⋅ Listed SpellsLiteral ls
 
--- what stands before a further literal
+-- what is read before a further literal
 abbrev pub Before : Bool → List Literal → Language
 Before false ls = Listed SpellsLiteral ls ⋅ Blanks1
 Before true [] = Blanks0

@@ -1,4 +1,4 @@
--- The laws of the machine of literals.
+-- The laws of the literals machine.
 use Rattle.std.proofs.Common.{◌≡◌, ℕ, ◌+◌, ◌-◌, ◌^◌, ◌≤◌, Bool, true, false, cond, List, [], ◌∷◌, ◌++◌, length, refl, sym, ap, subst, arith, ◌↔◌}
 use Rattle.std.proofs.Math.Nat.{min-le_left}
 use Rattle.std.proofs.lemmas.List.{length-append}
@@ -26,7 +26,7 @@ use Rattle.pb_text.proofs.Living.{ReadsOn}
 abbrev N : Type 0
 N = Next LiteralsState (List Literal)
 
--- What a move from a phase leads to is midway, and a literal is in hand where a name has begun.
+-- The phase that a move leads to is midway, and a literal is being read if a name has begun.
 abbrev IsSane : Bool → LiteralsPhase → LiteralsMove → Type 0
 IsSane joined ph (move.TheVariants.To q) = (is_midway q ≡ true) × (in_hand q ≡ 0)
 IsSane joined ph (move.TheVariants.Begin q b) = (is_midway q ≡ true) × (in_hand q + ready joined q ≡ 1) × (ready joined ph ≡ 1)
@@ -63,7 +63,7 @@ midway_begun : (joined : Bool) (ph : LiteralsPhase) → is_midway ph ≡ true �
 midway_begun joined Start h = cc
 midway_begun joined _ h = h
 
--- what is kept grows by one unit a byte at most
+-- what is stored grows by at most one unit per byte
 pub units_append : (ls : List Literal) (l : Literal) → units (ls ++ l ∷ []) ≡ units ls + (1 + length l.name)
 units_append [] l = omega arith
 units_append (x ∷ ls) l = omega (arith, units_append ls l)
@@ -83,7 +83,7 @@ ready_one joined _ = omega arith
 abbrev spent : LiteralsState → ℕ
 spent s = all_units s + ready s.joined s.phase
 
--- A step that goes on keeps what it has begun.
+-- What holds after a step that continues.
 record Steps (s next : LiteralsState) : Type 0 where
   midway : is_midway next.phase ≡ true
   joined : next.joined ≡ s.joined
@@ -179,7 +179,7 @@ literals_of_one = record {
   bounds = λ s. omega (arith, min-le_left (all_units s) (2 ^ 64 - 1));
 }
 
--- Behind the line the machine has ended.
+-- After the line the machine has ended.
 pub literals_ends : (s after : LiteralsState) (text : List Letter) (e : List Literal) → Reads literals_automaton s text e after → after ≡ literals_last s.joined
 literals_ends s after text e r = reads_last literals_automaton IsLiteralsInOrder last literals_of_one text s e after r
 

@@ -1,4 +1,4 @@
--- Each state that a machine of proofs can be in has texts before it.
+-- From each state that the proof machine can be in, some text is accepted.
 use Rattle.std.proofs.Common.{◌≡◌, ℕ, ◌+◌, ◌<◌, Bool, true, false, List, [], ◌∷◌, ◌++◌, length, take, drop, refl, sym, subst, ◌∙◌, arith, append_assoc, length-append, Some, None, ◌^◌, suc}
 use Rattle.std.proofs.Math.Seq.{split_at}
 use Rattle.std.proofs.lemmas.List.{length-take-le}
@@ -32,7 +32,7 @@ use Rattle.pb_proof.proofs.lemmas.Machine.Orders.{ordered_each}
 use Rattle.pb_proof.proofs.lemmas.Spaced.{Spaced, One, chooses, KeywordWords, keyword_only}
 use Rattle.pb_proof.proofs.lemmas.Line.Ends.{fed, ended}
 
--- words as they are written
+-- the words as they are written
 one_plain : (c : ℕ) → One c (unmarked c ∷ [])
 one_plain c = by_test (nat_eq c 32) refl
   where
@@ -50,7 +50,7 @@ written f = keyword_only f (plain (words_of f)) (plain_spaced (words_of f))
 abbrev item : List Letter → Statement → Item Statement
 item text e = record { gap = []; text = text; event = e }
 
--- what may come at a stage, for one
+-- an example of what may come at each stage
 abbrev closing_lines : List (Item Statement)
 closing_lines = item (plain (words_of keyword.End)) statement.TheVariants.End ∷ []
 
@@ -155,14 +155,14 @@ module _ (limit top : ℕ) where
         subst (λ j. IsAlive proofs (spelt limit top f j)) (length-take-le k (words_of f) (omega arith))
         (spelling_on f (take k (words_of f)) (drop (suc k) (words_of f)) (slice_index (words_of f) k) (split_at (words_of f) k 0 h))
 
--- the state, where no machine stands behind the words
+-- the state, if it has no line machine
 is_at : (s : ProofState) (p : Phase) → s.phase ≡ p → s.line ≡ None → s ≡ at s.limit s.top p
 is_at s p e h = rw (e, h) refl
 
 at_accepts : (s : ProofState) (p : Phase) → s.phase ≡ p → s.line ≡ None → IsAlive proofs (at s.limit s.top p) → (items : List (Item Statement)) × Accepts proofs s items
 at_accepts s p e h alive = accepted proofs s (subst (IsAlive proofs) (sym (is_at s p e h)) alive)
 
--- behind a comment's line feed
+-- after the line feed of a comment
 comment_accepts : (limit top : ℕ) (s : Stage) → HasGaps s → (items : List (Item Statement)) → Accepts proofs (idle limit top s) items → (items' : List (Item Statement)) × Accepts proofs (at limit top (phase.Comment s)) items'
 comment_accepts limit top Opening h items a = absurd h
 comment_accepts limit top Complete h items a = absurd h
@@ -178,7 +178,7 @@ comment_accepts limit top s h [] a = absurd (none s h a)
 comment_accepts limit top s h (i ∷ items) (mid, after, g, r, a) =
     (record { gap = 10 ∷ i.gap; text = i.text; event = i.event } ∷ items, (mid, after, (idle limit top s, refl, refl, g), r, a))
 
--- what a state accepts, by what it has read last
+-- what a state accepts, by its phase
 by_phase : (s : ProofState) → IsInOrder s → (p : Phase) → s.phase ≡ p → PhaseFits p → Holds s p → (items : List (Item Statement)) × Accepts proofs s items
 by_phase s order (phase.Between here) e fits h =
     (example here, subst (λ x. Accepts proofs x (example here)) (sym (is_at s (phase.Between here) e h)) (stage_accepts s.limit s.top here))

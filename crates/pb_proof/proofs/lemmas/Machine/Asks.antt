@@ -1,4 +1,4 @@
--- Where a machine of proofs asks, the next byte stands at a place of its statement that asks.
+-- If the proof machine may allocate at a byte, that byte is at a position of its statement that may allocate.
 use Rattle.std.proofs.Common.{◌≡◌, ℕ, Bool, true, false, List, [], ◌∷◌, ◌++◌, refl, sym, ap, subst, ◌∙◌, Some, None}
 use Rattle.std.proofs.lemmas.Bool.{false≢true}
 use Rattle.std.specs.Prelude.{IsTrue, nat_eq}
@@ -42,7 +42,7 @@ use Rattle.pb_proof.proofs.lemmas.Machine.Exact.{reads_proofs}
 use Rattle.pb_proof.proofs.lemmas.Machine.Sound as sound
 
 module _ (limit top : ℕ) where
-  -- behind the first word
+  -- after the first word
   line_asks : (r : LineKind) (q more : List Letter) (l : Letter) (i last : LineMachine) (e : Statement) → Walks line_automaton (line_first limit top r) q i → Reads line_automaton i (l ∷ more) e last
       → line_automaton.asks i l.byte ≡ true → AsksBehind e (bytes q) l.byte
   line_asks kind.Count q more l i last e w r h =
@@ -73,7 +73,7 @@ module _ (limit top : ℕ) where
       let (v, after, same, j) = reads_out _ _ _ _ conclusion_carries (l ∷ more) s e last (subst (λ x. Reads line_automaton x (l ∷ more) e last) is r) in
       subst (λ y. AsksBehind y (bytes q) l.byte) (sym same) (claim_asked limit top q more l s after v k j (subst (λ x. line_automaton.asks x l.byte ≡ true) is h))
 
-  -- the first word of such a statement
+  -- the first word of a statement that may allocate
   first_word : (r : LineKind) (e : Statement) (t word : List Letter) (text : List ℕ) (b : ℕ) → SpellsRest limit top r e t → sound.Before r word → AsksBehind e text b → FirstWord e word
   first_word kind.Count (statement.F c) t word text b h k a = absurd a
   first_word kind.Count _ t word text b h k a = absurd h
@@ -90,7 +90,7 @@ module _ (limit top : ℕ) where
   first_word kind.Conclusion (statement.Conclude c) t word text b h k a = k
   first_word kind.Conclusion _ t word text b h k a = absurd h
 
-  -- Behind the first word, what is read is read by the machine there.
+  -- After the first word, the line machine reads.
   line_step : (s : ProofState) (b : ℕ) (r : LineKind) (i : LineMachine) → s.phase ≡ phase.Inside r → s.line ≡ Some i → proofs.step s b ≡ over s r (line_automaton.step i b)
   line_step s b r i e f = ap (λ q. act s b (plan q b)) e ∙ ap (λ x. over s r (step_line x b)) f
 
@@ -137,7 +137,7 @@ module _ (limit top : ℕ) where
       let k : InGap (proofs.step s b) (proofs.asks s b) = subst (λ x. InGap (proofs.step x b) (proofs.asks x b)) (sym e) (gap_move p b (plan p b)) in
       (subst (λ x. InGap x (proofs.asks s b)) g k) o
 
-  -- no statement begins within a comment
+  -- no statement begins in a comment
   not_in_comment : {A : Type 0} (st : Stage) (t : List Letter) (e : Statement) (next : ProofState) → Reads proofs (at limit top (phase.Comment st)) t e next → A
   not_in_comment st [] e next r = absurd r
   not_in_comment st (l ∷ []) e next (h, n) = absurd (let f : ⊥ = cc in f)
@@ -166,7 +166,7 @@ module _ (limit top : ℕ) where
       from_idle (Idle next) p t e next i h
       (λ st is. (phase.Between (stage_after e), (sound.statement_only limit top st t e next (subst (λ q. Reads proofs (at limit top q) t e next) is h)).2, refl))
 
-  -- where no machine reads behind a first word, nothing asks
+  -- without a line machine, no byte may allocate
   quiet : (s : ProofState) (b : ℕ) (m : Move) → s.line ≡ None → asks s b m ≡ false
   quiet s b (To p) e = refl
   quiet s b (Begin r) e = refl
@@ -205,7 +205,7 @@ module _ (limit top : ℕ) where
       (subst (λ q. Walks proofs (at limit top q) front s) is walk) ((refl, refl), (refl, refl, refl)) in
       by_phase st s next front more l e r s.phase refl k.1 a)
 
-  -- behind these bytes of a proof
+  -- after these bytes of a proof
   pub asks_only : (used : List ℕ) (b : ℕ) → MayAsk proofs (begin limit top) used b → AsksOnly (IsProof limit top) Asks used b
   asks_only used b (s, lead, a) items more h e =
       asked.asks_within proofs Idle Asks (record { gaps = gaps; ends = ends; texts = texts }) (begin limit top) used b (phase.Between Opening, refl, refl) s lead a items more ((reads_proofs limit top items).1 h) e

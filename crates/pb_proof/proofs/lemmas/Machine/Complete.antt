@@ -1,4 +1,4 @@
--- The machine of proofs reads each statement from its stage on.
+-- The proof machine reads each statement from its stage.
 use Rattle.std.proofs.lemmas.Bool.{eqb-true, and_parts, false_from_ne_true, eq-eqb, not-true}
 use Rattle.std.proofs.Common.{◌≡◌, ℕ, ◌+◌, ◌-◌, Bool, true, false, cond, not, ◌&&◌, ◌||◌, List, [], ◌∷◌, ◌++◌, length, refl, sym, ap, ap₂, subst, ◌∙◌, arith, append_assoc, length-append}
 use Rattle.std.proofs.Math.Seq.{get_or-append_seam}
@@ -32,7 +32,7 @@ use Rattle.pb_proof.proofs.lemmas.Line.Ends.{Feeds, feed_reads, MayEnd, line_rea
 use Rattle.pb_proof.proofs.lemmas.Machine.Sound.{stage_keyword, Before}
 use Rattle.pb_proof.proofs.lemmas.Spaced.{Spaced, One, chooses, KeywordWords, keyword_each}
 
--- Behind a space of the words stands a byte that is no blank.
+-- In the words, the byte after a space is not a blank.
 abbrev dark_first : List ℕ → Bool
 dark_first [] = false
 dark_first (c ∷ cs) = not (is_blank c)
@@ -59,7 +59,7 @@ laid_later (c ∷ front) more h = laid_later front more (and_parts (not (nat_eq 
 laid_dark : (x : ℕ) (more : List ℕ) → is_laid (32 ∷ x ∷ more) ≡ true → is_blank x ≡ false
 laid_dark x more h = not-true (is_blank x) (and_parts (not (is_blank x)) (is_laid (x ∷ more)) h).0
 
--- a blank meets no byte that is none
+-- a blank does not match a byte that is not blank
 dark_blank : (x b : ℕ) → is_blank x ≡ false → is_blank b ≡ true → meets x b ≡ false
 dark_blank x b d h = by_test (nat_eq x 32) refl
   where
@@ -67,12 +67,12 @@ dark_blank x b d h = by_test (nat_eq x 32) refl
     by_test true e = absurd (never (is_blank x) (subst (λ y. is_blank y ≡ true) (sym (eqb-true x 32 e)) refl) d)
     by_test false e = false_from_ne_true (nat_eq b x) (λ k. never (is_blank b) h (subst (λ y. is_blank y ≡ false) (sym (eqb-true b x k)) d))
 
--- a byte of the words meets itself
+-- a byte of the words matches itself
 
 meets_self : (c : ℕ) → nat_eq c 32 ≡ false → meets c c ≡ true
 meets_self c e = rw (e, eq-eqb c c refl) refl
 
--- and a space does too
+-- and so does a space
 pub meets_any : (c : ℕ) → meets c c ≡ true
 meets_any c = by_test (nat_eq c 32) refl
   where
@@ -84,14 +84,14 @@ meets_blank : (c b : ℕ) → nat_eq c 32 ≡ true → is_blank b ≡ true → m
 meets_blank c b e h = rw (e, h) refl
 
 module _ (limit top : ℕ) where
-  -- so many bytes of the words
+  -- after `k` bytes of the words
   abbrev pub spelt : Keyword → ℕ → ProofState
   spelt f k = at limit top (phase.Spelling f k)
 
   at_seam : (f : Keyword) (front left : List ℕ) (c : ℕ) → words_of f ≡ front ++ c ∷ left → slice_index (words_of f) (length front) ≡ c
   at_seam f front left c e = ap (λ y. slice_index y (length front)) e ∙ get_or-append_seam front c left 0
 
-  -- the next byte is met, and it is the last or not
+  -- the next byte matches; `x` says whether it is the last
   spell_next : (f : Keyword) (front left : List ℕ) (c b : ℕ) (x : Bool) (other : Move) → words_of f ≡ front ++ c ∷ left → meets c b ≡ true → nat_eq (length front + 1) (length (words_of f)) ≡ x
       → spell f (length front) b other ≡ cond x (behind f) (move.To (phase.Spelling f (length front + 1)))
   spell_next f front left c b x other e m n =
@@ -115,7 +115,7 @@ module _ (limit top : ℕ) where
   pub step_last : (f : Keyword) (front : List ℕ) (c b : ℕ) → words_of f ≡ front ++ c ∷ [] → meets c b ≡ true → proofs.step (spelt f (length front)) b ≡ act (spelt f (length front)) b (behind f)
   step_last f front c b e m = ap (act (spelt f (length front)) b) (spell_next f front [] c b true _ e m (last_left f front c e))
 
-  -- more blanks behind a space
+  -- more blanks after a space
   blank_stays : (f : Keyword) (front left : List ℕ) (d b : ℕ) → words_of f ≡ front ++ 32 ∷ d ∷ left → is_blank b ≡ true → proofs.step (spelt f (length front + 1)) b ≡ Go (spelt f (length front + 1))
   blank_stays f front left d b e h =
       let j : length front + 1 ≡ length (front ++ 32 ∷ []) = sym (length-append front (32 ∷ [])) in
@@ -133,7 +133,7 @@ module _ (limit top : ℕ) where
   blanks_stay f front left d e (b ∷ bs) h =
       (spelt f (length front + 1), blank_stays f front left d b e h.0, refl, refl, blanks_stay f front left d e bs h.1)
 
-  -- a byte of the words, or blanks
+  -- one byte of the words, or blanks
   one_walks : (f : Keyword) (front left : List ℕ) (c d : ℕ) (t : List Letter) → words_of f ≡ front ++ c ∷ d ∷ left → One c t → Walks proofs (spelt f (length front)) t (spelt f (length front + 1))
   one_walks f front left c d t e h = by_test (nat_eq c 32) refl h
     where
@@ -151,7 +151,7 @@ module _ (limit top : ℕ) where
           subst (λ x. Walks proofs (spelt f (length front)) x (spelt f (length front + 1))) (sym g)
           (spelt f (length front + 1), step_on f front left c d c e (meets_self c s), refl, refl, refl)
 
-  -- Words but for their last byte, which is no space.
+  -- The words without their last byte, which is not a space.
   record Split (f : Keyword) (front : List ℕ) (c : ℕ) (left : List ℕ) (t : List Letter) : Type 0 where
     pub init : List ℕ
     pub final : ℕ
@@ -188,7 +188,7 @@ module _ (limit top : ℕ) where
         last = s.last;
       }
 
-  -- The last byte of the words is no space.
+  -- The last byte of the words is not a space.
   last_dark : (f : Keyword) (init : List ℕ) (c : ℕ) → words_of f ≡ init ++ c ∷ [] → nat_eq c 32 ≡ false
   last_dark f init c e = by_or_dark (and_parts (not (nat_eq c 32) || false) true (laid_later init (c ∷ []) (subst (λ x. is_laid x ≡ true) e (words_laid f)))).0
     where
@@ -199,7 +199,7 @@ module _ (limit top : ℕ) where
           at_test true g = sym g
           at_test false g = refl
 
-  -- a text of the words: the way up to the last letter, and what that does
+  -- a text of the words: the walk to its last letter, and the step at that letter
   record Spelled (f : Keyword) (t : List Letter) : Type 0 where
     pub count : ℕ
     pub text : List Letter
@@ -232,7 +232,7 @@ module _ (limit top : ℕ) where
   spelled_words keyword.Conclusion t h = to_spelled keyword.Conclusion _ _ t refl (splits keyword.Conclusion [] _ _ t refl h)
   spelled_words keyword.End t h = to_spelled keyword.End _ _ t refl (splits keyword.End [] _ _ t refl h)
 
-  -- The first byte of the words does from the stage what it does within them.
+  -- From the stage, the first byte of the words has the same step as within the words.
   abbrev first_byte : Keyword → ℕ
   first_byte f = slice_index (words_of f) 0
 
@@ -258,7 +258,7 @@ module _ (limit top : ℕ) where
   begins_with keyword.Conclusion t (a, b, e, h, k) = (b, e ∙ ap (λ x. x ++ b) h)
   begins_with keyword.End t (a, b, e, h, k) = (b, e ∙ ap (λ x. x ++ b) h)
 
-  -- From the stage the words, and what is read behind them.
+  -- From the stage, the words and the text after them are read.
   entered : (f : Keyword) (t u : List Letter) (e : Statement) (after : ProofState) → Spaced (words_of f) t → Reads proofs (spelt f 0) (t ++ u) e after
       → Reads proofs (idle limit top (stage_keyword f)) (t ++ u) e after
   entered f t u e after h r =
@@ -288,7 +288,7 @@ module _ (limit top : ℕ) where
       (entered keyword.End t [] statement.TheVariants.End (idle limit top Complete) spaced
       (subst (λ x. Reads proofs (spelt keyword.End 0) x statement.TheVariants.End (idle limit top Complete)) (sym (append-nil t)) r))
 
-  -- the ends of lines
+  -- the states at the ends of lines
   abbrev pub header_end : ProofState
   header_end = at limit top phase.HeaderEnd
 
@@ -319,7 +319,7 @@ module _ (limit top : ℕ) where
     last = output_feeds false;
   }
 
-  -- what the machine behind the words reads
+  -- what the line machine reads, the proof machine reads
   pub given_reads : (r : LineKind) (t : List Letter) (i last : LineMachine) (e : Statement) → Reads line_automaton i t e last → Reads proofs (giving limit top r i) t e (idle limit top (stage_behind r))
   given_reads r [] i last e h = absurd h
   given_reads r (l ∷ []) i last e (g, n) = (ap (over (giving limit top r i) r) g, n)
@@ -335,7 +335,7 @@ module _ (limit top : ℕ) where
   abbrev begun_rest : LineKind → ProofState
   begun_rest r = giving limit top r (line_first limit top r)
 
-  -- behind `soli` and `solx`
+  -- after `soli` and `solx`
   solution_then : (b : ℕ) (r : LineKind) (t u : List Letter) (e : Statement) (after : ProofState) → plan phase.Solution b ≡ move.Begin r → t ≡ plain sol_word ++ unmarked b ∷ []
       → Reads proofs (begun_rest r) u e after → Reads proofs (idle limit top Steps) (t ++ u) e after
   solution_then b r t u e after g f h =

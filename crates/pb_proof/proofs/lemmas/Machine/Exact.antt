@@ -1,5 +1,5 @@
--- The statements of a proof in order, and the machine that accepts exactly these.
-use Rattle.std.proofs.Common.{◌≡◌, ℕ, true, false, List, [], ◌∷◌, ◌++◌, refl, sym, ap, subst, ◌↔◌, arith}
+-- The statements of a proof in order: the proof machine accepts exactly these.
+use Rattle.std.proofs.Common.{◌≡◌, ℕ, true, false, List, [], ◌∷◌, ◌++◌, refl, sym, ap, subst, ◌↔◌}
 use Rattle.std.proofs.lemmas.List.Elements.{All-nil, All-cons, All-head, All-tail}
 use Rattle.std.specs.Prelude.{IsTrue, All}
 use Rattle.pb_text.specs.Automaton.{Refuse, Accepts}
@@ -11,6 +11,7 @@ use Rattle.pb_proof.specs.Order.{stage_of, stage_after, GapAt, IsOrdered}
 use Rattle.pb_text.proofs.Deterministic.{one_spelling}
 use Rattle.pb_text.proofs.Booleans.{never}
 use Rattle.pb_proof.specs.Formats.{OneProof}
+use Rattle.pb_text.specs.Blank.{Nothing}
 use Rattle.pb_proof.specs.Proofs.{IsGap, IsStep, statements_of, AreSpelled, BeginsAtOnce, IsProof}
 use Rattle.pb_proof.specs.Machine.State.{ProofState, proofs, begin, act, is_done}
 use Rattle.pb_proof.specs.declared.conclusion.Conclusion.{Conclusion}
@@ -28,7 +29,7 @@ abbrev InOrder : Stage → List Statement → Type 0
 InOrder at [] = at ≡ Complete
 InOrder at (e ∷ es) = (stage_of e ≡ at) × InOrder (stage_after e) es
 
--- what ends a proof
+-- the statements that end a proof
 abbrev ending : Conclusion → List Statement
 ending c = Output ∷ Conclude c ∷ End ∷ []
 
@@ -121,7 +122,7 @@ at_opening (Output ∷ es) h = cc
 at_opening (Conclude c ∷ es) h = cc
 at_opening (End ∷ es) h = cc
 
--- and back
+-- the converse
 step_stage : (e : Statement) → IsStep e → (stage_of e ≡ Steps) × (stage_after e ≡ Steps)
 step_stage (Pol ws) h = (refl, refl)
 step_stage (Rup c) h = (refl, refl)
@@ -144,7 +145,7 @@ statements_order : (v : Proof) → All IsStep v.steps → InOrder Opening (state
 statements_order v h = (refl, (refl, steps_order v.steps v.conclusion h))
 
 pub no_gap : IsGap []
-no_gap = ((λ i lt. absurd (omega arith)), refl)
+no_gap = (Nothing, refl)
 
 module _ (limit top : ℕ) where
   abbrev Spelled : Item Statement → Type 0
@@ -174,7 +175,7 @@ module _ (limit top : ℕ) where
       let (v, s, e) = at_opening (events_of items) k.0 in
       (v, (s, e, at_once items h, k.1))
 
-  -- behind the first statement gaps may stand
+  -- after the first statement, white space and comments may come
   gap_later : (e : Statement) (gap : List ℕ) → IsGap gap → GapAt (stage_after e) gap
   gap_later Header gap h = h
   gap_later (F n) gap h = h
@@ -200,14 +201,14 @@ module _ (limit top : ℕ) where
       from_first [] h f s = absurd f
       from_first (i ∷ rest) (e, h) f s = (f, e, (All-head Spelled i rest s).1, later_each rest i.event h (All-tail Spelled i rest s))
 
-  -- What a new machine accepts are the proofs.
+  -- A new machine accepts exactly the proofs.
   pub reads_proofs : (items : List (Item Statement)) → Accepts proofs (begin limit top) items ↔ IsProof limit top items
   reads_proofs items = (
     (λ h. proof_only items (ordered_only limit top items Opening h)),
     (λ h. ordered_each limit top items Opening (proof_each items h)),
   )
 
--- Nothing may follow what is complete.
+-- No byte is taken after a complete proof.
 pub done_stops : (s : ProofState) (p : Phase) (b : ℕ) → is_done p ≡ true → act s b (plan p b) ≡ Refuse
 done_stops s (phase.Between Complete) b h = refl
 done_stops s (phase.Between Opening) b h = never false h refl
@@ -225,6 +226,6 @@ done_stops s (phase.Inside r) b h = never false h refl
 pub closes : (s : ProofState) → IsTrue (proofs.done s) → (b : ℕ) → proofs.step s b ≡ Refuse
 closes s h b = done_stops s s.phase b h
 
--- a text spells one proof
+-- each text is of one proof only
 pub one_proof : OneProof
 one_proof limit top items items' h k = one_spelling proofs closes (begin limit top) items items' ((reads_proofs limit top items).1 h) ((reads_proofs limit top items').1 k)

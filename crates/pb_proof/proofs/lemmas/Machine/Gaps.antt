@@ -1,15 +1,14 @@
--- What stands between two statements.
+-- White space and comments between two statements.
 use Rattle.std.proofs.lemmas.Bool.{eqb-true, cond_both}
-use Rattle.std.proofs.Common.{◌≡◌, ℕ, Bool, true, false, cond, not, ◌&&◌, ◌||◌, List, [], ◌∷◌, ◌++◌, length, refl, sym, ap, ap₂, subst, ◌∙◌, append_assoc, arith, length-append, ◌+◌}
+use Rattle.std.proofs.Common.{◌≡◌, ℕ, Bool, true, false, cond, not, ◌&&◌, ◌||◌, List, [], ◌∷◌, ◌++◌, length, refl, sym, ap, ap₂, subst, ◌∙◌, append_assoc, ◌+◌}
 use Rattle.std.proofs.lemmas.List.{append-nil}
-use Rattle.std.proofs.Math.Seq.{get_or-append_seam, take-append_seam}
-use Rattle.std.specs.Prelude.{IsTrue, nat_eq, slice_index}
+use Rattle.std.specs.Prelude.{nat_eq, slice_index}
 use Rattle.std.proofs.Math.Bool.{or-true}
 use Rattle.pb_text.specs.Automaton.{Next, Go, End, Refuse, Skips, Reads}
-use Rattle.pb_text.specs.Blank.{IsBlank, in_comment, passes}
+use Rattle.pb_text.specs.Blank.{IsBlank, Nothing, in_comment}
 use Rattle.pb_text.specs.Classes.{is_white}
 use Rattle.pb_text.specs.Spelling.{Letter}
-use Rattle.pb_text.proofs.Blanks.{in_comment-snoc, IsBlank-snoc}
+use Rattle.pb_text.proofs.Blanks.{blank_passes, in_comment-snoc, IsBlank-snoc, passes_at}
 use Rattle.pb_text.proofs.Booleans.{never}
 use Rattle.pb_text.proofs.ByteTests.{white_each}
 use Rattle.pb_proof.specs.Machine.Transition.{enter, between, pass, spell, meets, words_of, behind, step_keyword}
@@ -60,11 +59,11 @@ enter_inside Closing b = spell_inside keyword.End 0 b move.Stop tt
 enter_inside Complete b = tt
 
 module _ (limit top : ℕ) (s : Stage) (gaps : HasGaps s) where
-  -- within a comment, or not
+  -- the state within a comment, or outside one
   abbrev pub gap_state : Bool → ProofState
   gap_state commented = at limit top (cond commented (phase.Comment s) (phase.Between s))
 
-  -- what may come of a byte in a gap
+  -- the outcome of a byte of white space and comments
   abbrev InGap : (ProofState → Type 0) → Next ProofState Statement → Type 0
   InGap P (Go mid) = proofs.begun mid ≡ false → P mid
   InGap P (End e after) = Unit {0}
@@ -126,7 +125,7 @@ module _ (limit top : ℕ) (s : Stage) (gaps : HasGaps s) where
       let k = gap_only gap (before ++ b ∷ []) mid (subst (λ x. Skips proofs x gap mid) (f.1 ∙ ap gap_state (mode_after before b)) h) (IsBlank-snoc before b blank f.0) in
       subst (λ x. IsBlank x × (mid ≡ gap_state (in_comment x))) (append_assoc before (b ∷ []) gap) k
 
-  -- and back
+  -- the converse
   outside : (commented : Bool) → proofs.begun (gap_state commented) ≡ false
   outside true = refl
   outside false = refl
@@ -151,11 +150,6 @@ module _ (limit top : ℕ) (s : Stage) (gaps : HasGaps s) where
       by_white true e = ap (λ y. Go (gap_state y)) (sym (white_mode b e))
       by_white false e = by_star e (nat_eq b 42) refl
 
-  passes_at : (before gap : List ℕ) (b : ℕ) → IsBlank (before ++ b ∷ gap) → passes before b ≡ true
-  passes_at before gap b h =
-      subst IsTrue (ap₂ passes (take-append_seam before (b ∷ gap)) (get_or-append_seam before b gap 0))
-      (h (length before) (omega (arith, length-append before (b ∷ gap))))
-
   gap_each : (gap before : List ℕ) → IsBlank (before ++ gap) → Skips proofs (gap_state (in_comment before)) gap (gap_state (in_comment (before ++ gap)))
   gap_each [] before h = ap (λ x. gap_state (in_comment x)) (append-nil before)
   gap_each (b ∷ gap) before h =
@@ -163,13 +157,13 @@ module _ (limit top : ℕ) (s : Stage) (gaps : HasGaps s) where
       let k = gap_each gap (before ++ b ∷ []) (subst IsBlank e h) in
       let m = mode_after before b in (
         gap_state (next_mode b (in_comment before)),
-        gap_step (in_comment before) b (passes_at before gap b h),
+        gap_step (in_comment before) b (passes_at before gap b (blank_passes (before ++ b ∷ gap) h)),
         outside (next_mode b (in_comment before)),
         subst (λ x. Skips proofs x gap (gap_state (in_comment (before ++ b ∷ gap)))) (ap gap_state (sym m))
             (subst (λ x. Skips proofs (gap_state (in_comment (before ++ b ∷ []))) gap (gap_state (in_comment x))) (sym e) k),
       )
 
-  -- in a comment no statement begins
+  -- no statement begins in a comment
   comment_reads : (t : List Letter) (e : Statement) (after : ProofState) → Reads proofs (gap_state true) t e after → ⊥
   comment_reads [] e after r = r
   comment_reads (l ∷ []) e after (g, n) = no_end g
@@ -185,7 +179,7 @@ module _ (limit top : ℕ) (s : Stage) (gaps : HasGaps s) where
   pub gap_before : (gap : List ℕ) (mid after : ProofState) (t : List Letter) (e : Statement) → Skips proofs (idle limit top s) gap mid → Reads proofs mid t e after
       → IsGap gap × (mid ≡ idle limit top s)
   gap_before gap mid after t e h r =
-      let k = gap_only gap [] mid h (λ i lt. absurd (omega arith)) in
+      let k = gap_only gap [] mid h Nothing in
       by_mode (in_comment gap) refl k
     where
       by_mode : (x : Bool) → in_comment gap ≡ x → IsBlank gap × (mid ≡ gap_state (in_comment gap)) → IsGap gap × (mid ≡ idle limit top s)

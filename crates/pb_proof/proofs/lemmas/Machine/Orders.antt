@@ -1,4 +1,4 @@
--- What a machine of proofs accepts from a stage on are the statements in order.
+-- What the proof machine accepts from a stage is the statements in order.
 use Rattle.std.proofs.Common.{◌≡◌, ℕ, true, false, List, [], ◌∷◌, refl, sym, ap, subst, ◌∙◌}
 use Rattle.pb_text.specs.Automaton.{Next, Go, End, Refuse, Skips, Reads, Accepts}
 use Rattle.pb_text.specs.Spelling.{Item, Letter}
@@ -26,7 +26,7 @@ complete Claim h = never false h refl
 complete Closing h = never false h refl
 
 module _ (limit top : ℕ) where
-  -- before the first statement there is no gap, and behind the last one nothing
+  -- no white space or comment comes before the first statement, and nothing after the last one
   abbrev OnGo : Next ProofState Statement → Type 0
   OnGo (Go next) = proofs.begun next ≡ true
   OnGo (End e next) = Unit {0}
@@ -67,7 +67,7 @@ module _ (limit top : ℕ) where
       let s = statement_only limit top at i.text i.event after (subst (λ x. Reads proofs x i.text i.event after) k.1 r) in
       (k.0, s.0, s.1, ordered_only rest (stage_after i.event) (subst (λ x. Accepts proofs x rest) s.2 a))
 
-  -- no statement stands behind the last one
+  -- no statement comes after the last one
   stage_some : (e : Statement) → stage_of e ≡ Complete → ⊥
   stage_some statement.TheVariants.Header h = cc
   stage_some statement.TheVariants.End h = cc

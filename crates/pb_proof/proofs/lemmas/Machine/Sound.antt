@@ -1,4 +1,4 @@
--- What a machine of proofs reads from a stage on is a statement of that stage.
+-- What the proof machine reads from a stage is a statement of that stage.
 use Rattle.std.proofs.Common.{◌≡◌, ℕ, ◌+◌, ◌-◌, ◌<◌, Bool, true, false, ◌&&◌, List, [], ◌∷◌, ◌++◌, length, take, refl, sym, ap, subst, ◌∙◌, arith, add-one, Some, None}
 use Rattle.std.proofs.Math.Seq.{take-suc}
 use Rattle.std.proofs.lemmas.Bool.{eqb-true, cond_both, and_parts}
@@ -34,7 +34,7 @@ use Rattle.pb_proof.proofs.lemmas.Line.Laws.{line_only, line_begins, line_fresh}
 use Rattle.pb_proof.proofs.lemmas.Line.Ends.{Gapped, Closing as Closed, blank_more, semicolon_behind_blanks, blank_closing, line_behind_blanks, line_closing, feed_behind_blanks, gapped}
 use Rattle.pb_proof.proofs.lemmas.Spaced.{Spaced, one_met, spaced_more, spaced_blank, KeywordWords, keyword_only, some_byte}
 
--- the stage of the words that a statement begins with, and of what stands behind them
+-- the stage of a statement, by its first words and by the kind of its line
 abbrev pub stage_keyword : Keyword → Stage
 stage_keyword keyword.Header = Opening
 stage_keyword keyword.Formula = Formula
@@ -47,7 +47,7 @@ stage_rest kind.Count = Formula
 stage_rest kind.Conclusion = Claim
 stage_rest _ = Steps
 
--- the words before what is given to a machine of its own
+-- the words before the text that a line machine reads
 abbrev pub Before : LineKind → Language
 Before kind.Count = Bytes f_word
 Before kind.Pol = Bytes pol_word
@@ -57,7 +57,7 @@ Before kind.Solx = Bytes solx_word
 Before kind.Delete = KeywordWords keyword.Delete
 Before kind.Conclusion = Bytes conclusion_word
 
--- words, letter by letter
+-- words, one letter at a time
 word_further : (w : List ℕ) (k : ℕ) (l : Letter) (p : List Letter) → k < length w → meets (slice_index w k) l.byte ≡ true → l.numeral ≡ false
     → Spaced (take k w) p → Spaced (take (k + 1) w) (p ++ l ∷ [])
 word_further w k l p h e n s =
@@ -91,14 +91,14 @@ module _ (limit top : ℕ) (here : Stage) where
   abbrev pub Read : ProofState → Language
   Read s = λ p. Known s × front_of s s.phase p
 
-  -- a statement of the stage, and what follows it
+  -- a statement of the stage, and the state after it
   abbrev pub IsStatement : Statement → ProofState → Language
   IsStatement e after = λ t. (stage_of e ≡ here) × SpellsStatement limit top e t × (after ≡ idle limit top (stage_after e))
 
   same_idle : (l t : ℕ) (a b : Stage) → l ≡ limit → t ≡ top → a ≡ b → idle l t a ≡ idle limit top b
   same_idle l t a b e f g = rw (e, f, g) refl
 
-  -- What stands behind the words makes a statement with them.
+  -- The words and the rest of the line make a statement.
   rest_statement : (r : LineKind) (e : Statement) (t : List Letter) → (Before r ⋅ SpellsRest limit top r e) t
       → (stage_of e ≡ stage_rest r) × SpellsStatement limit top e t × (stage_behind r ≡ stage_after e)
   rest_statement kind.Count (statement.TheVariants.F c) t h = (refl, h, refl)
@@ -117,7 +117,7 @@ module _ (limit top : ℕ) (here : Stage) where
   rest_statement kind.Conclusion _ t h = absurd h.4
 
   module _ (s : ProofState) (l : Letter) (p : List Letter) (k : Known s) where
-    -- what is known of an outcome, and after a move
+    -- what holds of an outcome, and after a move
     abbrev Leaves : Next ProofState Statement → Type 0
     Leaves x = On proofs Read IsStatement x l (p ++ l ∷ [])
 
@@ -127,7 +127,7 @@ module _ (limit top : ℕ) (here : Stage) where
     plain_letter : s.line ≡ None → l.numeral ≡ asked false line_automaton.in_number s.line → l.numeral ≡ false
     plain_letter e n = n ∙ ap (asked false line_automaton.in_number) e
 
-    -- a machine of what stands behind the words begins
+    -- a line machine begins
     begins : (r : LineKind) → stage_rest r ≡ here → (l.numeral ≡ false → Before r (p ++ l ∷ [])) → After (move.Begin r)
     begins r at h = λ w n.
         let plain : l.numeral ≡ false = n ∙ (line_fresh s.limit s.top r).2 in (
@@ -204,7 +204,7 @@ module _ (limit top : ℕ) (here : Stage) where
     between_two Closing at e o = passes Closing at e o
     between_two Complete at e o = tt
 
-    -- `i` or `x` behind `sol`
+    -- `i` or `x` after `sol`
     logged : Steps ≡ here → Bytes sol_word p → After (plan phase.Solution l.byte)
     logged at e = cond_both (nat_eq l.byte 105) _ _ After
         (λ h. begins kind.Soli at (λ n. ap (λ x. x ++ l ∷ []) e ∙ ap (λ x. plain sol_word ++ x ∷ []) (as_unmarked l 105 n (eqb-true l.byte 105 h))))
@@ -235,7 +235,7 @@ module _ (limit top : ℕ) (here : Stage) where
         (λ e. never false (and_parts (nat_eq l.byte 59) false e).1 refl)
         (λ _. tt)))
 
-    -- what the machine behind the words does
+    -- what the line machine does
     given : (r : LineKind) → stage_rest r ≡ here → (i : LineMachine) → (Before r ⋅ (λ q. Walks line_automaton (line_first limit top r) q i)) p → (x : Next LineMachine Statement)
         → line_automaton.step i l.byte ≡ x → Leaves (over s r x)
     given r at i h (Go line) e = λ w n. (

@@ -1,4 +1,4 @@
--- What holds of each state that a machine of proofs can be in.
+-- What holds of each state that the proof machine can be in.
 use Rattle.std.proofs.Common.{◌≡◌, ℕ, ◌+◌, ◌-◌, ◌<◌, ◌≤◌, true, false, ◌&&◌, length, refl, sym, ap, subst, ◌∙◌, arith, Option, Some, None}
 use Rattle.std.specs.Prelude.{IsTrue, nat_eq, slice_index}
 use Rattle.std.proofs.lemmas.Bool.{cond_both}
@@ -28,19 +28,19 @@ use Rattle.pb_proof.proofs.lemmas.Machine.Alive.{live, reading_alive, stage_acce
 use Rattle.pb_proof.proofs.lemmas.Machine.Exact.{closes}
 use Rattle.pb_proof.proofs.lemmas.Spaced.{some_byte}
 
--- no machine stands behind the words
+-- the phase has no line machine
 abbrev pub IsPlain : Phase → Type 0
 IsPlain (phase.Inside r) = ⊥
 IsPlain _ = Unit {0}
 
--- the phase goes on, and a statement that has begun too
+-- the proof is not complete at `q`, and a statement that has begun continues
 pub record GoesOn (p q : Phase) : Type 0 where
   pub owes : is_done q ≡ false
   pub stays : is_within p ≡ true → is_within q ≡ true
   pub fits : PhaseFits q
   pub plain : IsPlain q
 
--- What is known of a move from a phase.
+-- What holds of a move from a phase.
 abbrev pub OnMove : Phase → Move → Type 0
 OnMove p (move.To q) = IsPlain p × GoesOn p q
 OnMove p (move.Give r) = p ≡ phase.Inside r
@@ -98,7 +98,7 @@ on_between Steps b = on_pass Steps b tt
 on_between Claim b = on_pass Claim b tt
 on_between Closing b = on_pass Closing b tt
 
--- the plan of each phase
+-- the transitions of each phase
 pub on_plan : (p : Phase) (b : ℕ) → PhaseFits p → OnMove p (plan p b)
 on_plan (phase.Between s) b h = on_between s b
 on_plan (phase.Comment s) b h = cond_both (nat_eq b 10) (phase.Between s) (phase.Comment s) (λ q. OnMove (phase.Comment s) (move.To q))
@@ -118,7 +118,7 @@ on_plan (phase.OutputEnd may) b h = cond_both (is_blank b) _ _ (OnMove (phase.Ou
     (λ _. within_on (phase.OutputEnd may) (phase.OutputEnd false) tt refl refl tt tt) (λ _. tt)))
 on_plan (phase.Inside r) b h = refl
 
--- where no machine stands behind the words nothing is kept, and no number is read
+-- without a line machine nothing is stored, and no number is read
 pub plain_holds : (s : ProofState) (p : Phase) → IsPlain p → Holds s p → s.line ≡ None
 plain_holds s (phase.Between at) o h = h
 plain_holds s (phase.Comment at) o h = h
@@ -146,7 +146,7 @@ outside_plain phase.HeaderEnd h = tt
 outside_plain (phase.OutputEnd may) h = tt
 outside_plain (phase.Inside r) h = never true refl h
 
--- what a byte leads to
+-- what holds after a byte
 record Goes (s next : ProofState) : Type 0 where
   pub owes : proofs.done next ≡ false
   pub stays : proofs.begun s ≡ true → proofs.begun next ≡ true
@@ -165,7 +165,7 @@ on_given s r b i h state (Go line) e = record { owes = refl; stays = λ w. refl;
 on_given s r b i h state (End x last) e = refl
 on_given s r b i h state Refuse e = tt
 
--- what stands behind the words, where it is given a byte
+-- the line machine that is given a byte
 pub inside_of : (s : ProofState) (p : Phase) (r : LineKind) → p ≡ phase.Inside r → Holds s p → (i : LineMachine) × (s.line ≡ Some i) × (line_automaton.done i ≡ false) × IsState line_automaton i
 inside_of s p r e h = subst (Holds s) e h
 
@@ -208,12 +208,12 @@ is_state s h = record {
   empties = λ o. ap (asked 0 line_automaton.spent) (plain_holds s s.phase (outside_plain s.phase o) h.holds);
 }
 
--- What a byte leaves a machine with.
+-- What holds of the machine after a byte.
 module _ (s : ProofState) (h : IsInOrder s) (b : ℕ) where
   pub known : (m : Move) → plan s.phase b ≡ m → OnMove s.phase m
   known m e = subst (OnMove s.phase) e (on_plan s.phase b h.fits)
 
-  -- with no machine behind the words
+  -- without a line machine
   pub at_order : (p : Phase) → IsPlain p → PhaseFits p → (i : Option LineMachine) → i ≡ None → IsInOrder (record { limit = s.limit; top = s.top; phase = p; line = i })
   at_order p o f i e = record { limit = h.limit; top = h.top; some = h.some; fits = f; holds = holds_plain (record { limit = s.limit; top = s.top; phase = p; line = i }) p o e }
 

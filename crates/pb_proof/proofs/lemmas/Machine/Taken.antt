@@ -1,4 +1,5 @@
--- A run of the machine behind a first word is a run of the machine of proofs, and a run of the machine of sums one of the machine of `rup`.
+-- A run of the line machine is a run of the proof machine.
+-- A run of the sum machine is a run of the `rup` machine.
 use Rattle.std.proofs.Common.{◌≡◌, ℕ, List, [], ◌∷◌, refl, sym, ap, ap₂, subst, ◌∙◌, Option, Some}
 use Rattle.pb_text.specs.Automaton.{Next, Go, End, Refuse, Pushes, Runs}
 use Rattle.pb_text.specs.declared.machine.Push.{Push}
@@ -18,7 +19,7 @@ use Rattle.pb_proof.specs.declared.machine.phase.Phase.TheVariants as phase
 use Rattle.pb_proof.proofs.lemmas.Rup.States as rup_states
 use Rattle.pb_proof.proofs.lemmas.Machine.States as states
 
--- within what stands behind a first word
+-- within the text after a first word
 within : (limit top : ℕ) (r : LineKind) (old : LineMachine) → IsInOrder (giving limit top r old) → (text : List ℕ) (new : LineMachine) → Runs line_automaton old text new
     → Runs proofs (giving limit top r old) text (giving limit top r new) × IsInOrder (giving limit top r new)
 within limit top r old h [] new same = (ap (giving limit top r) same, subst (λ (i : LineMachine). IsInOrder (giving limit top r i)) (sym same) h)
@@ -28,7 +29,7 @@ within limit top r old h (b ∷ text) new (mid, goes, state, rest) =
     let (runs, order) = within limit top r mid k text new rest in
     ((giving limit top r mid, ap (over s r) goes, states.is_state (giving limit top r mid) k, runs), order)
 
--- where such a machine is kept, it reads
+-- if a line machine is stored, the phase is `Inside`
 reading : (s : ProofState) (p : Phase) → Holds s p → (i : LineMachine) → s.line ≡ Some i → (r : LineKind) × (p ≡ phase.Inside r)
 reading s (phase.Inside r) h i e = (r, refl)
 reading s (phase.Between at) h i e = absurd (let f : ⊥ = cc in f)
@@ -41,7 +42,7 @@ reading s (phase.OutputEnd may) h i e = absurd (let f : ⊥ = cc in f)
 abbrev put : ProofState → Phase → Option LineMachine → ProofState
 put s p i = record { limit = s.limit; top = s.top; phase = p; line = i }
 
--- the run, and the order behind it
+-- the run, and the order after it
 pub runs_given : (s : ProofState) → IsInOrder s → (old : LineMachine) → s.line ≡ Some old → (text : List ℕ) (new : LineMachine) → Runs line_automaton old text new
     → Runs proofs s text (record s { line = Some new }) × IsInOrder (record s { line = Some new })
 runs_given s h old e text new runs =
@@ -58,7 +59,7 @@ goes_on s new e (Go inner) h = cc
 goes_on s new e (End f inner) h = cc
 goes_on s new e Refuse h = cc
 
--- where a byte is given and not taken, nothing changes
+-- if a byte is given and not taken, nothing changes
 pub unmoved : (s new : RupState) (b : ℕ) (answer : Push Linear) → rup_plan s.phase b ≡ Give → Pushes rup_automaton s b answer new → (answer ≡ push.Go → ⊥) → new ≡ s
 unmoved s new b push.Go planned h k = absurd (k refl)
 unmoved s new b (push.Event e) planned h k = absurd (goes_on s new e (sums.step s.sums b) (sym (ap (rup_act s b) planned) ∙ h))

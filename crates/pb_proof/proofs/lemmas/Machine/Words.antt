@@ -1,4 +1,4 @@
--- The words of a statement, taken at once.
+-- The words of a statement, taken in one call.
 use Rattle.std.proofs.Common.{◌≡◌, ℕ, suc, ◌+◌, ◌<◌, false, List, [], ◌∷◌, ◌++◌, take, drop, get_or, length, refl, sym, ap, ap₂, subst, arith, ◌∙◌, ◌==◌, ◌-◌, append_assoc, length-append, length-drop, Option, None}
 use Rattle.std.proofs.Math.Seq.{drop-cons, take-length}
 use Rattle.std.proofs.lemmas.List.{take-append-drop, length-take-le}
@@ -46,7 +46,7 @@ module _ (s : ProofState) (h : IsInOrder s) where
   spelling_state : (f : Keyword) (k : ℕ) → 0 < k → k < length (words_of f) → IsState proofs (spelling f k)
   spelling_state f k i j = is_state (spelling f k) (record { limit = h.limit; top = h.top; some = h.some; fits = (i, j); holds = refl })
 
-  -- the bytes that are left, from the first of them on
+  -- a run over remaining bytes, from the first of them
   left_run : (f : Keyword) (next : ProofState) → IsState proofs next → ((k b : ℕ) → act (spelling f k) b (behind f) ≡ Go next)
       → (left front : List ℕ) (c : ℕ) → words_of f ≡ front ++ c ∷ left → Runs proofs (spelling f (length front)) (c ∷ left) next
   left_run f next state acts [] front c e = (next, step_last s.limit s.top f front c c e (meets_any c) ∙ acts (length front) c, state, refl)
@@ -60,7 +60,7 @@ module _ (s : ProofState) (h : IsInOrder s) where
         subst (λ (k : ℕ). Runs proofs (spelling f k) (d ∷ left) next) grown rest,
       )
 
-  -- the rest of the words
+  -- a run over the rest of the words
   words_run : (f : Keyword) (k : ℕ) (next : ProofState) → k < length (words_of f) → IsState proofs next → ((k b : ℕ) → act (spelling f k) b (behind f) ≡ Go next)
       → Runs proofs (spelling f k) (drop k (words_of f)) next
   words_run f k next i state acts =
@@ -85,7 +85,7 @@ module _ (s : ProofState) (h : IsInOrder s) where
     same : s ≡ spelling f k
     same = ap₂ put is none
 
-  -- where a phase comes behind them
+  -- if a phase follows the words
   pub words_to : (text : List ℕ) (q : Phase) → IsRest s.phase text (move.To q) → Runs proofs s text (record s { phase = q }) × IsInOrder (record s { phase = q })
   words_to text q (f, k, is, e, g) =
       let on : OnMove (phase.Spelling f k) (move.To q) = subst (OnMove (phase.Spelling f k)) (sym g) (on_behind (phase.Spelling f k) tt f) in
@@ -97,7 +97,7 @@ module _ (s : ProofState) (h : IsInOrder s) where
         order,
       )
 
-  -- where a machine of its own begins behind them
+  -- if a line machine begins after the words
   pub words_begin : (text : List ℕ) (r : LineKind) → IsRest s.phase text (move.Begin r)
       → Runs proofs s text (giving s.limit s.top r (line_first s.limit s.top r)) × IsInOrder (giving s.limit s.top r (line_first s.limit s.top r))
   words_begin text r (f, k, is, e, g) =

@@ -1,4 +1,4 @@
--- Each state of a machine of postfix words but the last one reads some text.
+-- From each state of the `pol` machine but the last, some text is read.
 use Rattle.std.proofs.Common.{◌≡◌, ℕ, zero, suc, ◌+◌, ◌-◌, ◌*◌, ◌<◌, Bool, true, false, cond, List, [], ◌∷◌, ◌++◌, refl, sym, ap, subst, arith, ◌∙◌}
 use Rattle.std.proofs.lemmas.Bool.{le-leb, true≢false}
 use Rattle.std.specs.Prelude.{pos, neg_ℤ, nat_le, Some}
@@ -33,7 +33,7 @@ module _ (limit top : ℕ) where
   abbrev st : List PolWord → ℕ → List ℕ → Phase → PolState
   st = state limit top
 
-  -- behind blanks: one expression is made
+  -- after blanks: one expression is made
   alive_after : (ws : List PolWord) (d : ℕ) → Alive (st ws d [] (phase.Gap held.Nothing)) → Alive (st ws d [] phase.After)
   alive_after ws d h = reads_before pol_automaton (st ws d [] phase.After) (st ws d [] (phase.Gap held.Nothing)) 32 refl refl h
 
@@ -100,7 +100,7 @@ module _ (limit top : ℕ) where
       (ap (λ x. over s (act s.work 49 (cond x (move.To (phase.Number (10 * 0 + 1))) move.Stop))) (le-leb (10 * 0 + 1) (bound limit top d) (bound_of_id limit top d (10 * 0 + 1) (omega arith))))
       refl (alive_number ws d name (10 * 0 + 1) (omega arith))
 
-  -- the letter a
+  -- the letter `a`
   alive_name : (ws : List PolWord) (d : ℕ) (name : List ℕ) (negated : Bool) → Alive (st ws d name (phase.Name negated))
   alive_name ws d name negated = alive_closed ws d name (phase.Name negated) (change.Axiom negated) (held_name negated d) refl
 

@@ -1,4 +1,4 @@
--- Where the machine of postfix words asks.
+-- Where the `pol` machine may allocate.
 use Rattle.std.proofs.Common.{◌≡◌, ℕ, ◌+◌, ◌*◌, Bool, true, false, cond, ◌&&◌, List, [], ◌∷◌, refl, ap, subst, ◌∙◌, inl, inr, arith, Some, None}
 use Rattle.std.proofs.lemmas.Bool.{false≢true, cond_both, and_parts}
 use Rattle.std.proofs.lemmas.Bool.Decides.{nat_tests}
@@ -43,7 +43,7 @@ is_there None = false
 is_there (Some x) = true
 
 module _ (limit top depth b : ℕ) (t : List Letter) where
-  -- what follows where a move asks
+  -- what follows if a move may allocate
   abbrev Then : Move → Type 0
   Then m = wants m ≡ true → AsksWord (bytes t) b
 
@@ -56,7 +56,7 @@ module _ (limit top depth b : ℕ) (t : List Letter) where
   number_quiet : (n d : ℕ) → Then (number limit top depth n d)
   number_quiet n d = cond_both (nat_le (10 * n + d) (bound limit top depth)) _ _ Then (λ _ h. absurd (false≢true h)) (λ _ h. absurd (false≢true h))
 
-  -- a word that ends here, at a byte that is no byte of a word
+  -- a word that ends here, at a byte that is not part of a word
   closes : (ws : List PolWord) (name : List ℕ) (ph : Phase) → front limit top ph ws depth name t → is_digit b ≡ false → is_name_byte b ≡ false
       → (c : Change) (h : Held) → close limit top depth ph ≡ Some (c, h) → adds c ≡ true → AsksWord (bytes t) b
   closes ws name phase.Start f dark plain c h e k = absurd (false≢true (ap adds (ap change_of e) ∙ k))
@@ -124,7 +124,7 @@ module _ (limit top depth b : ℕ) (t : List Letter) where
   gap_next held.Number k e = words_next held.Number k e
   gap_next held.Name k e = words_next held.Name k e
 
-  -- a byte more of a name
+  -- a further byte of a name
   more_of : (P : Language) (negated : Bool) (name : List ℕ) → (P ⋅ FirstOf negated name) t → IsTrue (is_name_byte b) → AsksWord (bytes t) b
   more_of P negated name (x, y, z, u, (v, w)) k = inl (inl (name, literal_end P negated name t (x, y, z, u, w), first_further name b v k))
 

@@ -1,4 +1,4 @@
--- Postfix words that are taken at once, and the run that they are.
+-- Postfix words that are taken in one call are a run of the automaton.
 use Rattle.std.proofs.Common.{◌≡◌, ℕ, suc, ◌+◌, ◌-◌, ◌*◌, ◌<◌, ◌≤◌, Bool, true, false, ◌&&◌, List, [], ◌∷◌, ◌++◌, pos, take, get_or, length, refl, sym, ap, subst, arith, ◌∙◌, Option, Some}
 use Rattle.std.proofs.lemmas.Bool.{eqb-true, le-leb, and_parts}
 use Rattle.std.specs.Option.{is_some}
@@ -98,7 +98,7 @@ module _ (limit top d : ℕ) (ws : List PolWord) (name : List ℕ) (some : 0 < t
   id_digits p [] e all i l = absurd (omega arith)
   id_digits p (b ∷ ds) e all i l = digits_run p 0 b ds (takes_digits p e) all l
 
-  -- the space behind an id
+  -- the state after an id and a space
   abbrev with_id : ℕ → PolState
   with_id v = state limit top (ws ++ Id (pos v) ∷ []) (suc d) [] (phase.Gap (held_number limit d v))
 
@@ -108,7 +108,7 @@ module _ (limit top d : ℕ) (ws : List PolWord) (name : List ℕ) (some : 0 < t
       let planned : move.Turn (change.Id (pos v)) (phase.Gap (held_number limit d v)) ≡ plan limit top d (phase.Number v) kind.Blank = rw (not_zero v h, fits) refl in
       moved limit top ws d name (phase.Number v) 32 kind.Blank (move.Turn (change.Id (pos v)) (phase.Gap (held_number limit d v))) refl planned
 
-  -- an id and the space behind it
+  -- an id and the space after it
   pub id_runs : (p : Phase) (text : List ℕ) (v : ℕ) → is_some (held_before p) ≡ true → IsSpacedId top text v → Runs pol_automaton (at p) text (with_id v)
   id_runs p text v e (ds, is, all, f, i, l) =
       let first : Runs pol_automaton (at p) ds (at (phase.Number v)) =
@@ -118,7 +118,7 @@ module _ (limit top d : ℕ) (ws : List PolWord) (name : List ℕ) (some : 0 < t
       (runs_more pol_automaton (at p) ds (at (phase.Number v)) 32 (with_id v) first (space_on v i l)
       (midway_state limit top (ws ++ Id (pos v) ∷ []) (suc d) [] (phase.Gap (held_number limit d v)) some refl))
 
-  -- behind an operator and a space
+  -- the state after an operator and a space
   abbrev changed_by : Change → PolState
   changed_by c = state limit top (changed c ws name) (counted c d) [] (phase.Gap held.Nothing)
 
@@ -128,7 +128,7 @@ module _ (limit top d : ℕ) (ws : List PolWord) (name : List ℕ) (some : 0 < t
   in_gap : (c : Change) → IsState pol_automaton (changed_by c)
   in_gap c = midway_state limit top (changed c ws name) (counted c d) [] (phase.Gap held.Nothing) some refl
 
-  -- an operator that is done at once
+  -- an operator that takes effect at its own byte
   turned_first : (p : Phase) (b : ℕ) (k : Kind) (c : Change) → k ≡ kind_of b → move.Turn c phase.After ≡ plan limit top d p k → RunsTo p b c
   turned_first p b k c e f = (
     state limit top (changed c ws name) (counted c d) [] phase.After,
@@ -183,7 +183,7 @@ module _ (limit top d : ℕ) (ws : List PolWord) (name : List ℕ) (some : 0 < t
       (λ f. by_test (RunsTo (phase.Gap h)) b 115 (nat_le 1 d) c change.Saturate _
       (λ t. turned_last (phase.Gap h) 115 kind.S role.Saturate change.Saturate refl (saturate_planned h i t) refl refl) (held_runs h b c) f) e
 
-  -- an operator and the space behind it
+  -- an operator and the space after it
   pub operator_runs : (p : Phase) (h : Held) (c : Change) (text : List ℕ) → Some h ≡ held_before p → Some c ≡ operator d h (get_or text 0 0) → 2 ≤ length text → get_or text 1 0 ≡ 32
       → Runs pol_automaton (at p) (take 2 text) (changed_by c)
   operator_runs p h c text i e l f =

@@ -1,4 +1,4 @@
--- A machine of postfix words reads each line of them: one lemma for each word.
+-- The `pol` machine reads each line of postfix words: one lemma for each word.
 use Rattle.std.proofs.Common.{◌≡◌, ℕ, zero, suc, ◌-◌, ◌<◌, ◌≤◌, Bool, true, false, cond, List, [], ◌∷◌, ◌++◌, refl, sym, ap, subst, arith, append_assoc, append-nil, ◌∙◌}
 use Rattle.std.proofs.lemmas.Bool.{le-leb}
 use Rattle.std.specs.Prelude.{pos, neg_ℤ, nat_le, ℤ, Some}
@@ -42,7 +42,7 @@ free_name true d = tt
 free_name false zero = tt
 free_name false (suc d) = tt
 
--- a number that is an operator's
+-- a number that may be the operand of an operator
 abbrev IsOperand : Held → Type 0
 IsOperand held.Number = Unit {0}
 IsOperand held.Large = Unit {0}
@@ -58,7 +58,7 @@ module _ (limit top : ℕ) (e : List PolWord) (after : PolState) where
   abbrev done : List PolWord → ℕ → PolState
   done ws d = state limit top ws d [] phase.After
 
-  -- a word that ends behind a walk
+  -- a word that ends after a walk
   ends : (ws : List PolWord) (d : ℕ) (name : List ℕ) (ph : Phase) (c : Change) (h : Held) (s : PolState) (t u : List Letter) → NotLarge h → close limit top d ph ≡ Some (c, h)
       → Walks pol_automaton s t (state limit top ws d name ph) → R (done (changed c ws name) (counted c d)) u → R s (t ++ u)
   ends ws d name ph c h s t u i q w r =
@@ -105,7 +105,7 @@ module _ (limit top : ℕ) (e : List PolWord) (after : PolState) where
       subst (λ x. R s (x ++ u)) (sym f)
       (ends ws (suc d) (115 ∷ []) (phase.Lone role.Saturate) change.Saturate held.Nothing s (unmarked 115 ∷ []) u tt refl (lone, step, refl, refl, refl) r)
 
-  -- a factor or a divisor, and the blanks behind it
+  -- a factor or a divisor, and the blanks after it
   record Operand (ws : List PolWord) (d n : ℕ) (t : List Letter) : Type 0 where
     last : PolWord
     holds : Held
@@ -220,7 +220,7 @@ module _ (limit top : ℕ) (e : List PolWord) (after : PolState) where
       (ends vs (suc (suc d)) (119 ∷ []) (phase.Lone role.Weaken) change.Weaken held.Nothing (gap ws (suc d)) (plain name ++ (b ++ unmarked 119 ∷ [])) u tt refl walk
       (changes (turned change.Weaken) ws w (word.Weaken name) d u refl r))
 
-  -- a word, where the words behind it are read
+  -- a word, if the words after it are read
   word_run : (vs : List PolWord) (d : ℕ) (w : PolWord) (ws : List PolWord) (t u : List Letter) → Counts d (w ∷ ws) → SpellsWord limit top w t
       → ((next : ℕ) → Counts next ws → R (done (vs ++ w ∷ []) next) u) → R (gap vs d) (t ++ u)
   word_run vs d (word.Id id) ws t u c h f = id_run vs d id t u h (f (suc d) c)
@@ -238,7 +238,7 @@ module _ (limit top : ℕ) (e : List PolWord) (after : PolState) where
   word_run vs (suc d) (word.Weaken name) ws t u c h f = weaken_run vs d name t u h.0 h.1 (f (suc d) c)
 
 module _ (limit top : ℕ) where
-  -- the line's end behind the words of one expression
+  -- the end of the line after the words of one expression
   may_end : (ws : List PolWord) → MayEnd pol_automaton (state limit top ws 1 [] phase.After) (state limit top ws 1 [] (phase.Gap held.Nothing))
       (state limit top ws 1 [] phase.Ending) ws (pol_last limit top)
   may_end ws = record {

@@ -1,4 +1,4 @@
--- A state that reads all that another one reads.
+-- A state that reads everything that another one reads.
 use Rattle.std.proofs.Common.{◌≡◌, ℕ, Bool, true, false, cond, ◌&&◌, List, [], ◌∷◌, refl, sym, subst, ◌∙◌}
 use Rattle.std.specs.Prelude.{nat_eq, Some}
 use Rattle.pb_text.specs.Automaton.{Automaton, Next, Go, End, Refuse, Reads}
@@ -21,7 +21,7 @@ use Rattle.pb_proof.specs.declared.line.pol.phase.Move.TheVariants as move
 use Rattle.pb_proof.proofs.lemmas.Pol.Fronts.{NotLarge}
 
 module _ {S E : Type 0} (m : Automaton S E) (t : List Letter) (e : E) (after : S) where
-  -- behind a byte the one reads what the other one reads
+  -- after a byte, the second outcome reads everything that the first one reads
   abbrev pub Covers : Next S E → Next S E → Type 0
   Covers (Go mid) n = (own : S) × (n ≡ Go own) × (m.begun mid ≡ true → m.begun own ≡ true) × (m.in_number own ≡ m.in_number mid)
       × (Reads m mid t e after → Reads m own t e after)
@@ -83,7 +83,7 @@ module _ (limit top : ℕ) (e : List PolWord) (after : PolState) where
       go kind.Feed = tt
       go k = further (is_name_kind k)
 
-  -- a word that may still change is one that does not
+  -- after a word that may still change, everything is read that is read after one that may not
   pub as_gap : (h : Held) → NotLarge h → (ws : List PolWord) (d : ℕ) (t : List Letter) → R (st ws d [] (phase.Gap held.Nothing)) t → R (st ws d [] (phase.Gap h)) t
   as_gap h i ws d [] x = absurd x
   as_gap h i ws d (l ∷ t) x = at_kind (st ws d [] (phase.Gap held.Nothing)) (st ws d [] (phase.Gap h)) l t (go h i (as_gap h i ws d t)) x
@@ -100,11 +100,11 @@ module _ (limit top : ℕ) (e : List PolWord) (after : PolState) where
       go held.Name i more kind.W = (st ws d (l.byte ∷ []) (phase.Lone role.Weaken), refl, (λ b. b), refl, as_letter role.Weaken refl ws d (l.byte ∷ []) t)
       go h i more k = same t (st ws d [] (phase.Gap h)) l.byte (plan limit top d (phase.Gap h) k)
 
-  -- the state behind a word that has ended
+  -- the state after a word that has ended
   abbrev pub behind : Change → List PolWord → ℕ → List ℕ → PolState
   behind c ws d name = st (changed c ws name) (counted c d) [] phase.After
 
-  -- a word has ended: what may follow, follows
+  -- a state in which a word may end reads what may follow the word, unless an operator has to follow
   pub as_after : (ph : Phase) (c : Change) (h : Held) → NotLarge h → (ws : List PolWord) (d : ℕ) (name : List ℕ) (t : List Letter) → close limit top d ph ≡ Some (c, h)
       → R (behind c ws d name) t → R (st ws d name ph) t
   as_after ph c h i ws d name [] q x = absurd x

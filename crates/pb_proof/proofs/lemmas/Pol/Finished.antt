@@ -1,4 +1,4 @@
--- Words are those of one expression exactly where they lead from none that is finished to one.
+-- Words are those of one expression if and only if they lead from no finished expression to one.
 use Rattle.std.proofs.Common.{◌≡◌, ◌↔◌, ℕ, zero, suc, List, [], ◌∷◌, Option, Some, None}
 use Rattle.pb_proof.specs.Postfix.{IsPostfix}
 use Rattle.pb_proof.specs.Line.Finished.{finished_with}
@@ -10,7 +10,7 @@ abbrev Given : Option ℕ → (ℕ → Type 0) → Type 0
 Given None P = ⊥
 Given (Some n) P = P n
 
--- from so many finished expressions the words lead to one
+-- from `d` finished expressions, the words lead to one
 abbrev pub Leads : ℕ → List PolWord → Type 0
 Leads d [] = d ≡ 1
 Leads d (w ∷ ws) = Given (finished_with d w) (λ n. Leads n ws)

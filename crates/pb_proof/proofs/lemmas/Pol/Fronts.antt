@@ -1,4 +1,4 @@
--- What a machine of postfix words has read.
+-- What the `pol` machine has read.
 use Rattle.std.proofs.Common.{◌≡◌, ℕ, zero, suc, ◌-◌, ◌<◌, ◌≤◌, true, false, List, [], ◌∷◌, ◌++◌, refl, sym, ap, subst, arith, append_assoc, ◌∙◌}
 use Rattle.std.specs.Prelude.{pos}
 use Rattle.std.proofs.Math.Nat.{le-max_left, le-max_right}
@@ -36,12 +36,12 @@ with_last_append f [] w = refl
 with_last_append f (x ∷ []) w = refl
 with_last_append f (x ∷ y ∷ ws) w = ap (λ t. x ∷ t) (with_last_append f (y ∷ ws) w)
 
--- what is held may be a word of its own
+-- the last word need not be followed by an operator
 abbrev pub NotLarge : Held → Type 0
 NotLarge held.Large = ⊥
 NotLarge _ = Unit {0}
 
--- behind these words so many expressions are there
+-- after these words there are `d` expressions
 abbrev pub Leads : List PolWord → ℕ → Type 0
 Leads ws d = (rest : List PolWord) → Counts d rest → Counts 0 (ws ++ rest)
 
@@ -63,7 +63,7 @@ module _ (limit top : ℕ) where
   pub lead : (ws : List PolWord) (d : ℕ) (Q R : Language) (p : List Letter) → Leads ws d → (Words ws ⋅ Q ⋅ R) p → (Settled ws d ⋅ Q ⋅ R) p
   lead ws d Q R p h (ab, c, g, (a, b, i, j, k), m) = (ab, c, g, (a, b, i, (h, j), k), m)
 
-  -- a number, or a name, as the last word, and an expression before it
+  -- the last word is a number or a name, with an expression before it
   abbrev pub Numbered : (ℕ → PolWord) → (ℕ → Type 0) → List PolWord → ℕ → Language
   Numbered word Fits ws d = λ t. (vs : List PolWord) × (e : ℕ) × (n : ℕ) × (ws ≡ vs ++ word n ∷ []) × (d ≡ suc (suc e)) × (0 < n) × (n ≤ limit)
       × Fits n × Leads vs (suc e) × (Words vs ⋅ Blanks1 ⋅ Digits n) t
@@ -84,7 +84,7 @@ module _ (limit top : ℕ) where
   pub at : (ws vs : List PolWord) (d e : ℕ) (p : List Letter) → ws ≡ vs → d ≡ e → Settled vs e p → Settled ws d p
   at ws vs d e p f g h = subst (λ x. Settled x d p) (sym f) (subst (λ x. Settled vs x p) (sym g) h)
 
-  -- what is held is a word of its own
+  -- the last word is a word on its own
   pub released : (h : Held) (ws : List PolWord) (d : ℕ) (p : List Letter) → NotLarge h → Holds h ws d p → Settled ws d p
   released held.Nothing ws d p i k = k
   released held.Number ws d p i (vs, e, n, f, g, pos_n, le, fits, leads, t) =
@@ -105,14 +105,14 @@ module _ (limit top : ℕ) where
       (settle vs (suc e) (suc (suc e)) w p (λ rest r. r)
       (lead vs (suc e) Blanks1 (SpellsWord limit top w) p leads (ab, c, j, r, (h, m))))
 
-  -- behind one expression alone nothing is held
+  -- after one expression alone the last word cannot change
   pub whole : (h : Held) (ws : List PolWord) (d : ℕ) (p : List Letter) → d ≡ 1 → Holds h ws d p → Settled ws d p
   whole held.Nothing ws d p i k = k
   whole held.Number ws d p i (vs, e, n, f, g, r, u, v, x, y) = absurd (omega arith)
   whole held.Large ws d p i (vs, e, n, f, g, r, u, v, x, y) = absurd (omega arith)
   whole held.Name ws d p i (vs, e, name, f, g, r, u, v) = absurd (omega arith)
 
-  -- an operator that takes the number, or the name, before it
+  -- an operator that takes the number or the name before it
   pub takes_number : (word result : ℕ → PolWord) (Fits : ℕ → Type 0) (f : PolWord → PolWord) (b : ℕ) → ((n : ℕ) → f (word n) ≡ result n)
       → ((n : ℕ) (q : List Letter) → 0 < n → n ≤ limit → (Digits n ⋅ Blanks1 ⋅ Byte b) q → SpellsWord limit top (result n) q)
       → ((n e : ℕ) (rest : List PolWord) → Counts (suc e) rest → Counts (suc e) (result n ∷ rest))
@@ -128,7 +128,7 @@ module _ (limit top : ℕ) where
       word_of : (n : ℕ) → 0 < n → n ≤ limit → (Words vs ⋅ Blanks1 ⋅ (Digits n ⋅ Blanks1 ⋅ Byte b)) p → (Words vs ⋅ Blanks1 ⋅ SpellsWord limit top (result n)) p
       word_of n h i (x, y, z, q, r) = (x, y, z, q, spells n y h i r)
 
-  -- the text behind each state
+  -- the text that has been read in each state
   abbrev pub IsRole : Role → List ℕ → Type 0
   IsRole role.Name name = Unit {0}
   IsRole role.Saturate name = name ≡ 115 ∷ []

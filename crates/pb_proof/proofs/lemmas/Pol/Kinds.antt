@@ -1,4 +1,4 @@
--- What the kind of a byte says of it, and the other way round.
+-- What the kind of a byte says of the byte, and the converse.
 use Rattle.std.proofs.Common.{◌≡◌, ℕ, ◌+◌, ◌-◌, ◌<◌, Bool, true, false, cond, refl, ap, arith}
 use Rattle.std.proofs.lemmas.Bool.{eqb-true, cond_both, false≢true}
 use Rattle.std.proofs.lemmas.Bool.Decides.{nat_tests}
@@ -53,7 +53,7 @@ kind_says b =
 digit_name : (b d : ℕ) → b ≡ 48 + d → d < 10 → is_name_byte b ≡ true
 digit_name b d e h = grind (arith, nat_tests)
 
--- what the kinds of letters, and of bytes of names, say
+-- what the kinds of letters, and of name bytes, say
 pub letter_kind : (k : Kind) (b : ℕ) → Says k b → is_letter_kind k ≡ true → IsTrue (is_letter b)
 letter_kind D b h e = rw h refl
 letter_kind S b h e = rw h refl

@@ -1,4 +1,4 @@
--- Postfix words tell their expression, and leave one. Offered to other crates.
+-- Postfix words determine their expression, and leave one. Offered to other crates.
 use Rattle.std.proofs.Common.{◌≡◌, ℕ, zero, suc, List, [], ◌∷◌, ◌++◌, refl, sym, ap, ◌∙◌, subst, arith}
 use Rattle.pb_proof.specs.Leaving.{Leaves, WordsTell, WordsLeaveOne}
 use Rattle.pb_proof.specs.Postfix.{Tree, Constraint, True, Sum, Times, Divided, Saturated, Weakened, words}
@@ -6,7 +6,7 @@ use Rattle.pb_proof.specs.declared.word.PolWord.{PolWord}
 use Rattle.pb_proof.specs.declared.word.PolWord.TheVariants.{Id, Axiom, Add, Multiply, Divide, Saturate, Weaken}
 use Rattle.pb_proof.proofs.lemmas.Pol.Trees.{Counts, postfix_counts, counts_postfix}
 
--- a word on a stack of expressions, the last one first
+-- a word applied to a stack of expressions, the last one first
 pub one_word : PolWord → List Tree → List Tree
 one_word (Id id) ts = Constraint id ∷ ts
 one_word (Axiom l) ts = True l ∷ ts

@@ -1,4 +1,4 @@
--- A push does what was planned.
+-- A push does what its transition says.
 use Rattle.std.proofs.Common.{◌≡◌, ℕ, ◌<◌, Bool, true, false, ◌&&◌, List, [], refl, sym, ap, subst, ◌∙◌}
 use Rattle.std.specs.Prelude.{IsTrue, if◌then◌else◌}
 use Rattle.pb_text.specs.Automaton.{Next, End, Refuse, Admits, IsState, Pushes}
@@ -40,7 +40,7 @@ module _ (limit top : ℕ) (ws : List PolWord) (d : ℕ) (name : List ℕ) (ph :
   pub moved : k ≡ kind_of b → m ≡ plan limit top d ph k → pol_automaton.step at b ≡ over at (act at.work b m)
   moved e f = ap (λ x. over at (act at.work b x)) (planned e f)
 
-  -- memory is asked for only where the byte is taken
+  -- a push allocates only at a byte that is taken
   pub asks_for : k ≡ kind_of b → m ≡ plan limit top d ph k → IsPolInOrder at → IsTaken m → wants m ≡ true → IsTrue (pol_automaton.asks at b) × Admits pol_automaton at b
   asks_for e f g t w = (ap wants (planned e f) ∙ w, pol_admits at b (over at (act at.work b m)) g (moved e f) (taken at b m t))
 
@@ -60,7 +60,7 @@ last_state limit top vs n new q h (g, i, j, k) =
     subst (IsState pol_automaton) (sym (same_state limit top vs [] n 0 new [] q phase.Done g i j k))
     (pol_is_state (state limit top [] 0 [] phase.Done) (h, λ e. (refl, refl)))
 
--- a byte that is refused
+-- a byte that is rejected
 pub refused : (s : PolState) (b : ℕ) (r : Push (List PolWord)) → pol_automaton.step s b ≡ Refuse
     → r ≡ (if is_in_number s.work.phase && is_digit b then push.Large else push.No) → Pushes pol_automaton s b r s
 refused s b r h e = subst (λ x. Pushes pol_automaton s b x s) (sym e) (go (is_in_number s.work.phase && is_digit b) refl)

@@ -1,4 +1,4 @@
--- What the plan for a phase and a kind says of the state that it leads to.
+-- What the transition for a phase and a kind says of the state that it leads to.
 use Rattle.std.proofs.Common.{◌≡◌, ℕ, ◌+◌, ◌*◌, ◌≤◌, Bool, true, false, cond, ◌&&◌, List, [], ◌∷◌, ◌++◌, length, refl, sym, subst, arith, length-append}
 use Rattle.std.specs.Prelude.{pos, neg_ℤ, nat_eq, nat_le, Some, None}
 use Rattle.std.proofs.lemmas.Bool.{false≢true, true≢false}
@@ -21,7 +21,8 @@ use Rattle.pb_proof.specs.declared.line.pol.phase.Change.TheVariants as change
 use Rattle.pb_proof.specs.declared.line.pol.phase.Move.{Move}
 use Rattle.pb_proof.specs.declared.line.pol.phase.Move.TheVariants as move
 
--- The text has begun, a literal is in hand where a name has, and a word that is added was in hand or had room.
+-- The text has begun. A literal is being read if a name has begun.
+-- A word that is added was being read, or there was room for it.
 abbrev pub IsSane : Phase → Move → Type 0
 IsSane ph (move.To q) = (is_midway q ≡ true) × (in_hand q ≡ 0)
 IsSane ph (move.Begin q) = (is_midway q ≡ true) × (in_hand q + ready q ≡ 1) × (ready ph ≡ 1)
@@ -118,7 +119,7 @@ plan-sane limit top d ph kind.Semicolon = semicolon-sane limit top d ph (close l
 plan-sane limit top d ph kind.Feed = feed-sane limit top d ph (close limit top d ph)
 plan-sane limit top d ph k = read-sane limit top d ph k
 
--- What is kept grows by one unit a byte at most.
+-- What is stored grows by at most one unit per byte.
 pub units_append : (ws : List PolWord) (w : PolWord) → units (ws ++ w ∷ []) ≡ units ws + word_units w
 units_append [] w = omega arith
 units_append (x ∷ ws) w = omega (arith, units_append ws w)
@@ -128,7 +129,7 @@ units_last f h [] = omega arith
 units_last f h (w ∷ []) = let i = h w in omega (arith, i)
 units_last f h (w ∷ v ∷ ws) = let i = units_last f h (v ∷ ws) in omega (arith, i)
 
--- `*`, `d` and `w` leave what a word keeps
+-- `*`, `d` and `w` add no units to a word
 multiply_units : (w : PolWord) → word_units (turned change.Multiply w) ≤ word_units w
 multiply_units (word.Id z) = omega arith
 multiply_units w = omega arith
@@ -173,7 +174,7 @@ turn_grows : (c : Change) (ws : List PolWord) (name : List ℕ) (ph q : Phase) (
 turn_grows c ws name ph q false e f g = let h = changed_units c ws name e in let i = ready_once q in omega (arith, h, i, f)
 turn_grows c ws name ph q true e f g = let h = added_units c ws name e in let i = ready_once q in let j = g e in omega (arith, h, i, f, j)
 
--- behind a byte: within a line, and one unit more at most
+-- after a byte: within a line, and at most one unit more
 abbrev pub IsNext : Work → Work → Type 0
 IsNext w v = (is_midway v.phase ≡ true) × (potential v ≤ potential w + 1)
 
@@ -201,7 +202,7 @@ ends w v b (move.Add q) e h = go_or_end (work w.words w.depth (w.name ++ b ∷ [
 ends w v b (move.Turn c q) e h = go_or_end (work (changed c w.words w.name) (counted c w.depth) [] q) e v h
 ends w v b move.Stop e h = refuse_or_end e v h
 
--- where the line has ended no byte is taken
+-- after the end of the line no byte is taken
 pub stops : (limit top d : ℕ) (ph : Phase) (k : Kind) → is_done ph ≡ true → plan limit top d ph k ≡ move.Stop
 stops limit top d phase.Done kind.Blank h = refl
 stops limit top d phase.Done kind.Semicolon h = refl

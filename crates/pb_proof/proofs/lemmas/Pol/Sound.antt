@@ -1,4 +1,4 @@
--- A machine of postfix words has read a front of such a line: one lemma for each step that goes on.
+-- The `pol` machine has read a prefix of a line of postfix words: one lemma for each step that continues.
 use Rattle.std.proofs.Common.{◌≡◌, ℕ, zero, suc, ◌+◌, ◌-◌, ◌*◌, ◌<◌, ◌≤◌, Bool, true, false, cond, ◌&&◌, List, [], ◌∷◌, ◌++◌, refl, sym, ap, subst, arith, append-nil, ◌∙◌}
 use Rattle.std.proofs.lemmas.Bool.{eqb-true, leb-true, and_parts, false≢true}
 use Rattle.std.proofs.lemmas.Bool.Decides.{nat_tests}
@@ -63,7 +63,7 @@ module _ (limit top : ℕ) (ws : List PolWord) (d : ℕ) (name : List ℕ) where
   abbrev Has : List PolWord → ℕ → Language
   Has = Settled limit top
 
-  -- what a word that ends leaves
+  -- what has been read if a word ends
   abbrev Closed : pol.Closing → Language
   Closed None p = Unit {0}
   Closed (Some (c, h)) p = (Holds limit top h (changed c ws name) (counted c d) ⋅ Blanks0) p

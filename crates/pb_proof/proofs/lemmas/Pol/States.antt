@@ -1,4 +1,4 @@
--- The automaton of postfix words reads one line and has ended then.
+-- The automaton of postfix words reads one line and has then ended.
 use Rattle.std.proofs.Common.{◌≡◌, ℕ, ◌+◌, ◌-◌, ◌^◌, ◌<◌, ◌≤◌, true, false, List, length, refl, sym, ap, subst, arith, ◌∙◌}
 use Rattle.std.proofs.Math.Nat.{min-le_left}
 use Rattle.std.proofs.lemmas.Bool.{false≢true, true≢false}
@@ -13,7 +13,7 @@ use Rattle.pb_text.proofs.OneText.{IsOfOne}
 use Rattle.pb_proof.proofs.lemmas.Pol.Alive.{alive}
 use Rattle.pb_proof.proofs.lemmas.Pol.Sane.{plan-sane, potential, IsNext, goes, ends, stops}
 
--- Where the automaton goes on, and where it ends.
+-- Where the automaton continues, and where it ends.
 went : (s next : PolState) (b : ℕ) (n : Outcome) → step s.limit s.top s.work b ≡ n → over s n ≡ Go next → (v : Work) × (next ≡ pol_with s v) × IsNext s.work v
 went s next b (Go v) e h = (
   v,
@@ -68,7 +68,7 @@ of_one = record {
   bounds = λ s. omega (arith, min-le_left (all_units s.work) (2 ^ 64 - 1));
 }
 
--- before a line and behind it nothing is kept
+-- before a line and after it nothing is stored
 pub empties : (s : PolState) → IsPolInOrder s → pol_automaton.begun s ≡ false → pol_automaton.spent s ≡ 0
 empties s h i =
     let (e, f) = h.1 i in

@@ -1,12 +1,12 @@
--- What the machine of postfix words does with each kind of line, at an example.
+-- Examples of what the `pol` machine does with each kind of line.
 use Rattle.std.proofs.Common.{◌≡◌, ℕ, suc, ◌-◌, ◌^◌, Bool, true, false, List, [], ◌∷◌, ◌++◌, refl}
 use Rattle.std.specs.Prelude.{codes}
 use Rattle.pb_text.specs.Automaton.{Next, Go, End, Refuse, is_large}
 use Rattle.pb_proof.specs.Line.PolState.{PolState, pol_first, pol_automaton}
 use Rattle.pb_proof.specs.declared.word.PolWord.{PolWord}
 
--- A line is taken through its line feed, or as a front of one, or up to the byte at an offset: it is refused, as a number
--- that is too large or not.
+-- The machine reads a line through its line feed, reads it as a prefix, or rejects the byte at an offset.
+-- `large` says whether it rejects that byte because a number is too large.
 pub data Taken : Type 0 where
   Finished : Taken
   Unfinished : Taken
@@ -25,14 +25,14 @@ abbrev run : List ℕ → ℕ → PolState → Taken
 run [] n s = Unfinished
 run (b ∷ t) n s = on (pol_automaton.step s b) t n (is_large pol_automaton s b) (λ r. run t (suc n) r)
 
--- under the widest limits
+-- with the widest limits
 abbrev pol : List ℕ → Taken
 pol t = run t 0 (pol_first (2 ^ 127 - 1) (2 ^ 63 - 1))
 
 plain_line : pol (codes " 1 2 d x3 w s" ++ (10 ∷ [])) ≡ Finished
 plain_line = refl
 
--- digits at depth 0, or after `-`: the digit that passes 2^63 - 1
+-- digits at depth 0, or after `-`: the digit that exceeds 2^63 - 1
 top_id : pol (codes " 9223372036854775807" ++ (10 ∷ [])) ≡ Finished
 top_id = refl
 
@@ -45,7 +45,7 @@ past_top_ten = refl
 past_top_minus : pol (codes " x1 -9223372036854775808") ≡ Refused 23 true
 past_top_minus = refl
 
--- digits at depth 1 or more, no sign: the digit that passes 2^127 - 1
+-- digits at depth 1 or more, no sign: the digit that exceeds 2^127 - 1
 most_factor : pol (codes " 1 170141183460469231731687303715884105727 *" ++ (10 ∷ [])) ≡ Finished
 most_factor = refl
 
@@ -65,7 +65,8 @@ zero_factor = refl
 leading_zero : pol (codes " 01" ++ (10 ∷ [])) ≡ Finished
 leading_zero = refl
 
--- digits past 2^63 - 1: a next byte that is no digit and no blank; after blanks any byte but blank, `*` and `d`; after `d` any name byte
+-- digits that exceed 2^63 - 1: a next byte that is neither a digit nor a blank;
+-- after blanks any byte but a blank, `*` and `d`; after `d` any name byte
 large_end : pol (codes " 1 9223372036854775808;") ≡ Refused 22 false
 large_end = refl
 
@@ -107,7 +108,7 @@ lone_d = refl
 name_d : pol (codes " 2 d1 +" ++ (10 ∷ [])) ≡ Finished
 name_d = refl
 
--- `s` where no tree is finished: the byte that ends a lone `s`
+-- `s` without a finished tree: the byte that ends a lone `s`
 lone_s : pol (codes " s ") ≡ Refused 2 false
 lone_s = refl
 
@@ -125,7 +126,7 @@ not_w = refl
 lone_plus : pol (codes " 1 +") ≡ Refused 3 false
 lone_plus = refl
 
--- `;` or LF with other than one tree: that byte
+-- `;` or LF if there is not exactly one tree: that byte
 no_tree : pol (10 ∷ []) ≡ Refused 0 false
 no_tree = refl
 

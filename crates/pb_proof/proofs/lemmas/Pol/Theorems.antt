@@ -1,4 +1,4 @@
--- The laws of the machine of postfix words.
+-- The laws of the `pol` machine.
 use Rattle.std.proofs.Common.{◌≡◌, ℕ, ◌<◌, List, refl, subst, sym, ◌↔◌}
 use Rattle.pb_text.specs.Automaton.{Next, Refuse, Reads, IsState, Admits}
 use Rattle.pb_text.specs.Spelling.{Letter}
@@ -20,14 +20,14 @@ pol_reads limit top text e after = (one, λ h. subst (λ x. Reads pol_automaton 
         let f : after ≡ pol_last limit top = reads_last pol_automaton HasIds last_of of_one text (pol_first limit top) e after r in
         (subst (λ x. SpellsWords x.limit x.top e text) f (reads_only limit top text e after r), f)
 
--- A state in order is one of a machine.
+-- A state in order satisfies `IsState`.
 pub pol_is_state : (s : PolState) → IsPolInOrder s → IsState pol_automaton s
 pol_is_state s h = is_state pol_automaton HasIds last_of of_one s h.0 (empties s h)
 
--- A byte that is taken begins something that is read.
+-- A byte that is taken begins a text that is accepted.
 pub pol_admits : (s : PolState) (b : ℕ) (n : Next PolState (List PolWord)) → IsPolInOrder s → pol_automaton.step s b ≡ n → (n ≡ Refuse → ⊥) → Admits pol_automaton s b
 pol_admits s b n h e f = admits pol_automaton HasIds last_of of_one s b n h.0 e f
 
--- The first state is in order, and the one behind a byte.
+-- The first state is in order.
 pub pol_first_in_order : (limit top : ℕ) → 0 < top → IsPolInOrder (pol_first limit top)
 pol_first_in_order limit top h = (h, λ i. (refl, refl))

@@ -1,10 +1,10 @@
--- Words are those of one expression exactly where the count of expressions goes from 0 to 1 and none lacks.
+-- Words are those of one expression if and only if the count of expressions goes from 0 to 1 and none is missing.
 use Rattle.std.proofs.Common.{◌≡◌, ℕ, suc, List, [], ◌∷◌, ◌++◌, length, refl, arith, append_assoc, append-nil}
 use Rattle.pb_proof.specs.Postfix.{Tree, Constraint, True, Sum, Times, Divided, Saturated, Weakened, words, IsPostfix}
 use Rattle.pb_proof.specs.declared.word.PolWord.{PolWord}
 use Rattle.pb_proof.specs.declared.word.PolWord.TheVariants.{Id, Axiom, Add, Multiply, Divide, Saturate, Weaken}
 
--- from so many expressions these words lead to one
+-- from `d` expressions, these words lead to one
 abbrev pub Counts : ℕ → List PolWord → Type 0
 Counts d [] = d ≡ 1
 Counts d (Id id ∷ ws) = Counts (suc d) ws

@@ -1,4 +1,4 @@
--- A count of units that stays at its largest.
+-- A count of units that stays at its maximum.
 use Rattle.std.proofs.Common.{◌≡◌, ℕ, ◌+◌, ◌-◌, ◌^◌, ◌<◌, min, take, get_or, length, List, sym, ap, arith, ◌∙◌}
 use Rattle.std.proofs.lemmas.List.{take_more}
 use Rattle.pb_proof.specs.Line.PolState.{word_units, units}

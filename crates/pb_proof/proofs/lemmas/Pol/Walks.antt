@@ -1,4 +1,4 @@
--- How a machine of postfix words reads digits, names and blanks.
+-- How the `pol` machine reads digits, names and blanks.
 use Rattle.std.proofs.Common.{◌≡◌, ℕ, ◌+◌, ◌*◌, ◌≤◌, Bool, true, false, cond, ◌&&◌, List, [], ◌∷◌, ◌++◌, refl, ap, subst, arith, append_assoc, append-nil, ◌∙◌}
 use Rattle.std.proofs.lemmas.Bool.{le-leb, false≢true}
 use Rattle.std.specs.Prelude.{IsTrue, nat_le, Some}
@@ -28,7 +28,7 @@ use Rattle.pb_proof.proofs.lemmas.Line.Ends.{TakesBlanks}
 use Rattle.pb_proof.proofs.lemmas.Pol.Covers.{state}
 use Rattle.pb_proof.proofs.lemmas.Pol.Kinds.{of_digit, of_blank, of_letter, of_name}
 
--- the step at a known kind, and at a known move
+-- the step for a known kind, and for a known move
 pub steps : (s : PolState) (b : ℕ) (k : Kind) → kind_of b ≡ k → pol_automaton.step s b ≡ over s (act s.work b (plan s.limit s.top s.work.depth s.work.phase k))
 steps s b k e = ap (λ x. over s (act s.work b (plan s.limit s.top s.work.depth s.work.phase x))) e
 

@@ -1,16 +1,15 @@
--- Statements of a proof that are put together one by one are that proof.
-use Rattle.std.proofs.Common.{◌≡◌, ◌↔◌, ℕ, List, [], ◌∷◌, ◌++◌, Bool, refl, sym, ap, ◌∙◌, append_assoc, append-nil, All}
+-- Statements of a proof that are collected one by one are that proof.
+use Rattle.std.proofs.Common.{◌≡◌, ◌↔◌, ℕ, List, [], ◌∷◌, ◌++◌, refl, sym, ap, ◌∙◌, append_assoc, append-nil, All}
 use Rattle.pb_text.proofs.Unkept as stopped
-use Rattle.pb_text.specs.declared.place.Why.TheVariants.{Memory}
 use Rattle.std.proofs.lemmas.List.Elements.{All-head, All-tail}
 use Rattle.pb_text.specs.Spelling.{Item}
-use Rattle.pb_text.specs.Whole.{gathered, events_of, IsWhole, StopsAfter}
+use Rattle.pb_text.specs.Whole.{gathered, events_of, IsRead, IsWhole, MayHold, StopsIn}
 use Rattle.pb_text.specs.declared.Spanned.{Spanned}
 use Rattle.pb_text.specs.declared.Stop.{Stop}
-use Rattle.pb_text.specs.ValueRead.{IsRead, StopsIn, WantsIn}
 use Rattle.pb_text.proofs.Formats as formats
 use Rattle.pb_proof.specs.Gather.{with, asks, MayKeep, nothing}
 use Rattle.pb_proof.specs.Proofs.{IsStep, statements_of, IsProof, IsProofOf}
+use Rattle.pb_proof.specs.Reading.{AsksInProof}
 use Rattle.pb_proof.specs.declared.read.gather.ProofSoFar.{ProofSoFar}
 use Rattle.pb_proof.specs.declared.proof.Proof.{Proof}
 use Rattle.pb_proof.specs.declared.statement.Statement.{Statement}
@@ -68,18 +67,11 @@ module _ (limit top longest : ℕ) (accepted : List (Item Statement) → Type 0)
   is_read b n m w = record {
     marks = w.marks;
     spelled = formats.is_spelled accepted (IsProof limit top) only each longest used w.marks w.spelled;
-    value = value_of b m.event w.spelled.items n w.value_is (only w.spelled.items w.spelled.spelled);
-    first = w.first_is;
-    past = w.past_is;
+    value = value_of b m.event w.spelled.items n w.value (only w.spelled.items w.spelled.spelled);
+    first = w.first;
+    past = w.past;
   }
 
-  abbrev keeps : ProofSoFar → Statement → Bool
-  keeps c e = asks e
-
-  pub stops_in : (b : ProofSoFar) (may_ask : List ℕ → ℕ → Type 0) (seen : List ℕ) (s : Stop) → StopsAfter accepted longest one_more b may_ask keeps used seen s → StopsIn (IsProof limit top) longest used seen s
-  stops_in b may_ask seen s w = stopped.stops_in accepted (IsProof limit top) only each longest one_more b may_ask keeps used seen s w
-
-  -- a stop for want of memory
-  pub wants_in : (b : ProofSoFar) (may_ask may_ask' : List ℕ → ℕ → Type 0) → ((c : ℕ) → may_ask used c → may_ask' used c) → (seen : List ℕ) (s : Stop)
-      → StopsAfter accepted longest one_more b may_ask keeps used seen s → s.why ≡ Memory → WantsIn (IsProof limit top) longest may_ask' MayKeep used seen s
-  wants_in b may_ask may_ask' to seen s w e = stopped.wants_in accepted (IsProof limit top) only each longest one_more b may_ask keeps used seen s may_ask' to MayKeep (λ events x h. h) w e
+  pub stops_in : (b : ProofSoFar) (may_ask : List ℕ → ℕ → Type 0) → ((u : List ℕ) (c : ℕ) → may_ask u c → AsksInProof limit top u c) → (seen : List ℕ) (s : Stop) → StopsIn accepted longest may_ask (MayHold one_more b (λ c e. asks e)) used seen s
+      → StopsIn (IsProof limit top) longest (AsksInProof limit top) MayKeep used seen s
+  stops_in b may_ask to seen s w = stopped.stops_in accepted (IsProof limit top) only each longest may_ask (AsksInProof limit top) to (MayHold one_more b (λ c e. asks e)) MayKeep (λ events x h. h) used seen s w

@@ -1,4 +1,4 @@
--- A proof stays one where numbers may be larger.
+-- A proof remains a proof if numbers may be larger.
 use Rattle.std.proofs.Common.{ℕ, ◌≤◌, List, [], ◌∷◌, arith, refl}
 use Rattle.std.proofs.lemmas.List.Elements.{All-nil, All-cons, All-head, All-tail}
 use Rattle.std.specs.Prelude.{ℤ, Option, Some, None}

@@ -1,4 +1,4 @@
--- What was read of a proof are the first of its statements, and they meet the rules.
+-- The statements that were read of a proof are its first ones, and they meet the rules.
 use Rattle.std.proofs.Common.{◌≡◌, ℕ, ◌<◌, ◌≤◌, Bool, true, false, List, [], ◌∷◌, ◌++◌, length, Option, Some, None, All, refl, sym, ap, ◌∙◌, subst, arith, length-append}
 use Rattle.std.proofs.lemmas.Bool.{false≢true, lt-leb, leb-false}
 use Rattle.std.proofs.lemmas.List.{append-nil}
@@ -23,14 +23,14 @@ behind before i = before ++ (i.gap ++ bytes i.text)
 longer : (before : List ℕ) (i : Item Statement) → length before ≤ length (behind before i)
 longer before i = omega (arith, length-append before (i.gap ++ bytes i.text))
 
--- statements behind more bytes do not end within so many
+-- statements after more than `n` bytes do not end within `n` bytes
 later : (n : ℕ) (items : List (Item Statement)) (start : Option Place) (before : List ℕ) → n < length before → ended_within n (marks_since start before items) ≡ []
 later n [] start before h = refl
 later n (i ∷ rest) start before h =
     let more : n < length (behind before i) = omega (arith, h, longer before i) in
     rw (place_after-offset (behind before i), lt-leb (length (behind before i)) n more) (later n rest None (behind before i) more)
 
--- those that end within so many bytes are the first
+-- statements that end within `n` bytes are the first ones
 first_ones : (n : ℕ) (items : List (Item Statement)) (start : Option Place) (before : List ℕ)
     → (rest : List Statement) × (events_of items ≡ events_at (ended_within n (marks_since start before items)) ++ rest)
 first_ones n [] start before = ([], refl)
@@ -48,7 +48,7 @@ left P [] ys h = All-nil P
 left P (x ∷ xs) ys h = All-cons P x xs (All-head P x (xs ++ ys) h) (left P xs ys (All-tail P x (xs ++ ys) h))
 
 module _ (limit top : ℕ) where
-  -- the first events of a spelling
+  -- the first events of a text
   begins : (items : List (Item Statement)) → IsProof limit top items → (es rest : List Statement) (all : Bool) → events_of items ≡ es ++ rest → (all ≡ true → rest ≡ []) → BeginProof limit top es all
   begins items (v, spelled) es rest all e whole = record {
     value = v;

@@ -1,11 +1,12 @@
--- The canonical text of a proof that meets the rules spells it.
-use Rattle.std.proofs.Common.{◌≡◌, ℕ, ◌<◌, ◌^◌, List, [], ◌∷◌, ◌++◌, map, refl, ap, sym, ◌∙◌, append_assoc, arith, All}
+-- The canonical text of a proof that meets the rules is a text of it.
+use Rattle.std.proofs.Common.{◌≡◌, ℕ, ◌<◌, ◌^◌, List, [], ◌∷◌, ◌++◌, map, refl, ap, sym, ◌∙◌, append_assoc, All}
 use Rattle.std.proofs.lemmas.List.{map-append}
 use Rattle.std.proofs.lemmas.List.Elements.{All-nil, All-cons, All-head, All-tail, All-append, All-map, All-weaker}
 use Rattle.pb_text.specs.Spelling.{Item, letters_of, bytes_of}
 use Rattle.pb_text.specs.Whole.{events_of}
 use Rattle.pb_text.proofs.Languages.{bytes-append}
 use Rattle.pb_proof.specs.Lines.{SpellsStatement}
+use Rattle.pb_text.specs.Blank.{Nothing}
 use Rattle.pb_proof.specs.Proofs.{IsGap, IsStep, statements_of, AreSpelled}
 use Rattle.pb_proof.specs.Values.{IsStatementValue, IsProofValue}
 use Rattle.pb_proof.specs.Canonical.{statement_bytes, lines, proof_bytes}
@@ -71,7 +72,7 @@ proof-bytes v h =
     ∙ (sym (lines-ended (body v) End []) ∙ ap lines (sym (body_is v)))))
 
 no_gap : IsGap []
-no_gap = ((λ i h. absurd (omega arith)), refl)
+no_gap = (Nothing, refl)
 
 module _ (limit top : ℕ) where
   all_values : (v : Proof) → IsProofValue limit top v → All (IsStatementValue limit top) (statements_of v)

@@ -1,4 +1,4 @@
--- What is spelled meets the rules.
+-- A value that has a text meets the rules.
 use Rattle.std.proofs.Common.{◌≡◌, ℕ, zero, suc, ◌<◌, ◌≤◌, List, [], ◌∷◌, ◌++◌, length, refl, ap, sym, ◌∙◌, subst, arith, Bool, true, false, Option, Some, None, All, length-append}
 use Rattle.std.specs.Prelude.{ℤ}
 use Rattle.std.proofs.lemmas.Int.{ints}
@@ -101,7 +101,7 @@ module _ (limit top : ℕ) where
 pub statement_values : StatementValues
 statement_values limit top s text h = statement_value limit top s text h
 
--- The ends of two lists that are the same.
+-- The ends of two equal lists.
 module _ {A : Type 0} where
   ends_same : (xs ys : List A) (a b c d e f : A) → xs ++ a ∷ b ∷ c ∷ [] ≡ ys ++ d ∷ e ∷ f ∷ [] → (xs ≡ ys) × (b ≡ e)
   ends_same [] [] a b c d e f h = (refl, cc)
@@ -132,7 +132,7 @@ same_proof v w h =
 pub one_value : OneValue
 one_value statements v w h k = same_proof v w (sym h ∙ k)
 
--- of all statements of a proof, those of its value
+-- if the statements of a proof meet the rules, so does its value
 parts_value : (limit top : ℕ) (v : Proof) → All IsStep v.steps → All (IsStatementValue limit top) (statements_of v) → IsProofValue limit top v
 parts_value limit top v steps h =
     let P : Statement → Type 0 = IsStatementValue limit top in

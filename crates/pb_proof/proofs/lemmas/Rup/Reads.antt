@@ -1,4 +1,4 @@
--- What a machine of `rup` reads is the grammar.
+-- What the `rup` machine reads is the grammar.
 use Rattle.std.proofs.Common.{◌≡◌, ℕ, true, false, List, [], ◌∷◌, ◌++◌, refl, sym, ap, subst, ◌∙◌, ◌↔◌}
 use Rattle.std.proofs.lemmas.Bool.{eqb-true, cond_both, false_from_ne_true}
 use Rattle.std.specs.Prelude.{IsTrue, nat_eq, Option, Some, None}
@@ -30,7 +30,7 @@ use Rattle.pb_proof.specs.declared.line.rup.phase.RupMove.{RupMove}
 use Rattle.pb_proof.specs.declared.line.rup.phase.RupMove.TheVariants.{Give}
 use Rattle.pb_proof.proofs.lemmas.Line.Ends.{TakesBlanks, blanks1_lead, Feeds, feed_reads, gapped, first_blank, further_blank, blank_more, feed_behind_blanks}
 
--- what the machine of sums reads
+-- what the sum machine reads
 pub given_walks : (o : Option Linear) (t : List Letter) (inner new : SumState) (e : SumEvent) → Reads sums inner t e new
     → Walks rup_automaton (record { phase = Inside; sums = inner; linear = o }) t (record { phase = Tail; sums = new; linear = Some (linear_of e) })
 given_walks o [] inner new e r = absurd r
@@ -128,7 +128,7 @@ module _ (limit top : ℕ) where
   rup_only t c after r =
       told rup_automaton Front Whole keeps t (rup_first limit) [] c after r (refl, refl, refl)
 
-  -- The other way: each part of a text leads on.
+  -- The converse: each part of a text leads on.
   abbrev in_phase : RupPhase → RupState
   in_phase p = record { phase = p; sums = sum_first limit; linear = None }
 
@@ -189,7 +189,7 @@ module _ (limit top : ℕ) where
       (reads_behind rup_automaton (a ++ b) f (rup_first limit) (behind (sum.TheVariants.Linear c) (sum_last limit)) (rup_last limit) c w
       (feed_reads rup_automaton (behind (sum.TheVariants.Linear c) (sum_last limit)) (behind (sum.TheVariants.Linear c) (sum_last limit)) (rup_last limit) c (tail_feeds (sum.TheVariants.Linear c)) f i))
 
-  -- What a new machine reads are the sum_first, and then it has ended.
+  -- What a new machine reads is a constraint, and then it has ended.
   pub rup_reads : (t : List Letter) (c : Linear) (after : RupState) → Reads rup_automaton (rup_first limit) t c after ↔ (SpellsRup limit top c t × (after ≡ rup_last limit))
   rup_reads t c after = (
     rup_only t c after,

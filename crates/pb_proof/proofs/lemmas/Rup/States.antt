@@ -1,4 +1,4 @@
--- What holds of each state that a machine of `rup` can be in.
+-- What holds of each state that the `rup` machine can be in.
 use Rattle.std.proofs.Common.{◌≡◌, ℕ, ◌+◌, ◌≤◌, Bool, true, false, cond, List, [], ◌++◌, refl, sym, ap, subst, ◌∙◌, arith, ◌&&◌}
 use Rattle.std.specs.Prelude.{IsTrue, nat_eq, Option, Some, None}
 use Rattle.std.proofs.lemmas.Bool.{cond_both}
@@ -28,7 +28,7 @@ use Rattle.pb_proof.specs.declared.line.rup.phase.RupMove.TheVariants.{To, Give,
 use Rattle.pb_text.proofs.Living.{IsAlive, before, final, accepted, admits_before}
 use Rattle.pb_proof.proofs.lemmas.Rup.Reads.{given_walks}
 
--- The constraint that the machine of sums gives has no more units than that machine had.
+-- The constraint that the sum machine gives has at most as many units as that machine had.
 acted-terms : (ys xs : List Term) (name : List ℕ) (m : Move) (e : SumEvent) (w : Work) → act ys xs name m ≡ End e w → (linear_of e).terms ≡ ys
 acted-terms ys xs name (move.To p) e w h = absurd (let f : ⊥ = cc in f)
 acted-terms ys xs name (move.Begin p b) e w h = absurd (let f : ⊥ = cc in f)
@@ -53,7 +53,7 @@ ended_units s next b e h =
 pub ended_empty : (s next : SumState) (b : ℕ) (e : SumEvent) → sums.step s b ≡ End e next → sums.spent next ≡ 0
 ended_empty s next b e h = ap sums.spent (ended-last s next b e h)
 
--- what a byte leads to
+-- what holds after a byte
 record Goes (s next : RupState) : Type 0 where
   pub begins : rup_midway next.phase ≡ true
   pub grows : rup_automaton.spent next ≤ rup_automaton.spent s + 1
@@ -74,7 +74,7 @@ on_plan Inside b = tt
 on_plan Tail b = cond_both (is_blank b) (To Tail) _ OnMove (λ e. refl) (λ e. cond_both (nat_eq b 10) Finish Stop OnMove (λ e. tt) (λ e. tt))
 on_plan Done b = tt
 
--- where bytes are given to the machine of sums, and where the line ends
+-- where bytes are given to the sum machine, and where the line ends
 not_given : (x y : Bool) → cond x (To Tail) (cond y Finish Stop) ≡ Give → ⊥
 not_given true y e = cc
 not_given false true e = cc
@@ -126,7 +126,7 @@ goes s next b h e = subst (On s) e (steps s h b)
 ends : (s next : RupState) (b : ℕ) (c : Linear) → IsRupInOrder s → rup_automaton.step s b ≡ End c next → (rup_done next.phase ≡ true) × (rup_automaton.spent next ≡ 0)
 ends s next b c h e = subst (On s) e (steps s h b)
 
--- any byte that is taken begins the line, or is behind its beginning
+-- after each byte that is taken the line has begun
 abbrev OnGo : Next RupState Linear → Type 0
 OnGo (Go next) = rup_midway next.phase ≡ true
 OnGo _ = Unit {0}
@@ -206,7 +206,7 @@ inside_alive s p d =
     same : (s : RupState) → s.phase ≡ Inside → s ≡ record s { phase = Inside }
     same s p = rw p refl
 
--- behind blanks, with `>`
+-- after blanks, with `>`
 gap_alive : (s : RupState) → s.phase ≡ Gap → s.sums ≡ sum_first s.sums.limit → IsAlive rup_automaton s
 gap_alive s p i =
     let mid : RupState = record s { phase = Inside; sums = record { spaces = s.sums.spaces; part = s.sums.part; limit = s.sums.limit; work = record { terms = []; name = []; phase = sum_phase.TheVariants.Greater } } } in
@@ -248,7 +248,7 @@ rup_is_state s h = record {
 pub rup_first_in_order : (limit : ℕ) → IsState sums (sum_first limit) → IsRupInOrder (rup_first limit)
 rup_first_in_order limit state = record { holds = (refl, refl); state = state }
 
--- What a byte leaves a machine with.
+-- What holds of the machine after a byte.
 pub to_order : (s : RupState) → IsRupInOrder s → (b : ℕ) (p : RupPhase) → rup_plan s.phase b ≡ To p → IsRupInOrder (record s { phase = p })
 to_order s h b p e = record { holds = held s.phase h.holds e; state = h.state }
   where
@@ -277,7 +277,7 @@ give_order s h b inner e g state = record {
 pub tail_order : (s : RupState) (b : ℕ) (e : SumEvent) (inner : SumState) → sums.step s.sums b ≡ End e inner → IsState sums inner → IsRupInOrder (record { phase = Tail; sums = inner; linear = Some (linear_of e) })
 tail_order s b e inner g state = record { holds = ((linear_of e, refl), ended_empty s.sums inner b e g); state = state }
 
--- where bytes are given the numbers are those of the machine of sums
+-- if a byte is given to the sum machine, a number is read if and only if that machine reads one
 given_number : (s : RupState) (p : RupPhase) (b : ℕ) → RupHolds s p → rup_plan p b ≡ Give → rup_in_number s p ≡ sums.in_number s.sums
 given_number s Inside b h e = refl
 given_number s Gap b h e = sym (ap sums.in_number h.1)

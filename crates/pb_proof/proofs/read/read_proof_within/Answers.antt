@@ -6,6 +6,3 @@ returns-clause-reads g c = search rules
 
 pub returns-clause-given : goal.returns-clause-given
 returns-clause-given g c = search rules
-
-pub returns-clause-memory : goal.returns-clause-memory
-returns-clause-memory g c = search rules

@@ -1,8 +1,8 @@
-//! What a machine of claims has read last, and what it does with a byte.
+//! What the machine for conclusions has read last, and what it does with a byte.
 
 use crate::conclusion::Bound;
 
-/// The first word of a claim.
+/// The first word of a conclusion.
 #[derive(Clone, Copy, Drop)]
 pub(crate) enum Word {
     NoClaim,
@@ -11,7 +11,7 @@ pub(crate) enum Word {
     Bounds,
 }
 
-/// What an id stands behind.
+/// What an id comes after.
 #[derive(Clone, Copy, Drop)]
 pub(crate) enum Owner {
     /// `UNSAT`.
@@ -24,11 +24,11 @@ pub(crate) enum Owner {
 #[derive(Clone, Copy, Drop)]
 pub(crate) enum Side {
     Lower,
-    /// The upper one, behind the lower one and its id.
+    /// The upper bound, after the lower bound and its id.
     Upper(Bound, Option<i64>),
 }
 
-/// A claim that literals may be shown for.
+/// A conclusion for which literals may be given.
 #[derive(Clone, Copy, Drop)]
 pub(crate) enum Showing {
     Sat,
@@ -36,7 +36,7 @@ pub(crate) enum Showing {
     Bounds(Bound, Option<i64>, Bound),
 }
 
-/// A claim, without literals.
+/// A conclusion, without literals.
 #[derive(Clone, Copy, Drop)]
 pub(crate) enum Claim {
     NoClaim,
@@ -44,18 +44,18 @@ pub(crate) enum Claim {
     Shows(Showing),
 }
 
-/// What a machine has read last.
+/// What the machine has read last.
 #[derive(Clone, Copy, Drop)]
 pub(crate) enum Phase {
     /// Nothing.
     Start,
     /// Blanks.
     Before,
-    /// So many bytes of the first word.
+    /// This many bytes of the first word.
     Word(Word, usize),
-    /// A claim, and perhaps blanks.
+    /// A conclusion, and perhaps blanks.
     Behind(Claim),
-    /// A claim, `;`, and perhaps blanks.
+    /// A conclusion, `;`, and perhaps blanks.
     Semicolon(Claim),
     /// `BOUNDS`.
     Bounded,
@@ -65,7 +65,7 @@ pub(crate) enum Phase {
     Signed(Side, bool),
     /// Digits of a bound, with this value.
     Digits(Side, bool, u128),
-    /// So many bytes of `INF`.
+    /// This many bytes of `INF`.
     Infinity(Side, usize),
     /// The lower bound.
     Between(Bound),
@@ -77,20 +77,20 @@ pub(crate) enum Phase {
     IdSigned(Owner),
     /// Digits of an id, with this value.
     IdDigits(Owner, bool, u64),
-    /// `:` before literals, and what the machine of literals has read.
+    /// `:` before literals, and what the machine for literals has read.
     Shown(Showing),
-    /// All.
+    /// The whole line.
     Done,
 }
 
-/// What a machine does with a byte.
+/// What the machine does with a byte.
 #[derive(Clone, Copy, Drop)]
 pub(crate) enum Move {
-    /// Goes on.
+    /// Continues in this phase.
     To(Phase),
-    /// Ends a claim without literals.
+    /// Ends a conclusion without literals.
     Finish(Claim),
-    /// Gives the byte to the machine of literals.
+    /// Gives the byte to the machine for literals.
     Give(Showing),
     Stop,
 }

@@ -1,4 +1,4 @@
-//! What a machine of claims does with a byte, by what it has read last.
+//! What the machine for conclusions does with a byte, given what it has read last.
 
 ghost use Rattle.std.specs.Prelude.{◌≡◌, ℕ, ◌<◌, ◌≤◌, ◌^◌, length, Bool};
 ghost use Rattle.pb_proof.specs.Line.Claim.{word_of, behind_word, spell, first_word, digits, begin_bound, behind_bound, colon, behind, between, after_bound, id_digits, after_id, plan, is_within, is_done, is_in_digits, PhaseFits, MoveFits};
@@ -20,7 +20,7 @@ fn word_of(word: Word) -> &'static [u8]
     }
 }
 
-/// What has been read with a whole first word.
+/// The phase after a whole first word.
 fn behind_word(word: Word) -> Phase
     ensures { result ≡ behind_word word }
 {
@@ -32,7 +32,7 @@ fn behind_word(word: Word) -> Phase
     }
 }
 
-/// The next byte of a word, of which some were read.
+/// The action for the next byte of a word, after `read` bytes of it.
 fn spell(word: &[u8], read: usize, byte: u8, more: Phase, whole: Phase) -> Move
     requires { read < length word.now }
     ensures { result ≡ spell word.now read byte more whole }
@@ -43,7 +43,7 @@ fn spell(word: &[u8], read: usize, byte: u8, more: Phase, whole: Phase) -> Move
     Move::To(if read + 1 == word.len() { whole } else { more })
 }
 
-/// The first byte of a first word.
+/// The action for the first byte of a first word.
 fn first_word(byte: u8) -> Move
     ensures plan { result ≡ first_word byte }
     ensures fits { (limit top : ℕ) → MoveFits limit top result }
@@ -57,7 +57,7 @@ fn first_word(byte: u8) -> Move
     }
 }
 
-/// The next digit of a bound.
+/// The action for the next digit of a bound.
 fn digits(limit: u128, side: Side, negative: bool, magnitude: u128, byte: u8) -> Move
     requires room { limit < 2 ^ 127 }
     requires fits { magnitude ≤ limit }
@@ -73,7 +73,7 @@ fn digits(limit: u128, side: Side, negative: bool, magnitude: u128, byte: u8) ->
     }
 }
 
-/// The first byte of a bound.
+/// The action for the first byte of a bound.
 fn begin_bound(limit: u128, side: Side, byte: u8) -> Move
     requires room { limit < 2 ^ 127 }
     ensures plan { result ≡ begin_bound limit side byte }
@@ -87,7 +87,7 @@ fn begin_bound(limit: u128, side: Side, byte: u8) -> Move
     }
 }
 
-/// What has been read with a whole bound.
+/// The phase after a whole bound.
 fn behind_bound(side: Side, bound: Bound) -> Phase
     ensures { result ≡ behind_bound side bound }
 {
@@ -97,7 +97,7 @@ fn behind_bound(side: Side, bound: Bound) -> Phase
     }
 }
 
-/// What a claim does with `:`.
+/// The action for `:` after a conclusion.
 fn colon(claim: Claim) -> Move
     ensures plan { result ≡ colon claim }
     ensures fits { (limit top : ℕ) → MoveFits limit top result }
@@ -109,7 +109,7 @@ fn colon(claim: Claim) -> Move
     }
 }
 
-/// What may stand behind a claim.
+/// The action for a byte after a conclusion.
 fn behind(claim: Claim, byte: u8) -> Move
     ensures plan { result ≡ behind claim byte }
     ensures fits { (limit top : ℕ) → MoveFits limit top result }
@@ -125,7 +125,7 @@ fn behind(claim: Claim, byte: u8) -> Move
     }
 }
 
-/// What may stand behind the lower bound.
+/// The action for a byte after the lower bound.
 fn between(bound: Bound, byte: u8) -> Move
     ensures plan { result ≡ between bound byte }
     ensures fits { (limit top : ℕ) → MoveFits limit top result }
@@ -139,7 +139,7 @@ fn between(bound: Bound, byte: u8) -> Move
     }
 }
 
-/// What may stand behind a bound.
+/// The action for a byte after a bound.
 fn after_bound(side: Side, bound: Bound, byte: u8) -> Move
     ensures plan { result ≡ after_bound side bound byte }
     ensures fits { (limit top : ℕ) → MoveFits limit top result }
@@ -150,7 +150,7 @@ fn after_bound(side: Side, bound: Bound, byte: u8) -> Move
     }
 }
 
-/// The next digit of an id.
+/// The action for the next digit of an id.
 fn id_digits(top: u64, owner: Owner, negative: bool, magnitude: u64, byte: u8) -> Move
     requires top { top < 2 ^ 63 }
     requires fits { magnitude ≤ top }
@@ -166,7 +166,7 @@ fn id_digits(top: u64, owner: Owner, negative: bool, magnitude: u64, byte: u8) -
     }
 }
 
-/// What may stand behind an id.
+/// The action for a byte after an id.
 fn after_id(owner: Owner, id: i64, byte: u8) -> Move
     ensures plan { result ≡ after_id owner id byte }
     ensures fits { (limit top : ℕ) → MoveFits limit top result }
@@ -180,7 +180,7 @@ fn after_id(owner: Owner, id: i64, byte: u8) -> Move
     }
 }
 
-/// A further byte of a first word.
+/// The action for a further byte of a first word.
 fn in_word(word: Word, read: usize, byte: u8) -> Move
     requires { read < length (word_of word) }
     ensures plan { result ≡ plan 0 0 (Phase.Word word read) byte }
@@ -190,7 +190,7 @@ fn in_word(word: Word, read: usize, byte: u8) -> Move
     spell(word_of(word), read, byte, more, behind_word(word))
 }
 
-/// What may stand behind `;`.
+/// The action for a byte after `;`.
 fn semicolon(claim: Claim, byte: u8) -> Move
     ensures plan { result ≡ plan 0 0 (Phase.Semicolon claim) byte }
     ensures fits { (limit top : ℕ) → MoveFits limit top result }
@@ -204,7 +204,7 @@ fn semicolon(claim: Claim, byte: u8) -> Move
     }
 }
 
-/// What may stand behind digits of a bound.
+/// The action for a byte after digits of a bound.
 fn number(limit: u128, side: Side, negative: bool, magnitude: u128, byte: u8) -> Move
     requires room { limit < 2 ^ 127 }
     requires fits { magnitude ≤ limit }
@@ -218,7 +218,7 @@ fn number(limit: u128, side: Side, negative: bool, magnitude: u128, byte: u8) ->
     after_bound(side, bound, byte)
 }
 
-/// A further byte of `INF`.
+/// The action for a further byte of `INF`.
 fn infinity(side: Side, read: usize, byte: u8) -> Move
     requires { read < 3 }
     ensures plan { result ≡ plan 0 0 (Phase.Infinity side read) byte }
@@ -234,7 +234,7 @@ fn infinity(side: Side, read: usize, byte: u8) -> Move
     )
 }
 
-/// What may stand behind the lower bound and blanks.
+/// The action for a byte after the lower bound and blanks.
 fn spaced(limit: u128, bound: Bound, byte: u8) -> Move
     requires room { limit < 2 ^ 127 }
     ensures plan { result ≡ plan limit 0 (Phase.Spaced bound) byte }
@@ -249,7 +249,7 @@ fn spaced(limit: u128, bound: Bound, byte: u8) -> Move
     }
 }
 
-/// What may stand behind `:` before an id.
+/// The action for a byte after `:` and before an id.
 fn before_id(top: u64, owner: Owner, byte: u8) -> Move
     requires top { top < 2 ^ 63 }
     ensures plan { result ≡ plan 0 top (Phase.BeforeId owner) byte }
@@ -264,7 +264,7 @@ fn before_id(top: u64, owner: Owner, byte: u8) -> Move
     }
 }
 
-/// What may stand behind digits of an id.
+/// The action for a byte after digits of an id.
 fn id_number(top: u64, owner: Owner, negative: bool, magnitude: u64, byte: u8) -> Move
     requires top { top < 2 ^ 63 }
     requires fits { magnitude ≤ top }
@@ -280,7 +280,7 @@ fn id_number(top: u64, owner: Owner, negative: bool, magnitude: u64, byte: u8) -
     after_id(owner, signed_i64(negative, magnitude), byte)
 }
 
-/// What a machine does with a byte.
+/// What the machine does with a byte.
 pub(crate) fn plan(limit: u128, top: u64, phase: Phase, byte: u8) -> Move
     requires room { limit < 2 ^ 127 }
     requires top { top < 2 ^ 63 }
@@ -312,7 +312,7 @@ pub(crate) fn plan(limit: u128, top: u64, phase: Phase, byte: u8) -> Move
     }
 }
 
-/// Whether a claim has begun and not ended.
+/// Whether a conclusion has begun and not ended.
 pub(crate) fn is_within(phase: Phase) -> bool
     ensures { result ≡ is_within phase }
 {
@@ -326,7 +326,7 @@ pub(crate) fn is_done(phase: Phase) -> bool
     matches!(phase, Phase::Done)
 }
 
-/// Whether the byte before is a digit of a bound or an id.
+/// Whether the last byte read is a digit of a bound or an id.
 pub(crate) fn is_in_digits(phase: Phase) -> bool
     ensures { result ≡ is_in_digits phase }
 {

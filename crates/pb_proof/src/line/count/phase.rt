@@ -1,4 +1,4 @@
-//! What a machine of counts has read last, and what it does with a byte.
+//! What the machine for counts has read last, and what it does with a byte.
 
 /// What has been read last.
 #[derive(Clone, Copy, Drop)]
@@ -13,14 +13,14 @@ pub enum CountPhase {
     Tail(u64),
     /// The count, if there is one, and `;`.
     Closing(Option<u64>),
-    /// All.
+    /// The whole line.
     Done,
 }
 
-/// What a machine does with a byte.
+/// What the machine does with a byte.
 #[derive(Clone, Copy, Drop)]
 pub enum CountMove {
-    /// Goes on.
+    /// Continues in this phase.
     To(CountPhase),
     /// Ends the line.
     End(Option<u64>),

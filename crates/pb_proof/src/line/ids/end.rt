@@ -11,7 +11,7 @@ use pb_text::{Machine, Sequence};
 use std::mem;
 
 impl IdsMachine {
-    /// Ends the line with a byte, where it is whole and no memory is refused.
+    /// Ends the line with a byte, if the line is complete and no allocation fails.
     #[inline(always)]
     pub(super) fn end(&mut self, byte: u8) -> Option<Sequence<i64>>
         ensures closes { Closes ids_automaton self.old byte result self.new }

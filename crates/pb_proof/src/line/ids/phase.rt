@@ -1,4 +1,4 @@
-//! What a machine of ids has read last, and what it does with a byte.
+//! What the machine for ids has read last, and what it does with a byte.
 
 /// What has been read last.
 #[derive(Clone, Copy, Drop)]
@@ -11,24 +11,24 @@ pub enum IdsPhase {
     Between,
     /// The `-` of an id.
     Minus,
-    /// Digits with this value, and whether `-` stands before them.
+    /// Whether `-` comes before the digits, and their value.
     Digits(bool, u64),
     /// The ids and `;`.
     Closing,
-    /// All.
+    /// The whole line.
     Done,
 }
 
-/// What a machine does with a byte.
+/// What the machine does with a byte.
 #[derive(Clone, Copy, Drop)]
 pub enum IdsMove {
-    /// Goes on.
+    /// Continues in this phase.
     To(IdsPhase),
-    /// Keeps an id.
+    /// Stores an id.
     Keep(IdsPhase, i64),
     /// Ends the line.
     End,
-    /// Keeps an id, and ends the line.
+    /// Stores an id, and ends the line.
     EndWith(i64),
     Stop,
 }

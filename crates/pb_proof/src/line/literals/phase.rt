@@ -1,4 +1,4 @@
-//! What a machine of literals has read last, and what it does with a byte.
+//! What the machine for literals has read last, and what it does with a byte.
 
 /// What has been read last.
 #[derive(Clone, Copy, Drop)]
@@ -11,18 +11,18 @@ pub enum LiteralsPhase {
     Negation,
     /// The first byte of a name.
     First(bool),
-    /// Two bytes of a name or more.
+    /// Two or more bytes of a name.
     More(bool),
     /// The literals and `;`.
     Closing,
-    /// All.
+    /// The whole line.
     Done,
 }
 
-/// What a machine does with a byte.
+/// What the machine does with a byte.
 #[derive(Clone, Copy, Drop)]
 pub enum LiteralsMove {
-    /// Goes on. A name that is whole ends its literal.
+    /// Continues in this phase. A complete name ends its literal.
     To(LiteralsPhase),
     /// Begins a name with a byte.
     Begin(LiteralsPhase, u8),

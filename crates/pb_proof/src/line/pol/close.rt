@@ -1,11 +1,11 @@
-//! What a postfix word does where it ends.
+//! What the end of a postfix word does.
 
 ghost use Rattle.std.specs.Prelude.{◌≡◌, ◌<◌, ◌^◌, Some};
 ghost use Rattle.pb_proof.specs.Line.Pol.{counted, held_number, close_number, close_lone, held_name, close, PhaseFits};
 
 use crate::line::pol::phase::{Change, Held, Phase, Role};
 
-/// How many expressions there are behind a change.
+/// How many expressions there are after a change.
 pub fn counted(change: Change, depth: usize) -> usize
     requires { depth < 2 ^ 63 }
     ensures { result ≡ counted change depth }
@@ -60,7 +60,7 @@ fn held_name(negated: bool, depth: usize) -> Held
     }
 }
 
-/// What a word does that ends here, and how it may still change.
+/// What a word that ends here does, and how it may still change.
 pub fn close(limit: u128, top: u64, depth: usize, phase: Phase) -> Option<(Change, Held)>
     requires limit { limit < 2 ^ 127 }
     requires top { top < 2 ^ 63 }

@@ -13,7 +13,7 @@ use crate::word::PolWord;
 use pb_text::{Machine, Sequence};
 
 impl PolMachine {
-    /// Ends the line with a byte, where it is whole and no memory is refused.
+    /// Ends the line with a byte, if the line is complete and no allocation fails.
     #[inline(always)]
     pub(super) fn end(&mut self, byte: u8) -> Option<Sequence<PolWord>>
         ensures closes { Closes pol_automaton self.old byte result self.new }

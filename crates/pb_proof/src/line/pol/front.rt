@@ -1,11 +1,11 @@
-//! Postfix words that are soon taken.
+//! The fast path for postfix words.
 
 ghost use Rattle.std.specs.Prelude.{◌≡◌};
 ghost use Rattle.pb_proof.specs.Line.PolFront.{held_before, held_operator, operator};
 
 use crate::line::pol::phase::{Change, Held, Phase};
 
-/// How the last word may still change, where another may begin.
+/// How the last word may still change, if another word may begin here.
 #[inline(always)]
 pub fn held_before(phase: Phase) -> Option<Held>
     ensures { result ≡ held_before phase }
@@ -30,7 +30,7 @@ fn held_operator(held: Held, byte: u8) -> Option<Change>
     }
 }
 
-/// What an operator of one byte does, where it may stand.
+/// What an operator of one byte does, if it may come here.
 #[inline(always)]
 pub fn operator(depth: usize, held: Held, byte: u8) -> Option<Change>
     ensures { result ≡ operator depth held byte }

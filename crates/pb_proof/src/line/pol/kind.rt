@@ -1,11 +1,11 @@
-//! What a byte is to a line of postfix words.
+//! The kind of a byte in a line of postfix words.
 
 ghost use Rattle.std.specs.Prelude.{◌≡◌, ◌<◌, true};
 ghost use Rattle.pb_proof.specs.Line.Pol.{kind_of, is_letter_kind, is_name_kind, KindFits};
 
 use crate::line::pol::phase::Kind;
 
-/// What the byte is to a line of words.
+/// The kind of the byte in a line of postfix words.
 #[inline(always)]
 pub fn kind_of(byte: u8) -> Kind
     ensures kind { result ≡ kind_of byte }
@@ -30,7 +30,7 @@ pub fn kind_of(byte: u8) -> Kind
     }
 }
 
-/// Whether it is a letter.
+/// Whether the byte is a letter.
 pub fn is_letter_kind(kind: Kind) -> bool
     ensures { result ≡ is_letter_kind kind }
 {
@@ -40,7 +40,7 @@ pub fn is_letter_kind(kind: Kind) -> bool
     }
 }
 
-/// Whether a name may hold it.
+/// Whether a name may contain the byte.
 pub fn is_name_kind(kind: Kind) -> bool
     ensures { result ≡ is_name_kind kind }
 {

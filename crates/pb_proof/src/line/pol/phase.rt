@@ -1,9 +1,9 @@
-//! What a machine of postfix words knows of the text so far, and what a byte is to it.
+//! What the machine for postfix words knows of the text so far, and the kinds of bytes.
 
-/// What a byte is to a line of words.
+/// The kind of a byte in a line of postfix words.
 #[derive(Clone, Copy)]
 pub enum Kind {
-    /// A digit, by its value.
+    /// A digit, given by its value.
     Digit(u8),
     /// The letter `d`.
     D,
@@ -13,7 +13,7 @@ pub enum Kind {
     W,
     /// Another letter.
     Letter,
-    /// Another byte that a name may hold.
+    /// Another byte that a name may contain.
     Mark,
     Blank,
     Feed,
@@ -34,18 +34,18 @@ pub enum Held {
     Number,
     /// It is a factor, as it is too large for an id: `*` or `d` has to follow.
     Large,
-    /// It is a name, and `w` makes it a variable to weaken by.
+    /// It is a name, and `w` makes it a variable to weaken.
     Name,
 }
 
-/// What a letter is where no byte of a name follows.
+/// What a letter is if no byte of a name follows it.
 #[derive(Clone, Copy)]
 pub enum Role {
     /// Nothing.
     Name,
     Saturate,
     Divide,
-    /// The same, behind a factor that is too large for an id: no byte of a name may follow.
+    /// The same, after a factor that is too large for an id: no byte of a name may follow.
     DivideLarge,
     Weaken,
 }
@@ -71,11 +71,11 @@ pub enum Phase {
     First,
     /// A letter.
     Lone(Role),
-    /// Two bytes of a name or more, behind `~` where it is negated.
+    /// Two or more bytes of a name, after `~` if it is negated.
     Name(bool),
     /// `;`, and perhaps blanks.
     Ending,
-    /// All.
+    /// The whole line.
     Done,
 }
 
@@ -97,14 +97,14 @@ pub enum Change {
     Multiply,
     /// The last word becomes a divisor.
     Divide,
-    /// The last word becomes a variable to weaken by.
+    /// The last word becomes a variable to weaken.
     Weaken,
 }
 
-/// What a machine does with a byte.
+/// What the machine does with a byte.
 #[derive(Clone, Copy)]
 pub enum Move {
-    /// Goes on.
+    /// Continues in this phase.
     To(Phase),
     /// Begins a name with the byte.
     Begin(Phase),

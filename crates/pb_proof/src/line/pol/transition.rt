@@ -1,4 +1,4 @@
-//! What a machine of postfix words does with a kind of byte.
+//! What the machine for postfix words does with a kind of byte.
 
 ghost use Rattle.std.specs.Prelude.{◌≡◌, ℕ, ◌+◌, ◌*◌, ◌<◌, ◌^◌, nat_le};
 ghost use Rattle.pb_proof.specs.Line.Pol.{is_in_number, is_done, bound, signed, number, blank, semicolon, feed, role_of, next_large, star, next_word, next, may_be_name, read, late, plan, KindFits, PhaseFits, MoveFits};
@@ -9,7 +9,7 @@ use crate::line::pol::kind::{is_letter_kind, is_name_kind};
 use crate::line::pol::phase::{Change, Held, Kind, Move, Phase, Role};
 use pb_text::decimal::next_digit;
 
-/// Whether the byte before is a digit of a number.
+/// Whether the last byte read is a digit of a number.
 pub fn is_in_number(phase: Phase) -> bool
     ensures { result ≡ is_in_number phase }
 {
@@ -29,7 +29,7 @@ pub fn is_done(phase: Phase) -> bool
     }
 }
 
-/// How many literals have a name and no word yet.
+/// How many literals have begun a name and are not a word yet.
 pub fn in_hand(phase: Phase) -> usize
     ensures { result ≡ in_hand phase }
 {
@@ -39,7 +39,7 @@ pub fn in_hand(phase: Phase) -> usize
     }
 }
 
-/// The largest value of digits: an id, or with an expression before it a factor.
+/// The largest value that digits may have: that of an id or, with an expression before it, of a factor.
 fn bound(limit: u128, top: u64, depth: usize) -> u128
     ensures { result ≡ bound limit top depth }
 {
@@ -153,7 +153,7 @@ fn next_word(limit: u128, top: u64, depth: usize, held: Held, kind: Kind) -> Mov
     }
 }
 
-/// The first byte of a word.
+/// The action for the first byte of a word.
 fn next(limit: u128, top: u64, depth: usize, held: Held, kind: Kind) -> Move
     requires limit { limit < 2 ^ 127 }
     requires kind { KindFits kind }
@@ -175,7 +175,7 @@ fn may_be_name(role: Role) -> bool
     }
 }
 
-/// A further byte of a word.
+/// The action for a further byte of a word.
 fn read(limit: u128, top: u64, depth: usize, phase: Phase, kind: Kind) -> Move
     requires limit { limit < 2 ^ 127 }
     requires phase { PhaseFits limit top depth phase }
@@ -198,7 +198,7 @@ fn read(limit: u128, top: u64, depth: usize, phase: Phase, kind: Kind) -> Move
     }
 }
 
-/// A byte behind the `;`.
+/// The action for a byte after the `;`.
 fn late(kind: Kind) -> Move
     ensures plan { result ≡ late kind }
     ensures fits { (limit top depth : ℕ) → MoveFits limit top depth kind result }
@@ -210,7 +210,7 @@ fn late(kind: Kind) -> Move
     }
 }
 
-/// What a machine does with a kind of byte. It asks for no memory.
+/// What the machine does with a kind of byte. This does not allocate.
 #[inline(always)]
 pub fn plan(limit: u128, top: u64, depth: usize, phase: Phase, kind: Kind) -> Move
     requires limit { limit < 2 ^ 127 }

@@ -1,4 +1,4 @@
-//! How postfix words change where a word ends.
+//! How the end of a word changes the postfix words.
 
 ghost use Rattle.std.specs.Prelude.{◌≡◌, ℕ, ◌+◌, ◌-◌, ◌^◌, ◌<◌, ◌≤◌, true, false, List, [], ◌∷◌, ◌++◌, vec_len, vec_capacity, min, IfOk, OnOk, OnErr};
 ghost use Rattle.pb_proof.specs.Line.Pol.{turned, with_last, changed, counted, adds};
@@ -12,7 +12,7 @@ use pb_text::Sequence;
 use std::alloc::{AllocError, Global};
 use std::mem;
 
-/// Whether a word is added.
+/// Whether the change adds a word.
 fn adds(change: Change) -> bool
     ensures { result ≡ adds change }
 {
@@ -23,7 +23,7 @@ fn adds(change: Change) -> bool
     }
 }
 
-/// The last word as an operator's.
+/// The last word, changed by an operator.
 fn turned(change: Change, word: PolWord) -> PolWord
     ensures { result ≡ turned change word }
 {
@@ -46,7 +46,7 @@ fn turn_last(words: &mut Vec<PolWord>, change: Change)
     }
 }
 
-/// Changes the words, where there is room for one that is added.
+/// Changes the words. For a word that is added, the vector has room already.
 fn change_words(words: &mut Vec<PolWord>, name: Name, change: Change)
     requires room { adds change ≡ true → vec_len words.old < vec_capacity words.old }
     ensures words { words.new.items ≡ changed change words.old.items name }
@@ -63,7 +63,7 @@ fn change_words(words: &mut Vec<PolWord>, name: Name, change: Change)
     }
 }
 
-/// Ends a word. Where memory ran out nothing changes.
+/// Ends a word. If memory runs out, nothing changes.
 pub fn turn(
     alloc: Global,
     words: &mut Vec<PolWord>,
@@ -85,7 +85,7 @@ pub fn turn(
     Ok(())
 }
 
-/// Ends the line, and a word with it. Where memory ran out nothing changes.
+/// Ends the line, and a word with it. If memory runs out, nothing changes.
 pub fn finish(
     alloc: Global,
     words: &mut Vec<PolWord>,
@@ -116,7 +116,7 @@ fn word_units(word: &PolWord) -> usize
     }
 }
 
-/// How many words are kept, and bytes of their names. The count stays at its largest.
+/// The number of words plus the number of bytes of their names. The sum saturates.
 pub fn count_units(words: &[PolWord]) -> usize
     ensures { result ≡ min (units words.now) (2 ^ 64 - 1) }
 {

@@ -10,7 +10,7 @@ use pb_sums::Linear;
 use std::mem;
 
 impl RupMachine {
-    /// Ends the line with a byte, where it is whole.
+    /// Ends the line with a byte, if the line is complete.
     #[inline(always)]
     pub(super) fn end(&mut self, byte: u8) -> Option<Linear>
         ensures { Closes rup_automaton self.old byte result self.new }
@@ -21,7 +21,7 @@ impl RupMachine {
         }
     }
 
-    /// Gives the constraint, where there is one.
+    /// Returns the constraint, if there is one.
     #[inline(always)]
     fn take_linear(&mut self, byte: u8) -> Option<Linear>
         requires { rup_plan self.old.phase byte ≡ RupMove.Finish }

@@ -1,4 +1,4 @@
-//! What a machine of `rup` has read last, and what it does with a byte.
+//! What the machine for `rup` has read last, and what it does with a byte.
 
 /// What has been read last.
 #[derive(Clone, Copy, Drop)]
@@ -11,16 +11,16 @@ pub enum RupPhase {
     Inside,
     /// The constraint, and perhaps blanks.
     Tail,
-    /// All.
+    /// The whole line.
     Done,
 }
 
-/// What a machine of `rup` does with a byte.
+/// What the machine does with a byte.
 #[derive(Clone, Copy, Drop)]
 pub enum RupMove {
-    /// Goes on.
+    /// Continues in this phase.
     To(RupPhase),
-    /// Gives the byte to the machine of sums.
+    /// Gives the byte to the machine for sums.
     Give,
     /// Ends the line.
     Finish,

@@ -1,5 +1,5 @@
 use Rattle.pb_replay.proofs.lemmas.Single.{openings-single, outcomes-single}
-use Rattle.pb_replay.proofs.lemmas.Unvalued.{unvalued-old}
+use Rattle.pb_replay.proofs.lemmas.Unvalued.{unvalued-old, unvalued-wants}
 use Rattle.pb_replay.proofs.laws.outcomes_are_single.Goals as goal
 
 pub returns-clause-openings : goal.returns-clause-openings
@@ -10,3 +10,6 @@ returns-clause-outcomes c = outcomes-single
 
 pub returns-clause-unvalued : goal.returns-clause-unvalued
 returns-clause-unvalued c = unvalued-old
+
+pub returns-clause-wanting : goal.returns-clause-wanting
+returns-clause-wanting c = unvalued-wants

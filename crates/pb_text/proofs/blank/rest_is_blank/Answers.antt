@@ -1,11 +1,14 @@
-use Rattle.std.proofs.Common.{◌≡◌, ◌||◌, ◌&&◌, not, ℕ, List, [], ◌∷◌, ◌++◌, Bool, nat_eq, sym, ap, ◌∙◌, refl, arith, length-append}
+use Rattle.std.proofs.Common.{rules, ◌≡◌, ◌||◌, ◌&&◌, not, ℕ, List, [], ◌∷◌, ◌++◌, Bool, nat_eq, sym, ap, ◌∙◌, refl, arith, length-append}
 use Rattle.pb_text.specs.Classes.{is_white}
 use Rattle.pb_text.specs.Spelling.{place_next}
-use Rattle.pb_text.specs.Blank.{passes, in_comment}
+use Rattle.pb_text.specs.Blank.{Nothing, passes, in_comment}
 use Rattle.pb_text.specs.declared.place.Place.{Place}
 use Rattle.pb_text.proofs.Pulled.{lost_byte, given_byte, seen_byte}
 use Rattle.pb_text.proofs.Blanks.{IsBlank-snoc, in_comment-snoc, place_from-snoc, next_within}
 use Rattle.pb_text.proofs.blank.rest_is_blank.Goals as goal
+
+pub loop-byte-init : goal.loop-byte-init
+loop-byte-init g c = search (rules, Nothing)
 
 pub returns-then-at-eq-BYTE_LIMIT-clause-blank : goal.returns-then-at-eq-BYTE_LIMIT-clause-blank
 returns-then-at-eq-BYTE_LIMIT-clause-blank g c =
@@ -52,23 +55,23 @@ pub returns-then-at-eq-BYTE_LIMIT-clause-given : goal.returns-then-at-eq-BYTE_LI
 returns-then-at-eq-BYTE_LIMIT-clause-given g c =
     let i = c.loop-byte.invariant.blank in
     let p = rw (c.in-Ok-Some.is, c.in-Ok-Some.field-0-is) at c.peek.ensures in
-    (i.0, c.in-Ok-Some.byte ∷ [], p.4 ∙ i.6, i.2, i.3, ((λ e. cc), omega (arith, i.4, c.if-at-eq-BYTE_LIMIT.true)))
+    (i.0, c.in-Ok-Some.byte ∷ [], p.4 ∙ i.6, (i.0, c.in-Ok-Some.byte ∷ [], (refl, refl), i.2, i.3, ((λ e. cc), omega (arith, i.4, c.if-at-eq-BYTE_LIMIT.true))))
 
 pub returns-then-not-passes-clause-given : goal.returns-then-not-passes-clause-given
 returns-then-not-passes-clause-given g c =
     let i = c.loop-byte.invariant.blank in
     let p = rw (c.in-Ok-Some.is, c.in-Ok-Some.field-0-is) at c.peek.ensures in
     let b : ℕ = c.in-Ok-Some.byte in
-    (i.0, b ∷ [], p.4 ∙ i.6, i.2, i.3, ([], refl, sym (at_comment i.0 b c.loop-byte.in_comment c.passes.result i.5 c.passes.ensures) ∙ c.if-not-passes.true, omega (arith, i.4, c.loop-byte.invariant.within, c.if-at-eq-BYTE_LIMIT.false)))
+    (i.0, b ∷ [], p.4 ∙ i.6, (i.0, b ∷ [], (refl, refl), i.2, i.3, ([], refl, sym (at_comment i.0 b c.loop-byte.in_comment c.passes.result i.5 c.passes.ensures) ∙ c.if-not-passes.true, omega (arith, i.4, c.loop-byte.invariant.within, c.if-at-eq-BYTE_LIMIT.false))))
 
 pub returns-in-Ok-None-clause-given : goal.returns-in-Ok-None-clause-given
 returns-in-Ok-None-clause-given g c =
     let i = c.loop-byte.invariant.blank in
     let p = rw (c.in-Ok-None.is, c.in-Ok-None.field-0-is) at c.peek.ensures in
-    (i.0, p.3 ∙ i.6, i.2, omega (arith, i.4, c.loop-byte.invariant.within))
+    (i.0, [], p.3 ∙ i.6, (i.0, (refl, refl), i.2, omega (arith, i.4, c.loop-byte.invariant.within)))
 
 pub returns-in-Err-clause-given : goal.returns-in-Err-clause-given
 returns-in-Err-clause-given g c =
     let i = c.loop-byte.invariant.blank in
     let p = rw c.in-Err.is at c.peek.ensures in
-    (i.0, [], p.2 ∙ i.6, i.2, i.3, tt)
+    (i.0, [], p.2 ∙ i.6, (i.0, [], (refl, refl), i.2, i.3, tt))

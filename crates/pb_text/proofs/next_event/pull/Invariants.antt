@@ -3,7 +3,7 @@ use Rattle.pb_text.specs.Automaton.{IsState}
 use Rattle.pb_text.specs.Pulling.{Draws}
 use Rattle.pb_text.proofs.next_event.pull.Given as goal
 
--- the feeder stands to the input with the bytes that were taken of the source
+-- the feeder was fed the input followed by the bytes taken from the source
 abbrev pub invariant-loop-event : goal.invariant-loop-event
 invariant-loop-event g l = record {
   running : l.feeder.stop ≡ None;

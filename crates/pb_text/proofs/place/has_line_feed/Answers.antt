@@ -9,7 +9,7 @@ use Rattle.pb_text.proofs.place.has_line_feed.Goals as goal
 pub loop-byte-init : goal.loop-byte-init
 loop-byte-init c h = tt
 
--- one byte more that is no line feed
+-- one more byte that is no line feed
 one_more : (text : List ℕ) (i : ℕ) → i < length text → Each (λ b. b ≢ 10) (take i text) → get_or text i 0 ≢ 10 → Each (λ b. b ≢ 10) (take (i + 1) text)
 one_more text i h each none = subst (λ (x : List ℕ). Each (λ b. b ≢ 10) x) (sym (take_more text i 0 h)) (each-append (λ b. b ≢ 10) (take i text) (get_or text i 0) each none)
 

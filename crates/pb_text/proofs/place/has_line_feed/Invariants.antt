@@ -2,6 +2,6 @@ use Rattle.std.proofs.Common.{◌≡◌, ◌≢◌, false, take}
 use Rattle.pb_text.specs.Languages.{Each}
 use Rattle.pb_text.proofs.place.has_line_feed.Given as goal
 
--- no byte so far is a line feed where none was found
+-- no byte so far is a line feed, if none was found
 abbrev pub invariant-loop-byte : goal.invariant-loop-byte
 invariant-loop-byte l = l.found ≡ false → Each (λ b. b ≢ 10) (take l.byte-index l.text)

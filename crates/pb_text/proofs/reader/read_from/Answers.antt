@@ -1,12 +1,15 @@
+use Rattle.std.proofs.Common.{ap, ◌∙◌, ℕ, None}
 use Rattle.pb_text.specs.Automaton.{Accepts, MayAsk}
+use Rattle.pb_text.specs.Pulling.{faults_after}
 use Rattle.pb_text.proofs.Overs.{reads_told}
 use Rattle.pb_text.proofs.reader.read_from.Goals as goal
 
-pub returns : goal.returns
-returns g c =
+pub returns-clause-reads : goal.returns-clause-reads
+returns-clause-reads g c =
     let o = c.read_whole-read.new.source in
     let r = rw (c.new-source.ensures.inner, c.new-source.ensures.shown) at c.read_whole-read.ensures.reads in
-    record {
-      reads = rw c.into_inner.ensures (reads_told (Accepts g.M.Machine.automaton c.args.machine) c.args.longest g.G.Gather.with c.args.empty (MayAsk g.M.Machine.automaton c.args.machine) g.G.Gather.asks (g.T.Read.remaining c.args.reader) c.read_whole-read.result
-          (g.T.Read.remaining o.inner) (g.T.BufRead.consumable_len o.inner) o.shown r);
-    }
+    reads_told (Accepts g.M.Machine.automaton c.args.machine) c.args.longest g.G.Gather.with c.args.empty (MayAsk g.M.Machine.automaton c.args.machine) g.G.Gather.asks (g.T.Read.remaining c.args.reader) c.read_whole-read.result
+    (g.T.Read.remaining o.inner) (g.T.BufRead.consumable_len o.inner) o.shown r
+
+pub returns-clause-faults : goal.returns-clause-faults
+returns-clause-faults g c = c.read_whole-read.ensures.faults ∙ ap (λ (n : ℕ). faults_after None c.read_whole-read.result n) c.new-source.ensures.failures

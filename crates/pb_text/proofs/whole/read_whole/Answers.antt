@@ -18,16 +18,16 @@ returns-in-Err-add-clause-reads g c =
     let i = c.loop-spanned.invariant.stands in
     let t = rw (c.in-Ok-Some.is, c.in-Ok-Some.field-0-is) at c.pull.ensures in
     let p = t.pulls c.args.longest c.args.machine i.0 i.1 (rw c.loop-spanned.invariant.running tt) i.5 in
-    rw c.place.ensures.place (let r = whole_unkept {g = g.M.Machine} c.args.longest c.args.machine i.1 c.loop-spanned.feeder c.pull.new.feeder (g.S.Source.left c.args.source.now) (g.S.Source.left c.loop-spanned.source) (g.S.Source.left c.pull.new.source) i.0 i.2 i.3 g.G.Gather.with c.args.empty g.G.Gather.asks c.in-Ok-Some.spanned (g.S.Source.history c.args.source.now) (g.S.Source.history c.loop-spanned.source) (g.S.Source.history c.pull.new.source) i.6 p
-    t.stop (t.past c.in-Ok-Some.spanned refl) (subst (λ (v : _). IsTrue (g.G.Gather.asks v c.in-Ok-Some.spanned.event)) i.4 c.in-Err-add.ensures.asking) in (r.0, r.1, r.2, r.4))
+    rw c.place.ensures.place (whole_unkept {g = g.M.Machine} c.args.longest c.args.machine i.1 c.loop-spanned.feeder c.pull.new.feeder (g.S.Source.left c.args.source.now) (g.S.Source.left c.loop-spanned.source) (g.S.Source.left c.pull.new.source) i.0 i.2 i.3 g.G.Gather.with c.args.empty g.G.Gather.asks c.in-Ok-Some.spanned (g.S.Source.history c.args.source.now) (g.S.Source.history c.loop-spanned.source) (g.S.Source.history c.pull.new.source) i.6 p
+    t.stop (t.past c.in-Ok-Some.spanned refl) (subst (λ (v : _). IsTrue (g.G.Gather.asks v c.in-Ok-Some.spanned.event)) i.4 c.in-Err-add.ensures.asking)).0
 
 pub returns-in-Err-add-clause-given : goal.returns-in-Err-add-clause-given
 returns-in-Err-add-clause-given g c =
     let i = c.loop-spanned.invariant.stands in
     let t = rw (c.in-Ok-Some.is, c.in-Ok-Some.field-0-is) at c.pull.ensures in
     let p = t.pulls c.args.longest c.args.machine i.0 i.1 (rw c.loop-spanned.invariant.running tt) i.5 in
-    rw c.place.ensures.place (let r = whole_unkept {g = g.M.Machine} c.args.longest c.args.machine i.1 c.loop-spanned.feeder c.pull.new.feeder (g.S.Source.left c.args.source.now) (g.S.Source.left c.loop-spanned.source) (g.S.Source.left c.pull.new.source) i.0 i.2 i.3 g.G.Gather.with c.args.empty g.G.Gather.asks c.in-Ok-Some.spanned (g.S.Source.history c.args.source.now) (g.S.Source.history c.loop-spanned.source) (g.S.Source.history c.pull.new.source) i.6 p
-    t.stop (t.past c.in-Ok-Some.spanned refl) (subst (λ (v : _). IsTrue (g.G.Gather.asks v c.in-Ok-Some.spanned.event)) i.4 c.in-Err-add.ensures.asking) in (r.0, r.1, r.3, r.4))
+    rw c.place.ensures.place (whole_unkept {g = g.M.Machine} c.args.longest c.args.machine i.1 c.loop-spanned.feeder c.pull.new.feeder (g.S.Source.left c.args.source.now) (g.S.Source.left c.loop-spanned.source) (g.S.Source.left c.pull.new.source) i.0 i.2 i.3 g.G.Gather.with c.args.empty g.G.Gather.asks c.in-Ok-Some.spanned (g.S.Source.history c.args.source.now) (g.S.Source.history c.loop-spanned.source) (g.S.Source.history c.pull.new.source) i.6 p
+    t.stop (t.past c.in-Ok-Some.spanned refl) (subst (λ (v : _). IsTrue (g.G.Gather.asks v c.in-Ok-Some.spanned.event)) i.4 c.in-Err-add.ensures.asking)).1
 
 less : (a b end longest : ℕ) (q : Option Place) → a < b → b ≤ end → end ≡ end_of longest q → 2 ^ 40 + 1 - b < 2 ^ 40 + 1 - a
 less a b end longest q h k e = omega (arith, end_limit longest q)
@@ -55,25 +55,25 @@ returns-in-Ok-None-clause-reads g c =
     let i = c.loop-spanned.invariant.stands in
     let t = rw (c.in-Ok-None.is, c.in-Ok-None.field-0-is) at c.pull.ensures in
     let p = t.pulls c.args.longest c.args.machine i.0 i.1 (rw c.loop-spanned.invariant.running tt) i.5 in
-    rw c.place-in-Ok-None.ensures.place (let r = whole_done {g = g.M.Machine} c.args.longest c.args.machine i.1 c.loop-spanned.feeder c.pull.new.feeder (g.S.Source.left c.args.source.now) (g.S.Source.left c.loop-spanned.source) (g.S.Source.left c.pull.new.source) i.0 i.2 i.3 g.G.Gather.with c.args.empty c.loop-spanned.value i.4 (g.S.Source.history c.args.source.now) (g.S.Source.history c.loop-spanned.source) (g.S.Source.history c.pull.new.source) i.6 p t.stop (t.last refl) in (r.0, r.1, r.2, r.4))
+    rw c.place-in-Ok-None.ensures.place (whole_done {g = g.M.Machine} c.args.longest c.args.machine i.1 c.loop-spanned.feeder c.pull.new.feeder (g.S.Source.left c.args.source.now) (g.S.Source.left c.loop-spanned.source) (g.S.Source.left c.pull.new.source) i.0 i.2 i.3 g.G.Gather.with c.args.empty c.loop-spanned.value i.4 (g.S.Source.history c.args.source.now) (g.S.Source.history c.loop-spanned.source) (g.S.Source.history c.pull.new.source) i.6 p t.stop (t.last refl)).0
 
 pub returns-in-Ok-None-clause-given : goal.returns-in-Ok-None-clause-given
 returns-in-Ok-None-clause-given g c =
     let i = c.loop-spanned.invariant.stands in
     let t = rw (c.in-Ok-None.is, c.in-Ok-None.field-0-is) at c.pull.ensures in
     let p = t.pulls c.args.longest c.args.machine i.0 i.1 (rw c.loop-spanned.invariant.running tt) i.5 in
-    rw c.place-in-Ok-None.ensures.place (let r = whole_done {g = g.M.Machine} c.args.longest c.args.machine i.1 c.loop-spanned.feeder c.pull.new.feeder (g.S.Source.left c.args.source.now) (g.S.Source.left c.loop-spanned.source) (g.S.Source.left c.pull.new.source) i.0 i.2 i.3 g.G.Gather.with c.args.empty c.loop-spanned.value i.4 (g.S.Source.history c.args.source.now) (g.S.Source.history c.loop-spanned.source) (g.S.Source.history c.pull.new.source) i.6 p t.stop (t.last refl) in (r.0, r.3, r.4))
+    rw c.place-in-Ok-None.ensures.place (whole_done {g = g.M.Machine} c.args.longest c.args.machine i.1 c.loop-spanned.feeder c.pull.new.feeder (g.S.Source.left c.args.source.now) (g.S.Source.left c.loop-spanned.source) (g.S.Source.left c.pull.new.source) i.0 i.2 i.3 g.G.Gather.with c.args.empty c.loop-spanned.value i.4 (g.S.Source.history c.args.source.now) (g.S.Source.history c.loop-spanned.source) (g.S.Source.history c.pull.new.source) i.6 p t.stop (t.last refl)).1
 
 pub returns-in-Err-clause-reads : goal.returns-in-Err-clause-reads
 returns-in-Err-clause-reads g c =
     let i = c.loop-spanned.invariant.stands in
     let t = rw c.in-Err.is at c.pull.ensures in
     let p = t.pulls c.args.longest c.args.machine i.0 i.1 (rw c.loop-spanned.invariant.running tt) i.5 in
-    let r = whole_stopped {g = g.M.Machine} c.args.longest c.args.machine i.1 c.loop-spanned.feeder c.pull.new.feeder (g.S.Source.left c.args.source.now) (g.S.Source.left c.loop-spanned.source) (g.S.Source.left c.pull.new.source) i.0 i.2 i.3 g.G.Gather.with c.args.empty g.G.Gather.asks c.in-Err.stop (g.S.Source.history c.args.source.now) (g.S.Source.history c.loop-spanned.source) (g.S.Source.history c.pull.new.source) i.6 p t.stop in (r.0, r.1, r.2, r.4)
+    (whole_stopped {g = g.M.Machine} c.args.longest c.args.machine i.1 c.loop-spanned.feeder c.pull.new.feeder (g.S.Source.left c.args.source.now) (g.S.Source.left c.loop-spanned.source) (g.S.Source.left c.pull.new.source) i.0 i.2 i.3 g.G.Gather.with c.args.empty g.G.Gather.asks c.in-Err.stop (g.S.Source.history c.args.source.now) (g.S.Source.history c.loop-spanned.source) (g.S.Source.history c.pull.new.source) i.6 p t.stop).0
 
 pub returns-in-Err-clause-given : goal.returns-in-Err-clause-given
 returns-in-Err-clause-given g c =
     let i = c.loop-spanned.invariant.stands in
     let t = rw c.in-Err.is at c.pull.ensures in
     let p = t.pulls c.args.longest c.args.machine i.0 i.1 (rw c.loop-spanned.invariant.running tt) i.5 in
-    let r = whole_stopped {g = g.M.Machine} c.args.longest c.args.machine i.1 c.loop-spanned.feeder c.pull.new.feeder (g.S.Source.left c.args.source.now) (g.S.Source.left c.loop-spanned.source) (g.S.Source.left c.pull.new.source) i.0 i.2 i.3 g.G.Gather.with c.args.empty g.G.Gather.asks c.in-Err.stop (g.S.Source.history c.args.source.now) (g.S.Source.history c.loop-spanned.source) (g.S.Source.history c.pull.new.source) i.6 p t.stop in (r.0, r.1, r.3, r.4)
+    (whole_stopped {g = g.M.Machine} c.args.longest c.args.machine i.1 c.loop-spanned.feeder c.pull.new.feeder (g.S.Source.left c.args.source.now) (g.S.Source.left c.loop-spanned.source) (g.S.Source.left c.pull.new.source) i.0 i.2 i.3 g.G.Gather.with c.args.empty g.G.Gather.asks c.in-Err.stop (g.S.Source.history c.args.source.now) (g.S.Source.history c.loop-spanned.source) (g.S.Source.history c.pull.new.source) i.6 p t.stop).1

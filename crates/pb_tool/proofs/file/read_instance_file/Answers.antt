@@ -1,10 +1,12 @@
-use Rattle.std.proofs.Common.{ℕ, refl, ap, ◌∙◌}
+use Rattle.std.proofs.Common.{ℕ, ap, ◌∙◌}
 use Rattle.pb_text.specs.Pulling.{faults_with}
-use Rattle.pb_text.specs.ValueRead.{IsRead, ReadsValue}
+use Rattle.pb_text.specs.Limits.{largest, top_of}
+use Rattle.pb_text.specs.Whole.{IsRead}
+use Rattle.pb_opb.specs.Reading.{ReadsInstance}
 use Rattle.pb_tool.specs.Tidy.{IsOpb}
 use Rattle.pb_tool.specs.Tidy.IsRefused.{InText, InRest}
 use Rattle.pb_opb.specs.Values.{IsValueOf}
-use Rattle.pb_tool.proofs.Given.{file_behind, given_file, given_stray}
+use Rattle.pb_tool.proofs.Given.{file_behind, given_file, given_stray, used_of}
 use Rattle.pb_tool.proofs.file.read_instance_file.Goals as goal
 
 pub returns-in-Ok-rest_is_blank-clause-file : goal.returns-in-Ok-rest_is_blank-clause-file
@@ -21,15 +23,14 @@ returns-in-Err-rest_is_blank-clause-faults g c = c.in-Err-rest_is_blank.ensures.
 
 pub returns-in-Err-clause-refused_given : goal.returns-in-Err-clause-refused_given
 returns-in-Err-clause-refused_given g c =
-    let (used, seen, e, stops) = c.in-Err.ensures.given in
-    (used, seen, e, InText (used, seen, (refl, refl), stops))
+    let (given, seen, e, stops) = c.in-Err.ensures.given in
+    (given, seen, e, InText stops)
 
 pub returns-in-Ok-rest_is_blank-clause-given : goal.returns-in-Ok-rest_is_blank-clause-given
 returns-in-Ok-rest_is_blank-clause-given g c =
-    let (used, e, read) = c.in-Ok.ensures.given in
-    given_file (IsRead (IsOpb c.args.limits) c.args.longest IsValueOf) c.in-Ok.instance _ _ _ used e read read.past c.in-Ok-rest_is_blank.ensures.given
+    given_file (IsRead (IsOpb c.args.limits) c.args.longest IsValueOf) c.in-Ok.instance (λ used r. r.past) _ _ _ c.in-Ok.ensures.given c.in-Ok-rest_is_blank.ensures.given
 
 pub returns-in-Err-rest_is_blank-clause-refused_given : goal.returns-in-Err-rest_is_blank-clause-refused_given
 returns-in-Err-rest_is_blank-clause-refused_given g c =
-    let (used, e, read) = c.in-Ok.ensures.given in
-    given_stray (ReadsValue (IsOpb c.args.limits) c.args.longest IsValueOf) c.in-Ok.instance c.in-Err-rest_is_blank.stop _ _ _ used e (λ seen. (used, seen, (refl, refl), read)) c.in-Err-rest_is_blank.ensures.given
+    given_stray (ReadsInstance (largest c.args.limits) (top_of c.args.limits) c.args.longest) c.in-Ok.instance c.in-Err-rest_is_blank.stop
+    (λ given seen more r. used_of (λ used. IsRead (IsOpb c.args.limits) c.args.longest IsValueOf used c.in-Ok.instance) given seen more r) _ _ _ c.in-Ok.ensures.given c.in-Err-rest_is_blank.ensures.given

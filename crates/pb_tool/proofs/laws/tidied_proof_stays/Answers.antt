@@ -19,4 +19,4 @@ returns-clause-same c limits longest v w after rules file =
 pub returns-clause-faultless : goal.returns-clause-faultless
 returns-clause-faultless c limits v s after rules refused =
     let (own, spells, bytes, value) = c.canonical_proof_spells.ensures (largest limits) (top_of limits) v (largest_small limits) limits.most_top rules in
-    faultless (IsVeri limits) (proof_bytes v) own spells bytes (c.no_front.ensures (largest limits) (top_of limits)) IsProofOf (tidied_proof v) (10 ∷ []) refl (inr refl) after s refused
+    faultless (IsVeri limits) (proof_bytes v) own spells bytes (c.no_front.ensures (largest limits) (top_of limits)) IsProofOf (tidied_proof v) (10 ∷ []) refl (inr refl) after _ _ s refused

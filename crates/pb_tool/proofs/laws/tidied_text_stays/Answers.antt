@@ -35,4 +35,4 @@ pub returns-clause-faultless : goal.returns-clause-faultless
 returns-clause-faultless c limits v s after rules refused =
     let (own, spells, bytes, value) = c.canonical_instance_spells.ensures (largest limits) (top_of limits) v (largest_small limits) limits.most_top rules in
     let (rest, is, feed) = written v in
-    faultless (IsOpb limits) (instance_bytes v) own spells bytes (c.no_front.ensures (largest limits) (top_of limits)) IsValueOf (tidied v) rest is feed after s refused
+    faultless (IsOpb limits) (instance_bytes v) own spells bytes (c.no_front.ensures (largest limits) (top_of limits)) IsValueOf (tidied v) rest is feed after _ _ s refused

@@ -1,5 +1,3 @@
-use Rattle.std.proofs.Common.{Ok, Err}
-use Rattle.pb_tool.proofs.GivenRow.{given_end}
 use Rattle.pb_tool.proofs.show_file.end_of.Goals as goal
 
 pub returns-in-Err-clause-ends : goal.returns-in-Err-clause-ends
@@ -9,7 +7,7 @@ pub returns-in-Err-clause-faults : goal.returns-in-Err-clause-faults
 returns-in-Err-clause-faults g c = rw c.refused.ensures c.in-Err.ensures.faults
 
 pub returns-in-Err-clause-given : goal.returns-in-Err-clause-given
-returns-in-Err-clause-given g c = rw c.refused.ensures (given_end c.args.place (Err c.in-Err.stop) _ _ c.in-Err.ensures.given)
+returns-in-Err-clause-given g c = rw c.refused.ensures c.in-Err.ensures.given
 
 pub returns-in-Ok-clause-given : goal.returns-in-Ok-clause-given
-returns-in-Ok-clause-given g c = given_end c.args.place (Ok tt) _ _ c.in-Ok.ensures.given
+returns-in-Ok-clause-given g c = c.in-Ok.ensures.given

@@ -1,6 +1,5 @@
 use Rattle.pb_tool.proofs.Chosen.{shows_instance, shows_proof, shows_unread, some_of}
 use Rattle.pb_tool.proofs.Given.{given_shown_proof, given_shown_instance, given_unshown}
-use Rattle.pb_tool.proofs.Wanted.{showing_instance, showing_proof, showing_unread}
 use Rattle.pb_tool.proofs.show_file.show.Goals as goal
 
 pub returns-in-Ok-Proof-clause-shows : goal.returns-in-Ok-Proof-clause-shows
@@ -34,16 +33,3 @@ returns-in-Err-clause-given g c =
     let t = rw c.in-Err.is at c.format_of.ensures in
     let u = c.unread_file.ensures in
     given_unshown c.args.limits _ _ c.unwrap_or-longest.ensures g.W.Sink.contents g.W.Sink.faults _ _ t.history c.args.out.now (some_of c.args.longest _ c.unwrap_or-longest.ensures c.requires) u.proof _ u.fault
-
-pub returns-in-Ok-Proof-clause-memory : goal.returns-in-Ok-Proof-clause-memory
-returns-in-Ok-Proof-clause-memory g c =
-    let t = rw (c.in-Ok-Proof.is, c.in-Ok-Proof.field-0-is) at c.format_of.ensures in
-    showing_proof c.args.limits _ _ c.unwrap_or-longest.ensures _ _ t.left _ c.show_proof.result t.format c.show_proof.ensures.memory
-
-pub returns-in-Ok-Instance-clause-memory : goal.returns-in-Ok-Instance-clause-memory
-returns-in-Ok-Instance-clause-memory g c =
-    let t = rw (c.in-Ok-Instance.is, c.in-Ok-Instance.field-0-is) at c.format_of.ensures in
-    showing_instance c.args.limits _ _ c.unwrap_or-longest.ensures _ _ t.left _ c.show_instance.result t.format c.show_instance.ensures.memory
-
-pub returns-in-Err-clause-memory : goal.returns-in-Err-clause-memory
-returns-in-Err-clause-memory g c = showing_unread c.args.limits _ _ _ _ c.unread_file.ensures.fault

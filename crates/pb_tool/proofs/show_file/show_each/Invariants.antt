@@ -7,7 +7,8 @@ use Rattle.pb_tool.specs.Show.{shown}
 use Rattle.pb_tool.proofs.GivenRow.{HasGiven}
 use Rattle.pb_tool.proofs.show_file.show_each.Given as goal
 
--- the lines of the statements so far went out, and the source has not failed: of what it tells, and of what its calls have given
+-- The lines of the statements so far were written, and the source has not failed. This holds for the bytes that are
+-- known of the source and for those that its calls have given.
 abbrev pub invariant-loop-read : goal.invariant-loop-read
 invariant-loop-read g l = record {
   faults : g.S.Source.faults l.input ≡ g.S.Source.faults l.fn.input;

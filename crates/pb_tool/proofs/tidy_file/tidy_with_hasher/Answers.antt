@@ -1,6 +1,5 @@
 use Rattle.pb_tool.proofs.Chosen.{some_of, tidies_instance, tidies_proof, tidies_unread}
 use Rattle.pb_tool.proofs.Given.{given_proof, given_instance, given_unread}
-use Rattle.pb_tool.proofs.Wanted.{tidying_instance, tidying_proof, tidying_unread}
 use Rattle.pb_tool.proofs.tidy_file.tidy_with_hasher.Goals as goal
 
 pub returns-in-Ok-Proof-clause-tidies : goal.returns-in-Ok-Proof-clause-tidies
@@ -40,19 +39,3 @@ returns-in-Err-clause-given g c =
 
 pub returns-then-normal-clause-given : goal.returns-then-normal-clause-given
 returns-then-normal-clause-given g c = rw (c.if-normal.true, ← c.unwrap_or-longest.ensures) c.tidy_normal.ensures.given
-
-pub returns-then-normal-clause-memory : goal.returns-then-normal-clause-memory
-returns-then-normal-clause-memory g c = rw (c.if-normal.true, ← c.unwrap_or-longest.ensures) c.tidy_normal.ensures.memory
-
-pub returns-in-Ok-Proof-clause-memory : goal.returns-in-Ok-Proof-clause-memory
-returns-in-Ok-Proof-clause-memory g c =
-    let t = rw (c.in-Ok-Proof.is, c.in-Ok-Proof.field-0-is) at c.format_of.ensures in
-    rw c.if-normal.false (tidying_proof c.args.limits _ _ c.unwrap_or-longest.ensures _ _ t.left _ c.tidy_proof.result t.format c.tidy_proof.ensures.memory)
-
-pub returns-in-Ok-Instance-clause-memory : goal.returns-in-Ok-Instance-clause-memory
-returns-in-Ok-Instance-clause-memory g c =
-    let t = rw (c.in-Ok-Instance.is, c.in-Ok-Instance.field-0-is) at c.format_of.ensures in
-    rw c.if-normal.false (tidying_instance c.args.limits _ _ c.unwrap_or-longest.ensures _ _ t.left _ c.tidy_instance.result t.format c.tidy_instance.ensures.memory)
-
-pub returns-in-Err-clause-memory : goal.returns-in-Err-clause-memory
-returns-in-Err-clause-memory g c = rw c.if-normal.false (tidying_unread c.args.limits _ _ _ _ c.unread_file.ensures.fault)

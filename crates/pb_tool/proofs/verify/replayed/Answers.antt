@@ -4,19 +4,19 @@ use Rattle.pb_tool.specs.Verified.{InProof, BehindProof}
 use Rattle.pb_tool.specs.declared.fault.ToolFault.{ToolFault}
 use Rattle.pb_tool.proofs.Accepted.{step_told, whole_file}
 use Rattle.pb_tool.proofs.CheckGiven.{given_behind, given_text, given_told, given_whole}
-use Rattle.pb_tool.proofs.CheckWants.{rest_wants, told_no_text}
+use Rattle.pb_tool.proofs.Looked.{told_unseen}
 use Rattle.pb_tool.proofs.verify.replayed.Goals as goal
 
 pub returns-in-Err-Text-clause-replayed : goal.returns-in-Err-Text-clause-replayed
 returns-in-Err-Text-clause-replayed g c first at =
     let t = rw (c.in-Err-Text.is, c.in-Err-Text.field-0-is) at c.run.ensures in
-    let (last, accepted) = t.runs first at in
-    subst (λ (f : ToolFault). Replays c.args.replay.limits c.args.longest c.args.replay.problem first (g.S.Source.left c.args.input.now) (Err f) (g.S.Source.left c.run.new.input)) (sym c.refused.ensures) (InProof last accepted)
+    let (last, accepted, asking) = t.runs first at in
+    subst (λ (f : ToolFault). Replays c.args.replay.limits c.args.longest c.args.replay.problem first (g.S.Source.left c.args.input.now) (Err f) (g.S.Source.left c.run.new.input)) (sym c.refused.ensures) (InProof last accepted asking)
 
 pub returns-in-Err-Step-clause-replayed : goal.returns-in-Err-Step-clause-replayed
 returns-in-Err-Step-clause-replayed g c first at =
     let t = rw (c.in-Err-Step.is, c.in-Err-Step.field-0-is) at c.run.ensures in
-    step_told c.args.replay.limits c.args.longest c.args.replay.problem first (g.S.Source.left c.args.input.now) (g.S.Source.left c.run.new.input) c.run.new.replay c.in-Err-Step.place c.in-Err-Step.fault c.refusal.result (t.runs first at) c.refusal.ensures
+    step_told c.args.replay.limits c.args.longest c.args.replay.problem first (g.S.Source.left c.args.input.now) c.outcomes_are_single.ensures.wanting (g.S.Source.left c.run.new.input) c.run.new.replay c.in-Err-Step.place c.in-Err-Step.fault c.refusal.result (t.runs first at) c.refusal.ensures
 
 pub returns-in-Ok-rest_is_blank-clause-replayed : goal.returns-in-Ok-rest_is_blank-clause-replayed
 returns-in-Ok-rest_is_blank-clause-replayed g c first at =
@@ -31,7 +31,7 @@ returns-clause-replayed g c first at =
     subst (λ (f : ToolFault). Replays c.args.replay.limits c.args.longest c.args.replay.problem first (g.S.Source.left c.args.input.now) (Err f) (g.S.Source.left c.rest_is_blank.new.source)) (sym c.refused-in-Err.ensures)
     (BehindProof (g.S.Source.left c.run.new.input) c.in-Ok.ended.1 last c.in-Ok.ended.0 accepted claimed c.in-Err.ensures.blank)
 
--- ---- of what the calls gave
+-- ---- for what the calls gave
 
 pub returns-in-Err-Text-clause-given : goal.returns-in-Err-Text-clause-given
 returns-in-Err-Text-clause-given g c first at =
@@ -41,7 +41,7 @@ returns-in-Err-Text-clause-given g c first at =
 pub returns-in-Err-Step-clause-given : goal.returns-in-Err-Step-clause-given
 returns-in-Err-Step-clause-given g c first at =
     let t = rw (c.in-Err-Step.is, c.in-Err-Step.field-0-is) at c.run.ensures in
-    given_told c.args.replay.limits c.args.longest c.args.replay.problem first (g.S.Source.history c.args.input.now) (g.S.Source.history c.run.new.input) c.run.new.replay c.refusal.result c.in-Err-Step.place c.in-Err-Step.fault c.refusal.ensures (t.given first at)
+    given_told c.args.replay.limits c.args.longest c.args.replay.problem first (g.S.Source.history c.args.input.now) (g.S.Source.history c.run.new.input) c.run.new.replay c.refusal.result c.outcomes_are_single.ensures.wanting c.in-Err-Step.place c.in-Err-Step.fault c.refusal.ensures (t.given first at)
 
 pub returns-in-Ok-rest_is_blank-clause-given : goal.returns-in-Ok-rest_is_blank-clause-given
 returns-in-Ok-rest_is_blank-clause-given g c first at =
@@ -53,19 +53,19 @@ returns-clause-given g c first at =
     let t = rw c.in-Ok.is at c.run.ensures in
     given_behind c.args.replay.limits c.args.longest c.args.replay.problem first (g.S.Source.history c.args.input.now) (g.S.Source.history c.run.new.input) (g.S.Source.history c.rest_is_blank.new.source) c.run.new.replay c.in-Ok.ended c.in-Err.stop c.refused-in-Err.result c.refused-in-Err.ensures (t.given first at) c.in-Err.ensures.given
 
--- ---- where memory is wanted
+-- ---- what the source has shown
 
-pub returns-in-Err-Text-clause-wants : goal.returns-in-Err-Text-clause-wants
-returns-in-Err-Text-clause-wants g c =
+pub returns-in-Err-Text-clause-seen : goal.returns-in-Err-Text-clause-seen
+returns-in-Err-Text-clause-seen g c =
     let t = rw (c.in-Err-Text.is, c.in-Err-Text.field-0-is) at c.run.ensures in
-    rw c.refused.ensures t.wants
+    rw c.refused.ensures t.seen
 
-pub returns-in-Err-Step-clause-wants : goal.returns-in-Err-Step-clause-wants
-returns-in-Err-Step-clause-wants g c = told_no_text c.run.new.replay.names c.in-Err-Step.place c.in-Err-Step.fault _ c.refusal.result c.refusal.ensures
+pub returns-in-Err-Step-clause-seen : goal.returns-in-Err-Step-clause-seen
+returns-in-Err-Step-clause-seen g c =
+    told_unseen (g.S.Source.shown c.run.new.input) (g.S.Source.ended c.run.new.input) c.run.new.replay.names c.in-Err-Step.place c.in-Err-Step.fault c.refusal.result c.refusal.ensures
 
-pub returns-clause-wants : goal.returns-clause-wants
-returns-clause-wants g c =
-    rw c.refused-in-Err.ensures (rest_wants c.args.replay.limits c.args.longest c.in-Ok.ended.1 (g.S.Source.left c.args.input.now) (g.S.Source.left c.run.new.input) (g.S.Source.left c.rest_is_blank.new.source) c.in-Err.stop c.in-Err.ensures.blank)
+pub returns-clause-seen : goal.returns-clause-seen
+returns-clause-seen g c = rw c.refused-in-Err.ensures c.in-Err.ensures.shown
 
 -- ---- how often the source has failed
 

@@ -1,18 +1,11 @@
 use Rattle.std.proofs.Common.{ℕ, ◌^◌, ◌≤◌, [], ◌∷◌, ◌++◌, None, Some, Ok, Err, ap, ◌∙◌, sym, refl, subst, append-nil}
-use Rattle.pb_text.specs.Automaton.{MayAsk}
-use Rattle.pb_text.specs.Limits.{largest, top_of}
 use Rattle.pb_text.specs.Pulling.{faults_with}
 use Rattle.pb_text.specs.declared.Place.{Place}
-use Rattle.pb_proof.specs.Machine.State.{begin, proofs}
-use Rattle.pb_tool.specs.Files.{IsVeri}
-use Rattle.pb_tool.specs.Wants.{AsksVeri}
 use Rattle.pb_text.specs.Feeding.{place_of}
 use Rattle.pb_tool.proofs.CheckGiven.{given_ended, given_step, given_stopped, moved}
-use Rattle.pb_tool.proofs.CheckWants.{step_no_text}
 use Rattle.pb_tool.proofs.GivenRow.{given_next, given_row, given_so_far}
 use Rattle.pb_tool.proofs.Replayed as replayed
 use Rattle.pb_tool.proofs.Shown.{fewer, first_pull, so_far_within}
-use Rattle.pb_tool.proofs.Wanted.{each_at, pull_asking}
 use Rattle.pb_tool.proofs.verify.run.Goals as goal
 
 pub loop-read-init : goal.loop-read-init
@@ -29,8 +22,8 @@ loop-read-init g c = record {
   );
 }
 
-pub step_through-requires : goal.step_through-requires
-step_through-requires g c =
+pub step_watched-requires : goal.step_watched-requires
+step_watched-requires g c =
     let i = c.loop-read.invariant in
     let t = rw (c.in-Ok-Some.is, c.in-Ok-Some.field-0-is) at c.pull.ensures in
     let (more, sofar) = t.row c.args.longest _ (g.S.Source.left c.args.input.now) i.led.0 i.led.1 in
@@ -52,37 +45,38 @@ loop-read-preserved g c =
     let u = c.in-Ok.ensures in
     record {
       faults = rw i.led.1.running at t.faults ∙ i.faults;
-      unspent = replayed.unspent_after c.replays_have_states.ensures c.loop-read.replay c.step_through.new.replay c.in-Ok-Some.read i.unspent u.steps;
+      unspent = replayed.unspent_after c.loop-read.replay c.step_watched.new.replay c.in-Ok-Some.read (c.tell_sound-in-Ok-Some.ensures.sound i.unspent) i.unspent u.steps;
       limited = u.limits ∙ i.limited;
       problem = u.problem ∙ i.problem;
       led = (
         i.led.0 ++ c.in-Ok-Some.read ∷ [],
         more,
-        λ first at. replayed.led_more c.proofs_are_exact.ensures c.args.replay.now.limits c.args.longest (g.S.Source.left c.args.input.now) (g.S.Source.left c.pull.new.source) c.args.replay.now.problem first c.loop-read.replay i.led.0 (i.led.2 first at) i.unspent c.step_through.new.replay c.in-Ok-Some.read i.limited i.problem u.steps,
+        λ first at. replayed.led_more c.proofs_are_exact.ensures c.args.replay.now.limits c.args.longest (g.S.Source.left c.args.input.now) (g.S.Source.left c.pull.new.source) c.args.replay.now.problem first c.loop-read.replay i.led.0 (i.led.2 first at) i.unspent c.step_watched.new.replay c.in-Ok-Some.read i.limited i.problem u.steps,
         given_next c.args.longest _ (g.S.Source.history c.args.input.now) (g.S.Source.history c.loop-read.input) (g.S.Source.history c.pull.new.source) i.led.0 c.loop-read.feeder c.pull.new.feeder i.led.3 (g.S.Source.left c.loop-read.input) (g.S.Source.left c.pull.new.source) c.in-Ok-Some.read
             (t.pulls c.args.longest _ i.led.3.0 i.led.0 (rw i.led.3.4 tt) i.led.3.3) t.stop,
       );
     }
 
-pub returns-in-Err-step_through-clause-runs : goal.returns-in-Err-step_through-clause-runs
-returns-in-Err-step_through-clause-runs g c first at =
+pub returns-in-Err-step_watched-clause-runs : goal.returns-in-Err-step_watched-clause-runs
+returns-in-Err-step_watched-clause-runs g c first at =
     let i = c.loop-read.invariant in
     let t = rw (c.in-Ok-Some.is, c.in-Ok-Some.field-0-is) at c.pull.ensures in
     let (more, sofar) = t.row c.args.longest _ (g.S.Source.left c.args.input.now) i.led.0 i.led.1 in
-    let u = c.in-Err-step_through.ensures in
-    replayed.refused_run c.proofs_are_exact.ensures c.args.replay.now.limits c.args.longest (g.S.Source.left c.args.input.now) (g.S.Source.left c.pull.new.source) c.args.replay.now.problem first c.loop-read.replay i.led.0 (i.led.2 first at) i.unspent c.step_through.new.replay c.in-Ok-Some.read i.limited i.problem c.in-Err-step_through.fault u.steps u.names u.unvalued sofar
+    let u = c.in-Err-step_watched.ensures in
+    replayed.refused_run c.proofs_are_exact.ensures c.args.replay.now.limits c.args.longest (g.S.Source.left c.args.input.now) (g.S.Source.left c.pull.new.source) c.args.replay.now.problem first c.loop-read.replay i.led.0 (i.led.2 first at) i.unspent c.step_watched.new.replay c.in-Ok-Some.read i.limited i.problem c.in-Err-step_watched.fault u.steps u.names u.unvalued sofar
 
-pub returns-in-Err-step_through-clause-faults : goal.returns-in-Err-step_through-clause-faults
-returns-in-Err-step_through-clause-faults g c =
+pub returns-in-Err-step_watched-clause-faults : goal.returns-in-Err-step_watched-clause-faults
+returns-in-Err-step_watched-clause-faults g c =
     let i = c.loop-read.invariant in
     let t = rw (c.in-Ok-Some.is, c.in-Ok-Some.field-0-is) at c.pull.ensures in
-    replayed.refused_faults c.replays_have_states.ensures c.loop-read.replay c.step_through.new.replay c.in-Ok-Some.read c.in-Err-step_through.fault i.unspent c.in-Err-step_through.ensures.steps _ _ (rw i.led.1.running at t.faults ∙ i.faults)
+    replayed.refused_faults c.loop-read.replay c.step_watched.new.replay c.in-Ok-Some.read c.in-Err-step_watched.fault (c.tell_sound-in-Ok-Some.ensures.sound i.unspent) i.unspent c.in-Err-step_watched.ensures.steps _ _ (rw i.led.1.running at t.faults ∙ i.faults)
 
 pub returns-in-Err-clause-runs : goal.returns-in-Err-clause-runs
 returns-in-Err-clause-runs g c first at =
     let i = c.loop-read.invariant in
     let t = rw c.in-Err.is at c.pull.ensures in
-    ((i.led.2 first at).0, replayed.accepted c.proofs_are_exact.ensures c.args.replay.now.limits c.args.longest (g.S.Source.left c.args.input.now) (g.S.Source.left c.pull.new.source) c.args.replay.now.problem first c.loop-read.replay i.led.0 (i.led.2 first at) _ _ _ (t.row c.args.longest _ (g.S.Source.left c.args.input.now) i.led.0 i.led.1))
+    let asks = rw (c.new.ensures.begins, c.limits.ensures) at c.new.ensures.asks in
+    replayed.stopped c.proofs_are_exact.ensures c.args.replay.now.limits c.args.longest (g.S.Source.left c.args.input.now) (g.S.Source.left c.pull.new.source) c.args.replay.now.problem first c.loop-read.replay i.led.0 (i.led.2 first at) asks c.in-Err.stop (t.row c.args.longest _ (g.S.Source.left c.args.input.now) i.led.0 i.led.1)
 
 pub returns-in-Err-clause-faults : goal.returns-in-Err-clause-faults
 returns-in-Err-clause-faults g c =
@@ -94,7 +88,7 @@ pub unreachable-requires : goal.unreachable-requires
 unreachable-requires g c =
     let i = c.loop-read.invariant in
     let t = rw (c.in-Ok-None.is, c.in-Ok-None.field-0-is) at c.pull.ensures in
-    let (first, at) = c.replays_have_states.ensures c.args.replay.now in
+    let (first, at, right) = c.tell_sound.ensures.sound c.requires.running in
     replayed.no_end c.proofs_are_exact.ensures c.args.replay.now.limits c.args.longest (g.S.Source.left c.args.input.now) (g.S.Source.left c.pull.new.source) c.args.replay.now.problem first c.loop-read.replay i.led.0 (i.led.2 first at) i.unspent c.whole_proofs_conclude.ensures _ (t.row c.args.longest _ (g.S.Source.left c.args.input.now) i.led.0 i.led.1) (sym c.in-None.is ∙ c.verdict.ensures.verdict)
 
 pub returns-clause-runs : goal.returns-clause-runs
@@ -110,13 +104,13 @@ returns-clause-faults g c =
     let t = rw (c.in-Ok-None.is, c.in-Ok-None.field-0-is) at c.pull.ensures in
     rw i.led.1.running at t.faults ∙ i.faults
 
--- ---- of what the calls gave
+-- ---- for what the calls gave
 
-pub returns-in-Err-step_through-clause-given : goal.returns-in-Err-step_through-clause-given
-returns-in-Err-step_through-clause-given g c first at =
+pub returns-in-Err-step_watched-clause-given : goal.returns-in-Err-step_watched-clause-given
+returns-in-Err-step_watched-clause-given g c first at =
     let i = c.loop-read.invariant in
     let t = rw (c.in-Ok-Some.is, c.in-Ok-Some.field-0-is) at c.pull.ensures in
-    given_step c.proofs_are_exact.ensures c.args.replay.now.limits c.args.longest (g.S.Source.history c.args.input.now) (g.S.Source.history c.pull.new.source) c.args.replay.now.problem first c.loop-read.replay i.led.0 (i.led.2 first at) c.step_through.new.replay i.unspent c.in-Ok-Some.read i.limited i.problem c.in-Err-step_through.fault c.in-Err-step_through.ensures.steps c.in-Err-step_through.ensures.names c.in-Err-step_through.ensures.unvalued
+    given_step c.proofs_are_exact.ensures c.args.replay.now.limits c.args.longest (g.S.Source.history c.args.input.now) (g.S.Source.history c.pull.new.source) c.args.replay.now.problem first c.loop-read.replay i.led.0 (i.led.2 first at) c.step_watched.new.replay i.unspent c.in-Ok-Some.read i.limited i.problem c.in-Err-step_watched.fault c.in-Err-step_watched.ensures.steps c.in-Err-step_watched.ensures.names c.in-Err-step_watched.ensures.unvalued
     (given_so_far c.args.longest _ (g.S.Source.history c.args.input.now) (g.S.Source.history c.loop-read.input) (g.S.Source.history c.pull.new.source) i.led.0 c.loop-read.feeder c.pull.new.feeder i.led.3 (g.S.Source.left c.loop-read.input) (g.S.Source.left c.pull.new.source) c.in-Ok-Some.read
     (given_row c.args.longest _ (g.S.Source.history c.args.input.now) (g.S.Source.history c.loop-read.input) (g.S.Source.history c.pull.new.source) i.led.0 c.loop-read.feeder c.pull.new.feeder i.led.3 (g.S.Source.left c.loop-read.input) (g.S.Source.left c.pull.new.source) (Ok (Some c.in-Ok-Some.read)) (t.pulls c.args.longest _ i.led.3.0 i.led.0 (rw i.led.3.4 tt) i.led.3.3) t.stop t.last t.past))
 
@@ -124,7 +118,8 @@ pub returns-in-Err-clause-given : goal.returns-in-Err-clause-given
 returns-in-Err-clause-given g c first at =
     let i = c.loop-read.invariant in
     let t = rw c.in-Err.is at c.pull.ensures in
-    given_stopped c.proofs_are_exact.ensures c.args.replay.now.limits c.args.longest (g.S.Source.history c.args.input.now) (g.S.Source.history c.pull.new.source) c.args.replay.now.problem first c.loop-read.replay i.led.0 (i.led.2 first at) c.loop-read.replay c.in-Err.stop
+    let asks = rw (c.new.ensures.begins, c.limits.ensures) at c.new.ensures.asks in
+    given_stopped c.proofs_are_exact.ensures c.args.replay.now.limits c.args.longest (g.S.Source.history c.args.input.now) (g.S.Source.history c.pull.new.source) c.args.replay.now.problem first c.loop-read.replay i.led.0 (i.led.2 first at) c.loop-read.replay asks c.in-Err.stop
     (given_row c.args.longest _ (g.S.Source.history c.args.input.now) (g.S.Source.history c.loop-read.input) (g.S.Source.history c.pull.new.source) i.led.0 c.loop-read.feeder c.pull.new.feeder i.led.3 (g.S.Source.left c.loop-read.input) (g.S.Source.left c.pull.new.source) (Err c.in-Err.stop) (t.pulls c.args.longest _ i.led.3.0 i.led.0 (rw i.led.3.4 tt) i.led.3.3) t.stop t.last t.past)
 
 pub returns-clause-given : goal.returns-clause-given
@@ -134,18 +129,14 @@ returns-clause-given g c first at =
     given_ended c.proofs_are_exact.ensures c.args.replay.now.limits c.args.longest (g.S.Source.history c.args.input.now) (g.S.Source.history c.pull.new.source) c.args.replay.now.problem first c.loop-read.replay i.led.0 (i.led.2 first at) c.loop-read.replay i.unspent (place_of c.pull.new.feeder) c.place.result c.in-Some.verdict (sym c.place.ensures.place) (sym c.in-Some.is ∙ c.verdict.ensures.verdict)
     (given_row c.args.longest _ (g.S.Source.history c.args.input.now) (g.S.Source.history c.loop-read.input) (g.S.Source.history c.pull.new.source) i.led.0 c.loop-read.feeder c.pull.new.feeder i.led.3 (g.S.Source.left c.loop-read.input) (g.S.Source.left c.pull.new.source) (Ok None) (t.pulls c.args.longest _ i.led.3.0 i.led.0 (rw i.led.3.4 tt) i.led.3.3) t.stop t.last t.past)
 
--- ---- where memory is wanted
+-- ---- what the source has shown
 
-pub returns-in-Err-step_through-clause-wants : goal.returns-in-Err-step_through-clause-wants
-returns-in-Err-step_through-clause-wants g c =
+pub returns-in-Err-step_watched-clause-seen : goal.returns-in-Err-step_watched-clause-seen
+returns-in-Err-step_watched-clause-seen g c =
     let i = c.loop-read.invariant in
-    step_no_text c.replays_have_states.ensures c.loop-read.replay c.step_through.new.replay c.in-Ok-Some.read c.in-Err-step_through.fault _ i.unspent c.in-Err-step_through.ensures.steps
+    replayed.step_unseen (g.S.Source.shown c.pull.new.source) (g.S.Source.ended c.pull.new.source) c.loop-read.replay c.step_watched.new.replay c.in-Ok-Some.read c.in-Err-step_watched.fault (c.tell_sound-in-Ok-Some.ensures.sound i.unspent) i.unspent c.in-Err-step_watched.ensures.steps
 
-pub returns-in-Err-clause-wants : goal.returns-in-Err-clause-wants
-returns-in-Err-clause-wants g c =
-    let i = c.loop-read.invariant in
+pub returns-in-Err-clause-seen : goal.returns-in-Err-clause-seen
+returns-in-Err-clause-seen g c =
     let t = rw c.in-Err.is at c.pull.ensures in
-    let reads = rw (c.new.ensures.begins, c.limits.ensures) at c.new.ensures.reads in
-    let asks = rw (c.new.ensures.begins, c.limits.ensures) at c.new.ensures.asks in
-    each_at (replayed.Taken c.args.replay.now.limits) (IsVeri c.args.replay.now.limits) c.args.longest (MayAsk proofs (begin (largest c.args.replay.now.limits) (top_of c.args.replay.now.limits))) (AsksVeri c.args.replay.now.limits) (reads c.args.longest) asks _ _ c.in-Err.stop
-    (pull_asking c.args.longest _ (g.S.Source.left c.args.input.now) (g.S.Source.left c.loop-read.input) (g.S.Source.left c.pull.new.source) i.led.0 c.loop-read.feeder c.pull.new.feeder i.led.1 c.in-Err.stop _ _ (t.pulls c.args.longest _ i.led.1.used i.led.0 (rw i.led.1.running tt) i.led.1.stands) t.stop)
+    t.shown c.loop-read.invariant.led.1.running

@@ -12,7 +12,8 @@ use Rattle.pb_replay.specs.Kept.{StandsFor}
 use Rattle.pb_tool.proofs.GivenRow.{HasGiven}
 use Rattle.pb_tool.proofs.verify.run.Given as goal
 
--- the statements so far were accepted, of what the source tells and of what its calls have given, and it has not failed
+-- The statements so far were accepted, and the source has not failed. This holds for the bytes that are known of the
+-- source and for those that its calls have given.
 abbrev pub invariant-loop-read : goal.invariant-loop-read
 invariant-loop-read g l = record {
   faults : g.S.Source.faults l.input ≡ g.S.Source.faults l.fn.input;

@@ -8,16 +8,15 @@ use Rattle.pb_normal.proofs.form.Normal.from_linear.Goals as goal
 pub collected-requires : goal.collected-requires
 collected-requires c =
     let limit : magnitude c.args.linear.now.terms + unsigned_abs c.args.linear.now.degree ≤ largest c.args.limits = search rules in
-    rw (c.as_slice.ensures.value, c.in_ok-raw.ensures.entries, total-raw, magnitude-side) (omega arith)
+    rw (c.in_ok-raw.ensures.entries, total-raw, magnitude-side) (omega arith)
 
--- all that is known, before the degree is made, when it is made, and at the end
+-- all that holds before the degree is computed and from then on
 before_degree : (c : goal.After-shift_of) → Collected c.numbered.new.names c.args.side c.args.linear.now c.in_ok-collected_terms.collected_terms.items c.split-up.result.0 c.split-up.result.1 c.in_ok-collected_terms.gone c.largest.result
 before_degree c =
     let limit : magnitude c.args.linear.now.terms + unsigned_abs c.args.linear.now.degree ≤ c.largest.result = search rules in
     let fits : FitsSigned w128 c.args.linear.now.degree = search rules in
     let signed_fits : FitsSigned w128 c.signed.result = search rules in
-    let adds = rw c.as_slice.ensures.value at c.in_ok-collected_terms.ensures.adds in
-    Collected-from _ _ _ _ _ _ _ _ _ _ _ fits signed_fits c.as_slice-terms.ensures limit c.in_ok-raw.ensures.distinct c.in_ok-raw.ensures.named c.signed.ensures c.split-up.ensures.difference c.split-up.ensures.magnitude c.in_ok-collected_terms.ensures.rising c.in_ok-raw.ensures.entries adds
+    Collected-from _ _ _ _ _ _ _ _ _ _ _ fits signed_fits c.as_slice-terms.ensures limit c.in_ok-raw.ensures.distinct c.in_ok-raw.ensures.named c.signed.ensures c.split-up.ensures.difference c.split-up.ensures.magnitude c.in_ok-collected_terms.ensures.rising c.in_ok-raw.ensures.entries c.in_ok-collected_terms.ensures.adds
 
 pub overflow_add-up : goal.overflow_add-up
 overflow_add-up c =
@@ -34,28 +33,19 @@ with_degree c =
     let limit : magnitude c.args.linear.now.terms + unsigned_abs c.args.linear.now.degree ≤ c.largest.result = search rules in
     let fits : FitsSigned w128 c.args.linear.now.degree = search rules in
     let signed_fits : FitsSigned w128 c.signed.result = search rules in
-    let adds = rw c.as_slice.ensures.value at c.in_ok-collected_terms.ensures.adds in
-    Collected-from _ _ _ _ _ _ _ _ _ _ _ fits signed_fits c.as_slice-terms.ensures limit c.in_ok-raw.ensures.distinct c.in_ok-raw.ensures.named c.signed.ensures c.split-up.ensures.difference c.split-up.ensures.magnitude c.in_ok-collected_terms.ensures.rising c.in_ok-raw.ensures.entries adds
+    Collected-from _ _ _ _ _ _ _ _ _ _ _ fits signed_fits c.as_slice-terms.ensures limit c.in_ok-raw.ensures.distinct c.in_ok-raw.ensures.named c.signed.ensures c.split-up.ensures.difference c.split-up.ensures.magnitude c.in_ok-collected_terms.ensures.rising c.in_ok-raw.ensures.entries c.in_ok-collected_terms.ensures.adds
 
 pub invariant_of-result : goal.invariant_of-result
 invariant_of-result c = rw (c.saturating_sub-degree.ensures, c.shift_of.ensures, c.as_slice-terms.ensures) (IsNormal-Collected _ _ _ _ _ _ _ _ c.largest.ensures.room (with_degree c))
 
-at_end : (c : goal.After-drop-raw-2) → Collected c.numbered.new.names c.args.side c.args.linear.now c.in_ok-collected_terms.collected_terms.items c.split-up.result.0 c.split-up.result.1 c.in_ok-collected_terms.gone c.largest.result
-at_end c =
-    let limit : magnitude c.args.linear.now.terms + unsigned_abs c.args.linear.now.degree ≤ c.largest.result = search rules in
-    let fits : FitsSigned w128 c.args.linear.now.degree = search rules in
-    let signed_fits : FitsSigned w128 c.signed.result = search rules in
-    let adds = rw c.as_slice.ensures.value at c.in_ok-collected_terms.ensures.adds in
-    Collected-from _ _ _ _ _ _ _ _ _ _ _ fits signed_fits c.as_slice-terms.ensures limit c.in_ok-raw.ensures.distinct c.in_ok-raw.ensures.named c.signed.ensures c.split-up.ensures.difference c.split-up.ensures.magnitude c.in_ok-collected_terms.ensures.rising c.in_ok-raw.ensures.entries adds
-
 pub returns-clause-form : goal.returns-clause-form
-returns-clause-form c = rw (c.saturating_sub-degree.ensures, c.shift_of.ensures, c.as_slice-terms.ensures) (IsSideOf-Collected _ _ _ _ _ _ _ _ (at_end c))
+returns-clause-form c = rw (c.saturating_sub-degree.ensures, c.shift_of.ensures, c.as_slice-terms.ensures) (IsSideOf-Collected _ _ _ _ _ _ _ _ (with_degree c))
 
 pub returns-clause-normal : goal.returns-clause-normal
-returns-clause-normal c = rw (c.saturating_sub-degree.ensures, c.shift_of.ensures, c.as_slice-terms.ensures) (IsNormal-Collected _ _ _ _ _ _ _ _ c.largest.ensures.room (at_end c))
+returns-clause-normal c = rw (c.saturating_sub-degree.ensures, c.shift_of.ensures, c.as_slice-terms.ensures) (IsNormal-Collected _ _ _ _ _ _ _ _ c.largest.ensures.room (with_degree c))
 
 pub returns-clause-within : goal.returns-clause-within
-returns-clause-within c = rw (c.saturating_sub-degree.ensures, c.shift_of.ensures, c.as_slice-terms.ensures, ← c.largest.ensures.value) (IsWithin-Collected _ _ _ _ _ _ _ _ (at_end c))
+returns-clause-within c = rw (c.saturating_sub-degree.ensures, c.shift_of.ensures, c.as_slice-terms.ensures, ← c.largest.ensures.value) (IsWithin-Collected _ _ _ _ _ _ _ _ (with_degree c))
 
 pub returns-clause-same : goal.returns-clause-same
-returns-clause-same c = let k = at_end c in SameSolutions-side _ _ _ _ k.distinct k.named (returns-clause-form c)
+returns-clause-same c = let k = with_degree c in SameSolutions-side _ _ _ _ k.distinct k.named (returns-clause-form c)

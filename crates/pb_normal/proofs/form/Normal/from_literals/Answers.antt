@@ -3,14 +3,14 @@ use Rattle.pb_normal.proofs.Counts.{total-units, IsCountOf-ones, IsNormal-ones}
 use Rattle.pb_normal.proofs.form.Normal.from_literals.Goals as goal
 
 pub collected-requires : goal.collected-requires
-collected-requires c = rw (c.as_slice.ensures.value, c.in_ok-raw.ensures, total-units) (omega arith)
+collected-requires c = rw (c.in_ok-raw.ensures, total-units) (omega arith)
 
 pub invariant_of-result : goal.invariant_of-result
-invariant_of-result c = IsNormal-ones _ _ _ c.in_ok-once.ensures.rising (rw c.as_slice-2.ensures.value at c.in_ok-terms.ensures) (omega arith) c.requires.small
+invariant_of-result c = IsNormal-ones _ _ _ c.in_ok-once.ensures.rising (rw c.as_slice.ensures.value at c.in_ok-terms.ensures) (omega arith) c.requires.small
 
 pub returns-clause-normal : goal.returns-clause-normal
-returns-clause-normal c = IsNormal-ones _ _ _ c.in_ok-once.ensures.rising (rw c.as_slice-2.ensures.value at c.in_ok-terms.ensures) (omega arith) c.requires.small
+returns-clause-normal c = IsNormal-ones _ _ _ c.in_ok-once.ensures.rising (rw c.as_slice.ensures.value at c.in_ok-terms.ensures) (omega arith) c.requires.small
 
 pub returns-clause-count : goal.returns-clause-count
 returns-clause-count c =
-    IsCountOf-ones _ _ _ _ _ c.requires.apart c.in_ok-once.ensures.rising (rw (c.as_slice.ensures.value, c.in_ok-raw.ensures) at c.in_ok-once.ensures.adds) (rw c.as_slice-2.ensures.value at c.in_ok-terms.ensures)
+    IsCountOf-ones _ _ _ _ _ c.requires.apart c.in_ok-once.ensures.rising (rw c.in_ok-raw.ensures at c.in_ok-once.ensures.adds) (rw c.as_slice.ensures.value at c.in_ok-terms.ensures)

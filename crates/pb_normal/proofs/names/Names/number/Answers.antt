@@ -23,7 +23,7 @@ returns-in-Some-clause-named c =
 pub returns-in-Some-clause-has : goal.returns-in-Some-clause-has
 returns-in-Some-clause-has c = rw (← c.self.view_is, list_any-map, ← c.in-Some.ensures.found) refl
 
--- the new key is compared as the name is
+-- comparing with the new key is comparing with the name
 same_test : (k : String Global) (name : List ℕ) → string_bytes k ≡ name → (x : String Global) → string_eq k x ≡ bytes_eq name (string_bytes x)
 same_test k name e x = ap (λ bs. bytes_eq bs (string_bytes x)) e
 

@@ -14,7 +14,7 @@ invariant_of-self c =
     to_order s c.self.invariant c.args.byte c.in-To.phase (planned_at c.top.result s.top s.phase c.args.byte (To c.in-To.phase) c.top.ensures.value c.in-To.ensures.plan)
     (subst (λ (n : ℕ). PhaseFits n c.in-To.phase) c.top.ensures.value c.in-To.ensures.fits)
 
--- a text that could not grow is as it was
+-- a text that could not grow is unchanged
 same_text : (s : OpbState) (text : List ℕ) → text ≡ s.text → record s { text = text } ≡ s
 same_text s text e = ap (λ (t : List ℕ). let x : OpbState = record s { text = t } in x) e
 

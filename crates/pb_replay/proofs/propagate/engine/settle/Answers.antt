@@ -1,5 +1,6 @@
 use Rattle.std.specs.Prelude.{filter}
-use Rattle.std.proofs.Common.{length}
+use Rattle.std.proofs.Common.{length, arith}
+use Rattle.pb_replay.proofs.Clauses.Watching.{ready-running}
 use Rattle.pb_replay.specs.Engine.Rest.{waits}
 use Rattle.pb_replay.specs.Engine.Rest.{opposite, derived}
 use Rattle.pb_replay.proofs.propagate.engine.settle.Goals as goal
@@ -29,3 +30,6 @@ pub returns-then-branch-clause-undone : goal.returns-then-branch-clause-undone
 returns-then-branch-clause-undone c =
     let t = c.in_ok-assume.ensures.tidy (filter (waits c.args.store.now.kept.items) c.args.waiting.now) (length c.args.store.now.kept.items) c.requires.tidy in
     record { clean = t.clean; named = t.marked }
+
+pub returns-then-branch-clause-running : goal.returns-then-branch-clause-running
+returns-then-branch-clause-running c = ready-running c.args.clauses.now c.assume.new.run.assignment.values.items c.requires.ready (omega (arith, c.requires.widths, c.requires.values, c.in_ok-assume.ensures.values))

@@ -1,12 +1,21 @@
-use Rattle.std.specs.Prelude.{filter}
-use Rattle.std.proofs.Common.{◌+◌, ◌<◌, ◌≤◌, length, drop, get_or, refl, sym, ◌∙◌, arith}
-use Rattle.std.proofs.lemmas.List.{length-map, get_or_default}
-use Rattle.std.proofs.lemmas.List.{take_rest}
+use Rattle.std.specs.Prelude.{filter, sum, sum_by}
+use Rattle.std.proofs.Common.{◌≡◌, ◌+◌, ◌*◌, ◌<◌, ◌≤◌, ◌++◌, ◌∷◌, [], ℕ, List, Vec, Global, length, drop, get_or, refl, sym, ap, subst, inl, inr, ◌∙◌, arith}
+use Rattle.std.proofs.lemmas.List.{length-map, get_or_default, take_rest}
+use Rattle.pb_replay.specs.Engine.Lists.{Derives, Conflicts, IsSettled}
+use Rattle.pb_replay.specs.Engine.Counts.{place, spent}
 use Rattle.pb_replay.specs.Engine.Fields.{shapes_of, entries_of, kept_shape}
 use Rattle.pb_replay.specs.Engine.Rest.{waits}
-use Rattle.pb_replay.proofs.Engine.Derivations.{derivation-then}
-use Rattle.pb_replay.proofs.Engine.Propagated.{Propagating-start, Propagating-look, Propagating-next, Propagating-bound, Propagating-choose, Propagating-settled, Propagating-upper}
-use Rattle.pb_replay.proofs.Engine.Spent.{sum-bounded}
+use Rattle.pb_replay.specs.Clauses.Truths.{false_at}
+use Rattle.pb_replay.specs.Clauses.Links.{lists_of, list_at}
+use Rattle.pb_replay.specs.Clauses.Runs.{AreServed, AreWalked}
+use Rattle.pb_replay.specs.Clauses.Shapes.{all_of, clauses_of, joined}
+use Rattle.pb_replay.proofs.Engine.Derivations.{derivation-then, derivation-keeps}
+use Rattle.pb_replay.proofs.Engine.Propagated.{Propagating-start, Propagating-look, Propagating-next, Propagating-walk, Propagating-bound, Propagating-choose, Propagating-settled, Propagating-upper}
+use Rattle.pb_replay.proofs.Engine.Spent.{sum-bounded, derivation-single}
+use Rattle.pb_replay.proofs.Engine.Values.{opposite}
+use Rattle.pb_replay.proofs.Clauses.Shapes.{derives-joined, conflicts-joined, joined-source}
+use Rattle.pb_replay.proofs.Clauses.Walks.{grows-listed, running-grow}
+use Rattle.pb_replay.proofs.Clauses.Watching.{falsified_code, cost, next-of, watching-start, watching-grow, watching-next, watching-settled, derived-take, cost-grow, cost-next, cost-broken, cost-most}
 use Rattle.pb_replay.proofs.propagate.run.propagate.Goals as goal
 
 pub work-init : goal.work-init
@@ -16,7 +25,177 @@ work-init c =
     record {
       values = refl;
       taken = omega arith;
-      state = Propagating-start (waits store.kept.items) c.args.waiting.now (shapes_of store.kept.items) (entries_of (shapes_of store.kept.items) store.occurrences.items) (length store.kept.items) run.opens.items run.candidates.items run.assignment.list.items run.work.items run.trail.items run.next run.visits c.requires.counted c.requires.tidy c.requires.opens c.requires.candidates c.requires.next;
+      watching = watching-start c.args.clauses.now run.assignment.values.items run.assignment.list.items c.requires.ready (omega (arith, c.requires.widths, c.requires.values));
+      state = Propagating-start (waits store.kept.items) c.args.waiting.now (shapes_of store.kept.items) (all_of store c.args.clauses.now) (entries_of (shapes_of store.kept.items) store.occurrences.items) (length store.kept.items) run.opens.items run.candidates.items run.assignment.list.items run.work.items run.trail.items run.next run.visits (cost c.args.clauses.now c.args.clauses.now 0 run.assignment.list.items) c.requires.counted c.requires.tidy c.requires.opens c.requires.candidates c.requires.next;
+    }
+
+pub place_of-requires : goal.place_of-requires
+place_of-requires c =
+    let store = c.args.store.now in
+    let start = c.args.run.now in
+    let run = c.work.run in
+    let state = c.work.invariant.state in
+    let w = c.work.invariant.watching in
+    let l = c.index-literal.result.now in
+    let inside : c.work.walked < length run.assignment.list.items = omega (arith, c.if-walked-len.true, c.len-else-run-len.ensures, run.assignment.list.ok.0) in
+    let next = next-of run.assignment.values.items run.assignment.list.items c.work.walked l run.assignment.agrees inside c.index-literal.ensures in
+    let small : place c.negation.result < 2 * length run.assignment.values.items = rw c.negation.ensures next.small in
+    record { fits = omega (arith, small, w.running.sizes, c.work.clauses.lists.ok.0, c.work.clauses.lists.ok.1) }
+
+pub walk-requires-clause-failed : goal.walk-requires-clause-failed
+walk-requires-clause-failed c =
+    let store = c.args.store.now in
+    let start = c.args.run.now in
+    let run = c.work.run in
+    let state = c.work.invariant.state in
+    let w = c.work.invariant.watching in
+    let l = c.index-literal.result.now in
+    let inside : c.work.walked < length run.assignment.list.items = omega (arith, c.if-walked-len.true, c.len-else-run-len.ensures, run.assignment.list.ok.0) in
+    let read : c.place_of.result ≡ falsified_code l = c.place_of.ensures.place ∙ ap place c.negation.ensures in
+    let next = next-of run.assignment.values.items run.assignment.list.items c.work.walked l run.assignment.agrees inside c.index-literal.ensures in
+    ap (false_at run.assignment.values.items) read ∙ next.failed
+
+pub walk-requires-clause-literal : goal.walk-requires-clause-literal
+walk-requires-clause-literal c =
+    let store = c.args.store.now in
+    let start = c.args.run.now in
+    let run = c.work.run in
+    let state = c.work.invariant.state in
+    let w = c.work.invariant.watching in
+    let l = c.index-literal.result.now in
+    let inside : c.work.walked < length run.assignment.list.items = omega (arith, c.if-walked-len.true, c.len-else-run-len.ensures, run.assignment.list.ok.0) in
+    let read : c.place_of.result ≡ falsified_code l = c.place_of.ensures.place ∙ ap place c.negation.ensures in
+    let next = next-of run.assignment.values.items run.assignment.list.items c.work.walked l run.assignment.agrees inside c.index-literal.ensures in
+    omega (arith, read, next.small, w.running.sizes)
+
+pub returns-in_err-walk-clause-bounded : goal.returns-in_err-walk-clause-bounded
+returns-in_err-walk-clause-bounded c =
+    let store = c.args.store.now in
+    let start = c.args.run.now in
+    let run = c.work.run in
+    let state = c.work.invariant.state in
+    let w = c.work.invariant.watching in
+    let all = sum-bounded (shapes_of store.kept.items) run.candidates.items (state.candidate_sizes ∙ sym (length-map store.kept.items kept_shape)) state.tidy.bounded in
+    omega (arith, all, ap (λ (v : Vec ℕ Global). sum v.items) c.walk.ensures.candidates)
+
+pub returns-then-branch-2-clause-bounded : goal.returns-then-branch-2-clause-bounded
+returns-then-branch-2-clause-bounded c =
+    let store = c.args.store.now in
+    let start = c.args.run.now in
+    let run = c.work.run in
+    let state = c.work.invariant.state in
+    let w = c.work.invariant.watching in
+    let all = sum-bounded (shapes_of store.kept.items) run.candidates.items (state.candidate_sizes ∙ sym (length-map store.kept.items kept_shape)) state.tidy.bounded in
+    omega (arith, all, ap (λ (v : Vec ℕ Global). sum v.items) c.walk.ensures.candidates)
+
+pub returns-in_err-walk-clause-upper : goal.returns-in_err-walk-clause-upper
+returns-in_err-walk-clause-upper c =
+    let store = c.args.store.now in
+    let start = c.args.run.now in
+    let run = c.work.run in
+    let state = c.work.invariant.state in
+    let w = c.work.invariant.watching in
+    let l = c.index-literal.result.now in
+    let inside : c.work.walked < length run.assignment.list.items = omega (arith, c.if-walked-len.true, c.len-else-run-len.ensures, run.assignment.list.ok.0) in
+    let read : c.place_of.result ≡ falsified_code l = c.place_of.ensures.place ∙ ap place c.negation.ensures in
+    let next = next-of run.assignment.values.items run.assignment.list.items c.work.walked l run.assignment.agrees inside c.index-literal.ensures in
+    let done = c.walk.new.run in
+    let single = derivation-single (all_of store c.args.clauses.now) start.assignment.list.items run.assignment.list.items c.requires.single state.derived in
+    let lists = entries_of (shapes_of store.kept.items) store.occurrences.items in
+    let covered = subst (λ t. done.visits + sum c.work.clauses.passed.items + spent (entries_of (shapes_of c.args.store.now.kept.items) c.args.store.now.occurrences.items) c.work.run.assignment.list.items ≤ c.work.run.visits + 2 * length (list_at (lists_of c.work.clauses.lists.items) t) + sum c.walk.new.clauses.passed.items + spent (entries_of (shapes_of c.args.store.now.kept.items) c.args.store.now.occurrences.items) c.walk.new.run.assignment.list.items) read c.walk.ensures.covered in
+    let same = ap (λ (v : Vec ℕ Global). sum v.items) c.walk.ensures.candidates in
+    let broken = cost-broken c.args.clauses.now c.work.clauses c.walk.new.clauses run.assignment.values.items run.assignment.list.items c.work.walked run.visits done.visits (spent lists run.assignment.list.items) (spent lists done.assignment.list.items) l single inside c.index-literal.ensures c.walk.ensures.bounded covered w in
+    Propagating-upper (waits store.kept.items) c.args.waiting.now (shapes_of store.kept.items) (all_of store c.args.clauses.now) (entries_of (shapes_of store.kept.items) store.occurrences.items) (length store.kept.items) start.assignment.list.items start.candidates.items start.work.items start.next start.visits (cost c.args.clauses.now c.work.clauses c.work.walked run.assignment.list.items) c.work.taken run.opens.items run.candidates.items run.assignment.list.items run.work.items run.trail.items run.next run.visits done.assignment.list.items done.candidates.items done.visits (3 * sum_by length (clauses_of c.args.clauses.now)) 0 c.requires.single c.requires.next state c.walk.ensures.single (omega (arith, state.within)) (omega (arith, broken, same))
+
+pub returns-then-branch-2-clause-upper : goal.returns-then-branch-2-clause-upper
+returns-then-branch-2-clause-upper c =
+    let store = c.args.store.now in
+    let start = c.args.run.now in
+    let run = c.work.run in
+    let state = c.work.invariant.state in
+    let w = c.work.invariant.watching in
+    let l = c.index-literal.result.now in
+    let inside : c.work.walked < length run.assignment.list.items = omega (arith, c.if-walked-len.true, c.len-else-run-len.ensures, run.assignment.list.ok.0) in
+    let read : c.place_of.result ≡ falsified_code l = c.place_of.ensures.place ∙ ap place c.negation.ensures in
+    let next = next-of run.assignment.values.items run.assignment.list.items c.work.walked l run.assignment.agrees inside c.index-literal.ensures in
+    let done = c.walk.new.run in
+    let single = derivation-single (all_of store c.args.clauses.now) start.assignment.list.items run.assignment.list.items c.requires.single state.derived in
+    let lists = entries_of (shapes_of store.kept.items) store.occurrences.items in
+    let covered = subst (λ t. done.visits + sum c.work.clauses.passed.items + spent (entries_of (shapes_of c.args.store.now.kept.items) c.args.store.now.occurrences.items) c.work.run.assignment.list.items ≤ c.work.run.visits + 2 * length (list_at (lists_of c.work.clauses.lists.items) t) + sum c.walk.new.clauses.passed.items + spent (entries_of (shapes_of c.args.store.now.kept.items) c.args.store.now.occurrences.items) c.walk.new.run.assignment.list.items) read c.walk.ensures.covered in
+    let same = ap (λ (v : Vec ℕ Global). sum v.items) c.walk.ensures.candidates in
+    let broken = cost-broken c.args.clauses.now c.work.clauses c.walk.new.clauses run.assignment.values.items run.assignment.list.items c.work.walked run.visits done.visits (spent lists run.assignment.list.items) (spent lists done.assignment.list.items) l single inside c.index-literal.ensures c.walk.ensures.bounded covered w in
+    Propagating-upper (waits store.kept.items) c.args.waiting.now (shapes_of store.kept.items) (all_of store c.args.clauses.now) (entries_of (shapes_of store.kept.items) store.occurrences.items) (length store.kept.items) start.assignment.list.items start.candidates.items start.work.items start.next start.visits (cost c.args.clauses.now c.work.clauses c.work.walked run.assignment.list.items) c.work.taken run.opens.items run.candidates.items run.assignment.list.items run.work.items run.trail.items run.next run.visits done.assignment.list.items done.candidates.items done.visits (3 * sum_by length (clauses_of c.args.clauses.now)) 0 c.requires.single c.requires.next state c.walk.ensures.single (omega (arith, state.within)) (omega (arith, broken, same))
+
+pub returns-then-branch-2-clause-derived : goal.returns-then-branch-2-clause-derived
+returns-then-branch-2-clause-derived c =
+    let store = c.args.store.now in
+    let start = c.args.run.now in
+    let run = c.work.run in
+    let state = c.work.invariant.state in
+    let w = c.work.invariant.watching in
+    let derived = subst (λ ls. Derives (joined (shapes_of c.args.store.now.kept.items) (lists_of ls.items)) c.work.run.assignment.list.items c.walk.new.run.assignment.list.items) w.literals c.in_ok-walk.ensures.derived in
+    derivation-then (all_of store c.args.clauses.now) start.assignment.list.items run.assignment.list.items c.walk.new.run.assignment.list.items state.derived derived
+
+pub returns-then-branch-2-clause-undone : goal.returns-then-branch-2-clause-undone
+returns-then-branch-2-clause-undone c =
+    let store = c.args.store.now in
+    let start = c.args.run.now in
+    let run = c.work.run in
+    let state = c.work.invariant.state in
+    let w = c.work.invariant.watching in
+    let tidy = c.in_ok-walk.ensures.tidy (filter (waits store.kept.items) (drop c.work.taken c.args.waiting.now)) (length store.kept.items) state.tidy in
+    record { clean = tidy.clean; named = tidy.marked }
+
+pub returns-then-branch-2-clause-conflict : goal.returns-then-branch-2-clause-conflict
+returns-then-branch-2-clause-conflict c =
+    let store = c.args.store.now in
+    let start = c.args.run.now in
+    let run = c.work.run in
+    let state = c.work.invariant.state in
+    let w = c.work.invariant.watching in
+    λ found. subst (λ ls. Conflicts (joined (shapes_of c.args.store.now.kept.items) (lists_of ls.items)) c.walk.new.run.assignment.list.items) w.literals (c.in_ok-walk.ensures.conflict c.if-branch-2.true)
+
+pub work-smaller-then-walked-len : goal.work-smaller-then-walked-len
+work-smaller-then-walked-len c =
+    let store = c.args.store.now in
+    let start = c.args.run.now in
+    let run = c.work.run in
+    let state = c.work.invariant.state in
+    let w = c.work.invariant.watching in
+    let l = c.index-literal.result.now in
+    let inside : c.work.walked < length run.assignment.list.items = omega (arith, c.if-walked-len.true, c.len-else-run-len.ensures, run.assignment.list.ok.0) in
+    let read : c.place_of.result ≡ falsified_code l = c.place_of.ensures.place ∙ ap place c.negation.ensures in
+    let next = next-of run.assignment.values.items run.assignment.list.items c.work.walked l run.assignment.agrees inside c.index-literal.ensures in
+    let bound = Propagating-bound (waits store.kept.items) c.args.waiting.now (shapes_of store.kept.items) (all_of store c.args.clauses.now) (entries_of (shapes_of store.kept.items) store.occurrences.items) (length store.kept.items) start.assignment.list.items start.candidates.items start.work.items start.next start.visits (cost c.args.clauses.now c.work.clauses c.work.walked run.assignment.list.items) c.work.taken run.opens.items run.candidates.items run.assignment.list.items run.work.items run.trail.items run.next run.visits c.requires.single state in
+    omega (arith, bound, c.in_ok-walk.ensures.next, state.within, inside, c.work.invariant.taken, c.work.invariant.values, run.assignment.room)
+
+pub work-preserved-then-walked-len : goal.work-preserved-then-walked-len
+work-preserved-then-walked-len c =
+    let store = c.args.store.now in
+    let start = c.args.run.now in
+    let run = c.work.run in
+    let state = c.work.invariant.state in
+    let w = c.work.invariant.watching in
+    let l = c.index-literal.result.now in
+    let inside : c.work.walked < length run.assignment.list.items = omega (arith, c.if-walked-len.true, c.len-else-run-len.ensures, run.assignment.list.ok.0) in
+    let read : c.place_of.result ≡ falsified_code l = c.place_of.ensures.place ∙ ap place c.negation.ensures in
+    let next = next-of run.assignment.values.items run.assignment.list.items c.work.walked l run.assignment.agrees inside c.index-literal.ensures in
+    let done = c.walk.new.run in
+    let single = derivation-single (all_of store c.args.clauses.now) start.assignment.list.items run.assignment.list.items c.requires.single state.derived in
+    let lists = entries_of (shapes_of store.kept.items) store.occurrences.items in
+    let covered = subst (λ t. done.visits + sum c.work.clauses.passed.items + spent (entries_of (shapes_of c.args.store.now.kept.items) c.args.store.now.occurrences.items) c.work.run.assignment.list.items ≤ c.work.run.visits + 2 * length (list_at (lists_of c.work.clauses.lists.items) t) + sum c.walk.new.clauses.passed.items + spent (entries_of (shapes_of c.args.store.now.kept.items) c.args.store.now.occurrences.items) c.walk.new.run.assignment.list.items) read c.walk.ensures.covered in
+    let same = ap (λ (v : Vec ℕ Global). sum v.items) c.walk.ensures.candidates in
+    let derived = subst (λ ls. Derives (joined (shapes_of c.args.store.now.kept.items) (lists_of ls.items)) c.work.run.assignment.list.items c.walk.new.run.assignment.list.items) w.literals c.in_ok-walk.ensures.derived in
+    let told = c.in_ok-walk.ensures in
+    let after = derived-take (all_of store c.args.clauses.now) run.assignment.list.items done.assignment.list.items (c.work.walked + 1) (omega (arith, inside)) derived in
+    let paid = cost-next c.args.clauses.now c.work.clauses c.walk.new.clauses run.assignment.values.items run.assignment.list.items done.assignment.list.items c.work.walked run.visits done.visits (spent lists run.assignment.list.items) (spent lists done.assignment.list.items) l single inside c.index-literal.ensures after covered w in
+    let walked = subst (λ t. (xs : List ℕ) → AreServed c.work.run.assignment.values.items c.work.clauses.watches.items xs t 0 → AreWalked c.walk.new.run.assignment.values.items c.walk.new.clauses.watches.items (xs ++ (t ∷ []))) read (told.walked c.if-branch-2.false) in
+    record {
+      values = told.values ∙ c.work.invariant.values;
+      taken = c.work.invariant.taken;
+      watching = watching-next (all_of store c.args.clauses.now) c.args.clauses.now c.work.clauses c.walk.new.clauses run.assignment.values.items done.assignment.values.items run.assignment.list.items done.assignment.list.items c.work.walked l inside c.index-literal.ensures next.failed told.literals told.running derived walked w;
+      state = Propagating-walk (waits store.kept.items) c.args.waiting.now (shapes_of store.kept.items) (all_of store c.args.clauses.now) (entries_of (shapes_of store.kept.items) store.occurrences.items) (length store.kept.items) start.assignment.list.items start.candidates.items start.work.items start.next start.visits (cost c.args.clauses.now c.work.clauses c.work.walked run.assignment.list.items) (cost c.args.clauses.now c.walk.new.clauses (c.work.walked + 1) done.assignment.list.items) c.work.taken run.opens.items run.candidates.items run.assignment.list.items run.work.items run.trail.items run.next run.visits done.opens.items done.candidates.items done.assignment.list.items done.work.items done.trail.items done.next done.visits
+          told.next (ap (λ (v : Vec ℕ Global). v.items) told.candidates) derived told.counted (told.tidy (filter (waits store.kept.items) (drop c.work.taken c.args.waiting.now)) (length store.kept.items) state.tidy) paid told.work told.rising told.found told.opens told.longer_work state;
     }
 
 pub look-requires-clause-tidy : goal.look-requires-clause-tidy
@@ -28,53 +207,108 @@ look-requires-clause-tidy c =
     let all = take_rest c.args.waiting.now c.work.taken in
     rw all (Propagating-look (filter p (drop c.work.taken c.args.waiting.now)) (shapes_of keep) (length keep) run.opens.items run.candidates.items run.assignment.list.items run.work.items run.trail.items run.next c.index-form.result.now (length-map keep kept_shape) inside c.index-form.ensures c.work.invariant.state.tidy)
 
-pub returns-then-branch-clause-derived : goal.returns-then-branch-clause-derived
-returns-then-branch-clause-derived c =
-    derivation-then (shapes_of c.args.store.now.kept.items) c.args.run.now.assignment.list.items c.work.run.assignment.list.items c.look.new.run.assignment.list.items c.work.invariant.state.derived c.in_ok-look.ensures.derived
-
-pub returns-then-branch-clause-conflict : goal.returns-then-branch-clause-conflict
-returns-then-branch-clause-conflict c = λ found. c.in_ok-look.ensures.conflict c.if-branch.true
+pub returns-in_err-look-clause-upper : goal.returns-in_err-look-clause-upper
+returns-in_err-look-clause-upper c =
+    let store = c.args.store.now in
+    let start = c.args.run.now in
+    let run = c.work.run in
+    let state = c.work.invariant.state in
+    let w = c.work.invariant.watching in
+    let done = c.look.new.run in
+    let inside : run.next + 1 ≤ length run.work.items = omega (arith, c.if-run-len.true, c.len.ensures, run.work.ok.0) in
+    let most = cost-most c.args.clauses.now c.work.clauses run.assignment.values.items run.assignment.list.items c.work.walked w in
+    let upper = Propagating-upper (waits store.kept.items) c.args.waiting.now (shapes_of store.kept.items) (all_of store c.args.clauses.now) (entries_of (shapes_of store.kept.items) store.occurrences.items) (length store.kept.items) start.assignment.list.items start.candidates.items start.work.items start.next start.visits (cost c.args.clauses.now c.work.clauses c.work.walked run.assignment.list.items) c.work.taken run.opens.items run.candidates.items run.assignment.list.items run.work.items run.trail.items run.next run.visits done.assignment.list.items done.candidates.items done.visits (cost c.args.clauses.now c.work.clauses c.work.walked run.assignment.list.items) 1 c.requires.single c.requires.next state c.look.ensures.single inside (omega (arith, c.look.ensures.covered)) in
+    omega (arith, upper, most)
 
 pub returns-then-branch-clause-upper : goal.returns-then-branch-clause-upper
 returns-then-branch-clause-upper c =
     let store = c.args.store.now in
     let start = c.args.run.now in
     let run = c.work.run in
+    let state = c.work.invariant.state in
+    let w = c.work.invariant.watching in
     let done = c.look.new.run in
     let inside : run.next + 1 ≤ length run.work.items = omega (arith, c.if-run-len.true, c.len.ensures, run.work.ok.0) in
-    Propagating-upper (waits store.kept.items) c.args.waiting.now (shapes_of store.kept.items) (entries_of (shapes_of store.kept.items) store.occurrences.items) (length store.kept.items) start.assignment.list.items start.candidates.items start.work.items start.next start.visits c.work.taken run.opens.items run.candidates.items run.assignment.list.items run.work.items run.trail.items run.next run.visits done.assignment.list.items done.candidates.items done.visits 1 c.requires.single c.requires.next c.work.invariant.state c.look.ensures.single inside c.look.ensures.covered
+    let most = cost-most c.args.clauses.now c.work.clauses run.assignment.values.items run.assignment.list.items c.work.walked w in
+    let upper = Propagating-upper (waits store.kept.items) c.args.waiting.now (shapes_of store.kept.items) (all_of store c.args.clauses.now) (entries_of (shapes_of store.kept.items) store.occurrences.items) (length store.kept.items) start.assignment.list.items start.candidates.items start.work.items start.next start.visits (cost c.args.clauses.now c.work.clauses c.work.walked run.assignment.list.items) c.work.taken run.opens.items run.candidates.items run.assignment.list.items run.work.items run.trail.items run.next run.visits done.assignment.list.items done.candidates.items done.visits (cost c.args.clauses.now c.work.clauses c.work.walked run.assignment.list.items) 1 c.requires.single c.requires.next state c.look.ensures.single inside (omega (arith, c.look.ensures.covered)) in
+    omega (arith, upper, most)
 
-pub returns-in_err-look-clause-upper : goal.returns-in_err-look-clause-upper
-returns-in_err-look-clause-upper c =
+pub returns-then-branch-clause-running : goal.returns-then-branch-clause-running
+returns-then-branch-clause-running c =
     let store = c.args.store.now in
     let start = c.args.run.now in
     let run = c.work.run in
+    let state = c.work.invariant.state in
+    let w = c.work.invariant.watching in
     let done = c.look.new.run in
     let inside : run.next + 1 ≤ length run.work.items = omega (arith, c.if-run-len.true, c.len.ensures, run.work.ok.0) in
-    Propagating-upper (waits store.kept.items) c.args.waiting.now (shapes_of store.kept.items) (entries_of (shapes_of store.kept.items) store.occurrences.items) (length store.kept.items) start.assignment.list.items start.candidates.items start.work.items start.next start.visits c.work.taken run.opens.items run.candidates.items run.assignment.list.items run.work.items run.trail.items run.next run.visits done.assignment.list.items done.candidates.items done.visits 1 c.requires.single c.requires.next c.work.invariant.state c.look.ensures.single inside c.look.ensures.covered
+    let derived = derives-joined (shapes_of store.kept.items) (clauses_of c.args.clauses.now) run.assignment.list.items done.assignment.list.items c.requires.joined c.in_ok-look.ensures.derived in
+    let grows = grows-listed run.assignment.values.items done.assignment.values.items run.assignment.list.items done.assignment.list.items c.in_ok-look.ensures.values run.assignment.agrees done.assignment.agrees (derivation-keeps (all_of store c.args.clauses.now) run.assignment.list.items done.assignment.list.items derived) in
+    running-grow c.work.clauses run.assignment.values.items done.assignment.values.items grows w.running
+
+pub returns-then-branch-clause-derived : goal.returns-then-branch-clause-derived
+returns-then-branch-clause-derived c =
+    let store = c.args.store.now in
+    let start = c.args.run.now in
+    let run = c.work.run in
+    let state = c.work.invariant.state in
+    let w = c.work.invariant.watching in
+    let done = c.look.new.run in
+    let inside : run.next + 1 ≤ length run.work.items = omega (arith, c.if-run-len.true, c.len.ensures, run.work.ok.0) in
+    let derived = derives-joined (shapes_of store.kept.items) (clauses_of c.args.clauses.now) run.assignment.list.items done.assignment.list.items c.requires.joined c.in_ok-look.ensures.derived in
+    let grows = grows-listed run.assignment.values.items done.assignment.values.items run.assignment.list.items done.assignment.list.items c.in_ok-look.ensures.values run.assignment.agrees done.assignment.agrees (derivation-keeps (all_of store c.args.clauses.now) run.assignment.list.items done.assignment.list.items derived) in
+    derivation-then (all_of store c.args.clauses.now) start.assignment.list.items run.assignment.list.items done.assignment.list.items state.derived derived
+
+pub returns-then-branch-clause-conflict : goal.returns-then-branch-clause-conflict
+returns-then-branch-clause-conflict c =
+    let store = c.args.store.now in
+    let start = c.args.run.now in
+    let run = c.work.run in
+    let state = c.work.invariant.state in
+    let w = c.work.invariant.watching in
+    λ found. conflicts-joined (shapes_of store.kept.items) (clauses_of c.args.clauses.now) c.look.new.run.assignment.list.items c.requires.joined (c.in_ok-look.ensures.conflict c.if-branch.true)
 
 pub work-smaller-else-branch : goal.work-smaller-else-branch
 work-smaller-else-branch c =
     let store = c.args.store.now in
     let start = c.args.run.now in
     let run = c.work.run in
-    let bound = Propagating-bound (waits store.kept.items) c.args.waiting.now (shapes_of store.kept.items) (entries_of (shapes_of store.kept.items) store.occurrences.items) (length store.kept.items) start.assignment.list.items start.candidates.items start.work.items start.next start.visits c.work.taken run.opens.items run.candidates.items run.assignment.list.items run.work.items run.trail.items run.next run.visits c.requires.single c.work.invariant.state in
-    omega (arith, bound, c.in_ok-look.ensures.next, c.if-run-len.true, c.len.ensures, run.work.ok.0, c.work.invariant.taken)
+    let state = c.work.invariant.state in
+    let w = c.work.invariant.watching in
+    let done = c.look.new.run in
+    let inside : run.next + 1 ≤ length run.work.items = omega (arith, c.if-run-len.true, c.len.ensures, run.work.ok.0) in
+    let bound = Propagating-bound (waits store.kept.items) c.args.waiting.now (shapes_of store.kept.items) (all_of store c.args.clauses.now) (entries_of (shapes_of store.kept.items) store.occurrences.items) (length store.kept.items) start.assignment.list.items start.candidates.items start.work.items start.next start.visits (cost c.args.clauses.now c.work.clauses c.work.walked run.assignment.list.items) c.work.taken run.opens.items run.candidates.items run.assignment.list.items run.work.items run.trail.items run.next run.visits c.requires.single state in
+    omega (arith, bound, c.in_ok-look.ensures.next, inside, c.work.invariant.taken, c.work.invariant.values, run.assignment.room, w.within)
 
 pub work-preserved-else-branch : goal.work-preserved-else-branch
 work-preserved-else-branch c =
     let store = c.args.store.now in
     let start = c.args.run.now in
     let run = c.work.run in
+    let state = c.work.invariant.state in
+    let w = c.work.invariant.watching in
     let done = c.look.new.run in
+    let inside : run.next + 1 ≤ length run.work.items = omega (arith, c.if-run-len.true, c.len.ensures, run.work.ok.0) in
+    let derived = derives-joined (shapes_of store.kept.items) (clauses_of c.args.clauses.now) run.assignment.list.items done.assignment.list.items c.requires.joined c.in_ok-look.ensures.derived in
+    let grows = grows-listed run.assignment.values.items done.assignment.values.items run.assignment.list.items done.assignment.list.items c.in_ok-look.ensures.values run.assignment.agrees done.assignment.agrees (derivation-keeps (all_of store c.args.clauses.now) run.assignment.list.items done.assignment.list.items derived) in
     let told = c.in_ok-look.ensures in
     let tidy = rw (take_rest c.args.waiting.now c.work.taken) at (told.tidy c.if-branch.false) in
     record {
       values = told.values ∙ c.work.invariant.values;
       taken = c.work.invariant.taken;
-      state = Propagating-next (waits store.kept.items) c.args.waiting.now (shapes_of store.kept.items) (entries_of (shapes_of store.kept.items) store.occurrences.items) (length store.kept.items) start.assignment.list.items start.candidates.items start.work.items start.next start.visits c.work.taken run.opens.items run.candidates.items run.assignment.list.items run.work.items run.trail.items run.next run.visits done.opens.items done.candidates.items done.assignment.list.items done.work.items done.trail.items done.next done.visits
-          told.next told.derived told.counted tidy told.paid told.found told.opens told.candidates told.within c.work.invariant.state;
+      watching = watching-grow (all_of store c.args.clauses.now) c.args.clauses.now c.work.clauses run.assignment.values.items done.assignment.values.items run.assignment.list.items done.assignment.list.items c.work.walked grows derived w;
+      state = Propagating-next (waits store.kept.items) c.args.waiting.now (shapes_of store.kept.items) (all_of store c.args.clauses.now) (entries_of (shapes_of store.kept.items) store.occurrences.items) (length store.kept.items) start.assignment.list.items start.candidates.items start.work.items start.next start.visits (cost c.args.clauses.now c.work.clauses c.work.walked run.assignment.list.items) c.work.taken run.opens.items run.candidates.items run.assignment.list.items run.work.items run.trail.items run.next run.visits done.opens.items done.candidates.items done.assignment.list.items done.work.items done.trail.items done.next done.visits (cost c.args.clauses.now c.work.clauses c.work.walked done.assignment.list.items)
+          (cost-grow (all_of store c.args.clauses.now) c.args.clauses.now c.work.clauses run.assignment.list.items done.assignment.list.items c.work.walked w.within derived) told.next derived told.counted tidy told.paid told.found told.opens told.candidates told.within state;
     }
+
+pub returns-in_err-choose-clause-bounded : goal.returns-in_err-choose-clause-bounded
+returns-in_err-choose-clause-bounded c =
+    let store = c.args.store.now in
+    let start = c.args.run.now in
+    let run = c.work.run in
+    let state = c.work.invariant.state in
+    let w = c.work.invariant.watching in
+    sum-bounded (shapes_of store.kept.items) run.candidates.items (state.candidate_sizes ∙ sym (length-map store.kept.items kept_shape)) state.tidy.bounded
 
 pub returns-in_err-choose-clause-upper : goal.returns-in_err-choose-clause-upper
 returns-in_err-choose-clause-upper c =
@@ -82,7 +316,19 @@ returns-in_err-choose-clause-upper c =
     let start = c.args.run.now in
     let run = c.work.run in
     let state = c.work.invariant.state in
-    Propagating-upper (waits store.kept.items) c.args.waiting.now (shapes_of store.kept.items) (entries_of (shapes_of store.kept.items) store.occurrences.items) (length store.kept.items) start.assignment.list.items start.candidates.items start.work.items start.next start.visits c.work.taken run.opens.items run.candidates.items run.assignment.list.items run.work.items run.trail.items run.next run.visits run.assignment.list.items run.candidates.items run.visits 0 c.requires.single c.requires.next state (λ s. s) (omega (arith, state.within)) (omega arith)
+    let w = c.work.invariant.watching in
+    let most = cost-most c.args.clauses.now c.work.clauses run.assignment.values.items run.assignment.list.items c.work.walked w in
+    let upper = Propagating-upper (waits store.kept.items) c.args.waiting.now (shapes_of store.kept.items) (all_of store c.args.clauses.now) (entries_of (shapes_of store.kept.items) store.occurrences.items) (length store.kept.items) start.assignment.list.items start.candidates.items start.work.items start.next start.visits (cost c.args.clauses.now c.work.clauses c.work.walked run.assignment.list.items) c.work.taken run.opens.items run.candidates.items run.assignment.list.items run.work.items run.trail.items run.next run.visits run.assignment.list.items run.candidates.items run.visits (cost c.args.clauses.now c.work.clauses c.work.walked run.assignment.list.items) 0 c.requires.single c.requires.next state (λ s. s) (omega (arith, state.within)) (omega arith) in
+    omega (arith, upper, most)
+
+pub returns-in_err-choose-2-clause-bounded : goal.returns-in_err-choose-2-clause-bounded
+returns-in_err-choose-2-clause-bounded c =
+    let store = c.args.store.now in
+    let start = c.args.run.now in
+    let run = c.work.run in
+    let state = c.work.invariant.state in
+    let w = c.work.invariant.watching in
+    sum-bounded (shapes_of store.kept.items) run.candidates.items (state.candidate_sizes ∙ sym (length-map store.kept.items kept_shape)) state.tidy.bounded
 
 pub returns-in_err-choose-2-clause-upper : goal.returns-in_err-choose-2-clause-upper
 returns-in_err-choose-2-clause-upper c =
@@ -90,15 +336,19 @@ returns-in_err-choose-2-clause-upper c =
     let start = c.args.run.now in
     let run = c.work.run in
     let state = c.work.invariant.state in
-    Propagating-upper (waits store.kept.items) c.args.waiting.now (shapes_of store.kept.items) (entries_of (shapes_of store.kept.items) store.occurrences.items) (length store.kept.items) start.assignment.list.items start.candidates.items start.work.items start.next start.visits c.work.taken run.opens.items run.candidates.items run.assignment.list.items run.work.items run.trail.items run.next run.visits run.assignment.list.items run.candidates.items run.visits 0 c.requires.single c.requires.next state (λ s. s) (omega (arith, state.within)) (omega arith)
+    let w = c.work.invariant.watching in
+    let most = cost-most c.args.clauses.now c.work.clauses run.assignment.values.items run.assignment.list.items c.work.walked w in
+    let upper = Propagating-upper (waits store.kept.items) c.args.waiting.now (shapes_of store.kept.items) (all_of store c.args.clauses.now) (entries_of (shapes_of store.kept.items) store.occurrences.items) (length store.kept.items) start.assignment.list.items start.candidates.items start.work.items start.next start.visits (cost c.args.clauses.now c.work.clauses c.work.walked run.assignment.list.items) c.work.taken run.opens.items run.candidates.items run.assignment.list.items run.work.items run.trail.items run.next run.visits run.assignment.list.items run.candidates.items run.visits (cost c.args.clauses.now c.work.clauses c.work.walked run.assignment.list.items) 0 c.requires.single c.requires.next state (λ s. s) (omega (arith, state.within)) (omega arith) in
+    omega (arith, upper, most)
 
-pub returns-in_err-choose-clause-bounded : goal.returns-in_err-choose-clause-bounded
-returns-in_err-choose-clause-bounded c =
-    sum-bounded (shapes_of c.args.store.now.kept.items) c.work.run.candidates.items (c.work.invariant.state.candidate_sizes ∙ sym (length-map c.args.store.now.kept.items kept_shape)) c.work.invariant.state.tidy.bounded
-
-pub returns-in_err-choose-2-clause-bounded : goal.returns-in_err-choose-2-clause-bounded
-returns-in_err-choose-2-clause-bounded c =
-    sum-bounded (shapes_of c.args.store.now.kept.items) c.work.run.candidates.items (c.work.invariant.state.candidate_sizes ∙ sym (length-map c.args.store.now.kept.items kept_shape)) c.work.invariant.state.tidy.bounded
+pub returns-else-taken-waiting-clause-bounded : goal.returns-else-taken-waiting-clause-bounded
+returns-else-taken-waiting-clause-bounded c =
+    let store = c.args.store.now in
+    let start = c.args.run.now in
+    let run = c.work.run in
+    let state = c.work.invariant.state in
+    let w = c.work.invariant.watching in
+    sum-bounded (shapes_of store.kept.items) run.candidates.items (state.candidate_sizes ∙ sym (length-map store.kept.items kept_shape)) state.tidy.bounded
 
 pub returns-else-taken-waiting-clause-upper : goal.returns-else-taken-waiting-clause-upper
 returns-else-taken-waiting-clause-upper c =
@@ -106,102 +356,49 @@ returns-else-taken-waiting-clause-upper c =
     let start = c.args.run.now in
     let run = c.work.run in
     let state = c.work.invariant.state in
-    Propagating-upper (waits store.kept.items) c.args.waiting.now (shapes_of store.kept.items) (entries_of (shapes_of store.kept.items) store.occurrences.items) (length store.kept.items) start.assignment.list.items start.candidates.items start.work.items start.next start.visits c.work.taken run.opens.items run.candidates.items run.assignment.list.items run.work.items run.trail.items run.next run.visits run.assignment.list.items run.candidates.items run.visits 0 c.requires.single c.requires.next state (λ s. s) (omega (arith, state.within)) (omega arith)
-
-pub returns-else-taken-waiting-clause-bounded : goal.returns-else-taken-waiting-clause-bounded
-returns-else-taken-waiting-clause-bounded c =
-    sum-bounded (shapes_of c.args.store.now.kept.items) c.work.run.candidates.items (c.work.invariant.state.candidate_sizes ∙ sym (length-map c.args.store.now.kept.items kept_shape)) c.work.invariant.state.tidy.bounded
-
-pub returns-else-taken-waiting-clause-settled : goal.returns-else-taken-waiting-clause-settled
-returns-else-taken-waiting-clause-settled c = λ found f has.
-    let store = c.args.store.now in
-    let start = c.args.run.now in
-    let run = c.work.run in
-    let all : length run.work.items ≤ run.next = omega (arith, c.if-run-len.false, c.len.ensures, run.work.ok.0) in
-    let none_waits : length c.args.waiting.now ≤ c.work.taken = omega (arith, c.if-taken-waiting.false) in
-    Propagating-settled (waits store.kept.items) c.args.waiting.now store.kept.items (entries_of (shapes_of store.kept.items) store.occurrences.items) start.assignment.list.items start.candidates.items start.work.items start.next start.visits c.work.taken run.opens.items run.candidates.items run.assignment.list.items run.work.items run.trail.items run.next run.visits all none_waits c.work.invariant.state f has
+    let w = c.work.invariant.watching in
+    let most = cost-most c.args.clauses.now c.work.clauses run.assignment.values.items run.assignment.list.items c.work.walked w in
+    let upper = Propagating-upper (waits store.kept.items) c.args.waiting.now (shapes_of store.kept.items) (all_of store c.args.clauses.now) (entries_of (shapes_of store.kept.items) store.occurrences.items) (length store.kept.items) start.assignment.list.items start.candidates.items start.work.items start.next start.visits (cost c.args.clauses.now c.work.clauses c.work.walked run.assignment.list.items) c.work.taken run.opens.items run.candidates.items run.assignment.list.items run.work.items run.trail.items run.next run.visits run.assignment.list.items run.candidates.items run.visits (cost c.args.clauses.now c.work.clauses c.work.walked run.assignment.list.items) 0 c.requires.single c.requires.next state (λ s. s) (omega (arith, state.within)) (omega arith) in
+    omega (arith, upper, most)
 
 pub work-smaller : goal.work-smaller
 work-smaller c =
     let store = c.args.store.now in
     let start = c.args.run.now in
     let run = c.work.run in
-    let bound = Propagating-bound (waits store.kept.items) c.args.waiting.now (shapes_of store.kept.items) (entries_of (shapes_of store.kept.items) store.occurrences.items) (length store.kept.items) start.assignment.list.items start.candidates.items start.work.items start.next start.visits c.work.taken run.opens.items run.candidates.items run.assignment.list.items run.work.items run.trail.items run.next run.visits c.requires.single c.work.invariant.state in
-    omega (arith, bound, c.work.invariant.state.within, c.if-taken-waiting.true)
+    let state = c.work.invariant.state in
+    let w = c.work.invariant.watching in
+    let bound = Propagating-bound (waits store.kept.items) c.args.waiting.now (shapes_of store.kept.items) (all_of store c.args.clauses.now) (entries_of (shapes_of store.kept.items) store.occurrences.items) (length store.kept.items) start.assignment.list.items start.candidates.items start.work.items start.next start.visits (cost c.args.clauses.now c.work.clauses c.work.walked run.assignment.list.items) c.work.taken run.opens.items run.candidates.items run.assignment.list.items run.work.items run.trail.items run.next run.visits c.requires.single state in
+    omega (arith, bound, state.within, c.if-taken-waiting.true, w.within, c.work.invariant.values, run.assignment.room)
 
 pub work-preserved : goal.work-preserved
 work-preserved c =
     let store = c.args.store.now in
     let start = c.args.run.now in
     let run = c.work.run in
+    let state = c.work.invariant.state in
+    let w = c.work.invariant.watching in
     let less : c.work.taken < length c.args.waiting.now = omega (arith, c.if-taken-waiting.true) in
     record {
       values = c.work.invariant.values;
       taken = omega (arith, less);
-      state = Propagating-choose (waits store.kept.items) c.args.waiting.now (shapes_of store.kept.items) (entries_of (shapes_of store.kept.items) store.occurrences.items) (length store.kept.items) start.assignment.list.items start.candidates.items start.work.items start.next start.visits c.work.taken run.opens.items run.candidates.items run.assignment.list.items run.work.items run.trail.items run.next run.visits (get_or c.args.waiting.now c.work.taken 0) c.choose-then-taken-waiting.new.work.items c.choose.new.work.items less (get_or_default c.args.waiting.now c.work.taken 0 _ less)
-          (omega (arith, c.requires.waiting c.work.taken 0 less, length-map store.kept.items kept_shape)) c.in_ok-choose-2.ensures c.in_ok-choose.ensures c.work.invariant.state;
+      watching = w;
+      state = Propagating-choose (waits store.kept.items) c.args.waiting.now (shapes_of store.kept.items) (all_of store c.args.clauses.now) (entries_of (shapes_of store.kept.items) store.occurrences.items) (length store.kept.items) start.assignment.list.items start.candidates.items start.work.items start.next start.visits (cost c.args.clauses.now c.work.clauses c.work.walked run.assignment.list.items) c.work.taken run.opens.items run.candidates.items run.assignment.list.items run.work.items run.trail.items run.next run.visits (get_or c.args.waiting.now c.work.taken 0) c.choose-then-taken-waiting.new.work.items c.choose.new.work.items less (get_or_default c.args.waiting.now c.work.taken 0 _ less)
+          (omega (arith, c.requires.waiting c.work.taken 0 less, length-map store.kept.items kept_shape)) c.in_ok-choose-2.ensures c.in_ok-choose.ensures state;
     }
 
-pub returns-else-taken-waiting-clause-values : goal.returns-else-taken-waiting-clause-values
-returns-else-taken-waiting-clause-values c = c.work.invariant.values
-
-pub returns-else-taken-waiting-clause-opens : goal.returns-else-taken-waiting-clause-opens
-returns-else-taken-waiting-clause-opens c = c.work.invariant.state.open_sizes
-
-pub returns-else-taken-waiting-clause-candidates : goal.returns-else-taken-waiting-clause-candidates
-returns-else-taken-waiting-clause-candidates c = c.work.invariant.state.candidate_sizes
-
-pub returns-else-taken-waiting-clause-derived : goal.returns-else-taken-waiting-clause-derived
-returns-else-taken-waiting-clause-derived c = c.work.invariant.state.derived
-
-pub returns-else-taken-waiting-clause-undone : goal.returns-else-taken-waiting-clause-undone
-returns-else-taken-waiting-clause-undone c = record { clean = c.work.invariant.state.tidy.clean; named = c.work.invariant.state.tidy.marked }
-
-pub returns-else-taken-waiting-clause-conflict : goal.returns-else-taken-waiting-clause-conflict
-returns-else-taken-waiting-clause-conflict c = λ found. absurd cc
-
-pub returns-else-taken-waiting-clause-found : goal.returns-else-taken-waiting-clause-found
-returns-else-taken-waiting-clause-found c = c.work.invariant.state.found
-
-pub returns-then-branch-clause-values : goal.returns-then-branch-clause-values
-returns-then-branch-clause-values c = c.in_ok-look.ensures.values ∙ c.work.invariant.values
-
-pub returns-then-branch-clause-opens : goal.returns-then-branch-clause-opens
-returns-then-branch-clause-opens c = c.in_ok-look.ensures.opens ∙ c.work.invariant.state.open_sizes
-
-pub returns-then-branch-clause-candidates : goal.returns-then-branch-clause-candidates
-returns-then-branch-clause-candidates c = c.in_ok-look.ensures.candidates ∙ c.work.invariant.state.candidate_sizes
-
-pub returns-then-branch-clause-bounded : goal.returns-then-branch-clause-bounded
-returns-then-branch-clause-bounded c = c.look.ensures.bounded
-
-pub returns-then-branch-clause-undone : goal.returns-then-branch-clause-undone
-returns-then-branch-clause-undone c = c.in_ok-look.ensures.undone
-
-pub returns-then-branch-clause-settled : goal.returns-then-branch-clause-settled
-returns-then-branch-clause-settled c = λ found. absurd cc
-
-pub returns-then-branch-clause-found : goal.returns-then-branch-clause-found
-returns-then-branch-clause-found c = λ small.
-    let told = c.in_ok-look.ensures.found small in
-    let rising = c.in_ok-look.ensures.paid.rising in
-    let before = c.work.invariant.state.found (omega (arith, small, rising)) in
-    omega (arith, told, before)
-
-pub returns-in_err-look-clause-bounded : goal.returns-in_err-look-clause-bounded
-returns-in_err-look-clause-bounded c = c.look.ensures.bounded
-
-pub look-requires-clause-store : goal.look-requires-clause-store
-look-requires-clause-store c = c.requires.store
-
-pub look-requires-clause-values : goal.look-requires-clause-values
-look-requires-clause-values c = c.work.invariant.values ∙ c.requires.values
-
-pub look-requires-clause-opens : goal.look-requires-clause-opens
-look-requires-clause-opens c = c.work.invariant.state.open_sizes
-
-pub look-requires-clause-candidates : goal.look-requires-clause-candidates
-look-requires-clause-candidates c = c.work.invariant.state.candidate_sizes
-
-pub look-requires-clause-counted : goal.look-requires-clause-counted
-look-requires-clause-counted c = c.work.invariant.state.counted
+pub returns-else-taken-waiting-clause-settled : goal.returns-else-taken-waiting-clause-settled
+returns-else-taken-waiting-clause-settled c =
+    let store = c.args.store.now in
+    let start = c.args.run.now in
+    let run = c.work.run in
+    let state = c.work.invariant.state in
+    let w = c.work.invariant.watching in
+    λ found f has.
+    let all : length run.work.items ≤ run.next = omega (arith, c.if-run-len.false, c.len.ensures, run.work.ok.0) in
+    let none_waits : length c.args.waiting.now ≤ c.work.taken = omega (arith, c.if-taken-waiting.false) in
+    let end : length run.assignment.list.items ≤ c.work.walked = omega (arith, c.if-walked-len.false, c.len-else-run-len.ensures, run.assignment.list.ok.0) in
+    elim (joined-source (shapes_of store.kept.items) (clauses_of c.args.clauses.now) f has) [
+      | inl kept ↦ Propagating-settled (waits store.kept.items) c.args.waiting.now store.kept.items (all_of store c.args.clauses.now) (entries_of (shapes_of store.kept.items) store.occurrences.items) start.assignment.list.items start.candidates.items start.work.items start.next start.visits (cost c.args.clauses.now c.work.clauses c.work.walked run.assignment.list.items) c.work.taken run.opens.items run.candidates.items run.assignment.list.items run.work.items run.trail.items run.next run.visits all none_waits state f kept
+      | inr clause ↦ subst (λ g. IsSettled g c.work.run.assignment.list.items) clause.2 (watching-settled c.args.clauses.now c.work.clauses run.assignment.values.items run.assignment.list.items c.work.walked clause.0 run.assignment.agrees (λ k on. opposite run.assignment.values.items run.assignment.list.items k run.assignment.agrees on) end clause.1 w)
+    ]

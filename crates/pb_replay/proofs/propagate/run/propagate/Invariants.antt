@@ -2,15 +2,18 @@ use Rattle.std.specs.Prelude.{sum_by, filter}
 use Rattle.std.proofs.Common.{◌≡◌, ◌+◌, ◌-◌, ◌≤◌, length}
 use Rattle.pb_replay.specs.Engine.Rest.{waits}
 use Rattle.pb_replay.specs.Engine.Fields.{shapes_of, entries_of}
+use Rattle.pb_replay.specs.Clauses.Shapes.{all_of}
 use Rattle.pb_replay.proofs.Engine.Propagated.{IsPropagating}
+use Rattle.pb_replay.proofs.Clauses.Watching.{IsWatching, cost}
 use Rattle.pb_replay.proofs.propagate.run.propagate.Given as goal
 
 abbrev pub invariant-work : goal.invariant-work
 invariant-work l = record {
   values : length l.run.assignment.values.items ≡ length l.initial.run.assignment.values.items;
   taken : l.taken ≤ length l.waiting;
-  state : IsPropagating (waits l.store.kept.items) l.waiting (shapes_of l.store.kept.items) (entries_of (shapes_of l.store.kept.items) l.store.occurrences.items) (length l.store.kept.items) l.initial.run.assignment.list.items l.initial.run.candidates.items l.initial.run.work.items l.initial.run.next l.initial.run.visits l.taken l.run.opens.items l.run.candidates.items l.run.assignment.list.items l.run.work.items l.run.trail.items l.run.next l.run.visits;
+  watching : IsWatching l.initial.clauses l.clauses l.run.assignment.values.items l.run.assignment.list.items l.walked;
+  state : IsPropagating (waits l.store.kept.items) l.waiting (shapes_of l.store.kept.items) (all_of l.store l.initial.clauses) (entries_of (shapes_of l.store.kept.items) l.store.occurrences.items) (length l.store.kept.items) l.initial.run.assignment.list.items l.initial.run.candidates.items l.initial.run.work.items l.initial.run.next l.initial.run.visits (cost l.initial.clauses l.clauses l.walked l.run.assignment.list.items) l.taken l.run.opens.items l.run.candidates.items l.run.assignment.list.items l.run.work.items l.run.trail.items l.run.next l.run.visits;
 }
 
 abbrev pub decreases-work : goal.decreases-work
-decreases-work l = (length l.initial.run.work.items + length (filter (waits l.store.kept.items) l.waiting) + sum_by length (entries_of (shapes_of l.store.kept.items) l.store.occurrences.items) + length l.waiting) - (l.run.next + l.taken)
+decreases-work l = (length l.initial.run.work.items + length (filter (waits l.store.kept.items) l.waiting) + sum_by length (entries_of (shapes_of l.store.kept.items) l.store.occurrences.items) + length l.waiting + length l.initial.run.assignment.values.items) - (l.run.next + l.taken + l.walked)

@@ -4,7 +4,7 @@ use Rattle.std.proofs.lemmas.List.{length-map}
 use Rattle.pb_replay.specs.declared.propagate.assignment.Assignment.{Assignment}
 use Rattle.pb_replay.specs.Engine.Lists.{Weighted, negation}
 use Rattle.pb_replay.specs.Engine.Counts.{place, more}
-use Rattle.pb_replay.specs.Engine.Fields.{shapes_of, spots_of, entries_of, kept_shape}
+use Rattle.pb_replay.specs.Engine.Fields.{shapes_of, spots_of, entries_of, kept_shape, entry_at}
 use Rattle.pb_replay.specs.Engine.Links.{weighted}
 use Rattle.pb_replay.proofs.Engine.Places.{entries-length}
 use Rattle.pb_replay.proofs.Engine.Weights.{index-within}
@@ -30,7 +30,7 @@ lower-requires-clause-form c =
     let store = c.args.store.now in
     let same = entries-at (shapes_of store.kept.items) store.occurrences.items (place (negation c.args.literal)) c.place_of.result c.index-entries.result.now (place-read (shapes_of store.kept.items) store.occurrences.items store.variables c.args.literal c.place_of.result c.requires.inside (c.place_of.ensures.place ∙ ap place c.negation.ensures) c.requires.store.places) c.index-entries.ensures (c.place_of.ensures.place ∙ ap place c.negation.ensures) ∙ ap (map (weighted (shapes_of store.kept.items))) (sym c.deref.ensures.value) in
     let inside : c.entries.j < length c.deref.result.now = omega (arith, c.entries-test.true, c.len-j-end.ensures, c.deref.ensures.len) in
-    let less = form-within (shapes_of store.kept.items) (get_or (entries_of (shapes_of store.kept.items) store.occurrences.items) (place (negation c.args.literal)) []) c.deref.result.now c.entries.j c.visit-entry.result (length (shapes_of store.kept.items)) same c.visit-entry.ensures.item inside (c.requires.store.named (place (negation c.args.literal))) in
+    let less = form-within (shapes_of store.kept.items) (get_or (entries_of (shapes_of store.kept.items) store.occurrences.items) (place (negation c.args.literal)) []) c.deref.result.now c.entries.j (entry_at c.visit-entry.result) (length (shapes_of store.kept.items)) same c.visit-entry.ensures.item inside (c.requires.store.named (place (negation c.args.literal))) in
     omega (arith, less, length-map store.kept.items kept_shape)
 
 pub lower-requires-clause-inside : goal.lower-requires-clause-inside
@@ -38,7 +38,7 @@ lower-requires-clause-inside c =
     let store = c.args.store.now in
     let same = entries-at (shapes_of store.kept.items) store.occurrences.items (place (negation c.args.literal)) c.place_of.result c.index-entries.result.now (place-read (shapes_of store.kept.items) store.occurrences.items store.variables c.args.literal c.place_of.result c.requires.inside (c.place_of.ensures.place ∙ ap place c.negation.ensures) c.requires.store.places) c.index-entries.ensures (c.place_of.ensures.place ∙ ap place c.negation.ensures) ∙ ap (map (weighted (shapes_of store.kept.items))) (sym c.deref.ensures.value) in
     let inside : c.entries.j < length c.deref.result.now = omega (arith, c.entries-test.true, c.len-j-end.ensures, c.deref.ensures.len) in
-    let less = form-within (shapes_of store.kept.items) (get_or (entries_of (shapes_of store.kept.items) store.occurrences.items) (place (negation c.args.literal)) []) c.deref.result.now c.entries.j c.visit-entry.result (length (shapes_of store.kept.items)) same c.visit-entry.ensures.item inside (c.requires.store.named (place (negation c.args.literal))) in
+    let less = form-within (shapes_of store.kept.items) (get_or (entries_of (shapes_of store.kept.items) store.occurrences.items) (place (negation c.args.literal)) []) c.deref.result.now c.entries.j (entry_at c.visit-entry.result) (length (shapes_of store.kept.items)) same c.visit-entry.ensures.item inside (c.requires.store.named (place (negation c.args.literal))) in
     omega (arith, less, c.entries.invariant.putting.sizes)
 
 pub lower-requires-clause-index : goal.lower-requires-clause-index
@@ -46,7 +46,7 @@ lower-requires-clause-index c =
     let store = c.args.store.now in
     let same = entries-at (shapes_of store.kept.items) store.occurrences.items (place (negation c.args.literal)) c.place_of.result c.index-entries.result.now (place-read (shapes_of store.kept.items) store.occurrences.items store.variables c.args.literal c.place_of.result c.requires.inside (c.place_of.ensures.place ∙ ap place c.negation.ensures) c.requires.store.places) c.index-entries.ensures (c.place_of.ensures.place ∙ ap place c.negation.ensures) ∙ ap (map (weighted (shapes_of store.kept.items))) (sym c.deref.ensures.value) in
     let inside : c.entries.j < length c.deref.result.now = omega (arith, c.entries-test.true, c.len-j-end.ensures, c.deref.ensures.len) in
-    index-within (shapes_of store.kept.items) (spots_of store.spots.items) store.occurrences.items (place (negation c.args.literal)) c.entries.j c.deref.result.now c.visit-entry.result same c.visit-entry.ensures.item inside c.requires.store.whole
+    index-within (shapes_of store.kept.items) (spots_of store.spots.items) store.occurrences.items (place (negation c.args.literal)) c.entries.j c.deref.result.now (entry_at c.visit-entry.result) same c.visit-entry.ensures.item inside c.requires.store.whole
 
 pub lower-requires-clause-fits : goal.lower-requires-clause-fits
 lower-requires-clause-fits c =
@@ -56,7 +56,7 @@ lower-requires-clause-fits c =
     let named : All (λ (x : Weighted). x.form < length (shapes_of store.kept.items)) (get_or (entries_of (shapes_of store.kept.items) store.occurrences.items) (place (negation c.args.literal)) []) =
     λ k d h. omega (arith, c.requires.store.named (place (negation c.args.literal)) k d h, length-map store.kept.items kept_shape) in
     let inside : c.entries.j < length c.deref.result.now = omega (arith, c.entries-test.true, c.len-j-end.ensures, c.deref.ensures.len) in
-    Putting-fits_at (shapes_of store.kept.items) (get_or (entries_of (shapes_of store.kept.items) store.occurrences.items) (place (negation c.args.literal)) []) c.deref.result.now run.opens.items run.candidates.items c.put.new.self.list.items run.work.items run.trail.items run.next run.visits c.entries.run.opens.items c.entries.run.work.items c.entries.run.trail.items c.entries.run.visits c.entries.j c.visit-entry.result same c.visit-entry.ensures.item inside named c.entries.invariant.putting
+    Putting-fits_at (shapes_of store.kept.items) (get_or (entries_of (shapes_of store.kept.items) store.occurrences.items) (place (negation c.args.literal)) []) c.deref.result.now run.opens.items run.candidates.items c.put.new.self.list.items run.work.items run.trail.items run.next run.visits c.entries.run.opens.items c.entries.run.work.items c.entries.run.trail.items c.entries.run.visits c.entries.j (entry_at c.visit-entry.result) same c.visit-entry.ensures.item inside named c.entries.invariant.putting
 
 pub entries-preserved : goal.entries-preserved
 entries-preserved c =
@@ -71,7 +71,7 @@ entries-preserved c =
           let named : All (λ (x : Weighted). x.form < length (shapes_of store.kept.items)) (get_or (entries_of (shapes_of store.kept.items) store.occurrences.items) (place (negation c.args.literal)) []) =
           λ k d h. omega (arith, c.requires.store.named (place (negation c.args.literal)) k d h, length-map store.kept.items kept_shape) in
           let inside : c.entries.j < length c.deref.result.now = omega (arith, c.entries-test.true, c.len-j-end.ensures, c.deref.ensures.len) in
-          Putting-next_at (shapes_of store.kept.items) (get_or (entries_of (shapes_of store.kept.items) store.occurrences.items) (place (negation c.args.literal)) []) c.deref.result.now run.opens.items run.candidates.items c.put.new.self.list.items run.work.items run.trail.items run.next run.visits c.entries.run.opens.items c.entries.run.work.items c.entries.run.trail.items c.entries.run.visits c.entries.j c.lower.new.run.opens.items c.lower.new.run.work.items c.lower.new.run.trail.items c.lower.new.run.visits c.visit-entry.result same c.visit-entry.ensures.item inside named c.requires.next c.in_ok-lower.ensures.opens c.in_ok-lower.ensures.work c.in_ok-lower.ensures.trail (c.in_ok-lower.ensures.visits ∙ c.visit-entry.ensures.count) (omega (arith, c.in_ok-lower.ensures.visits, c.visit-entry.ensures.rising)) c.entries.invariant.putting;
+          Putting-next_at (shapes_of store.kept.items) (get_or (entries_of (shapes_of store.kept.items) store.occurrences.items) (place (negation c.args.literal)) []) c.deref.result.now run.opens.items run.candidates.items c.put.new.self.list.items run.work.items run.trail.items run.next run.visits c.entries.run.opens.items c.entries.run.work.items c.entries.run.trail.items c.entries.run.visits c.entries.j c.lower.new.run.opens.items c.lower.new.run.work.items c.lower.new.run.trail.items c.lower.new.run.visits (entry_at c.visit-entry.result) same c.visit-entry.ensures.item inside named c.requires.next c.in_ok-lower.ensures.opens c.in_ok-lower.ensures.work c.in_ok-lower.ensures.trail (c.in_ok-lower.ensures.visits ∙ c.visit-entry.ensures.count) (omega (arith, c.in_ok-lower.ensures.visits, c.visit-entry.ensures.rising)) c.entries.invariant.putting;
     }
 
 pub returns-clause-tidy : goal.returns-clause-tidy

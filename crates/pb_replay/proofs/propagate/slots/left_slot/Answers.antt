@@ -1,7 +1,7 @@
 use Rattle.std.specs.Prelude.{Option, Some}
 use Rattle.std.proofs.Common.{ap, sym, ◌∙◌}
 use Rattle.pb_normal.specs.Form.{Form}
-use Rattle.pb_replay.specs.declared.propagate.kept.Kept.{Kept}
+use Rattle.pb_replay.specs.declared.propagate.store.kept.Kept.{Kept}
 use Rattle.pb_replay.proofs.Engine.Gets.{get-map}
 use Rattle.pb_replay.proofs.lemmas.Options.{none_of}
 use Rattle.pb_replay.proofs.propagate.slots.left_slot.Goals as goal
@@ -9,5 +9,5 @@ use Rattle.pb_replay.proofs.propagate.slots.left_slot.Goals as goal
 pub returns : goal.returns
 returns c =
     let at = c.in_ok-kept.ensures.lookup in
-    let none = none_of c.in_ok-kept.kept.now.terms.form (sym c.is_some.ensures ∙ c.if-is_some.false) in
+    let none = none_of c.in_ok-kept.kept.now.terms.form (sym c.has_form.ensures ∙ c.if-has_form.false) in
     get-map (λ (k : Kept). k.terms.form) c.args.kept.now c.in_ok-slot.slot c.in_ok-kept.kept.now at.3.0 at.1 ∙ ap (λ (o : Option Form). let s : Option (Option Form) = Some o in s) none

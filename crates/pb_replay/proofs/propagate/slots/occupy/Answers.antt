@@ -1,31 +1,33 @@
 use Rattle.std.specs.Prelude.{Some}
 use Rattle.std.proofs.Common.{rules, ◌≡◌, ◌⊎◌, set, inl, inr, ap, length, length-set, arith}
-use Rattle.pb_replay.specs.Engine.Fields.{forms_of}
+use Rattle.pb_replay.specs.Engine.Fields.{forms_of, shapes_of}
 use Rattle.pb_replay.proofs.Engine.Changes.{forms-filled}
-use Rattle.pb_replay.proofs.Engine.Slots.{slots-bare, exact-absent, rest-filled}
+use Rattle.pb_replay.specs.Clauses.Shapes.{clauses_of}
+use Rattle.pb_replay.proofs.Engine.Slots.{slots-bare, exact-absent, rest-filled, rest-watched}
+use Rattle.pb_replay.proofs.Clauses.Slots.{slots-vacant}
 use Rattle.pb_replay.proofs.propagate.slots.occupy.Goals as goal
 
 pub fill-requires-clause-slot : goal.fill-requires-clause-slot
 fill-requires-clause-slot c =
-    let bare = slots-bare (forms_of c.args.store.now.kept.items) c.args.store.now.kept.items c.args.slot c.requires.rest.slots c.requires.slot in
+    let bare = slots-bare (forms_of c.args.store.now.kept.items) c.args.store.now.kept.items (clauses_of c.args.clauses.now) c.args.slot c.requires.rest.slots c.requires.slot in
     bare.inside
 
 pub fill-requires-clause-empty : goal.fill-requires-clause-empty
 fill-requires-clause-empty c =
-    let bare = slots-bare (forms_of c.args.store.now.kept.items) c.args.store.now.kept.items c.args.slot c.requires.rest.slots c.requires.slot in
+    let bare = slots-bare (forms_of c.args.store.now.kept.items) c.args.store.now.kept.items (clauses_of c.args.clauses.now) c.args.slot c.requires.rest.slots c.requires.slot in
     bare.terms
 
 pub seat-requires-clause-slot : goal.seat-requires-clause-slot
 seat-requires-clause-slot c =
     let keep = c.args.store.now.kept.items in
-    let bare = slots-bare (forms_of c.args.store.now.kept.items) keep c.args.slot c.requires.rest.slots c.requires.slot in
+    let bare = slots-bare (forms_of c.args.store.now.kept.items) keep (clauses_of c.args.clauses.now) c.args.slot c.requires.rest.slots c.requires.slot in
     let h = c.in_ok-fill.ensures.filled in
     omega (arith, bare.inside, ap length h.keeps, length-set keep c.args.slot h.kept)
 
 pub seat-requires-clause-absent : goal.seat-requires-clause-absent
 seat-requires-clause-absent c =
     let keep = c.args.store.now.kept.items in
-    let bare = slots-bare (forms_of c.args.store.now.kept.items) keep c.args.slot c.requires.rest.slots c.requires.slot in
+    let bare = slots-bare (forms_of c.args.store.now.kept.items) keep (clauses_of c.args.clauses.now) c.args.slot c.requires.rest.slots c.requires.slot in
     exact-absent keep c.args.eager.now.list.items c.args.slot c.requires.rest.exact bare.idle
 
 pub returns-clause-rest : goal.returns-clause-rest
@@ -34,7 +36,7 @@ returns-clause-rest c =
     let h = told.filled in
     let keep = c.args.store.now.kept.items in
     rw (forms-filled keep c.fill.new.store.kept.items h.kept c.args.slot (Some c.args.form) h.keeps h.form)
-    (rest-filled c.args.store.now c.fill.new.store c.args.run.now c.fill.new.run c.args.eager.now c.seat.new.eager (forms_of keep) c.args.form c.args.slot told.sound c.requires.slot h
+    (rest-filled c.args.store.now c.fill.new.store c.args.run.now c.fill.new.run c.args.eager.now c.seat.new.eager c.args.clauses.now (forms_of keep) c.args.form c.args.slot told.sound c.requires.slot h
     c.fill.ensures.variables c.fill.ensures.trail c.fill.ensures.rest c.in_ok-seat.ensures.list c.seat.ensures.seats c.requires.rest)
 
 pub returns-clause-forms : goal.returns-clause-forms
@@ -55,4 +57,35 @@ returns-in_err-seat-clause-refused c =
     let keep = c.args.store.now.kept.items in
     let now = c.fill.new.store.kept.items in
     let told : (forms_of now ≡ forms_of keep) ⊎ (forms_of now ≡ set (forms_of keep) c.args.slot (Some c.args.form)) = inr (forms-filled keep now h.kept c.args.slot (Some c.args.form) h.keeps h.form) in
+    search (rules, told)
+
+pub watch-requires-clause-slot : goal.watch-requires-clause-slot
+watch-requires-clause-slot c =
+    let bare = slots-bare (forms_of c.args.store.now.kept.items) c.args.store.now.kept.items (clauses_of c.args.clauses.now) c.args.slot c.requires.rest.slots c.requires.slot in
+    bare.inside
+
+pub watch-requires-clause-empty : goal.watch-requires-clause-empty
+watch-requires-clause-empty c =
+    (slots-vacant (forms_of c.args.store.now.kept.items) (shapes_of c.args.store.now.kept.items) (clauses_of c.args.clauses.now) c.args.slot c.requires.rest.slots c.requires.slot).clause
+
+pub returns-then-is_clause-clause-rest : goal.returns-then-is_clause-clause-rest
+returns-then-is_clause-clause-rest c =
+    let told = c.in_ok-watch.ensures in
+    let k = told.kept in
+    let rest = c.watch.ensures.rest in
+    let keep = c.args.store.now.kept.items in
+    rw (forms-filled keep c.watch.new.store.kept.items k.0 c.args.slot (Some c.args.form) k.3 k.1)
+    (rest-watched c.args.store.now c.watch.new.store c.args.run.now c.args.eager.now c.args.clauses.now c.watch.new.clauses (forms_of keep) c.args.form k.0 c.args.slot c.requires.slot k.2 k.3
+    rest.0 rest.1 rest.2 c.is_clause.ensures.normal (c.is_clause.ensures.yes c.if-is_clause.true) told.ready told.literals told.lists c.requires.rest)
+
+pub returns-then-is_clause-clause-forms : goal.returns-then-is_clause-clause-forms
+returns-then-is_clause-clause-forms c =
+    let k = c.in_ok-watch.ensures.kept in
+    forms-filled c.args.store.now.kept.items c.watch.new.store.kept.items k.0 c.args.slot (Some c.args.form) k.3 k.1
+
+pub returns-in_err-watch-clause-refused : goal.returns-in_err-watch-clause-refused
+returns-in_err-watch-clause-refused c =
+    let keep = c.args.store.now.kept.items in
+    let now = c.watch.new.store.kept.items in
+    let told : (forms_of now ≡ forms_of keep) ⊎ (forms_of now ≡ set (forms_of keep) c.args.slot (Some c.args.form)) = inl (ap forms_of c.in_err-watch.ensures.unchanged) in
     search (rules, told)

@@ -1,7 +1,7 @@
 use Rattle.std.specs.Prelude.{None}
 use Rattle.std.proofs.Common.{arith}
 use Rattle.std.proofs.lemmas.List.{length-map}
-use Rattle.pb_replay.specs.declared.propagate.kept.Kept.{Kept}
+use Rattle.pb_replay.specs.declared.propagate.store.kept.Kept.{Kept}
 use Rattle.pb_replay.specs.Engine.Fields.{forms_of}
 use Rattle.pb_replay.proofs.Engine.Changes.{forms-filled}
 use Rattle.pb_replay.proofs.Engine.Slots.{eager-there, rest-quit}
@@ -16,8 +16,8 @@ returns-clause-rest c =
     let k = told.kept in
     let keep = c.args.store.now.kept.items in
     rw (forms-filled keep c.vacate.new.store.kept.items k.0 c.args.slot None k.2 k.1.form)
-    (rest-quit c.args.store.now c.vacate.new.store c.args.run.now c.vacate.new.run c.args.eager.now c.unseat.new.eager (forms_of keep) k.0 c.args.slot (omega (arith, c.requires.slot, length-map keep (λ (x : Kept). x.terms.form))) told.sound k.1 k.2 told.opens
-    told.variables told.trail told.rest c.unseat.ensures.taken c.unseat.ensures.same c.unseat.ensures.seats c.requires.rest)
+    (rest-quit c.args.store.now c.vacate.new.store c.args.run.now c.vacate.new.run c.args.eager.now c.unseat.new.eager c.args.clauses.now c.empty.new.self (forms_of keep) k.0 c.args.slot (omega (arith, c.requires.slot, length-map keep (λ (x : Kept). x.terms.form))) told.sound k.1 k.2 told.opens
+    told.variables told.trail told.rest c.unseat.ensures.taken c.unseat.ensures.same c.unseat.ensures.seats c.empty.ensures.rest c.empty.ensures.literals c.empty.ensures.lists c.requires.rest)
 
 pub returns-clause-forms : goal.returns-clause-forms
 returns-clause-forms c =

@@ -1,5 +1,5 @@
 use Rattle.std.proofs.Common.{◌≡◌, ℕ, zero, suc, ◌<◌, ◌∷◌, [], List, true, false, refl, sym, ◌∙◌, ap, arith, length, get_or}
-use Rattle.pb_replay.specs.declared.propagate.kept.Kept.{Kept}
+use Rattle.pb_replay.specs.declared.propagate.store.kept.Kept.{Kept}
 use Rattle.pb_replay.specs.Engine.Rest.{waits}
 use Rattle.pb_replay.proofs.propagate.slots.unseat.Goals as goal
 

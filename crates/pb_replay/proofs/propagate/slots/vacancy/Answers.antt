@@ -1,7 +1,7 @@
 use Rattle.std.specs.Prelude.{None}
 use Rattle.std.proofs.Common.{arith}
 use Rattle.std.proofs.lemmas.List.{length-map}
-use Rattle.pb_replay.specs.declared.propagate.kept.Kept.{Kept}
+use Rattle.pb_replay.specs.declared.propagate.store.kept.Kept.{Kept}
 use Rattle.pb_replay.specs.Engine.Fields.{forms_of}
 use Rattle.pb_replay.proofs.Engine.Gets.{get-push_same}
 use Rattle.pb_replay.proofs.Engine.Changes.{forms-more, forms-widened}
@@ -14,8 +14,8 @@ returns-clause-rest c =
     let k = told.kept in
     let forms = forms_of c.args.store.now.kept.items in
     rw (forms-widened c.args.store.now.kept.items c.widen.new.store.kept.items k.0 k.2 k.1.form)
-    (rest-widened c.args.store.now c.widen.new.store c.args.run.now c.widen.new.run c.args.eager.now c.widen-2.new.self forms k.0 told.sound k.1 k.2 told.opens told.candidates
-    c.widen.ensures.variables c.widen.ensures.trail c.widen.ensures.rest c.widen-2.ensures.list c.in_ok-widen-2.ensures.seats c.requires.rest)
+    (rest-widened c.args.store.now c.widen.new.store c.args.run.now c.widen.new.run c.args.eager.now c.widen-2.new.self c.args.clauses.now c.extend.new.self forms k.0 told.sound k.1 k.2 told.opens told.candidates
+    c.widen.ensures.variables c.widen.ensures.trail c.widen.ensures.rest c.widen-2.ensures.list c.in_ok-widen-2.ensures.seats c.in_ok-extend.ensures.rest c.in_ok-extend.ensures.literals c.extend.ensures.lists c.requires.rest)
 
 pub returns-clause-slot : goal.returns-clause-slot
 returns-clause-slot c =

@@ -3,7 +3,7 @@ use Rattle.std.proofs.Common.{◌≡◌, false, take, map}
 use Rattle.pb_normal.specs.Form.{Form}
 use Rattle.pb_replay.proofs.state.live.engine_of.Given as goal
 
--- the forms so far are in
+-- the forms so far were added
 abbrev pub invariant-loop-form : goal.invariant-loop-form
 invariant-loop-form l =
     (l.engine.forms ≡ map (λ (f : Form). let o : Option Form = Some f in o) (take l.form-index l.forms))

@@ -5,7 +5,7 @@ use Rattle.pb_replay.specs.Replay.{Deleted}
 use Rattle.pb_replay.specs.declared.fault.Fault.{Fault}
 use Rattle.pb_replay.proofs.step.delete.delete_each.Given as goal
 
--- what the rest answers the whole answers
+-- the result of the rest is the result of the whole
 abbrev pub invariant-loop-id : goal.invariant-loop-id
 invariant-loop-id l =
     ((r : Result (List (Option Form)) Fault) → Deleted l.engine.forms (drop l.id-index l.ids) r → Deleted l.fn.engine.forms l.ids r)

@@ -2,6 +2,6 @@ use Rattle.pb_text.specs.Limits.{largest, top_of}
 use Rattle.pb_replay.proofs.lemmas.Evaluation.{Standing}
 use Rattle.pb_replay.proofs.step.pol.evaluated.Given as goal
 
--- what the rest answers the whole answers
+-- the result of the rest is the result of the whole
 abbrev pub invariant-loop-word : goal.invariant-loop-word
 invariant-loop-word l = Standing (largest l.limits) (top_of l.limits) l.names l.engine.forms l.words l.word-index l.stack.items

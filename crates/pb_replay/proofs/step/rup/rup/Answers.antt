@@ -1,13 +1,22 @@
 use Rattle.std.proofs.Common.{refl, rules, ◌∙◌}
 use Rattle.pb_replay.proofs.lemmas.Looked.{looks-judged, looks-memory, looks-none}
-use Rattle.pb_replay.proofs.lemmas.Rups.{keeps_then, rup_judged, rup_unmade}
+use Rattle.pb_replay.proofs.lemmas.Rups.{keeps_then, rup_judged, rup_unmade, unmade, unmade-fits}
 use Rattle.pb_replay.proofs.step.rup.rup.Goals as goal
 
 pub returns-in_err-form-clause-goes : goal.returns-in_err-form-clause-goes
-returns-in_err-form-clause-goes c = rup_unmade c.args.running.now c.args.linear.now _ c.entered.new.running _ (search rules) c.in_err-form.ensures.err
+returns-in_err-form-clause-goes c = rup_unmade c.args.running.now c.args.linear.now _ c.entered.new.running _ (search rules) (unmade _ c.in_err-form.ensures.err)
 
 pub returns-in_err-form-clause-looks : goal.returns-in_err-form-clause-looks
-returns-in_err-form-clause-looks c = looks-none c.args.linear.now _ _ _ _ c.entered.new.running.visits (search rules) (c.entered.ensures.visits ∙ c.requires.visits) c.in_err-form.ensures.err
+returns-in_err-form-clause-looks c = looks-none c.args.linear.now _ _ _ _ c.entered.new.running.visits (search rules) (c.entered.ensures.visits ∙ c.requires.visits) (unmade _ c.in_err-form.ensures.err)
+
+pub returns-in_err-form-clause-memory : goal.returns-in_err-form-clause-memory
+returns-in_err-form-clause-memory c memory = unmade-fits _ _ (search rules) memory c.in_err-form.ensures.err
+
+pub returns-in_err-implied-clause-memory : goal.returns-in_err-implied-clause-memory
+returns-in_err-implied-clause-memory c memory = c.in_ok-form.ensures.fits
+
+pub returns-clause-memory : goal.returns-clause-memory
+returns-clause-memory c memory = c.in_ok-form.ensures.fits
 
 pub returns-in_err-implied-clause-kept : goal.returns-in_err-implied-clause-kept
 returns-in_err-implied-clause-kept c = keeps_then _ _ _ c.entered.ensures.kept c.is_implied.ensures.kept

@@ -1,4 +1,5 @@
 use Rattle.pb_text.specs.Limits.{largest}
+use Rattle.pb_sums.proofs.Asked.{asks_one}
 use Rattle.pb_sums.proofs.States.{accepts_one, first_is_state}
 use Rattle.pb_sums.proofs.machine.SumMachine.new.Goals as goal
 
@@ -7,3 +8,6 @@ returns-clause-format c = rw (c.largest.ensures.value, c.new.ensures, c.new-2.en
 
 pub returns-clause-state : goal.returns-clause-state
 returns-clause-state c = rw (c.new.ensures, c.new-2.ensures) (first_is_state c.args.spaces c.args.part c.largest.result)
+
+pub returns-clause-asks : goal.returns-clause-asks
+returns-clause-asks c = rw (c.largest.ensures.value, c.new.ensures, c.new-2.ensures) (asks_one c.args.spaces c.args.part (largest c.args.limits))

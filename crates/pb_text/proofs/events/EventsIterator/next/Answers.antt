@@ -5,6 +5,7 @@ use Rattle.pb_text.specs.Standing.{IsOpen}
 use Rattle.pb_text.specs.Feeding.{WantsMemory, stop_of}
 use Rattle.pb_text.specs.Pulling.{Pulls, faults_after}
 use Rattle.pb_text.specs.PullsInARow.{PullsOn}
+use Rattle.pb_text.specs.Stopping.{IsShown}
 use Rattle.pb_text.proofs.ItemsPulled.{transposed, event_pulled, none_pulled, none_there}
 use Rattle.pb_text.proofs.events.EventsIterator.next.Goals as goal
 
@@ -29,5 +30,6 @@ returns-clause-steps g c =
       onward = λ event e. c.pull.ensures.onward event (event_pulled c.pull.result event (sym c.transpose.ensures ∙ e));
       past = λ event e. c.pull.ensures.past event (event_pulled c.pull.result event (sym c.transpose.ensures ∙ e));
       faulty = c.pull.ensures.faults ∙ sym (ap (λ (r : _). faults_after f.stop r (g.S.Source.faults before)) same);
+      seen = λ e. subst (λ (r : _). IfErr r (λ stop. IsShown (g.S.Source.shown after) (g.S.Source.ended after) stop.why)) (sym same) (c.pull.ensures.shown running);
       memory = λ e. subst (λ (r : _). IfErr r (λ stop. (b : ℕ) × WantsMemory {g = g.M.Machine} stop h b)) (sym same) (c.pull.ensures.memory running);
     }

@@ -4,7 +4,7 @@ use Rattle.pb_text.specs.declared.place.Spanned.{Spanned}
 use Rattle.pb_text.specs.Feeding.{StandsAt}
 use Rattle.pb_text.proofs.feeder.Feeder.enter.Given as goal
 
--- the feeder stands to the input with the bytes so far
+-- the feeder was fed the input followed by the bytes so far
 abbrev pub invariant-loop-used : goal.invariant-loop-used
 invariant-loop-used g l = record {
   running : l.self.stop ≡ None;

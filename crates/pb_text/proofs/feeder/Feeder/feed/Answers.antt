@@ -16,7 +16,7 @@ whole input piece i h =
 further : (input piece : List ℕ) (i n : ℕ) → (input ++ take i piece) ++ take n (drop i piece) ≡ input ++ take (i + n) piece
 further input piece i n = append_assoc input (take i piece) (take n (drop i piece)) ∙ ap (λ (x : List ℕ). input ++ x) (sym (take-add i n piece))
 
--- the byte at a place
+-- the byte at an index
 at_place : (piece : List ℕ) (old new i : ℕ) → new ≡ old + i → i < length piece → slice_get piece (new - old) ≡ Some (get_or piece i 0)
 at_place piece old new i is h = let same : new - old ≡ i = omega (arith, is) in ap (λ (k : ℕ). slice_get piece k) same ∙ slice_get-get_or piece i 0 h
 
@@ -28,6 +28,7 @@ returns-in-Some-clause-feeds g c = (
       (s.0, rw append-nil k),
   λ k. k,
   λ k. k,
+  tt,
 )
 
 pub returns-in-Err-clause-feeds : goal.returns-in-Err-clause-feeds
@@ -43,6 +44,7 @@ returns-in-Err-clause-feeds g c = (
       ),
   λ k. c.take.ensures.counted,
   λ k. let t = rw c.in-Err.is at c.take.ensures in rw t.stop t.unread,
+  tt,
 )
 
 pub returns-in-Err-clause-memory : goal.returns-in-Err-clause-memory
@@ -65,6 +67,7 @@ returns-in-Ok-Some-clause-feeds g c = rw c.with_event.ensures (
       (one_further input c.args.piece.now c.loop-used.used c.loop-used-test.true) k,
   λ k. c.take.ensures.counted,
   λ k. let t = rw (c.in-Ok-Some.is, c.in-Ok-Some.field-0-is) at c.take.ensures in rw t.stop tt,
+  let t = rw (c.in-Ok-Some.is, c.in-Ok-Some.field-0-is) at c.take.ensures in omega (arith, t.offset, c.loop-used.invariant.offset),
 )
 
 pub loop-used-preserved : goal.loop-used-preserved
@@ -99,4 +102,5 @@ returns-clause-feeds g c = (
       rw append-nil (subst (λ (x : List ℕ). StandsAt longest start (input ++ x) marks c.loop-used.self) whole k),
   λ k. rw c.loop-used.invariant.running tt,
   λ k. rw c.loop-used.invariant.running tt,
+  c.loop-used.invariant.offset,
 )

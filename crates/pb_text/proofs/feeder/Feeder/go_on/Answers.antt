@@ -9,7 +9,7 @@ use Rattle.pb_text.specs.declared.place.Stop.{Stop}
 use Rattle.pb_text.proofs.Running.{stands_run, runs_unfinished, past_offset, past_line, past_column}
 use Rattle.pb_text.proofs.feeder.Feeder.go_on.Goals as goal
 
--- the bytes that were taken are so many, and those of the piece
+-- the number of bytes that were taken, and that they are those of the piece
 taken_are : (used room : ℕ) (piece : List ℕ) → used ≤ length (take (min (length piece) room) piece)
     → (take used (take (min (length piece) room) piece) ≡ take used piece) × (length (take used piece) ≡ used) × (used ≤ length piece) × (used ≤ room)
 taken_are used room piece h =
@@ -17,7 +17,7 @@ taken_are used room piece h =
     let short : used ≤ n = omega (arith, length-take n piece, h) in
     (take-take used n piece short, length-take-le used piece (omega arith), omega arith, omega arith)
 
--- the place behind them is within the same bounds
+-- the position after them is within the same bounds
 place_fits : (p q : Place) (text : List ℕ) (n end : ℕ) → q ≡ place_past p text → length text ≡ n → n ≤ end - p.offset → p.offset ≤ end → p.line ≤ p.offset + 1 → p.column ≤ p.offset + 1
     → (q.offset ≤ end) × (q.line ≤ q.offset + 1) × (q.column ≤ q.offset + 1) × (q.offset ≡ p.offset + n)
 place_fits p q text n end is long room le line column =

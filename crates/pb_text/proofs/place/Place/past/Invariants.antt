@@ -2,6 +2,6 @@ use Rattle.std.proofs.Common.{◌≡◌, take}
 use Rattle.pb_text.specs.Spelling.{place_past}
 use Rattle.pb_text.proofs.place.Place.past.Given as goal
 
--- the place after the bytes so far
+-- the position after the bytes so far
 abbrev pub invariant-loop-byte : goal.invariant-loop-byte
 invariant-loop-byte l = l.place ≡ place_past l.initial.place (take l.byte-index l.text)

@@ -1,4 +1,4 @@
-use Rattle.std.proofs.Common.{◌≡◌, Option, Some, None, refl}
+use Rattle.std.proofs.Common.{rules, ◌≡◌, Option, Some, None, refl}
 use Rattle.pb_tool.proofs.Checked as checked
 use Rattle.pb_tool.proofs.checker.Checker.advance.Goals as goal
 
@@ -46,7 +46,7 @@ invariant_of-self-in-Err-step_through c =
     let (limits, longest, v, first, input, h) = c.self.invariant in
     let t = rw c.in-Ok.is at c.feed.ensures in
     let u = rw (c.in-Err-step_through.is, c.in-Some.is) at c.step_through.ensures in
-    (limits, longest, v, first, _, checked.refused c.texts_are_read.ensures limits longest v first input c.self.inside.feeder c.self.inside.replay c.self.inside.fault (rw (← c.self.view_is) at c.requires) h c.args.piece.now c.feed.new.self c.in-Ok.fed c.in-Some.read c.in-Some.is t.feeds t.stop c.step_through.new.replay c.in-Err-step_through.fault u.steps)
+    (limits, longest, v, first, _, checked.refused c.texts_are_read.ensures limits longest v first input c.self.inside.feeder c.self.inside.replay c.self.inside.fault (rw (← c.self.view_is) at c.requires) h c.args.piece.now c.feed.new.self c.in-Ok.fed c.in-Some.read c.in-Some.is t.feeds t.stop c.step_through.new.replay c.in-Err-step_through.fault u.steps u.names u.unvalued)
 
 pub returns-in-Ok-step_through-clause-stands : goal.returns-in-Ok-step_through-clause-stands
 returns-in-Ok-step_through-clause-stands c limits longest v first input h =
@@ -58,7 +58,7 @@ pub returns-in-Err-step_through-clause-stands : goal.returns-in-Err-step_through
 returns-in-Err-step_through-clause-stands c limits longest v first input h =
     let t = rw c.in-Ok.is at c.feed.ensures in
     let u = rw (c.in-Err-step_through.is, c.in-Some.is) at c.step_through.ensures in
-    checked.refused c.texts_are_read.ensures limits longest v first input c.self.inside.feeder c.self.inside.replay c.self.inside.fault (rw (← c.self.view_is) at c.requires) (rw (← c.self.view_is) at h) c.args.piece.now c.feed.new.self c.in-Ok.fed c.in-Some.read c.in-Some.is t.feeds t.stop c.step_through.new.replay c.in-Err-step_through.fault u.steps
+    checked.refused c.texts_are_read.ensures limits longest v first input c.self.inside.feeder c.self.inside.replay c.self.inside.fault (rw (← c.self.view_is) at c.requires) (rw (← c.self.view_is) at h) c.args.piece.now c.feed.new.self c.in-Ok.fed c.in-Some.read c.in-Some.is t.feeds t.stop c.step_through.new.replay c.in-Err-step_through.fault u.steps u.names u.unvalued
 
 pub returns-in-Err-clause-unread : goal.returns-in-Err-clause-unread
 returns-in-Err-clause-unread c =
@@ -83,3 +83,6 @@ returns-in-Err-step_through-clause-memory c limits longest v first input h =
     let t = rw c.in-Ok.is at c.feed.ensures in
     let u = rw (c.in-Err-step_through.is, c.in-Some.is) at c.step_through.ensures in
     checked.wanted_step c.texts_are_read.ensures limits longest v first input c.self.inside.feeder c.self.inside.replay c.self.inside.fault (rw (← c.self.view_is) at c.requires) (rw (← c.self.view_is) at h) c.args.piece.now c.feed.new.self c.in-Ok.fed c.in-Some.read c.in-Some.is t.feeds t.stop c.step_through.new.replay c.in-Err-step_through.fault u.steps
+
+pub returns-in-Err-step_through-clause-names : goal.returns-in-Err-step_through-clause-names
+returns-in-Err-step_through-clause-names c = search rules

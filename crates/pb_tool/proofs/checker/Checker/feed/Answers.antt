@@ -21,6 +21,16 @@ returns-then-not-went-clause-checks c =
       λ owed. t.open,
     )
 
+pub returns-then-not-went-clause-names : goal.returns-then-not-went-clause-names
+returns-then-not-went-clause-names c =
+    let t = rw c.in-Ok.is at c.advance.ensures in
+    checked.front_on _ _ _ c.loop-went.invariant.names t.names
+
+pub returns-in-Err-clause-names : goal.returns-in-Err-clause-names
+returns-in-Err-clause-names c =
+    let t = rw c.in-Err.is at c.advance.ensures in
+    checked.front_on _ _ _ c.loop-went.invariant.names t.names
+
 pub loop-went-preserved : goal.loop-went-preserved
 loop-went-preserved c =
     let t = rw c.in-Ok.is at c.advance.ensures in
@@ -30,6 +40,7 @@ loop-went-preserved c =
       running = t.fault;
       bound = omega (arith, t.used.1, length-drop i piece, ap (λ (x : List ℕ). length x) (all_rest piece i), c.loop-went.invariant.bound);
       offset = omega (arith, t.used.0, c.loop-went.invariant.offset);
+      names = checked.front_on _ _ _ c.loop-went.invariant.names t.names;
       stands = λ limits longest v first input h.
           subst (λ (x : List ℕ). ChecksAt limits longest v first x c.advance.new.self)
           (ap (λ (x : List ℕ). (input ++ take i piece) ++ x) (checked.to_more c.in-Ok.went.more c.in-Ok.went.used (take (length piece - i) (drop i piece)) c.if-not-went.false) ∙ checked.onward_by input piece i c.in-Ok.went.used)

@@ -1,4 +1,4 @@
-use Rattle.std.proofs.Common.{sym, ◌∙◌}
+use Rattle.std.proofs.Common.{rules, sym, ◌∙◌}
 use Rattle.pb_tool.proofs.Checked as checked
 use Rattle.pb_tool.proofs.checker.Checker.finish.Goals as goal
 
@@ -30,3 +30,6 @@ pub returns-else-is_done-clause-ends : goal.returns-else-is_done-clause-ends
 returns-else-is_done-clause-ends c limits longest v first input none given =
     rw c.place.ensures.place (checked.cut_text c.texts_are_read.ensures limits longest v first input c.self.inside.feeder c.self.inside.replay c.self.inside.fault c.in_default.is (rw (← c.self.view_is) at given)
     (sym c.is_done.ensures.done ∙ c.if-is_done.false))
+
+pub returns-else-is_done-clause-replay : goal.returns-else-is_done-clause-replay
+returns-else-is_done-clause-replay c = search rules

@@ -1,4 +1,6 @@
-use Rattle.std.proofs.Common.{◌++◌, ◌∙◌, ap}
+use Rattle.std.proofs.Common.{Vec, Global, ℕ, ◌≡◌, ◌*◌, length, ◌++◌, ◌∙◌, ap}
+use Rattle.pb_replay.specs.Clauses.Links.{lists_of}
+use Rattle.pb_replay.specs.Clauses.Shapes.{all_of, clauses_of}
 use Rattle.pb_replay.specs.Engine.Live.{Standing, Live}
 use Rattle.pb_replay.specs.Engine.Fields.{shapes_of, forms_of}
 use Rattle.pb_replay.proofs.Engine.Rested.{rest-counted}
@@ -33,10 +35,15 @@ pub invariant_of-self-then-found : goal.invariant_of-self-then-found
 invariant_of-self-then-found c = λ ready.
     let e = c.self.inside in
     let both = c.self.invariant (ap (λ (v : Standing). v.spent) c.self.view_is ∙ c.requires.ready) in
-    let r = both.0 in (
+    let r = both.0 in
+    let lit : clauses_of c.rest.new.clauses ≡ clauses_of e.clauses = ap (λ (v : Vec (Vec ℕ Global) Global). lists_of v.items) (c.rest.ensures.literals ∙ c.settle.ensures.literals) in (
       record {
         sound = r.sound;
-        slots = r.slots;
+        slots = rw lit r.slots;
+        joined = rw lit r.joined;
+        ready = c.rest.ensures.ready;
+        widths = ap (λ (v : Vec (Vec ℕ Global) Global). length v.items) c.rest.ensures.lists ∙ c.in_ok-found.ensures.running.sizes ∙ ap (λ n. 2 * n) (c.in_ok-found.ensures.values ∙ r.values);
+        known = ap (λ (v : Vec (Vec ℕ Global) Global). length v.items) (c.rest.ensures.literals ∙ c.settle.ensures.literals) ∙ r.known;
         rest = c.rest.ensures.rest;
         values = c.rest.ensures.values ∙ c.in_ok-found.ensures.values ∙ r.values;
         list = c.rest.ensures.list;
@@ -56,17 +63,22 @@ returns-then-found-clause-conflict c =
     let e = c.self.inside in
     let both = c.self.invariant (ap (λ (v : Standing). v.spent) c.self.view_is ∙ c.requires.ready) in
     let r = both.0 in
-    let shapes = shapes_of e.store.kept.items in
+    let shapes = all_of e.store e.clauses in
     rw (← c.self.view_is) (refuted-meets (Live (numbered (forms_of e.store.kept.items) e.places.items)) shapes c.args.given.now c.settle.new.run.assignment.list.items (placed-kept (forms_of e.store.kept.items) e.places.items shapes both.1 (slots-kept (forms_of e.store.kept.items) shapes r.slots)) (c.in_ok-found.ensures.refuted c.if-found.true))
 
 pub invariant_of-self-2 : goal.invariant_of-self-2
 invariant_of-self-2 c = λ ready.
     let e = c.self.inside in
     let both = c.self.invariant (ap (λ (v : Standing). v.spent) c.self.view_is ∙ c.requires.ready) in
-    let r = both.0 in (
+    let r = both.0 in
+    let lit : clauses_of c.rest.new.clauses ≡ clauses_of e.clauses = ap (λ (v : Vec (Vec ℕ Global) Global). lists_of v.items) (c.rest.ensures.literals ∙ c.settle.ensures.literals) in (
       record {
         sound = r.sound;
-        slots = r.slots;
+        slots = rw lit r.slots;
+        joined = rw lit r.joined;
+        ready = c.rest.ensures.ready;
+        widths = ap (λ (v : Vec (Vec ℕ Global) Global). length v.items) c.rest.ensures.lists ∙ c.in_ok-found.ensures.running.sizes ∙ ap (λ n. 2 * n) (c.in_ok-found.ensures.values ∙ r.values);
+        known = ap (λ (v : Vec (Vec ℕ Global) Global). length v.items) (c.rest.ensures.literals ∙ c.settle.ensures.literals) ∙ r.known;
         rest = c.rest.ensures.rest;
         values = c.rest.ensures.values ∙ c.in_ok-found.ensures.values ∙ r.values;
         list = c.rest.ensures.list;
@@ -86,7 +98,7 @@ returns-clause-no_conflict c =
     let e = c.self.inside in
     let both = c.self.invariant (ap (λ (v : Standing). v.spent) c.self.view_is ∙ c.requires.ready) in
     let r = both.0 in
-    let shapes = shapes_of e.store.kept.items in
+    let shapes = all_of e.store e.clauses in
     let done = c.settle.new.run.assignment in
     rw (← c.self.view_is) (ended-free (Live (numbered (forms_of e.store.kept.items) e.places.items)) shapes c.args.given.now done.list.items done.values.items (placed-kept (forms_of e.store.kept.items) e.places.items shapes both.1 (slots-kept (forms_of e.store.kept.items) shapes r.slots)) done.agrees (c.in_ok-found.ensures.ended c.if-found.false))
 
@@ -95,7 +107,7 @@ returns-clause-completed c =
     let e = c.self.inside in
     let both = c.self.invariant (ap (λ (v : Standing). v.spent) c.self.view_is ∙ c.requires.ready) in
     let r = both.0 in
-    let shapes = shapes_of e.store.kept.items in
+    let shapes = all_of e.store e.clauses in
     let done = c.settle.new.run.assignment in
     rw (← c.self.view_is) (ended-completion (Live (numbered (forms_of e.store.kept.items) e.places.items)) shapes c.args.given.now done.list.items done.values.items _ (placed-kept (forms_of e.store.kept.items) e.places.items shapes both.1 (slots-kept (forms_of e.store.kept.items) shapes r.slots)) done.agrees (c.in_ok-extend_from_slice.ensures.items ∙ ap (λ xs. xs ++ c.as_slice-2.result.now) c.new-values.ensures.items ∙ c.as_slice-2.ensures.value) (c.in_ok-found.ensures.ended c.if-found.false))
 
@@ -118,10 +130,25 @@ pub returns-then-found-clause-variables : goal.returns-then-found-clause-variabl
 returns-then-found-clause-variables c = ap (λ (v : Standing). v.variables) c.self.view_is
 
 pub returns-then-found-clause-visits : goal.returns-then-found-clause-visits
-returns-then-found-clause-visits c = ap (λ (v : Standing). v.visits) c.self.view_is
+returns-then-found-clause-visits c = c.replace-visits.ensures.value ∙ ap (λ (v : Standing). v.visits) c.self.view_is
 
 pub returns-clause-variables : goal.returns-clause-variables
 returns-clause-variables c = ap (λ (v : Standing). v.variables) c.self.view_is
 
 pub returns-clause-visits : goal.returns-clause-visits
-returns-clause-visits c = ap (λ (v : Standing). v.visits) c.self.view_is
+returns-clause-visits c = c.replace-visits.ensures.value ∙ ap (λ (v : Standing). v.visits) c.self.view_is
+
+pub settle-requires-clause-joined : goal.settle-requires-clause-joined
+settle-requires-clause-joined c =
+    let both = c.self.invariant (ap (λ (v : Standing). v.spent) c.self.view_is ∙ c.requires.ready) in
+    both.0.joined
+
+pub settle-requires-clause-ready : goal.settle-requires-clause-ready
+settle-requires-clause-ready c =
+    let both = c.self.invariant (ap (λ (v : Standing). v.spent) c.self.view_is ∙ c.requires.ready) in
+    both.0.ready
+
+pub settle-requires-clause-widths : goal.settle-requires-clause-widths
+settle-requires-clause-widths c =
+    let both = c.self.invariant (ap (λ (v : Standing). v.spent) c.self.view_is ∙ c.requires.ready) in
+    both.0.widths

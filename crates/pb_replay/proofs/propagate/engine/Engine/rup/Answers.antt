@@ -1,5 +1,5 @@
 use Rattle.std.specs.Prelude.{filter, pos, All, Some, sum, sum_by}
-use Rattle.std.proofs.Common.{of_z, inl, inr, Vec, Global, ℕ, subst, ◌≡◌, ◌≤◌, ◌<◌, ◌+◌, ◌++◌, ◌∷◌, [], List, refl, sym, ◌∙◌, ap, length, length-append, arith}
+use Rattle.std.proofs.Common.{of_z, inl, inr, Vec, Global, ℕ, subst, ◌≡◌, ◌≤◌, ◌<◌, ◌+◌, ◌*◌, ◌++◌, ◌∷◌, [], List, refl, sym, ◌∙◌, ap, length, length-append, arith}
 use Rattle.std.specs.Int.{w128}
 use Rattle.std.proofs.lemmas.List.{length-map}
 use Rattle.pb_normal.specs.Form.{Form}
@@ -21,9 +21,11 @@ use Rattle.pb_normal.specs.Rules.{opposite as opposite_entry}
 use Rattle.pb_replay.specs.Engine.Lists.{Shape}
 use Rattle.pb_replay.specs.Engine.Slots.{numbered}
 use Rattle.pb_replay.proofs.Engine.Placed.{placed-with, numbered-same, numbered-entered}
-use Rattle.pb_replay.proofs.Engine.Bounds.{slots-terms, slots-eager, filter-few, found-least, most-looks}
+use Rattle.pb_replay.specs.Clauses.Links.{lists_of}
+use Rattle.pb_replay.specs.Clauses.Shapes.{all_of, clauses_of}
+use Rattle.pb_replay.proofs.Engine.Bounds.{joined-terms, slots-terms, slots-eager, filter-few, found-least, most-looks}
 use Rattle.pb_replay.proofs.lemmas.Completing.{closed-none}
-use Rattle.pb_replay.proofs.Engine.Rests.{slots-entered, rest-entered, rest-tidy-first, rest-undone, rest-lengths, rest-left, eager-entered, with-kept, opposite-inside}
+use Rattle.pb_replay.proofs.Engine.Rests.{slots-entered, joined-entered, rest-entered, rest-tidy-first, rest-undone, rest-lengths, rest-left, eager-entered, with-kept, opposite-inside}
 use Rattle.pb_replay.proofs.propagate.engine.Engine.rup.Goals as goal
 
 pub enter-requires-clause-inside : goal.enter-requires-clause-inside
@@ -115,10 +117,15 @@ invariant_of-self-then-found c = λ ready.
     let last = c.leave.new in
     let left = rest-left c.in-Ok.negation keep new.store.kept.items last.store.kept.items e.run.opens.items new.run.opens.items e.run.candidates.items new.run.candidates.items done.opens.items last.run.opens.items done.candidates.items last.run.candidates.items h c.rest.ensures.rest c.leave.ensures.kept c.leave.ensures.opens c.leave.ensures.candidates in
     let same = c.leave.ensures.rest in
-    let entered = c.enter.ensures.rest in (
+    let entered = c.enter.ensures.rest in
+    let lit : clauses_of c.rest.new.clauses ≡ clauses_of e.clauses = ap (λ (v : Vec (Vec ℕ Global) Global). lists_of v.items) (c.rest.ensures.literals ∙ c.propagate.ensures.literals) in (
       record {
         sound = c.leave.ensures.sound;
-        slots = rw left.0 r.slots;
+        slots = rw (left.0, lit) r.slots;
+        joined = rw (left.0, lit) r.joined;
+        ready = c.rest.ensures.ready;
+        widths = ap (λ (v : Vec (Vec ℕ Global) Global). length v.items) c.rest.ensures.lists ∙ c.in_ok-found.ensures.running.sizes ∙ ap (λ n. 2 * n) (c.in_ok-found.ensures.values ∙ ap (λ (a : Assignment). length a.values.items) entered.0 ∙ r.values ∙ sym c.in_ok-enter.ensures.variables ∙ sym c.leave.ensures.variables);
+        known = ap (λ (v : Vec (Vec ℕ Global) Global). length v.items) (c.rest.ensures.literals ∙ c.propagate.ensures.literals) ∙ r.known ∙ ap length (sym left.0);
         rest = left.1;
         values = ap (λ (a : Assignment). length a.values.items) same.0 ∙ c.rest.ensures.values ∙ c.in_ok-found.ensures.values ∙ ap (λ (a : Assignment). length a.values.items) entered.0 ∙ r.values ∙ sym c.in_ok-enter.ensures.variables ∙ sym c.leave.ensures.variables;
         list = ap (λ (a : Assignment). a.list.items) same.0 ∙ c.rest.ensures.list;
@@ -145,10 +152,15 @@ invariant_of-self-2 c = λ ready.
     let last = c.leave.new in
     let left = rest-left c.in-Ok.negation keep new.store.kept.items last.store.kept.items e.run.opens.items new.run.opens.items e.run.candidates.items new.run.candidates.items done.opens.items last.run.opens.items done.candidates.items last.run.candidates.items h c.rest.ensures.rest c.leave.ensures.kept c.leave.ensures.opens c.leave.ensures.candidates in
     let same = c.leave.ensures.rest in
-    let entered = c.enter.ensures.rest in (
+    let entered = c.enter.ensures.rest in
+    let lit : clauses_of c.rest.new.clauses ≡ clauses_of e.clauses = ap (λ (v : Vec (Vec ℕ Global) Global). lists_of v.items) (c.rest.ensures.literals ∙ c.propagate.ensures.literals) in (
       record {
         sound = c.leave.ensures.sound;
-        slots = rw left.0 r.slots;
+        slots = rw (left.0, lit) r.slots;
+        joined = rw (left.0, lit) r.joined;
+        ready = c.rest.ensures.ready;
+        widths = ap (λ (v : Vec (Vec ℕ Global) Global). length v.items) c.rest.ensures.lists ∙ c.in_ok-found.ensures.running.sizes ∙ ap (λ n. 2 * n) (c.in_ok-found.ensures.values ∙ ap (λ (a : Assignment). length a.values.items) entered.0 ∙ r.values ∙ sym c.in_ok-enter.ensures.variables ∙ sym c.leave.ensures.variables);
+        known = ap (λ (v : Vec (Vec ℕ Global) Global). length v.items) (c.rest.ensures.literals ∙ c.propagate.ensures.literals) ∙ r.known ∙ ap length (sym left.0);
         rest = left.1;
         values = ap (λ (a : Assignment). length a.values.items) same.0 ∙ c.rest.ensures.values ∙ c.in_ok-found.ensures.values ∙ ap (λ (a : Assignment). length a.values.items) entered.0 ∙ r.values ∙ sym c.in_ok-enter.ensures.variables ∙ sym c.leave.ensures.variables;
         list = ap (λ (a : Assignment). a.list.items) same.0 ∙ c.rest.ensures.list;
@@ -174,8 +186,8 @@ returns-then-found-clause-implied c = λ found.
     let g = c.in-Ok.negation in
     let forms = forms_of e.store.kept.items in
     let told = c.in_ok-found.ensures in
-    let shapes = shapes_of new.store.kept.items in
-    let a = placed-with forms e.places.items g shapes both.1 (with-kept forms g shapes (slots-entered forms g keep new.store.kept.items e.run.opens.items new.run.opens.items e.run.candidates.items new.run.candidates.items h r.slots)) in
+    let shapes = all_of new.store e.clauses in
+    let a = placed-with forms e.places.items g shapes both.1 (with-kept forms g shapes (slots-entered forms g keep new.store.kept.items (clauses_of e.clauses) e.run.opens.items new.run.opens.items e.run.candidates.items new.run.candidates.items r.joined.short h r.slots)) in
     let shown = numbered forms e.places.items in
     let empty = ap (λ (x : Assignment). x.list.items) c.enter.ensures.rest.0 ∙ r.list in
     let d = derives (With (Live shown) g) shapes [] [] c.propagate.new.run.assignment.list.items a (λ v n. sym (on-none (record { variable = v; negated = n }))) (rw empty at told.derived) in
@@ -194,8 +206,8 @@ returns-clause-not_implied c = λ found rup.
     let forms = forms_of e.store.kept.items in
     let told = c.in_ok-found.ensures in
     let run = c.propagate.new.run in
-    let shapes = shapes_of new.store.kept.items in
-    let a = placed-with forms e.places.items g shapes both.1 (with-kept forms g shapes (slots-entered forms g keep new.store.kept.items e.run.opens.items new.run.opens.items e.run.candidates.items new.run.candidates.items h r.slots)) in
+    let shapes = all_of new.store e.clauses in
+    let a = placed-with forms e.places.items g shapes both.1 (with-kept forms g shapes (slots-entered forms g keep new.store.kept.items (clauses_of e.clauses) e.run.opens.items new.run.opens.items e.run.candidates.items new.run.candidates.items r.joined.short h r.slots)) in
     let shown = numbered forms e.places.items in
     let empty = ap (λ (x : Assignment). x.list.items) c.enter.ensures.rest.0 ∙ r.list in
     let d = derives (With (Live shown) g) shapes [] [] run.assignment.list.items a (λ v n. sym (on-none (record { variable = v; negated = n }))) (rw empty at told.derived) in
@@ -220,22 +232,23 @@ returns-then-found-clause-most c =
     let g = c.in-Ok.negation in
     let forms = forms_of e.store.kept.items in
     let number = c.len-number.result in
-    let shapes = shapes_of new.store.kept.items in
-    let slots = slots-entered forms g keep new.store.kept.items e.run.opens.items new.run.opens.items e.run.candidates.items new.run.candidates.items h r.slots in
+    let shapes = all_of new.store e.clauses in
+    let slots = slots-entered forms g keep new.store.kept.items (clauses_of e.clauses) e.run.opens.items new.run.opens.items e.run.candidates.items new.run.candidates.items r.joined.short h r.slots in
     let terms = slots-terms (forms ++ (Some g ∷ [])) shapes slots in
+    let both_terms = joined-terms (shapes_of new.store.kept.items) (clauses_of e.clauses) (joined-entered g keep new.store.kept.items (clauses_of e.clauses) e.run.opens.items new.run.opens.items e.run.candidates.items new.run.candidates.items h r.joined) in
     let more = sum_by_push terms_in forms (Some g) in
     let goal_terms : length g.terms ≡ length c.args.goal.now.terms = ap (λ (f : Form). length f.terms) c.in-Ok.ensures.negation ∙ length-map c.args.goal.now.terms opposite_entry in
     let number_is : number ≡ length keep = omega (arith, c.len-number.ensures, e.store.kept.ok.0) in
-    let few = slots-eager forms keep r.slots in
+    let few = slots-eager forms keep (clauses_of e.clauses) r.joined r.slots in
     let first = filter-few (waits new.store.kept.items) (number ∷ []) in
     let stand = filter-few (waits new.store.kept.items) e.eager.list.items in
     let work_is : length new.run.work.items ≡ 0 = ap (λ (v : Vec ℕ Global). length v.items) c.enter.ensures.rest.1 ∙ ap length r.work in
     let work = ap length c.in_ok-choose-2.ensures ∙ length-append new.run.work.items (filter (waits new.store.kept.items) (number ∷ [])) in
     let waiting = ap (λ (xs : List ℕ). length (filter (waits new.store.kept.items) xs)) c.as_slice.ensures.value in
     let same : numbered forms e.places.items ≡ c.args.self.now.forms = ap (λ (v : Standing). v.forms) c.self.view_is in
-    let looks = most-looks c.propagate.new.run.visits (sum new.run.candidates.items) new.run.visits (length c.choose-2.new.work.items + length (filter (waits new.store.kept.items) c.as_slice.result.now)) new.run.next (sum_by length (entries_of (shapes_of new.store.kept.items) new.store.occurrences.items)) (sum c.propagate.new.run.candidates.items) (sum_by (λ (f : Shape). length f.terms) shapes) (sum_by one_in forms + 1)
-    c.propagate.ensures.upper c.enter.ensures.rest.3 c.propagate.ensures.bounded c.in_ok-enter.ensures.sound.whole.totals (omega (arith, few, r.few, first, stand, work_is, work, waiting)) in
-    rw (← same) (omega (arith, both.1.alike terms_in refl, both.1.alike one_in refl, looks, terms, more, goal_terms, c.leave.ensures.rest.3, c.rest.ensures.visits))
+    let looks = most-looks c.propagate.new.run.visits (sum new.run.candidates.items) new.run.visits (length c.choose-2.new.work.items + length (filter (waits new.store.kept.items) c.as_slice.result.now)) new.run.next (sum_by length (entries_of (shapes_of new.store.kept.items) new.store.occurrences.items)) (sum c.propagate.new.run.candidates.items) (sum_by (λ (f : Shape). length f.terms) (shapes_of new.store.kept.items)) (sum_by {X = List ℕ} length (clauses_of e.clauses)) (sum_by one_in forms + 1)
+    c.propagate.ensures.upper (c.enter.ensures.rest.3 ∙ c.none-self-inside.ensures) c.propagate.ensures.bounded c.in_ok-enter.ensures.sound.whole.totals (omega (arith, few, r.few, first, stand, work_is, work, waiting)) in
+    rw (← same) (omega (arith, both.1.alike terms_in refl, both.1.alike one_in refl, looks, terms, both_terms, more, goal_terms, c.leave.ensures.rest.3, c.rest.ensures.visits))
 
 pub returns-clause-most : goal.returns-clause-most
 returns-clause-most c =
@@ -248,22 +261,23 @@ returns-clause-most c =
     let g = c.in-Ok.negation in
     let forms = forms_of e.store.kept.items in
     let number = c.len-number.result in
-    let shapes = shapes_of new.store.kept.items in
-    let slots = slots-entered forms g keep new.store.kept.items e.run.opens.items new.run.opens.items e.run.candidates.items new.run.candidates.items h r.slots in
+    let shapes = all_of new.store e.clauses in
+    let slots = slots-entered forms g keep new.store.kept.items (clauses_of e.clauses) e.run.opens.items new.run.opens.items e.run.candidates.items new.run.candidates.items r.joined.short h r.slots in
     let terms = slots-terms (forms ++ (Some g ∷ [])) shapes slots in
+    let both_terms = joined-terms (shapes_of new.store.kept.items) (clauses_of e.clauses) (joined-entered g keep new.store.kept.items (clauses_of e.clauses) e.run.opens.items new.run.opens.items e.run.candidates.items new.run.candidates.items h r.joined) in
     let more = sum_by_push terms_in forms (Some g) in
     let goal_terms : length g.terms ≡ length c.args.goal.now.terms = ap (λ (f : Form). length f.terms) c.in-Ok.ensures.negation ∙ length-map c.args.goal.now.terms opposite_entry in
     let number_is : number ≡ length keep = omega (arith, c.len-number.ensures, e.store.kept.ok.0) in
-    let few = slots-eager forms keep r.slots in
+    let few = slots-eager forms keep (clauses_of e.clauses) r.joined r.slots in
     let first = filter-few (waits new.store.kept.items) (number ∷ []) in
     let stand = filter-few (waits new.store.kept.items) e.eager.list.items in
     let work_is : length new.run.work.items ≡ 0 = ap (λ (v : Vec ℕ Global). length v.items) c.enter.ensures.rest.1 ∙ ap length r.work in
     let work = ap length c.in_ok-choose-2.ensures ∙ length-append new.run.work.items (filter (waits new.store.kept.items) (number ∷ [])) in
     let waiting = ap (λ (xs : List ℕ). length (filter (waits new.store.kept.items) xs)) c.as_slice.ensures.value in
     let same : numbered forms e.places.items ≡ c.args.self.now.forms = ap (λ (v : Standing). v.forms) c.self.view_is in
-    let looks = most-looks c.propagate.new.run.visits (sum new.run.candidates.items) new.run.visits (length c.choose-2.new.work.items + length (filter (waits new.store.kept.items) c.as_slice.result.now)) new.run.next (sum_by length (entries_of (shapes_of new.store.kept.items) new.store.occurrences.items)) (sum c.propagate.new.run.candidates.items) (sum_by (λ (f : Shape). length f.terms) shapes) (sum_by one_in forms + 1)
-    c.propagate.ensures.upper c.enter.ensures.rest.3 c.propagate.ensures.bounded c.in_ok-enter.ensures.sound.whole.totals (omega (arith, few, r.few, first, stand, work_is, work, waiting)) in
-    rw (← same) (omega (arith, both.1.alike terms_in refl, both.1.alike one_in refl, looks, terms, more, goal_terms, c.leave.ensures.rest.3, c.rest.ensures.visits))
+    let looks = most-looks c.propagate.new.run.visits (sum new.run.candidates.items) new.run.visits (length c.choose-2.new.work.items + length (filter (waits new.store.kept.items) c.as_slice.result.now)) new.run.next (sum_by length (entries_of (shapes_of new.store.kept.items) new.store.occurrences.items)) (sum c.propagate.new.run.candidates.items) (sum_by (λ (f : Shape). length f.terms) (shapes_of new.store.kept.items)) (sum_by {X = List ℕ} length (clauses_of e.clauses)) (sum_by one_in forms + 1)
+    c.propagate.ensures.upper (c.enter.ensures.rest.3 ∙ c.none-self-inside.ensures) c.propagate.ensures.bounded c.in_ok-enter.ensures.sound.whole.totals (omega (arith, few, r.few, first, stand, work_is, work, waiting)) in
+    rw (← same) (omega (arith, both.1.alike terms_in refl, both.1.alike one_in refl, looks, terms, both_terms, more, goal_terms, c.leave.ensures.rest.3, c.rest.ensures.visits))
 
 pub returns-in_err-found-clause-most : goal.returns-in_err-found-clause-most
 returns-in_err-found-clause-most c =
@@ -276,22 +290,23 @@ returns-in_err-found-clause-most c =
     let g = c.in-Ok.negation in
     let forms = forms_of e.store.kept.items in
     let number = c.len-number.result in
-    let shapes = shapes_of new.store.kept.items in
-    let slots = slots-entered forms g keep new.store.kept.items e.run.opens.items new.run.opens.items e.run.candidates.items new.run.candidates.items h r.slots in
+    let shapes = all_of new.store e.clauses in
+    let slots = slots-entered forms g keep new.store.kept.items (clauses_of e.clauses) e.run.opens.items new.run.opens.items e.run.candidates.items new.run.candidates.items r.joined.short h r.slots in
     let terms = slots-terms (forms ++ (Some g ∷ [])) shapes slots in
+    let both_terms = joined-terms (shapes_of new.store.kept.items) (clauses_of e.clauses) (joined-entered g keep new.store.kept.items (clauses_of e.clauses) e.run.opens.items new.run.opens.items e.run.candidates.items new.run.candidates.items h r.joined) in
     let more = sum_by_push terms_in forms (Some g) in
     let goal_terms : length g.terms ≡ length c.args.goal.now.terms = ap (λ (f : Form). length f.terms) c.in-Ok.ensures.negation ∙ length-map c.args.goal.now.terms opposite_entry in
     let number_is : number ≡ length keep = omega (arith, c.len-number.ensures, e.store.kept.ok.0) in
-    let few = slots-eager forms keep r.slots in
+    let few = slots-eager forms keep (clauses_of e.clauses) r.joined r.slots in
     let first = filter-few (waits new.store.kept.items) (number ∷ []) in
     let stand = filter-few (waits new.store.kept.items) e.eager.list.items in
     let work_is : length new.run.work.items ≡ 0 = ap (λ (v : Vec ℕ Global). length v.items) c.enter.ensures.rest.1 ∙ ap length r.work in
     let work = ap length c.in_ok-choose-2.ensures ∙ length-append new.run.work.items (filter (waits new.store.kept.items) (number ∷ [])) in
     let waiting = ap (λ (xs : List ℕ). length (filter (waits new.store.kept.items) xs)) c.as_slice.ensures.value in
     let same : numbered forms e.places.items ≡ c.args.self.now.forms = ap (λ (v : Standing). v.forms) c.self.view_is in
-    let looks = most-looks c.propagate.new.run.visits (sum new.run.candidates.items) new.run.visits (length c.choose-2.new.work.items + length (filter (waits new.store.kept.items) c.as_slice.result.now)) new.run.next (sum_by length (entries_of (shapes_of new.store.kept.items) new.store.occurrences.items)) (sum c.propagate.new.run.candidates.items) (sum_by (λ (f : Shape). length f.terms) shapes) (sum_by one_in forms + 1)
-    c.propagate.ensures.upper c.enter.ensures.rest.3 c.propagate.ensures.bounded c.in_ok-enter.ensures.sound.whole.totals (omega (arith, few, r.few, first, stand, work_is, work, waiting)) in
-    rw (← same) (omega (arith, both.1.alike terms_in refl, both.1.alike one_in refl, looks, terms, more, goal_terms))
+    let looks = most-looks c.propagate.new.run.visits (sum new.run.candidates.items) new.run.visits (length c.choose-2.new.work.items + length (filter (waits new.store.kept.items) c.as_slice.result.now)) new.run.next (sum_by length (entries_of (shapes_of new.store.kept.items) new.store.occurrences.items)) (sum c.propagate.new.run.candidates.items) (sum_by (λ (f : Shape). length f.terms) (shapes_of new.store.kept.items)) (sum_by {X = List ℕ} length (clauses_of e.clauses)) (sum_by one_in forms + 1)
+    c.propagate.ensures.upper (c.enter.ensures.rest.3 ∙ c.none-self-inside.ensures) c.propagate.ensures.bounded c.in_ok-enter.ensures.sound.whole.totals (omega (arith, few, r.few, first, stand, work_is, work, waiting)) in
+    rw (← same) (omega (arith, both.1.alike terms_in refl, both.1.alike one_in refl, looks, terms, both_terms, more, goal_terms))
 
 pub returns-then-found-clause-conflict : goal.returns-then-found-clause-conflict
 returns-then-found-clause-conflict c = λ found.
@@ -305,12 +320,12 @@ returns-then-found-clause-conflict c = λ found.
     let forms = forms_of e.store.kept.items in
     let told = c.in_ok-found.ensures in
     let run = c.propagate.new.run in
-    let shapes = shapes_of new.store.kept.items in
-    let a = placed-with forms e.places.items g shapes both.1 (with-kept forms g shapes (slots-entered forms g keep new.store.kept.items e.run.opens.items new.run.opens.items e.run.candidates.items new.run.candidates.items h r.slots)) in
+    let shapes = all_of new.store e.clauses in
+    let a = placed-with forms e.places.items g shapes both.1 (with-kept forms g shapes (slots-entered forms g keep new.store.kept.items (clauses_of e.clauses) e.run.opens.items new.run.opens.items e.run.candidates.items new.run.candidates.items r.joined.short h r.slots)) in
     let shown = numbered forms e.places.items in
     let empty = ap (λ (x : Assignment). x.list.items) c.enter.ensures.rest.0 ∙ r.list in
     let d = derives (With (Live shown) g) shapes [] [] run.assignment.list.items a (λ v n. sym (on-none (record { variable = v; negated = n }))) (rw empty at told.derived) in
-    let least = found-least (length run.assignment.list.items) run.visits (length new.run.assignment.list.items) new.run.visits (ap length empty) c.enter.ensures.rest.3 told.found (omega (arith, run.assignment.list.ok.0, run.assignment.list.ok.1)) in
+    let least = found-least (length run.assignment.list.items) run.visits (length new.run.assignment.list.items) new.run.visits (ap length empty) (c.enter.ensures.rest.3 ∙ c.none-self-inside.ensures) told.found (omega (arith, run.assignment.list.ok.0, run.assignment.list.ok.1)) in
     let small : length d.list ≤ c.leave.new.run.visits = omega (arith, least, d.count, c.leave.ensures.rest.3, c.rest.ensures.visits) in
     let meets : (m : MeetsConflict (With (Live shown) g) []) × (length m.list ≤ c.leave.new.run.visits) = (record { list = d.list; derived = d.derived; conflict = conflicts (With (Live shown) g) shapes d.list run.assignment.list.items a d.matches (told.conflict c.if-found.true) }, small) in
     rw (← c.self.view_is) (inr (rw c.in-Ok.ensures.negation at meets))
@@ -327,12 +342,12 @@ returns-clause-completion c = λ found.
     let forms = forms_of e.store.kept.items in
     let told = c.in_ok-found.ensures in
     let run = c.propagate.new.run in
-    let shapes = shapes_of new.store.kept.items in
-    let a = placed-with forms e.places.items g shapes both.1 (with-kept forms g shapes (slots-entered forms g keep new.store.kept.items e.run.opens.items new.run.opens.items e.run.candidates.items new.run.candidates.items h r.slots)) in
+    let shapes = all_of new.store e.clauses in
+    let a = placed-with forms e.places.items g shapes both.1 (with-kept forms g shapes (slots-entered forms g keep new.store.kept.items (clauses_of e.clauses) e.run.opens.items new.run.opens.items e.run.candidates.items new.run.candidates.items r.joined.short h r.slots)) in
     let shown = numbered forms e.places.items in
     let empty = ap (λ (x : Assignment). x.list.items) c.enter.ensures.rest.0 ∙ r.list in
     let d = derives (With (Live shown) g) shapes [] [] run.assignment.list.items a (λ v n. sym (on-none (record { variable = v; negated = n }))) (rw empty at told.derived) in
-    let least = found-least (length run.assignment.list.items) run.visits (length new.run.assignment.list.items) new.run.visits (ap length empty) c.enter.ensures.rest.3 told.found (omega (arith, run.assignment.list.ok.0, run.assignment.list.ok.1)) in
+    let least = found-least (length run.assignment.list.items) run.visits (length new.run.assignment.list.items) new.run.visits (ap length empty) (c.enter.ensures.rest.3 ∙ c.none-self-inside.ensures) told.found (omega (arith, run.assignment.list.ok.0, run.assignment.list.ok.1)) in
     let small : length d.list ≤ c.leave.new.run.visits = omega (arith, least, d.count, c.leave.ensures.rest.3, c.rest.ensures.visits) in
     let done : IsCompletion (With (Live shown) g) [] d.list = record { derived = d.derived; closed = is-closed (With (Live shown) g) shapes d.list run.assignment.list.items a d.matches (told.settled c.if-found.false) } in
     let whole : (list : List NumberedLiteral) × IsCompletion (With (Live shown) g) [] list × (length list ≤ c.leave.new.run.visits) = (d.list, done, small) in
@@ -463,3 +478,21 @@ returns-then-found-clause-variables c = c.leave.ensures.variables ∙ c.in_ok-en
 
 pub returns-clause-variables : goal.returns-clause-variables
 returns-clause-variables c = c.leave.ensures.variables ∙ c.in_ok-enter.ensures.variables ∙ ap (λ (v : Standing). v.variables) c.self.view_is
+
+pub propagate-requires-clause-joined : goal.propagate-requires-clause-joined
+propagate-requires-clause-joined c =
+    let e = c.self.inside in
+    let both = c.self.invariant (ap (λ (v : Standing). v.spent) c.self.view_is ∙ c.requires.ready) in
+    let r = both.0 in
+    let new = c.enter.new in
+    joined-entered c.in-Ok.negation e.store.kept.items new.store.kept.items (clauses_of e.clauses) e.run.opens.items new.run.opens.items e.run.candidates.items new.run.candidates.items c.in_ok-enter.ensures.entered r.joined
+
+pub propagate-requires-clause-ready : goal.propagate-requires-clause-ready
+propagate-requires-clause-ready c =
+    let both = c.self.invariant (ap (λ (v : Standing). v.spent) c.self.view_is ∙ c.requires.ready) in
+    both.0.ready
+
+pub propagate-requires-clause-widths : goal.propagate-requires-clause-widths
+propagate-requires-clause-widths c =
+    let both = c.self.invariant (ap (λ (v : Standing). v.spent) c.self.view_is ∙ c.requires.ready) in
+    both.0.widths ∙ ap (λ n. 2 * n) (sym c.in_ok-enter.ensures.variables)

@@ -1,0 +1,38 @@
+# make install PREFIX=/usr/local: the program, the library for C, its header, the manual page and completions. It installs what dist/
+# carries, if that was built from these sources and runs on this machine. Otherwise it installs what ./build makes. DESTDIR goes before
+# each path, as packagers expect.
+PREFIX = /usr/local
+DESTDIR =
+BINDIR = $(PREFIX)/bin
+LIBDIR = $(PREFIX)/lib
+INCLUDEDIR = $(PREFIX)/include
+MANDIR = $(PREFIX)/share/man
+BASHDIR = $(PREFIX)/share/bash-completion/completions
+ZSHDIR = $(PREFIX)/share/zsh/site-functions
+FISHDIR = $(PREFIX)/share/fish/vendor_completions.d
+
+INSTALLED = '$(DESTDIR)$(BINDIR)/pb' '$(DESTDIR)$(LIBDIR)/libpb.a' '$(DESTDIR)$(LIBDIR)/pkgconfig/pb.pc' \
+	'$(DESTDIR)$(INCLUDEDIR)/pb.h' '$(DESTDIR)$(MANDIR)/man1/pb.1' '$(DESTDIR)$(BASHDIR)/pb' '$(DESTDIR)$(ZSHDIR)/_pb' \
+	'$(DESTDIR)$(FISHDIR)/pb.fish'
+
+all:
+	./build
+
+install:
+	home=$$(dist/home || { ./build >&2 && echo out; }) && \
+	install -D -m 755 "$$home/pb" '$(DESTDIR)$(BINDIR)/pb' && \
+	install -D -m 644 "$$home/libpb.a" '$(DESTDIR)$(LIBDIR)/libpb.a'
+	install -D -m 644 include/pb.h '$(DESTDIR)$(INCLUDEDIR)/pb.h'
+	install -D -m 644 man/pb.1 '$(DESTDIR)$(MANDIR)/man1/pb.1'
+	install -D -m 644 completions/pb.bash '$(DESTDIR)$(BASHDIR)/pb'
+	install -D -m 644 completions/_pb '$(DESTDIR)$(ZSHDIR)/_pb'
+	install -D -m 644 completions/pb.fish '$(DESTDIR)$(FISHDIR)/pb.fish'
+	mkdir -p '$(DESTDIR)$(LIBDIR)/pkgconfig'
+	printf '%s\n' 'prefix=$(PREFIX)' 'libdir=$(LIBDIR)' 'includedir=$(INCLUDEDIR)' '' 'Name: pb' \
+	    'Description: A verified checker of pseudo-Boolean instances and proofs' "Version: $$(cat VERSION)" \
+	    'Libs: -L$${libdir} -lpb' 'Cflags: -I$${includedir}' > '$(DESTDIR)$(LIBDIR)/pkgconfig/pb.pc'
+
+uninstall:
+	rm -f $(INSTALLED)
+
+.PHONY: all install uninstall

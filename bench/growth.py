@@ -1,0 +1,112 @@
+#!/usr/bin/env python3
+"""Times `pb check` at n, 2n and 4n on inputs whose time should grow like n:
+
+    bench/growth.py PROGRAM [NAME..]
+
+It prints a line for each of the families below, or for those that are named: the user time at each size, and how it grows from 2n to
+4n. Time that grows like n is doubled. The same name and size give the same bytes, and each proof is accepted."""
+import os
+import resource
+import subprocess
+import sys
+import tempfile
+
+from propagation import clause, write
+
+
+def rups(clauses):
+    return ["rup " + one for one in clauses]
+
+
+def names(letter, count):
+    return [f"{letter}{i}" for i in range(10, count + 10)]
+
+
+def facts(count):
+    """Units u, clauses ~u ~u a, and each a as a step."""
+    units, ends = names("u", count), names("a", count)
+    clauses = [clause(f"~{one}", f"~{other}", end) for one, other, end in zip(units, units[1:], ends)]
+    return [clause(one) for one in units] + clauses, rups(clause(end) for end in ends[: count - 1])
+
+
+def chain(count):
+    """A chain from a unit, and its end as many times as a step."""
+    links = names("x", count)
+    return [clause(links[0])] + [clause(f"~{one}", other) for one, other in zip(links, links[1:])], rups([clause(links[-1])] * count)
+
+
+def again(count):
+    """A unit, and as many times the same unit as a step."""
+    return [clause("x1")], rups([clause("x1")] * count)
+
+
+def satisfied(count):
+    """A unit, clauses with its literal, and some of them as steps."""
+    clauses = [clause("x1", end) for end in names("y", count)]
+    return [clause("x1")] + clauses, rups(clauses[: count // 10])
+
+
+def copies(count):
+    """As many copies of a unit by `pol`, and then the unit as a step."""
+    return [clause("x1")], ["pol 1\n"] * count + rups([clause("x1")] * (count // 10))
+
+
+def sums(count):
+    """One sum of as many disjoint clauses."""
+    clauses = [clause(*names(f"x{i}_", 3)) for i in range(count)]
+    return clauses, [f"pol 1 {' '.join(f'{i} +' for i in range(2, count + 1))}\n"]
+
+
+def weakened(count):
+    """One constraint, weakened by each of its variables."""
+    terms = names("x", count)
+    return [clause(*terms)], [f"pol 1 {' '.join(f'{name} w' for name in terms[:-1])}\n"]
+
+
+def axioms(count):
+    """One constraint and the opposite of each of its literals."""
+    terms = names("x", count)
+    return [clause(*terms)], [f"pol 1 {' '.join(f'~{name} +' for name in terms[:-1])}\n"]
+
+
+def deleted(count):
+    """Clauses with a common literal, and a step with that literal that is deleted each time."""
+    clauses = [clause("x1", "zz")] + [clause("x1", end) for end in names("y", count)]
+    first = len(clauses) + 1
+    return clauses, [f"rup {clause('x1', 'zz')}del id {first + i}\n" for i in range(count // 10)]
+
+
+# The families, each with its smallest size.
+FAMILIES = {
+    facts: 2_500, chain: 2_500, again: 4_000, satisfied: 20_000, copies: 10_000, sums: 8_000, weakened: 10_000, axioms: 10_000,
+    deleted: 10_000,
+}
+
+
+def seconds_of(program, family, size, folder):
+    """The user time of a check."""
+    constraints, steps = family(size)
+    end = ["output NONE\n", "conclusion NONE\n", "end pseudo-Boolean proof\n"]
+    write(folder, "a.opb", f"* #variable= 1 #constraint= {len(constraints)}\n", constraints)
+    write(folder, "a.pbp", f"pseudo-Boolean proof version 2.0\nf {len(constraints)}\n", steps + end)
+    before = resource.getrusage(resource.RUSAGE_CHILDREN).ru_utime
+    words = [program, "check"] + [os.path.join(folder, name) for name in ("a.opb", "a.pbp")]
+    if subprocess.run(words, stdout=subprocess.DEVNULL).returncode != 0:
+        sys.exit(f"{family.__name__} {size}: the proof is rejected")
+    return resource.getrusage(resource.RUSAGE_CHILDREN).ru_utime - before
+
+
+def main():
+    if len(sys.argv) < 2 or sys.argv[1] == "--help":
+        sys.exit(print(__doc__))
+    with tempfile.TemporaryDirectory() as folder:
+        for family, least in FAMILIES.items():
+            if sys.argv[2:] and family.__name__ not in sys.argv[2:]:
+                continue
+            times = [seconds_of(sys.argv[1], family, least * factor, folder) for factor in (1, 2, 4)]
+            shown = " ".join(f"{time:.2f}" for time in times)
+            print(f"{family.__name__} {least}: {shown} s, {times[2] / max(times[1], 0.01):.1f} times from 2n to 4n", flush=True)
+
+
+if __name__ == "__main__":
+    main()

@@ -1,0 +1,76 @@
+//! The calls on the repository's examples. `checks/program/bindings` compares many more files with what the program prints.
+
+use pb::{check, check_with, show, tidy, Options, Status};
+use std::fs;
+use std::path::Path;
+
+fn example(name: &str) -> Vec<u8> {
+    let folder = Path::new(env!("CARGO_MANIFEST_DIR")).join("../../examples");
+    fs::read(folder.join(name)).expect("an example")
+}
+
+#[test]
+fn the_version_is_that_of_the_crate() {
+    let number = env!("CARGO_PKG_VERSION")
+        .split('.')
+        .fold(0, |number, part| {
+            number * 1000 + part.parse::<u32>().expect("a number")
+        });
+    assert_eq!(pb::version(), number);
+}
+
+#[test]
+fn a_refutation_is_verified() {
+    let verdict = check(&example("refutation.opb"), &example("refutation.pbp")).expect("a verdict");
+    assert!(verdict.is_unsat());
+    assert_eq!(verdict.line, "verified UNSAT\n");
+}
+
+#[test]
+fn another_verdict_is_reported() {
+    let verdict = check(&example("optimum.opb"), &example("optimum.pbp")).expect("a verdict");
+    assert_eq!(verdict.line, "verified BOUNDS 1 1\n");
+    assert!(!verdict.is_unsat());
+}
+
+#[test]
+fn an_empty_proof_is_refused() {
+    let refusal = check(&example("refutation.opb"), b"").expect_err("a refusal");
+    assert_eq!(refusal.status, Status::Refused);
+    assert_eq!(refusal.code(), 1);
+    assert_eq!(refusal.to_string(), "proof: line 1 column 1: input ended");
+}
+
+#[test]
+fn an_empty_instance_is_refused() {
+    let refusal = check(b"", b"").expect_err("a refusal");
+    assert_eq!(
+        refusal.to_string(),
+        "instance: line 1 column 1: input ended"
+    );
+}
+
+#[test]
+fn wrong_options_are_misuse() {
+    let options = Options {
+        bits: 128,
+        ..Options::default()
+    };
+    let refusal = check_with(b"", b"", &options).expect_err("a refusal");
+    assert_eq!(refusal.status, Status::Misuse);
+    assert_eq!(refusal.code(), 2);
+}
+
+#[test]
+fn a_text_longer_than_the_first_room_comes_whole() {
+    let mut instance = b"* #variable= 1 #constraint= 1000\n".to_vec();
+    for _ in 0..1000 {
+        instance.extend_from_slice(b"+1 x1 >= 1 ;\n");
+    }
+    assert_eq!(
+        tidy(&instance, false, &Options::default()),
+        Ok(instance.clone())
+    );
+    let shown = show(&instance, &Options::default()).expect("statements");
+    assert!(shown.ends_with(b"1001:1 +1 x1 >= 1 ;\n"));
+}

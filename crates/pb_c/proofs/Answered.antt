@@ -1,0 +1,39 @@
+-- What the tool guarantees for sources over texts and for a page, in terms of the texts alone.
+use Rattle.std.proofs.Common.{◌≡◌, ◌∙◌, ℕ, List, Bool, Bor, Option, Some, None, Result, ap, subst}
+use Rattle.pb_text.specs.Kept.{inner_of, shown_of}
+use Rattle.pb_text.specs.Over.{told}
+use Rattle.pb_text.specs.declared.Limits.{Limits}
+use Rattle.pb_text.specs.declared.over.Over.{Over}
+use Rattle.pb_replay.specs.declared.verdict.Verdict.{Verdict}
+use Rattle.pb_tool.specs.Files.{ShowsFile, TidiesFile}
+use Rattle.pb_tool.specs.Verified.{ChecksFiles}
+use Rattle.pb_tool.specs.declared.fault.ToolFault.{ToolFault}
+use Rattle.pb_c.specs.Answers.{empty, faults, written}
+use Rattle.pb_c.specs.declared.page.Page.{Page}
+
+-- a source over a slice has the bytes of the slice left
+pub whole : (o : Over (Bor (List ℕ))) (s : Bor (List ℕ)) → inner_of o ≡ s → shown_of o ≡ None → told (Some o.inner.now) None o.shown ≡ Some s.now
+whole o s is none = ap (λ (x : Option ℕ). told (Some o.inner.now) None x) none ∙ ap (λ (x : Bor (List ℕ)). Some x.now) is
+
+module _ (limits : Limits) (longest : ℕ) where
+  pub of_check : (i : List ℕ) (p left right : Option (List ℕ)) (old new : Page) (answer : Result Verdict ToolFault) (i' p' : Option (List ℕ))
+      → left ≡ Some i → right ≡ p → old ≡ empty → ChecksFiles limits longest written faults left right old answer i' p' new
+      → ChecksFiles limits longest written faults (Some i) p empty answer i' p' new
+  of_check i p left right old new answer i' p' one other bare h =
+      subst (λ (x : Option (List ℕ)). ChecksFiles limits longest written faults x p empty answer i' p' new) one
+      (subst (λ (x : Option (List ℕ)). ChecksFiles limits longest written faults left x empty answer i' p' new) other
+      (subst (λ (x : Page). ChecksFiles limits longest written faults left right x answer i' p' new) bare h))
+
+  pub of_tidy : (normal : Bool) (input : List ℕ) (before : Option (List ℕ)) (old new : Page) (answer : Result Unit ToolFault) (after : Option (List ℕ))
+      → before ≡ Some input → old ≡ empty → TidiesFile limits longest written faults normal before old answer after new
+      → TidiesFile limits longest written faults normal (Some input) empty answer after new
+  of_tidy normal input before old new answer after one bare h =
+      subst (λ (x : Option (List ℕ)). TidiesFile limits longest written faults normal x empty answer after new) one
+      (subst (λ (x : Page). TidiesFile limits longest written faults normal before x answer after new) bare h)
+
+  pub of_show : (input : List ℕ) (before : Option (List ℕ)) (old new : Page) (answer : Result Unit ToolFault) (after : Option (List ℕ))
+      → before ≡ Some input → old ≡ empty → ShowsFile limits longest written faults before old answer after new
+      → ShowsFile limits longest written faults (Some input) empty answer after new
+  of_show input before old new answer after one bare h =
+      subst (λ (x : Option (List ℕ)). ShowsFile limits longest written faults x empty answer after new) one
+      (subst (λ (x : Page). ShowsFile limits longest written faults before x answer after new) bare h)

@@ -1,0 +1,92 @@
+-- What a line says holds for the instance.
+use Rattle.std.proofs.Common.{◌≡◌, ◌⊎◌, ◌∙◌, ◌^◌, ℕ, List, codes, length, Option, Some, Result, Ok, Err, sym, ap, subst, inl, inr, arith, length-append}
+use Rattle.std.specs.Prelude.{unwrap_or}
+use Rattle.pb_text.specs.declared.Limits.{Limits}
+use Rattle.pb_text.specs.declared.place.Why.{Why}
+use Rattle.pb_text.specs.declared.place.Why.TheVariants as why
+use Rattle.pb_opb.specs.declared.Instance.{Instance}
+use Rattle.pb_replay.specs.Meaning.{MeansWritten}
+use Rattle.pb_replay.specs.declared.fault.Fault.{Fault}
+use Rattle.pb_replay.specs.declared.fault.Fault.TheVariants as step
+use Rattle.pb_replay.specs.declared.verdict.Verdict.{Verdict}
+use Rattle.pb_replay.specs.declared.verdict.Verdict.TheVariants.{NoClaim, Unsat, Sat, Bounds}
+use Rattle.pb_tool.specs.Faults.{exit_status, stop_status}
+use Rattle.pb_tool.specs.Refusals.{refusal_status}
+use Rattle.pb_tool.specs.Headline.{IsUnsatisfiable, VerdictsAreTrue}
+use Rattle.pb_tool.specs.Tidy.{IsOpbFile}
+use Rattle.pb_tool.specs.Verified.{ChecksFiles, verdict_line}
+use Rattle.pb_tool.specs.declared.fault.ToolFault.{ToolFault}
+use Rattle.pb_tool.specs.declared.fault.ToolFault.TheVariants.{Text, Open, Overflow, Memory, Write, Step}
+use Rattle.pb_c.specs.Answers.{AnswersCheck, IsTextOf, empty, faults, status_of, written}
+use Rattle.pb_c.specs.Options.{IsAsked}
+use Rattle.pb_c.specs.Telling.{Puts}
+use Rattle.pb_c.specs.Unsat.{ShowsTruth, ShowsUnsat}
+use Rattle.pb_c.specs.declared.options.Options.{Options}
+use Rattle.pb_c.specs.declared.page.Page.{Page}
+
+-- no fault has the status 0
+no_fault : (e : ToolFault) → exit_status e ≡ 0 → ⊥
+no_fault (Text input s) h = of_stop s.why h
+  where
+    of_stop : (w : Why) → stop_status w ≡ 0 → ⊥
+    of_stop (why.Byte byte) k = omega (arith, k)
+    of_stop why.TooLarge k = omega (arith, k)
+    of_stop why.Ended k = omega (arith, k)
+    of_stop why.TooLong k = omega (arith, k)
+    of_stop why.Read k = omega (arith, k)
+    of_stop why.Memory k = omega (arith, k)
+no_fault (Open input) h = omega (arith, h)
+no_fault (Overflow input) h = omega (arith, h)
+no_fault (Memory input) h = omega (arith, h)
+no_fault Write h = omega (arith, h)
+no_fault (Step place e name) h = of_step e h
+  where
+    of_step : (w : Fault) → refusal_status w ≡ 0 → ⊥
+    of_step step.Memory k = omega (arith, k)
+    of_step step.Overflow k = omega (arith, k)
+    of_step (step.FormulaCount n) k = omega (arith, k)
+    of_step (step.NoSuchId n) k = omega (arith, k)
+    of_step step.NotImplied k = omega (arith, k)
+    of_step step.Conflict k = omega (arith, k)
+    of_step (step.NotTotal n) k = omega (arith, k)
+    of_step (step.Violates n) k = omega (arith, k)
+    of_step step.NoObjective k = omega (arith, k)
+    of_step step.NotContradiction k = omega (arith, k)
+    of_step step.SolutionLogged k = omega (arith, k)
+    of_step step.NoSolution k = omega (arith, k)
+    of_step step.NotBound k = omega (arith, k)
+    of_step step.IdsSpent k = omega (arith, k)
+    of_step step.Order k = omega (arith, k)
+
+module _ (law : VerdictsAreTrue) (limits : Limits) (longest : ℕ) where
+  -- with status 0, the text is the line of a verdict that holds for the instance
+  of_answer : (i : List ℕ) (p : Option (List ℕ)) (text old new : List ℕ) (status whole : ℕ) (page : Page) (answer : Result Verdict ToolFault) (i' p' : Option (List ℕ))
+      → ChecksFiles limits longest written faults (Some i) p empty answer i' p' page → IsTextOf answer page.text text → status ≡ status_of answer → Puts text old new whole → status ≡ 0
+      → (after : Option (List ℕ)) × (v : Instance) × IsOpbFile limits longest (Some i) after v × (w : Verdict) × Puts (verdict_line w) old new whole × MeansWritten v w
+  of_answer i p text old new status whole page (Ok w) i' p' (v, file, q, proof, verified, wrote) line ended put zero = (
+    i',
+    v,
+    file,
+    w,
+    subst (λ (t : List ℕ). Puts t old new whole) (line ∙ wrote.appends) put,
+    law limits longest v q w p p' proof verified,
+  )
+  of_answer i p text old new status whole page (Err e) i' p' checks line ended put zero = absurd (no_fault e (sym ended ∙ zero))
+
+pub shows_truth : VerdictsAreTrue → (o : Options) (i p old new : List ℕ) (status whole : ℕ) → AnswersCheck o i p old status new whole → ShowsTruth o i old status new whole
+shows_truth law o i p old new status whole (text, put, inl (wrong, line, two)) zero = absurd (omega (arith, two, zero))
+shows_truth law o i p old new status whole (text, put, inr (limits, longest, asked, a)) zero =
+    let (after, v, file, w, told, true) = of_answer law limits (unwrap_or longest (2 ^ 40)) i (Some p) text old new status whole a.page a.answer a.instance_left a.proof_left a.checks a.line_is a.status_is put zero in
+    (limits, longest, asked, after, v, file, w, told, true)
+
+-- the line of UNSAT differs from the others in its length
+no_solution : (v : Instance) (w : Verdict) → MeansWritten v w → length (verdict_line w) ≡ 15 → IsUnsatisfiable v
+no_solution v NoClaim h k = absurd (omega (arith, k))
+no_solution v Unsat h k = h
+no_solution v Sat h k = absurd (omega (arith, k))
+no_solution v (Bounds lower upper) h k = absurd (omega (arith, k, length-append (codes "verified BOUNDS ")))
+
+pub shows_unsat : (o : Options) (i old new : List ℕ) (status whole : ℕ) → ShowsTruth o i old status new whole → ShowsUnsat o i status new whole
+shows_unsat o i old new status whole truth zero fifteen says =
+    let (limits, longest, asked, after, v, file, w, told, true) = truth zero in
+    (limits, longest, asked, after, v, file, no_solution v w true (sym told.1 ∙ fifteen))

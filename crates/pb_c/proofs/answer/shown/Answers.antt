@@ -1,0 +1,23 @@
+use Rattle.std.proofs.Common.{Ok, Err, refl}
+use Rattle.pb_c.proofs.Answered.{of_show, whole}
+use Rattle.pb_c.proofs.answer.shown.Goals as goal
+
+pub returns-in-Ok : goal.returns-in-Ok
+returns-in-Ok c = record {
+  answer = Ok tt;
+  left = _;
+  page = c.show.new.out;
+  shows = of_show c.args.asked.limits _ c.args.text.now _ c.new-page.result c.show.new.out (Ok tt) _ (whole c.new-input.result c.args.text c.new-input.ensures.inner c.new-input.ensures.shown) c.new-page.ensures c.in-Ok.ensures.shows;
+  text_is = c.into_text.ensures;
+  status_is = refl;
+}
+
+pub returns-in-Err : goal.returns-in-Err
+returns-in-Err c = record {
+  answer = Err c.in-Err.fault;
+  left = _;
+  page = c.show.new.out;
+  shows = of_show c.args.asked.limits _ c.args.text.now _ c.new-page.result c.show.new.out (Err c.in-Err.fault) _ (whole c.new-input.result c.args.text c.new-input.ensures.inner c.new-input.ensures.shown) c.new-page.ensures c.in-Err.ensures.shows;
+  text_is = c.refused.ensures.text;
+  status_is = c.refused.ensures.status;
+}

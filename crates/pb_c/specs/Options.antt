@@ -1,0 +1,22 @@
+-- What options set.
+use Rattle.std.specs.Prelude.{◌≡◌, ◌⊎◌, ◌<◌, ◌-◌, ◌^◌, ℕ, zero, suc, min, Option, Some, None}
+use Rattle.pb_text.specs.Limits.{bits_of, top_of}
+use Rattle.pb_text.specs.declared.Limits.{Limits}
+use Rattle.pb_c.specs.declared.options.Options.{Options}
+
+-- the limit on statements, if there is one
+abbrev pub longest_of : ℕ → Option ℕ
+longest_of zero = None
+longest_of (suc n) = Some (suc n)
+
+-- the bits are not 31 to 127
+abbrev pub AreWrong : Options → Type 0
+AreWrong o = (o.bits < 31) ⊎ (127 < o.bits)
+
+-- the limits with these bits, and with the greatest top
+abbrev pub AreLimits : ℕ → Limits → Type 0
+AreLimits bits limits = (bits_of limits ≡ bits) × (top_of limits ≡ min (2 ^ 63) (2 ^ bits) - 1)
+
+-- the options are allowed, and set this limit on statements and these limits
+abbrev pub IsAsked : Options → Option ℕ → Limits → Type 0
+IsAsked o longest limits = ¬ AreWrong o × (longest ≡ longest_of o.longest) × AreLimits o.bits limits

@@ -1,0 +1,11 @@
+-- What a caller finds in the room for a text.
+use Rattle.std.specs.Prelude.{◌≡◌, ℕ, List, ◌++◌, length, take, drop}
+
+-- The room begins with the text, or as much of it as fits, and is unchanged after that. The length is that of the whole
+-- text.
+abbrev pub Puts : List ℕ → List ℕ → List ℕ → ℕ → Type 0
+Puts text old new whole = (new ≡ take (length old) text ++ drop (length text) old) × (whole ≡ length text)
+
+-- after a text comes a prefix of the line, which is the whole line unless memory runs out
+abbrev pub IsFrontOf : List ℕ → List ℕ → List ℕ → Type 0
+IsFrontOf text line all = (front : List ℕ) × (rest : List ℕ) × (line ≡ front ++ rest) × (all ≡ text ++ front)

@@ -1,0 +1,105 @@
+//! What the tool returns for texts in memory: a text and a status.
+
+ghost use Rattle.std.specs.Prelude.{◌≡◌, ◌<◌, ◌^◌, IfSome, unwrap_or};
+ghost use Rattle.pb_tool.specs.Faults.{exit_status, fault_line};
+ghost use Rattle.pb_c.specs.Answers.{AnswerOfCheck, AnswerOfShow, AnswerOfTidy};
+ghost use Rattle.pb_c.specs.Telling.{IsFrontOf};
+
+use crate::options::Asked;
+use crate::page::{Page, Text};
+use pb_text::Over;
+use pb_tool::{ToolFault, check_with_hasher, show, status, tidy_with_hasher, write_fault};
+use std::alloc::Global;
+
+/// What a call returns.
+#[derive(Drop)]
+pub(crate) struct Answer {
+    text: Text,
+    status: u8,
+}
+
+impl Answer {
+    pub(crate) fn into_parts(self) -> (Text, u8)
+        ensures text { result.0 ≡ self.text }
+        ensures status { result.1 ≡ self.status }
+    {
+        (self.text, self.status)
+    }
+}
+
+/// The line and the status of `pb check` on two texts.
+pub(crate) fn checked(alloc: Global, instance: &[u8], proof: &[u8], asked: Asked) -> Answer
+    requires { IfSome asked.longest (λ n. 0 < n) }
+    ensures { AnswerOfCheck asked.limits (unwrap_or asked.longest (2 ^ 40)) instance.now proof.now result.text result.status }
+{
+    let (mut instance, mut proof) = (Over::new(instance), Over::new(proof));
+    let mut page = Page::new(alloc);
+    match check_with_hasher(
+        alloc,
+        asked.keys,
+        &mut instance,
+        &mut proof,
+        &mut page,
+        asked.longest,
+        asked.limits,
+    ) {
+        Ok(_) => Answer {
+            text: page.into_text(),
+            status: 0,
+        },
+        Err(fault) => refused(Page::new(alloc), &fault),
+    }
+}
+
+/// What `pb tidy` writes for a text, or the line of its fault; and its status.
+pub(crate) fn tidied(alloc: Global, text: &[u8], normal: bool, asked: Asked) -> Answer
+    requires { IfSome asked.longest (λ n. 0 < n) }
+    ensures { AnswerOfTidy asked.limits (unwrap_or asked.longest (2 ^ 40)) normal text.now result.text result.status }
+{
+    let mut input = Over::new(text);
+    let mut page = Page::new(alloc);
+    match tidy_with_hasher(
+        alloc,
+        asked.keys,
+        &mut input,
+        normal,
+        &mut page,
+        asked.longest,
+        asked.limits,
+    ) {
+        Ok(()) => Answer {
+            text: page.into_text(),
+            status: 0,
+        },
+        Err(fault) => refused(Page::new(alloc), &fault),
+    }
+}
+
+/// What `pb show` writes for a text, followed by the line of a fault if there is one; and its status.
+pub(crate) fn shown(alloc: Global, text: &[u8], asked: Asked) -> Answer
+    requires { IfSome asked.longest (λ n. 0 < n) }
+    ensures { AnswerOfShow asked.limits (unwrap_or asked.longest (2 ^ 40)) text.now result.text result.status }
+{
+    let mut input = Over::new(text);
+    let mut page = Page::new(alloc);
+    match show(alloc, &mut input, &mut page, asked.longest, asked.limits) {
+        Ok(()) => Answer {
+            text: page.into_text(),
+            status: 0,
+        },
+        Err(fault) => refused(page, &fault),
+    }
+}
+
+/// The text of a page, followed by the line of a fault, and the status of the fault. If memory runs out, a prefix of
+/// the line follows.
+fn refused(mut page: Page, fault: &ToolFault) -> Answer
+    ensures text { IsFrontOf page.text (fault_line fault.now) result.text }
+    ensures status { result.status ≡ exit_status fault.now }
+{
+    let _ = write_fault(fault, &mut page);
+    Answer {
+        text: page.into_text(),
+        status: status(fault),
+    }
+}

@@ -1,0 +1,62 @@
+use Rattle.std.proofs.Common.{◌≡◌, ◌∙◌, ◌↔◌, None, Result, ℕ, List, Option, Some, Ok, Bor, Bool, IsTrue, ap, subst}
+use Rattle.pb_text.specs.Kept.{inner_of, shown_of}
+use Rattle.pb_text.specs.Over.{told}
+use Rattle.pb_text.specs.Reading.{byte_limit}
+use Rattle.pb_text.specs.declared.Limits.{Limits}
+use Rattle.pb_text.specs.declared.over.Over.{Over}
+use Rattle.pb_replay.specs.declared.verdict.Verdict.{Verdict}
+use Rattle.pb_replay.specs.declared.verdict.Verdict.TheVariants.{Unsat}
+use Rattle.pb_tool.specs.Decided.{AreVerified}
+use Rattle.pb_tool.specs.Headline.{AreWidest, IsUnsatText, UnsatIsExact, UnsatOf}
+use Rattle.pb_tool.specs.Tidy.{IsOpbFile}
+use Rattle.pb_tool.specs.Verified.{ChecksFiles}
+use Rattle.pb_tool.specs.declared.fault.ToolFault.{ToolFault}
+use Rattle.pb_examples.proofs.refuted.is_refuted.Goals as goal
+use Rattle.pb_examples.proofs.refuted.is_refuted.Goals.{in-Unsat, in_default}
+
+-- A source that tells its text has told all of it.
+unsat_text : (limits : Limits) → AreWidest limits → (text : List ℕ) (after : Option (List ℕ)) → UnsatOf limits byte_limit (Some text) after → IsUnsatText text
+unsat_text limits widest text after (v, file, none) =
+    (limits, widest, (v, subst (λ (x : Option (List ℕ)). IsOpbFile limits byte_limit (Some text) x v) file.took.1 file, none))
+
+pub returns-clause-unsat : goal.returns-clause-unsat
+returns-clause-unsat c e =
+    elim c.match-matches.branch [
+      | in-Unsat w ↦
+          let h = rw c.new-instance.ensures.shown at (c.in_ok-verdict.ensures.unsat (ap Ok w.in-Unsat.is)) in
+          subst IsUnsatText (ap (λ (r : Bor (List ℕ)). r.now) c.new-instance.ensures.inner) (unsat_text c.full-limits.result (c.full-limits.ensures.bits, c.full-limits.ensures.top) c.new-instance.result.inner.now _ h)
+      | in_default w ↦ absurd (cc)
+    ]
+
+-- What is answered for a verdict is whether it is UNSAT, and so whether the rules accept the two texts.
+same : {w v : Verdict} → ◌≡◌ {A = Result Verdict ToolFault} (Ok w) (Ok v) → w ≡ v
+same e = cc
+
+answered : {W : Type 0} (contents : W → Option (List ℕ)) (faults : W → ℕ) → UnsatIsExact contents faults → (limits : Limits) (i p : List ℕ) (left right i' p' : Option (List ℕ)) (old new : W) (w : Verdict)
+    → left ≡ Some i → right ≡ Some p → ChecksFiles limits byte_limit contents faults left right old (Ok w) i' p' new
+    → (answer : Bool) → IsTrue answer ↔ (w ≡ Unsat) → IsTrue answer ↔ AreVerified limits byte_limit i p Unsat
+answered contents faults exact limits i p left right i' p' old new w one other checks answer is =
+    let first = subst (λ (x : Option (List ℕ)). ChecksFiles limits byte_limit contents faults x right old (Ok w) i' p' new) one checks in
+    let second = subst (λ (x : Option (List ℕ)). ChecksFiles limits byte_limit contents faults (Some i) x old (Ok w) i' p' new) other first in
+    let (accepted, _) = exact limits byte_limit i p i' p' old new (Ok w) second tt in
+    (λ yes. accepted.0 (ap Ok (is.0 yes)), λ v. is.1 (same (accepted.1 v)))
+
+-- a source over a slice tells its bytes
+whole : (o : Over (Bor (List ℕ))) (s : Bor (List ℕ)) → inner_of o ≡ s → shown_of o ≡ None → told (Some o.inner.now) None o.shown ≡ Some s.now
+whole o s is none = ap (λ (x : Option ℕ). told (Some o.inner.now) None x) none ∙ ap (λ (x : Bor (List ℕ)). Some x.now) is
+
+-- the answer says whether the verdict is UNSAT
+whether : (c : goal.After-drop-out-2) → IsTrue c.match-matches.matches ↔ (c.in_ok-verdict.verdict ≡ Unsat)
+whether c = elim c.match-matches.branch [
+  | in-Unsat w ↦ ((λ yes. w.in-Unsat.is), (λ e. w.matches-is))
+  | in_default w ↦ ((λ yes. absurd (cc)), (λ e. absurd (w.in_default.not-Unsat e)))
+]
+
+pub returns-clause-exact : goal.returns-clause-exact
+returns-clause-exact c = (
+  c.full-limits.result,
+  (c.full-limits.ensures.bits, c.full-limits.ensures.top),
+  answered _ _ c.unsat_is_exact.ensures c.full-limits.result c.args.instance.now c.args.proof.now _ _ _ _ c.new-out.result c.check.new.out c.in_ok-verdict.verdict
+      (whole c.new-instance.result c.args.instance c.new-instance.ensures.inner c.new-instance.ensures.shown) (whole c.new-proof.result c.args.proof c.new-proof.ensures.inner c.new-proof.ensures.shown)
+      c.in_ok-verdict.ensures.checks c.match-matches.matches (whether c),
+)

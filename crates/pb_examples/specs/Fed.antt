@@ -1,0 +1,27 @@
+-- What a proof that comes in pieces shows.
+use Rattle.std.specs.Prelude.{◌≡◌, ◌↔◌, ℕ, List, Bool, IsTrue, Result, Ok}
+use Rattle.pb_text.specs.Reading.{byte_limit}
+use Rattle.pb_text.specs.declared.Place.{Place}
+use Rattle.pb_opb.specs.declared.Instance.{Instance}
+use Rattle.pb_replay.specs.Kept.{Replaying}
+use Rattle.pb_replay.specs.Problem.{Opened}
+use Rattle.pb_replay.specs.Replay.{State}
+use Rattle.pb_replay.specs.declared.fault.Fault.{Fault}
+use Rattle.pb_replay.specs.declared.verdict.Verdict.{Verdict}
+use Rattle.pb_replay.specs.declared.verdict.Verdict.TheVariants.{Unsat}
+use Rattle.pb_tool.specs.Checker.{IsAt}
+use Rattle.pb_tool.specs.Checks.{Ends}
+use Rattle.pb_tool.specs.Headline.{IsUnsatisfiable}
+
+-- No assignment solves the instance that the replay was opened for.
+abbrev pub IsRefuted : Replaying → Type 0
+IsRefuted replay = (limit : ℕ) (v : Instance) → Opened limit v (Ok replay.problem) → IsUnsatisfiable v
+
+-- The bytes begin with a proof. The rules accept it, from the state that the replay is in, with this verdict.
+abbrev pub Verifies : Replaying → List ℕ → Verdict → Type 0
+Verifies replay bytes w =
+    (first : Result State Fault) → IsAt replay first → (place : Place) × Ends replay.limits byte_limit replay.problem first bytes place (Ok w)
+
+-- The answer is whether the verdict on the bytes is UNSAT.
+abbrev pub TellsUnsat : Replaying → List ℕ → Bool → Type 0
+TellsUnsat replay bytes answer = (w : Verdict) × Verifies replay bytes w × (IsTrue answer ↔ (w ≡ Unsat))

@@ -1,0 +1,22 @@
+-- What reading an instance and writing it again gives.
+use Rattle.std.specs.Prelude.{◌≡◌, ℕ, ◌-◌, ◌^◌, List, ◌++◌}
+use Rattle.pb_text.specs.Spelling.{Item, bytes_of}
+use Rattle.pb_text.specs.Whole.{events_of}
+use Rattle.pb_opb.specs.Instances.{IsInstance}
+use Rattle.pb_opb.specs.Values.{IsValueOf}
+use Rattle.pb_opb.specs.declared.Instance.{Instance}
+use Rattle.pb_opb.specs.declared.OpbEvent.{OpbEvent}
+
+-- The bytes are a text of the instance, under the widest limits.
+abbrev pub IsTextOf : Instance → List ℕ → Type 0
+IsTextOf v bytes =
+    (items : List (Item OpbEvent)) × IsInstance (2 ^ 127 - 1) (2 ^ 63 - 1) items × (bytes_of items ≡ bytes) × IsValueOf (events_of items) v
+
+-- The first text begins with a text of an instance, and the second is a text of the same instance.
+pub record IsRewritten (text bytes : List ℕ) : Type 0 where
+  pub instance : Instance
+  pub used : List ℕ
+  pub rest : List ℕ
+  pub text_is : text ≡ used ++ rest
+  pub read : IsTextOf instance used
+  pub written : IsTextOf instance bytes

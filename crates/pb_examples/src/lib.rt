@@ -1,0 +1,10 @@
+//! Small programs over the library, each proved. The documents print them word for word.
+#![tactic(auto)]
+
+mod fed;
+mod refuted;
+mod rewritten;
+
+pub use fed::is_refuted_in_pieces;
+pub use refuted::is_refuted;
+pub use rewritten::canonical;

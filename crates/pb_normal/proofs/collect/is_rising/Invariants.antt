@@ -1,0 +1,9 @@
+use Rattle.std.proofs.Common.{◌≤◌, drop, length}
+use Rattle.pb_normal.specs.Form.{IsRising}
+use Rattle.pb_normal.proofs.collect.is_rising.Given as goal
+
+abbrev pub invariant-terms : goal.invariant-terms
+invariant-terms l = (l.i ≤ length l.terms) × IsRising l.above (drop l.i l.terms)
+
+abbrev pub decreases-terms : goal.decreases-terms
+decreases-terms l = l.i

@@ -1,0 +1,23 @@
+use Rattle.std.proofs.Common.{arith, ap, Err}
+use Rattle.pb_text.specs.Limits.{largest}
+use Rattle.pb_normal.specs.Constraints.{Fits}
+use Rattle.pb_normal.specs.declared.fault.NormalFault.{NormalFault}
+use Rattle.pb_normal.proofs.Loaded.{after_at, all_read, loaded_at, loaded_none, memory_alone}
+use Rattle.pb_normal.proofs.constraints.load_tested.Goals as goal
+
+pub loop-constraint-init : goal.loop-constraint-init
+loop-constraint-init c = rw c.new-forms.ensures.items (loaded_none c.args.names.now)
+
+pub loop-constraint-preserved : goal.loop-constraint-preserved
+loop-constraint-preserved c =
+    loaded_at c.args.names.now c.loop-constraint.names c.add.new.names c.args.constraints.now c.loop-constraint.constraint-index c.constraint-item.result _ _ (omega arith) c.constraint-item.is c.tell_distinct.ensures
+    c.loop-constraint.invariant c.in-Ok.ensures.names c.in-Ok.ensures.forms
+
+pub returns-in-Err-clause-err : goal.returns-in-Err-clause-err
+returns-in-Err-clause-err c = (
+  memory_alone c.in-Err.fault
+      (λ e. c.in-Err.ensures.overflow (ap (λ (f : NormalFault). Err f) e)
+      (all_read (Fits (largest c.args.limits)) c.args.constraints.now c.loop-constraint.constraint-index c.constraint-item.result (omega arith) c.constraint-item.is c.requires)),
+  after_at c.args.names.now c.loop-constraint.names c.add.new.names c.args.constraints.now c.loop-constraint.constraint-index c.constraint-item.result (omega arith) c.constraint-item.is
+      c.loop-constraint.invariant.names c.in-Err.ensures.err,
+)

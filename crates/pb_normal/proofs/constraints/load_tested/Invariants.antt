@@ -1,0 +1,7 @@
+use Rattle.std.proofs.Common.{take}
+use Rattle.pb_normal.proofs.Loaded.{LoadedFrom}
+use Rattle.pb_normal.proofs.constraints.load_tested.Given as goal
+
+-- the constraints so far are loaded
+abbrev pub invariant-loop-constraint : goal.invariant-loop-constraint
+invariant-loop-constraint l = LoadedFrom l.initial.names l.names (take l.constraint-index l.constraints) l.forms.items

@@ -1,0 +1,21 @@
+use Rattle.std.proofs.Common.{All, List, arith, subst}
+use Rattle.std.proofs.lemmas.List.{take_all}
+use Rattle.std.proofs.lemmas.List.Elements.{All-nil, All-push}
+use Rattle.pb_text.specs.Limits.{largest}
+use Rattle.pb_text.proofs.Lists.{take_read}
+use Rattle.pb_sums.specs.declared.values.Linear.{Linear}
+use Rattle.pb_normal.specs.Constraints.{Fits}
+use Rattle.pb_normal.proofs.constraints.test.Goals as goal
+
+pub loop-tested-init : goal.loop-tested-init
+loop-tested-init c = All-nil (λ (x : Linear). Fits (largest c.args.limits) x)
+
+pub loop-tested-preserved : goal.loop-tested-preserved
+loop-tested-preserved c =
+    let x = c.tested-item.result in
+    rw (take_read c.args.constraints.now c.loop-tested.tested-index x x (omega arith) c.tested-item.is)
+    (All-push (λ (y : Linear). Fits (largest c.args.limits) y) _ x c.loop-tested.invariant (c.fits.ensures.0 c.if-not-fits.false))
+
+pub returns-clause-ok : goal.returns-clause-ok
+returns-clause-ok c =
+    subst (λ (xs : List Linear). All (λ (y : Linear). Fits (largest c.args.limits) y) xs) (take_all c.loop-tested.tested-index c.args.constraints.now (omega arith)) c.loop-tested.invariant

@@ -1,0 +1,7 @@
+use Rattle.std.proofs.Common.{refl}
+use Rattle.pb_replay.proofs.Clauses.Stores.{rest-extend}
+use Rattle.pb_replay.proofs.propagate.clauses.Clauses.extend.Goals as goal
+
+pub returns-clause-rest : goal.returns-clause-rest
+returns-clause-rest c =
+    rest-extend c.args.self.now c.push-4.new.self c.push.new.self c.push-3.new.self c.push-2.new.self.items c.new.result _ c.requires.rest refl c.in_ok-push-4.ensures.items c.new.ensures.items c.in_ok-push.ensures.items c.in_ok-push-2.ensures.items c.in_ok-push-3.ensures.items

@@ -1,0 +1,5 @@
+-- Clauses with two watched literals each.
+pub mod Truths
+pub mod Links
+pub mod Runs
+pub mod Shapes

@@ -1,0 +1,23 @@
+-- What a replay stores.
+use Rattle.std.specs.Prelude.{◌≡◌}
+use Rattle.pb_replay.specs.declared.state.Running.{Running}
+use Rattle.pb_replay.specs.declared.replay.Replay.TheInside.{Inside}
+
+-- Both have the same instance, names, engine, best value, stage, conclusion and number of visits, under the same limits and
+-- with the same allocator.
+pub record AreAlike (a b : Running) : Type 0 where
+  pub alloc : a.alloc ≡ b.alloc
+  pub limits : a.limits ≡ b.limits
+  pub names : a.names ≡ b.names
+  pub own : a.own ≡ b.own
+  pub loaded : a.loaded ≡ b.loaded
+  pub objective : a.objective ≡ b.objective
+  pub engine : a.engine ≡ b.engine
+  pub best : a.best ≡ b.best
+  pub next : a.next ≡ b.next
+  pub concluded : a.concluded ≡ b.concluded
+  pub visits : a.visits ≡ b.visits
+
+-- It stores nothing besides these and its fault.
+abbrev pub KeepsItsState : Type 0
+KeepsItsState = (a b : Inside) → AreAlike a.running b.running → a.fault ≡ b.fault → a ≡ b

@@ -1,0 +1,173 @@
+//! Clauses by slots.
+
+ghost use Rattle.std.specs.Prelude.{◌≡◌, ℕ, ◌+◌, ◌*◌, ◌<◌, ◌≤◌, ◌++◌, ◌∷◌, [], List, All, Bool, Option, length, slice_set, slice_index, true, false, OnOk, OnErr, IfOk};
+ghost use Rattle.pb_replay.specs.Clauses.Links.{lists_of, list_at};
+ghost use Rattle.pb_replay.specs.Clauses.Runs.{AreReady, IsRunning};
+
+pub mod lists;
+pub mod truth;
+pub mod visiting;
+
+use crate::propagate::clauses::lists::{Watch, put_in, take_out};
+use std::alloc::{AllocError, Global};
+
+/// Clauses by slots, each with two watched literals.
+#[derive(Drop)]
+pub struct Clauses {
+    // The literals of each slot's clause, none if the slot is empty.
+    literals: Vec<Vec<u32>>,
+    // The literals of a slot's clause before this position are falsified or watched.
+    passed: Vec<usize>,
+    // The slots whose search has begun in this run.
+    moved: Vec<usize>,
+    // Two watches for each slot.
+    watches: Vec<Watch>,
+    // For each literal, the watches on it.
+    lists: Vec<Vec<usize>>,
+}
+
+impl Clauses {
+    /// No slots, over no variables.
+    pub fn new(alloc: Global) -> Clauses
+        ensures rest { AreReady result }
+        ensures literals { result.literals.items ≡ [] }
+        ensures lists { result.lists.items ≡ [] }
+    {
+        Clauses {
+            literals: Vec::new(alloc),
+            passed: Vec::new(alloc),
+            moved: Vec::new(alloc),
+            watches: Vec::new(alloc),
+            lists: Vec::new(alloc),
+        }
+    }
+
+    /// Adds a variable.
+    pub fn widen(&mut self) -> Result<(), AllocError>
+        requires rest { AreReady self.old }
+        ensures rest { OnOk result (AreReady self.new) }
+        ensures literals { self.new.literals ≡ self.old.literals }
+        ensures lists { OnOk result (length self.new.lists.items ≡ length self.old.lists.items + 2) }
+    {
+        let alloc = *self.lists.allocator();
+        self.lists.push(Vec::new(alloc))?;
+        self.lists.push(Vec::new(alloc))?;
+        Ok(())
+    }
+
+    /// Adds an empty slot.
+    pub fn extend(&mut self) -> Result<(), AllocError>
+        requires rest { AreReady self.old }
+        ensures rest { OnOk result (AreReady self.new) }
+        ensures literals { OnOk result (lists_of self.new.literals.items ≡ lists_of self.old.literals.items ++ [] ∷ []) }
+        ensures unchanged { OnErr result (self.new.literals.items ≡ self.old.literals.items) }
+        ensures lists { self.new.lists ≡ self.old.lists }
+    {
+        let alloc = *self.lists.allocator();
+        self.passed.push(0)?;
+        let idle = Watch {
+            literal: 0,
+            live: false,
+            spot: 0,
+        };
+        self.watches.push(idle)?;
+        self.watches.push(idle)?;
+        self.literals.push(Vec::new(alloc))?;
+        Ok(())
+    }
+
+    /// How many watches a literal has.
+    pub fn watch_count(&self, literal: usize) -> usize
+        requires { literal < length self.now.lists.items }
+        ensures { result ≡ length (list_at (lists_of self.now.lists.items) literal) }
+    {
+        self.lists[literal].len()
+    }
+
+    // Whether the slot holds a clause.
+    fn is_filled(&self, slot: usize) -> bool
+        ensures yes { result ≡ true → 0 < length (list_at (lists_of self.now.literals.items) slot) }
+        ensures no { result ≡ false → list_at (lists_of self.now.literals.items) slot ≡ [] }
+    {
+        if slot >= self.literals.len() {
+            return false;
+        }
+        let filled = self.literals[slot].len() > 0;
+        filled
+    }
+
+    /// Stores a clause in an empty slot. Its first two literals are watched.
+    pub fn fill(&mut self, slot: usize, literals: Vec<u32>) -> Result<(), AllocError>
+        requires rest { AreReady self.old }
+        requires slot { slot < length self.old.literals.items }
+        requires empty { list_at (lists_of self.old.literals.items) slot ≡ [] }
+        requires two { 2 ≤ length literals.items }
+        requires apart { slice_index literals.items 0 ≡ slice_index literals.items 1 → ⊥ }
+        requires inside { All (λ x. x < length self.old.lists.items) literals.items }
+        ensures rest { OnOk result (AreReady self.new) }
+        ensures literals { OnOk result (lists_of self.new.literals.items ≡ slice_set (lists_of self.old.literals.items) slot literals.items) }
+        ensures unchanged { OnErr result (self.new.literals ≡ self.old.literals) }
+        ensures lists { OnOk result (length self.new.lists.items ≡ length self.old.lists.items) }
+    {
+        let first = literals[0];
+        let second = literals[1];
+        put_in(&mut self.lists, &mut self.watches, 2 * slot, first)?;
+        put_in(&mut self.lists, &mut self.watches, 2 * slot + 1, second)?;
+        self.literals[slot] = literals;
+        Ok(())
+    }
+
+    /// Makes a slot empty. Nothing is allocated.
+    pub fn empty(&mut self, slot: usize)
+        requires rest { AreReady self.old }
+        requires slot { slot < length self.old.literals.items }
+        ensures rest { AreReady self.new }
+        ensures literals { lists_of self.new.literals.items ≡ slice_set (lists_of self.old.literals.items) slot [] }
+        ensures lists { length self.new.lists.items ≡ length self.old.lists.items }
+    {
+        if !self.is_filled(slot) {
+            return;
+        }
+        self.vacate(slot);
+    }
+
+    // Removes the clause of a slot, which is then empty.
+    fn vacate(&mut self, slot: usize)
+        requires rest { AreReady self.old }
+        requires some { 0 < length (list_at (lists_of self.old.literals.items) slot) }
+        ensures rest { AreReady self.new }
+        ensures literals { lists_of self.new.literals.items ≡ slice_set (lists_of self.old.literals.items) slot [] }
+        ensures lists { length self.new.lists.items ≡ length self.old.lists.items }
+    {
+        let alloc = *self.lists.allocator();
+        let first = self.watches[2 * slot];
+        take_out(
+            &mut self.lists,
+            &mut self.watches,
+            first.literal as usize,
+            first.spot,
+        );
+        let second = self.watches[2 * slot + 1];
+        take_out(
+            &mut self.lists,
+            &mut self.watches,
+            second.literal as usize,
+            second.spot,
+        );
+        self.literals[slot] = Vec::new(alloc);
+    }
+
+    /// Prepares for another run. Only the clauses in which a search has begun are visited, and nothing is allocated.
+    pub fn rest(&mut self)
+        requires running { (values : List (Option Bool)) × IsRunning values self.old }
+        ensures rest { AreReady self.new }
+        ensures literals { self.new.literals ≡ self.old.literals }
+        ensures lists { self.new.lists ≡ self.old.lists }
+    {
+        'slots: for i in 0..self.moved.len() {
+            let slot = self.moved[i];
+            self.passed[slot] = 0;
+        }
+        self.moved.clear();
+    }
+}

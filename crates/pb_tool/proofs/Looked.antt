@@ -1,0 +1,45 @@
+-- What the last peeks of a check have shown.
+use Rattle.std.proofs.Common.{◌≡◌, ℕ, List, Bool, true, Option, Err}
+use Rattle.pb_text.specs.declared.Limits.{Limits}
+use Rattle.pb_text.specs.declared.Place.{Place}
+use Rattle.pb_replay.specs.Problem.{Problem}
+use Rattle.pb_replay.specs.Replay.{State}
+use Rattle.pb_replay.specs.declared.fault.Fault.{Fault}
+use Rattle.pb_tool.specs.Runs.{IsNoReplay, IsToldAs, Replays}
+use Rattle.pb_tool.specs.Seen.{SawNoInstance, SawNoProof}
+use Rattle.pb_tool.specs.declared.fault.ToolFault.{ToolFault}
+use Rattle.pb_tool.specs.declared.fault.ToolFault.TheVariants.{Text, Open, Overflow, Memory, Write, Step}
+use Rattle.pb_tool.specs.declared.fault.Input.TheVariants.{File, Instance as of_instance, Proof as of_proof}
+
+module _ (shown : Option ℕ) (ended : Bool) where
+  module _ (limits : Limits) (longest : ℕ) (before after : Option (List ℕ)) where
+    -- if there is no replay, the reason is not the text of the proof
+    pub opening_unseen : (f : ToolFault) → IsNoReplay limits longest before after f → SawNoProof shown ended f
+    opening_unseen (Text of_proof s) h = absurd h
+    opening_unseen (Text of_instance s) h = tt
+    opening_unseen (Text File s) h = tt
+    opening_unseen (Open input) h = tt
+    opening_unseen (Overflow input) h = tt
+    opening_unseen (Memory input) h = tt
+    opening_unseen Write h = absurd h
+    opening_unseen (Step place e name) h = tt
+
+    -- a proof is not rejected for the text of the instance, which was read to its end
+    pub replay_unseen : ended ≡ true → (v : Problem) (first : State) (f : ToolFault) → Replays limits longest v first before (Err f) after → SawNoInstance shown ended f
+    replay_unseen end v first (Text of_instance s) h = absurd h
+    replay_unseen end v first (Text of_proof s) h = end
+    replay_unseen end v first (Text File s) h = end
+    replay_unseen end v first (Open input) h = end
+    replay_unseen end v first (Overflow input) h = end
+    replay_unseen end v first (Memory input) h = end
+    replay_unseen end v first Write h = end
+    replay_unseen end v first (Step place e name) h = end
+
+  -- a rejected statement is not a text that stopped the reader
+  pub told_unseen : (names : List (List ℕ)) (place : Place) (e : Fault) (f : ToolFault) → IsToldAs names place e f → SawNoProof shown ended f
+  told_unseen names place e (Step at x name) h = tt
+  told_unseen names place e (Text i s) h = absurd h
+  told_unseen names place e (Open i) h = absurd h
+  told_unseen names place e (Overflow i) h = absurd h
+  told_unseen names place e (Memory i) h = absurd h
+  told_unseen names place e Write h = absurd h

@@ -1,0 +1,4 @@
+pub mod Adding
+pub mod Deleting
+pub mod Shown
+pub mod Storing

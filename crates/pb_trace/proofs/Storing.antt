@@ -1,0 +1,125 @@
+-- What is stored of the constraints is what the replay has, statement by statement.
+use Rattle.std.specs.Prelude.{Ok}
+use Rattle.std.proofs.Common.{◌≡◌, ℕ, ℤ, List, [], ◌∷◌, ◌++◌, length, drop, set, Option, Some, None, refl, sym, ap, ◌∙◌, arith, append-nil, subst}
+use Rattle.std.proofs.lemmas.List.{drop_all, length-set}
+use Rattle.std.proofs.lemmas.Grind.{common_steps}
+use Rattle.pb_sums.specs.declared.Literal.{Literal}
+use Rattle.pb_sums.specs.declared.Term.{Term}
+use Rattle.pb_proof.specs.Order.{stage_of}
+use Rattle.pb_proof.specs.declared.Bound.{Bound}
+use Rattle.pb_proof.specs.declared.Bound.TheVariants.{Finite, Infinite}
+use Rattle.pb_proof.specs.declared.Conclusion.{Conclusion}
+use Rattle.pb_proof.specs.declared.Conclusion.TheVariants.{NoClaim, Unsat, Sat, Bounds}
+use Rattle.pb_proof.specs.declared.Stage.{Stage}
+use Rattle.pb_proof.specs.declared.Stage.TheVariants.{Steps}
+use Rattle.pb_proof.specs.declared.Statement.{Statement}
+use Rattle.pb_proof.specs.declared.Statement.TheVariants.{Header, F, Pol, Rup, Soli, Solx, Delete, Output, Conclude, End}
+use Rattle.pb_normal.specs.Form.{Form}
+use Rattle.pb_normal.specs.Names.{with_names}
+use Rattle.pb_replay.specs.Answer.{Answer}
+use Rattle.pb_replay.specs.Conclusions.{none_left, named, lower_bound, upper_bound, Concludes}
+use Rattle.pb_replay.specs.Kept.{StandsFor}
+use Rattle.pb_replay.specs.Problem.{Problem}
+use Rattle.pb_replay.specs.Replay.{State, Deleted, place}
+use Rattle.pb_replay.specs.Statements.{Does, mentioned}
+use Rattle.pb_replay.proofs.lemmas.Accepting.{needed, followed, ok-same}
+use Rattle.pb_replay.proofs.lemmas.Concluded.{contradicted-has}
+use Rattle.pb_trace.specs.Laws.{FirstIsEmpty, IsEmptyAt, StoresTheLive}
+use Rattle.pb_trace.specs.Traced.{extended, stored_after, without_all}
+
+-- an accepted conclusion continues
+left_next : (s : State) (id : Option ℤ) (next : Answer State) (t : State) → none_left s id next (Ok t) → next (Ok t)
+left_next s id next t h = (contradicted-has s.live id next t (needed h).1).1
+
+named_next : (live : List (Option Form)) (id : Option ℤ) (next : Option Form → Answer State) (t : State) → named live id next (Ok t) → (o : Option Form) × next o (Ok t)
+named_next live None next t h = (None, h)
+named_next live (Some i) next t h = let found = needed h in (Some found.0, found.2)
+
+lower_next : (limit : ℕ) (s : State) (o : List Term) (b : Bound) (id : Option ℤ) (next : Answer State) (t : State) → lower_bound limit s o b id next (Ok t) → next (Ok t)
+lower_next limit s o Infinite id next t h = left_next s id next t h
+lower_next limit s o (Finite b) id next t h =
+    let normal = (needed (named_next s.live id _ t (needed h).1).1).1 in
+    (needed normal.2).1
+
+upper_next : (v : Problem) (s : State) (u : Bound) (shown : Option (List Literal)) (next : Answer State) (t : State) → upper_bound v s u shown next (Ok t) → next (Ok t)
+upper_next v s Infinite shown next t h = h
+upper_next v s (Finite u) (Some given) next t h = (needed (needed h).2).1
+upper_next v s (Finite u) None next t h = (needed (needed h).1).1
+
+concluded_next : (limit : ℕ) (v : Problem) (s : State) (c : Conclusion) (next : Answer State) (t : State) → Concludes limit v s c next (Ok t) → next (Ok t)
+concluded_next limit v s NoClaim next t h = h
+concluded_next limit v s (Unsat id) next t h = left_next s id next t h
+concluded_next limit v s (Sat (Some given)) next t h = (needed h).2
+concluded_next limit v s (Sat None) next t h = (needed h).1
+concluded_next limit v s (Bounds lower id upper shown) next t h =
+    let o = needed h in
+    upper_next v s upper shown next t (lower_next limit s o.0 lower id _ t o.2)
+
+-- nothing new, or one more
+nothing_new : (live rest : List (Option Form)) → length rest ≡ length live → extended live rest ≡ live
+nothing_new live rest e = ap (λ z. live ++ z) (drop_all (length live) rest (omega arith)) ∙ append-nil live
+
+one_new : (live : List (Option Form)) (f : Option Form) → extended live (live ++ f ∷ []) ≡ live ++ f ∷ []
+one_new live f = let e : drop (length live) (live ++ f ∷ []) ≡ f ∷ [] = grind (arith, common_steps) in ap (λ z. live ++ z) e
+
+in_steps : (at : Stage) (live : List (Option Form)) → at ≡ Steps → IsEmptyAt at live
+in_steps at live e = rw e tt
+
+deleted : (live : List (Option Form)) (ids : List ℤ) (rest : List (Option Form)) → Deleted live ids (Ok rest) → (rest ≡ without_all live ids) × (length rest ≡ length live)
+deleted live [] rest h = let e = ok-same h in (e, ap length e)
+deleted live (id ∷ ids) rest h =
+    let found = needed h in
+    let later = deleted (set live (place (length live) id) None) ids rest found.2 in
+    (later.0, later.1 ∙ length-set live (place (length live) id) None)
+
+stored : (limit top : ℕ) (v : Problem) (s t : State) (st : Statement) → s.next ≡ stage_of st → IsEmptyAt s.next s.live → Does limit top v s st (Ok t)
+    → (stored_after (extended s.live t.live) st ≡ t.live) × IsEmptyAt t.next t.live
+stored limit top v s t Header due p h =
+    let P : Stage → Type 0 = λ x. IsEmptyAt x s.live in
+    let none : s.live ≡ [] = subst P due p in
+    rw (ok-same h) (nothing_new s.live s.live refl, none)
+stored limit top v s t (F count) due p h =
+    let P : Stage → Type 0 = λ x. IsEmptyAt x s.live in
+    let none : s.live ≡ [] = subst P due p in
+    let last = needed (needed h).1 in
+    rw (ok-same last.1, none) (refl, tt)
+stored limit top v s t (Pol ws) due p h =
+    let last = needed (followed h.2).2 in
+    rw (ok-same last.1) (one_new s.live _, in_steps s.next _ due)
+stored limit top v s t (Rup linear) due p h =
+    let last = needed (needed (needed h).1.2).1 in
+    rw (ok-same last.1) (one_new s.live _, in_steps s.next _ due)
+stored limit top v s t (Soli given) due p h =
+    let g = followed (needed h).2 in
+    let last = needed (needed g.2).1.2 in
+    rw (ok-same last.1) (one_new s.live _, in_steps s.next _ due)
+stored limit top v s t (Solx given) due p h =
+    let g = followed h in
+    let last = needed (g.2).2 in
+    rw (ok-same last.1) (one_new s.live _, in_steps s.next _ due)
+stored limit top v s t (Delete ids) due p h =
+    let rest = followed h in
+    let same = deleted s.live ids rest.0 rest.1 in
+    rw (ok-same rest.2) (rw (nothing_new s.live rest.0 same.1) (sym same.0), in_steps s.next _ due)
+stored limit top v s t Output due p h = rw (ok-same h) (nothing_new s.live s.live refl, tt)
+stored limit top v s t (Conclude c) due p h =
+    let last = concluded_next limit v s c _ t h in
+    rw (ok-same last) (nothing_new s.live s.live refl, tt)
+stored limit top v s t End due p h = rw (ok-same h) (nothing_new s.live s.live refl, tt)
+
+pub first-empty : FirstIsEmpty
+first-empty r first = let P : Stage → Type 0 = λ x. IsEmptyAt x r.live in subst P first.next (sym first.live)
+
+pub stores-live : StoresTheLive
+stores-live old new st (s, before) empty steps =
+    let step = steps.0 s before in
+    let t : State = step.0 in
+    let after : StandsFor new t = step.1 in
+    let due = needed step.2 in
+    let P : Stage → Type 0 = λ x. IsEmptyAt x s.live in
+    let E : List (Option Form) → Type 0 = λ x. IsEmptyAt old.next x in
+    let here : IsEmptyAt s.next s.live = subst P (sym before.next) (subst E (sym before.live) empty) in
+    let all = stored _ _ old.problem (record s { names = with_names s.names (mentioned st) }) t st due.0 here due.1 in
+    let N : Stage → Type 0 = λ x. IsEmptyAt x new.live in
+    let M : List (Option Form) → Type 0 = λ x. IsEmptyAt t.next x in
+    (rw (← before.live, ← after.live) all.0, subst N after.next (subst M after.live all.1))

@@ -1,0 +1,8 @@
+use Rattle.std.proofs.Common.{take}
+use Rattle.std.specs.List.{flat_map}
+use Rattle.pb_text.specs.Writing.{Wrote}
+use Rattle.pb_trace.proofs.Shown.{entry_bytes}
+use Rattle.pb_trace.proofs.write.write_entries.Given as goal
+
+abbrev pub invariant-loop-entry : goal.invariant-loop-entry
+invariant-loop-entry g l = Wrote g.S.Sink.contents g.S.Sink.faults l.initial.out (flat_map (entry_bytes (g.N.Named.names l.names)) (take l.entry-index l.entries)) l.out

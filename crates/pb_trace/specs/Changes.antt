@@ -1,0 +1,29 @@
+-- Forms in a trace, and what adds or deletes them.
+use Rattle.std.specs.Prelude.{ℕ, pos, List, ◌++◌, map, get_or, decimal, codes}
+use Rattle.pb_sums.specs.declared.values.Term.{Term}
+use Rattle.pb_sums.specs.declared.values.Linear.{Linear}
+use Rattle.pb_sums.specs.declared.values.Relation.TheVariants.{AtLeast}
+use Rattle.pb_sums.specs.Canonical.{linear_bytes}
+use Rattle.pb_normal.specs.declared.entry.Entry.{Entry}
+use Rattle.pb_normal.specs.Form.{Form}
+
+-- the name with a number, or `?` if no name has it
+abbrev pub name_shown : List (List ℕ) → ℕ → List ℕ
+name_shown names number = get_or names number (codes "?")
+
+abbrev pub term_shown : List (List ℕ) → Entry → Term
+term_shown names t = record {
+  coefficient = pos t.coefficient;
+  literal = record { name = name_shown names t.variable; negated = t.negated };
+}
+
+-- a form written with the names of its variables
+abbrev pub form_shown : List (List ℕ) → Form → Linear
+form_shown names f = record { terms = map (term_shown names) f.terms; relation = AtLeast; degree = pos f.degree }
+
+abbrev pub form_bytes : List (List ℕ) → Form → List ℕ
+form_bytes names f = linear_bytes (form_shown names f)
+
+-- an id and its form after an arrow, as in ` -> 3: +1 x1 >= 1 ;`
+abbrev pub change_bytes : List ℕ → List (List ℕ) → ℕ → Form → List ℕ
+change_bytes arrow names id f = arrow ++ (decimal id ++ (codes ": " ++ form_bytes names f))

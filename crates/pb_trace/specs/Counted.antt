@@ -1,0 +1,93 @@
+-- The counts of a check, and the lines that show them.
+use Rattle.std.specs.Prelude.{ℕ, ◌+◌, ◌-◌, ◌^◌, min, max, List, [], ◌∷◌, ◌++◌, length, decimal, codes}
+use Rattle.std.specs.List.{flat_map}
+use Rattle.pb_text.specs.declared.Spanned.{Spanned}
+use Rattle.pb_proof.specs.declared.Statement.{Statement}
+use Rattle.pb_proof.specs.declared.Statement.TheVariants.{Header, F, Pol, Rup, Soli, Solx, Delete, Output, Conclude, End}
+use Rattle.pb_replay.specs.Kept.{Replaying}
+use Rattle.pb_trace.specs.declared.stats.Stats.{Stats}
+
+-- a count saturates
+abbrev pub saturated : ℕ → ℕ
+saturated n = min n (2 ^ 64 - 1)
+
+abbrev pub statements_in : Stats → ℕ
+statements_in s = saturated (s.pol + s.rup + s.delete + s.soli + s.solx + s.others)
+
+-- the counts that are shown, each with its name
+abbrev pub counts_in : Stats → List (List ℕ × ℕ)
+counts_in s =
+    (codes "statements", statements_in s)
+    ∷ (codes "pol", s.pol)
+    ∷ (codes "rup", s.rup)
+    ∷ (codes "soli", s.soli)
+    ∷ (codes "solx", s.solx)
+    ∷ (codes "del id", s.delete)
+    ∷ (codes "newest id", s.newest)
+    ∷ (codes "live constraints at the end", s.live)
+    ∷ (codes "live constraints at most", s.most_live)
+    ∷ (codes "visits of propagation", s.visits)
+    ∷ (codes "bytes of the proof", s.bytes)
+    ∷ []
+
+-- a name, `: `, the count and a line feed
+abbrev pub count_line : List ℕ → ℕ → List ℕ
+count_line name count = name ++ (codes ": " ++ (decimal count ++ codes "\n"))
+
+abbrev pub stats_bytes : Stats → List ℕ
+stats_bytes s = flat_map (λ c. count_line c.0 c.1) (counts_in s)
+
+-- one more statement of its kind
+abbrev pub counted : Stats → Statement → Stats
+counted s Header = record s { others = saturated (s.others + 1) }
+counted s (F count) = record s { others = saturated (s.others + 1) }
+counted s (Pol ws) = record s { pol = saturated (s.pol + 1) }
+counted s (Rup c) = record s { rup = saturated (s.rup + 1) }
+counted s (Soli ls) = record s { soli = saturated (s.soli + 1) }
+counted s (Solx ls) = record s { solx = saturated (s.solx + 1) }
+counted s (Delete ids) = record s { delete = saturated (s.delete + 1) }
+counted s Output = record s { others = saturated (s.others + 1) }
+counted s (Conclude c) = record s { others = saturated (s.others + 1) }
+counted s End = record s { others = saturated (s.others + 1) }
+
+-- the visits that a statement needed, and how many constraints it deleted
+abbrev pub visits_of : Statement → Replaying → ℕ
+visits_of Header replay = 0
+visits_of (F count) replay = 0
+visits_of (Pol ws) replay = 0
+visits_of (Rup c) replay = replay.visits
+visits_of (Soli ls) replay = 0
+visits_of (Solx ls) replay = 0
+visits_of (Delete ids) replay = 0
+visits_of Output replay = 0
+visits_of (Conclude c) replay = 0
+visits_of End replay = 0
+
+abbrev pub deletions_of : Statement → ℕ
+deletions_of Header = 0
+deletions_of (F count) = 0
+deletions_of (Pol ws) = 0
+deletions_of (Rup c) = 0
+deletions_of (Soli ls) = 0
+deletions_of (Solx ls) = 0
+deletions_of (Delete ids) = length ids
+deletions_of Output = 0
+deletions_of (Conclude c) = 0
+deletions_of End = 0
+
+-- the constraints that are live after a statement, from the newest id then
+abbrev pub live_after : Stats → Statement → ℕ → ℕ
+live_after s st newest = saturated ((s.live - deletions_of st) + (newest - s.newest))
+
+abbrev pub measured : Stats → Spanned Statement → Replaying → Stats
+measured s read replay = record s {
+  visits = saturated (s.visits + visits_of read.event replay);
+  newest = length replay.live;
+  live = live_after s read.event (length replay.live);
+  most_live = max s.most_live (live_after s read.event (length replay.live));
+  bytes = read.past.offset;
+}
+
+-- the counts after an accepted statement, from the replay after it
+abbrev pub seen : Stats → Spanned Statement → Replaying → Stats
+seen s read replay = measured (counted s read.event) read replay

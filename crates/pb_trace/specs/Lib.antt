@@ -1,0 +1,4 @@
+pub mod Changes
+pub mod Counted
+pub mod Laws
+pub mod Traced

@@ -1,0 +1,113 @@
+-- The line of an accepted statement.
+use Rattle.std.specs.Prelude.{◌≡◌, ℕ, zero, suc, ◌+◌, ◌-◌, ℤ, if◌then◌else◌, List, [], ◌∷◌, ◌++◌, length, drop, map, get_or, set, codes, Option, Some, None, Result, Ok, Err}
+use Rattle.std.specs.Fmt.{signed_decimal}
+use Rattle.pb_text.specs.declared.Spanned.{Spanned}
+use Rattle.pb_text.specs.Writing.{Wrote, Broke}
+use Rattle.pb_sums.specs.Canonical.{place_bytes}
+use Rattle.pb_proof.specs.Canonical.{statement_bytes}
+use Rattle.pb_proof.specs.declared.Statement.{Statement}
+use Rattle.pb_proof.specs.declared.Statement.TheVariants.{Header, F, Pol, Rup, Soli, Solx, Delete, Output, Conclude, End}
+use Rattle.pb_normal.specs.Form.{Form}
+use Rattle.pb_replay.specs.Kept.{Replaying}
+use Rattle.pb_replay.specs.Replay.{place}
+use Rattle.pb_tool.specs.declared.Input.TheVariants.{Proof}
+use Rattle.pb_tool.specs.declared.ToolFault.{ToolFault}
+use Rattle.pb_tool.specs.declared.ToolFault.TheVariants.{Memory as NoMemory, Write as NotWritten}
+use Rattle.pb_trace.specs.Changes.{change_bytes}
+use Rattle.pb_trace.specs.declared.broken.Broken.{Broken}
+use Rattle.pb_trace.specs.declared.broken.Broken.TheVariants.{Memory, Write}
+use Rattle.pb_trace.specs.declared.stored.Stored.{Stored}
+
+-- The stored constraints as a replay has its own: that with id i is at index i - 1, and a deleted one is `None`.
+abbrev pub live_in : List Stored → List (Option Form)
+live_in forms = map (λ s. if s.is_live then Some s.form else None) forms
+
+-- the stored constraints and those of a replay that are newer
+abbrev pub extended : List (Option Form) → List (Option Form) → List (Option Form)
+extended stored live = stored ++ drop (length stored) live
+
+-- an id and its constraint after an arrow, if it is live
+abbrev pub found_bytes : List ℕ → List (List ℕ) → ℕ → Option Form → List ℕ
+found_bytes arrow names id None = []
+found_bytes arrow names id (Some f) = change_bytes arrow names id f
+
+-- the live constraints with the next so many ids
+abbrev pub added_bytes : List (List ℕ) → List (Option Form) → ℕ → ℕ → List ℕ
+added_bytes names live newest zero = []
+added_bytes names live newest (suc more) =
+    found_bytes (codes " -> ") names (newest + 1) (get_or live newest None) ++ added_bytes names live (newest + 1) more
+
+-- the constraints after one is deleted by its id as written
+abbrev pub without : List (Option Form) → ℤ → List (Option Form)
+without live id = set live (place (length live) id) None
+
+abbrev pub deletion_bytes : List (List ℕ) → List (Option Form) → ℤ → List ℕ
+deletion_bytes names live id =
+    let index = place (length live) id in found_bytes (codes " -> no ") names (index + 1) (get_or live index None)
+
+-- the same for ids in turn
+abbrev pub without_all : List (Option Form) → List ℤ → List (Option Form)
+without_all live [] = live
+without_all live (id ∷ ids) = without_all (without live id) ids
+
+abbrev pub deleted_bytes : List (List ℕ) → List (Option Form) → List ℤ → List ℕ
+deleted_bytes names live [] = []
+deleted_bytes names live (id ∷ ids) = deletion_bytes names live id ++ deleted_bytes names (without live id) ids
+
+-- the best value of the objective, if there is one
+abbrev pub best_bytes : Option ℤ → List ℕ
+best_bytes None = []
+best_bytes (Some value) = codes " best " ++ signed_decimal value
+
+-- what follows the added constraints
+abbrev pub tail_bytes : List (Option Form) → Replaying → Statement → List ℕ
+tail_bytes stored replay Header = []
+tail_bytes stored replay (F count) = []
+tail_bytes stored replay (Pol ws) = []
+tail_bytes stored replay (Rup c) = []
+tail_bytes stored replay (Soli ls) = best_bytes replay.best
+tail_bytes stored replay (Solx ls) = []
+tail_bytes stored replay (Delete ids) = deleted_bytes replay.names stored ids
+tail_bytes stored replay Output = []
+tail_bytes stored replay (Conclude c) = []
+tail_bytes stored replay End = []
+
+-- the stored constraints after a statement
+abbrev pub stored_after : List (Option Form) → Statement → List (Option Form)
+stored_after stored Header = stored
+stored_after stored (F count) = stored
+stored_after stored (Pol ws) = stored
+stored_after stored (Rup c) = stored
+stored_after stored (Soli ls) = stored
+stored_after stored (Solx ls) = stored
+stored_after stored (Delete ids) = without_all stored ids
+stored_after stored Output = stored
+stored_after stored (Conclude c) = stored
+stored_after stored End = stored
+
+-- The position, the statement, the constraints after an id, what else there is to say, and a line feed.
+abbrev pub line_after : ℕ → List (Option Form) → Spanned Statement → Replaying → List ℕ
+line_after newest stored read replay =
+    (place_bytes read.first ++ statement_bytes read.event)
+    ++ (added_bytes replay.names replay.live newest (length replay.live - newest) ++ (tail_bytes stored replay read.event ++ codes "\n"))
+
+-- the line of a statement, from what was stored before it and from the replay after it
+abbrev pub line_bytes : List (Option Form) → Spanned Statement → Replaying → List ℕ
+line_bytes stored read replay = line_after (length stored) (extended stored replay.live) read replay
+
+abbrev pub broken_by : Result Unit Broken → Option Broken
+broken_by (Ok _) = None
+broken_by (Err broken) = Some broken
+
+-- how a trace ends
+abbrev pub end_of : Option Broken → Result Unit ToolFault
+end_of None = Ok tt
+end_of (Some Memory) = Err (NoMemory Proof)
+end_of (Some Write) = Err NotWritten
+
+-- What a line leaves in its sink: the whole line; a prefix of it, and one fault; or nothing, if memory ran out.
+module _ {S : Type 0} (contents : S → Option (List ℕ)) (faults : S → ℕ) where
+  abbrev pub Traces : S → List ℕ → Option Broken → S → Type 0
+  Traces old line None new = Wrote contents faults old line new
+  Traces old line (Some Write) new = Broke contents faults old line new
+  Traces old line (Some Memory) new = new ≡ old

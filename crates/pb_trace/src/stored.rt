@@ -1,0 +1,147 @@
+//! The constraints of a replay, stored for the reasons of a rejection.
+
+ghost use Rattle.std.specs.Prelude.{◌≡◌, ◌<◌, ◌+◌, ◌-◌, [], ◌∷◌, ◌++◌, Some, None, IfErr, OnOk, MatchOption, get_or, if◌then◌else◌, length, set};
+ghost use Rattle.std.specs.Option.{option_copied};
+ghost use Rattle.pb_replay.specs.Replay.{place};
+ghost use Rattle.pb_trace.specs.Traced.{live_in, extended};
+
+use crate::broken::Broken;
+use pb_normal::Normal;
+use pb_replay::Replay;
+use std::alloc::Global;
+
+/// A constraint, and whether it is live.
+#[derive(Drop)]
+pub(crate) struct Stored {
+    pub(crate) form: Normal,
+    pub(crate) is_live: bool,
+}
+
+/// Copies of all constraints by their ids, and how many the instance has.
+#[derive(Drop)]
+pub(crate) struct Constraints {
+    forms: Vec<Stored>,
+    loaded: usize,
+}
+
+impl Constraints {
+    /// No constraints.
+    pub(crate) fn new(alloc: Global) -> Constraints
+        ensures { result.forms.items ≡ [] }
+    {
+        Constraints {
+            forms: Vec::new(alloc),
+            loaded: 0,
+        }
+    }
+
+    /// Stores the constraints that a replay has gained.
+    pub(crate) fn extend(&mut self, replay: &Replay) -> Result<(), Broken>
+        ensures ok { OnOk result (live_in self.new.forms.items ≡ extended (live_in self.old.forms.items) replay.now.live) }
+        ensures memory { IfErr result (λ e. e ≡ Broken.Memory) }
+    {
+        for index in self.newest()..replay.newest() {
+            self.store(replay.constraint(index + 1))?;
+        }
+        Ok(())
+    }
+
+    /// Stores a copy of a constraint. Without one, it stores one that always holds, as a deleted one.
+    fn store(&mut self, form: Option<&Normal>) -> Result<(), Broken>
+        ensures ok { OnOk result (live_in self.new.forms.items ≡ live_in self.old.forms.items ++ option_copied form.entry ∷ []) }
+        ensures memory { IfErr result (λ e. e ≡ Broken.Memory) }
+    {
+        match form {
+            Some(form) => self.push(form.copy()?, true),
+            None => {
+                let alloc = *self.forms.allocator();
+                self.push(Normal::from_literals(alloc, &[], 0)?, false)
+            }
+        }
+    }
+
+    fn push(&mut self, form: Normal, is_live: bool) -> Result<(), Broken>
+        ensures ok { OnOk result (live_in self.new.forms.items ≡ live_in self.old.forms.items ++ (if is_live then Some form else None) ∷ []) }
+        ensures memory { IfErr result (λ e. e ≡ Broken.Memory) }
+    {
+        self.forms.push(Stored { form, is_live })?;
+        Ok(())
+    }
+
+    /// The constraints so far are those of the instance.
+    pub(crate) fn end_instance(&mut self)
+        ensures { self.new.forms ≡ self.old.forms }
+    {
+        self.loaded = self.forms.len();
+    }
+
+    /// The newest id, or 0.
+    pub(crate) fn newest(&self) -> u64
+        ensures { result ≡ length self.now.forms.items }
+    {
+        self.forms.len() as u64
+    }
+
+    /// The constraint with an id, live or deleted.
+    pub(crate) fn find(&self, id: u64) -> Option<&Stored> {
+        if id == 0 {
+            return None;
+        }
+        self.forms.get(id.saturating_sub(1) as usize)
+    }
+
+    /// The live constraint with an id as it is written. A negative id counts back from the newest.
+    pub(crate) fn find_written(&self, id: i64) -> Option<(u64, &Normal)>
+        ensures { let index = place (length self.now.forms.items) id in let form = get_or (live_in self.now.forms.items) index None in
+            MatchOption result (form ≡ None) (λ r. (r.0 ≡ index + 1) × (form ≡ Some r.1.now)) }
+    {
+        let index = self.index_of(id);
+        let stored = self.forms.get(index as usize)?;
+        if stored.is_live {
+            Some((index + 1, &stored.form))
+        } else {
+            None
+        }
+    }
+
+    /// The index of the constraint with an id as it is written, or the number of constraints if there is none.
+    fn index_of(&self, id: i64) -> u64
+        ensures { result ≡ place (length self.now.forms.items) id }
+    {
+        let newest = self.newest();
+        let count = id.unsigned_abs();
+        if id == 0 {
+            return newest;
+        }
+        if id > 0 {
+            return count - 1;
+        }
+        if count <= newest {
+            newest - count
+        } else {
+            newest
+        }
+    }
+
+    /// Deletes a constraint, which then stays as a deleted one.
+    pub(crate) fn delete(&mut self, id: u64)
+        ensures { 0 < id → live_in self.new.forms.items ≡ set (live_in self.old.forms.items) (id - 1) None }
+    {
+        if id == 0 {
+            return;
+        }
+        if let Some(stored) = self.forms.get_mut((id - 1) as usize) {
+            stored.is_live = false;
+        }
+    }
+
+    /// All constraints, live or deleted.
+    pub(crate) fn all(&self) -> &[Stored] {
+        self.forms.as_slice()
+    }
+
+    /// The constraints of the instance.
+    pub(crate) fn loaded(&self) -> &[Stored] {
+        &self.forms[..self.loaded.min(self.forms.len())]
+    }
+}

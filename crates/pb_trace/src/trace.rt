@@ -1,0 +1,122 @@
+//! `pb trace`: the statements of a check, each with what it adds.
+
+ghost use Rattle.std.specs.Prelude.{◌≡◌, [], Some, None, IsSome, OnOk};
+ghost use Rattle.pb_trace.specs.Traced.{Traces, broken_by, end_of, extended, line_bytes, live_in, stored_after};
+
+use crate::broken::Broken;
+use crate::line::write_line;
+use crate::reasons::{Scene, names_of};
+use crate::stored::Constraints;
+use crate::write::write_read;
+use pb_proof::Statement;
+use pb_replay::{Fault, Replay};
+use pb_text::{Sink, Spanned, write_bytes};
+use pb_tool::{CheckFault, Input, ToolFault, Watch};
+use std::alloc::Global;
+
+/// Writes a line for each accepted statement: its position, its canonical text, and each constraint that it adds, as in
+/// `3:1 pol 1 2 + -> 3: >= 1 ;`. A line of `del id` has the deleted constraints, and one of `soli` the best value so far. If a
+/// statement is rejected, further lines say why, as far as the stored constraints do.
+#[derive(Drop)]
+pub struct Trace<S> {
+    out: S,
+    alloc: Global,
+    constraints: Constraints,
+    broken: Option<Broken>,
+}
+
+impl<S: Sink> Trace<S> {
+    /// Before any statement.
+    pub fn new(alloc: Global, out: S) -> Trace<S>
+        ensures out { result.out ≡ out }
+        ensures stored { result.constraints.forms.items ≡ [] }
+        ensures broken { result.broken ≡ None }
+    {
+        Trace {
+            out,
+            alloc,
+            constraints: Constraints::new(alloc),
+            broken: None,
+        }
+    }
+
+    /// Whether all lines were written. Otherwise memory ran out, or the output could not be written.
+    pub fn end(&self) -> Result<(), ToolFault>
+        ensures { result ≡ end_of self.now.broken }
+    {
+        match self.broken {
+            None => Ok(()),
+            Some(Broken::Memory) => Err(ToolFault::Memory(Input::Proof)),
+            Some(Broken::Write) => Err(ToolFault::Write),
+        }
+    }
+
+    /// Writes the line of an accepted statement.
+    fn write_accepted(&mut self, read: &Spanned<Statement>, replay: &Replay) -> Result<(), Broken>
+        ensures text { Traces S.contents S.faults self.old.out (line_bytes (live_in self.old.constraints.forms.items) read.now replay.now)
+            (broken_by result) self.new.out }
+        ensures stored { OnOk result (live_in self.new.constraints.forms.items
+            ≡ stored_after (extended (live_in self.old.constraints.forms.items) replay.now.live) read.now.event) }
+        ensures broken { self.new.broken ≡ self.old.broken }
+    {
+        let newest = self.constraints.newest();
+        self.constraints.extend(replay)?;
+        if let Statement::F(_) = &read.event {
+            self.constraints.end_instance();
+        }
+        write_line(read, newest, &mut self.constraints, replay, &mut self.out)?;
+        Ok(())
+    }
+
+    /// Writes the line of a rejected statement, and the reasons. If memory ran out, the statement may be right.
+    fn write_rejected(
+        &mut self,
+        read: &Spanned<Statement>,
+        replay: &Replay,
+        fault: CheckFault,
+    ) -> Result<(), Broken> {
+        let CheckFault::Step(_, fault) = fault else {
+            return Ok(());
+        };
+        if fault == Fault::Memory {
+            return Ok(());
+        }
+        write_read(read, &mut self.out)?;
+        write_bytes(b" -> rejected\n", &mut self.out)?;
+        let mut scene = Scene {
+            alloc: self.alloc,
+            constraints: &self.constraints,
+            names: names_of(self.alloc, replay)?,
+            limits: replay.limits(),
+        };
+        scene.write(&read.event, fault, &mut self.out)
+    }
+}
+
+impl<S: Sink> Watch for Trace<S> {
+    fn accepted(&mut self, read: &Spanned<Statement>, replay: &Replay)
+        ensures text { self.old.broken ≡ None →
+            Traces S.contents S.faults self.old.out (line_bytes (live_in self.old.constraints.forms.items) read.now replay.now) self.new.broken self.new.out }
+        ensures stored { self.old.broken ≡ None → self.new.broken ≡ None → live_in self.new.constraints.forms.items
+            ≡ stored_after (extended (live_in self.old.constraints.forms.items) replay.now.live) read.now.event }
+        ensures ended { IsSome self.old.broken → self.new ≡ self.old }
+    {
+        if self.broken.is_some() {
+            return;
+        }
+        if let Err(broken) = self.write_accepted(read, replay) {
+            self.broken = Some(broken);
+        }
+    }
+
+    fn rejected(&mut self, read: &Spanned<Statement>, replay: &Replay, fault: CheckFault)
+        ensures { IsSome self.old.broken → self.new ≡ self.old }
+    {
+        if self.broken.is_some() {
+            return;
+        }
+        if let Err(broken) = self.write_rejected(read, replay, fault) {
+            self.broken = Some(broken);
+        }
+    }
+}
