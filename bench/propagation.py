@@ -5,13 +5,13 @@
 
 writes FOLDER/KIND.opb and FOLDER/KIND.pbp. The kinds:
 
-    chain   so many clauses ~x(i) or x(i+1), and one step that follows through all of them
-    units   such a chain with its first variable, and so many steps, each a unit that follows from the one before
-    common  so many clauses with one common literal, which are deleted one by one in any order
-    long    2,000 clauses of 20 literals, and so many steps, each of them one of the clauses with a literal more
+    chain   COUNT clauses ~x(i) or x(i+1), and one step that follows through all of them
+    units   such a chain with its first variable, and COUNT steps, each a unit that follows from the one before
+    common  COUNT clauses with one common literal, which are deleted one by one in any order
+    long    2,000 clauses of 20 literals, and COUNT steps, each of them one of the clauses with a literal more
     dead    the same, but each step is deleted after it, so that 2,000 clauses stay
-    live    one clause of 20 literals, and so many steps that each add it once more
-    wide    100 constraints of 200 terms with coefficients from 1 to 50, and so many steps, each the clause of the literals without
+    live    one clause of 20 literals, and COUNT steps that each add it once more
+    wide    100 constraints of 200 terms with coefficients from 1 to 50, and COUNT steps, each the clause of the literals without
             which one of the constraints cannot hold; each step is deleted after it
 
 The same kind and count give the same bytes: what is random comes from a fixed seed. Every step is accepted.

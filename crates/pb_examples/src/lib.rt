@@ -1,4 +1,4 @@
-//! Small programs over the library, each proved. The documents print them word for word.
+//! Small programs over the library, each proved. The README of the project prints the first, `refuted.rt`.
 #![tactic(auto)]
 
 mod fed;
