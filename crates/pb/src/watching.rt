@@ -1,5 +1,8 @@
 //! What `pb check --stats` and `pb check --progress` write on standard error.
 
+ghost use Rattle.std.specs.Prelude.{◌≡◌};
+ghost use Rattle.pb_trace.specs.Counted.{seen_by};
+
 use pb_proof::Statement;
 use pb_replay::Replay;
 use pb_text::{Over, Spanned};
@@ -56,7 +59,9 @@ impl<'a, R: Clock, E: Write> Watching<'a, R, E> {
     }
 
     /// Whether the line is due: twice a second on a terminal, and else every ten seconds.
-    fn is_due(&mut self) -> bool {
+    fn is_due(&mut self) -> bool
+        ensures { self.new.stats ≡ self.old.stats }
+    {
         let Ok(now) = Instant::now(self.clock) else {
             return false;
         };
@@ -75,7 +80,9 @@ impl<'a, R: Clock, E: Write> Watching<'a, R, E> {
     }
 
     /// Writes how far the check is.
-    fn write_line(&mut self) {
+    fn write_line(&mut self)
+        ensures { self.new.stats ≡ self.old.stats }
+    {
         let (bytes, statements) = (self.stats.bytes(), self.stats.statements());
         let (begin, end) = if self.asked.is_terminal {
             ("\r", "")
@@ -105,6 +112,9 @@ fn write_stats<E: Write>(stats: &Stats, errors: &mut E) {
 }
 
 impl<R: Clock, E: Write> Watch for Watching<'_, R, E> {
+    // It counts each statement, whatever it writes.
+    ghost got = { λ old call new. new.stats ≡ seen_by old.stats call };
+
     fn accepted(&mut self, read: &Spanned<Statement>, replay: &Replay) {
         self.stats.accepted(read, replay);
         if self.asked.progress && self.is_due() {

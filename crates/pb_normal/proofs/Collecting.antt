@@ -19,7 +19,7 @@ pub total-halves : (xs : List Entry) (n : ℕ) → total each (take n xs) + tota
 total-halves xs n = sym (total-append each (take n xs) (drop n xs)) ∙ ap (total each) (take-append-drop n xs)
 
 -- a sum does not depend on the order of its terms
-total-sum : (p : ℕ → Bool → Bool) (xs : List Entry) → total p xs ≡ sum_by (counted p) xs
+pub total-sum : (p : ℕ → Bool → Bool) (xs : List Entry) → total p xs ≡ sum_by (counted p) xs
 total-sum p [] = refl
 total-sum p (x ∷ xs) = rw (sum_by-cons (counted p) x xs, total-sum p xs) refl
 

@@ -5,6 +5,7 @@ pub mod Counts
 pub mod Entries
 pub mod Faults
 pub mod Keeps
+pub mod KeyedTerms
 pub mod Loaded
 pub mod Maps
 pub mod Measures
@@ -12,6 +13,7 @@ pub mod Merging
 pub mod Naming
 pub mod Numbering
 pub mod Positions
+pub mod Removals
 pub mod Scales
 pub mod Sums
 pub mod Totals

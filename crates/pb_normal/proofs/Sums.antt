@@ -1,5 +1,5 @@
 -- The sum of two forms: a merge computes it, and it holds if both forms hold. Offered to other crates.
-use Rattle.std.proofs.Common.{◌≡◌, ℕ, ◌+◌, ◌-◌, ◌≤◌, max, Bool, true, false, not, ◌&&◌, cond, eqb, List, refl, sym, arith, ℤ, pos, negsuc, ◌+ℤ◌}
+use Rattle.std.proofs.Common.{◌≡◌, ℕ, ◌+◌, ◌-◌, ◌≤◌, max, Result, Ok, Err, IfOk, Bool, true, false, not, ◌&&◌, cond, eqb, List, refl, sym, arith, ℤ, pos, negsuc, ◌+ℤ◌}
 use Rattle.std.proofs.lemmas.Int.{ints}
 use Rattle.pb_normal.specs.declared.entry.Entry.{Entry}
 use Rattle.pb_normal.specs.Form.{Form, total, negative, plain_of, negated_of, true_at, at_least_0, bound, low, Holds, IsRising}
@@ -49,3 +49,15 @@ Holds-sum a f g r s hf hg =
     let z = (bound f +ℤ bound g) +ℤ pos (low r) in
     let le = at_least_0-le z (f.degree + g.degree + low r) (low f + low g) (total (true_at a) r.terms) (omega (arith, ints)) (omega arith) in
     omega (arith, s.degree)
+
+-- the order of the two does not matter
+pub IsSum-swap : (f g r : Form) → IsSum f g r → IsSum g f r
+IsSum-swap f g r s = record {
+  ordered = s.ordered;
+  coefficients = λ x. omega (arith, ints, s.coefficients x);
+  degree = let same : ((bound g +ℤ bound f) +ℤ pos (low r)) ≡ ((bound f +ℤ bound g) +ℤ pos (low r)) = omega (arith, ints) in rw same s.degree;
+}
+
+pub IsSum-swapped : {E : Type 0} (f g : Form) (r : Result Form E) → IfOk r (λ s. IsSum f g s) → IfOk r (λ s. IsSum g f s)
+IsSum-swapped f g (Ok s) h = IsSum-swap f g s h
+IsSum-swapped f g (Err e) h = h

@@ -1,6 +1,8 @@
 pub mod Faults
 pub mod Form
 pub mod Adds
+pub mod Growing
+pub mod Keyed
 pub mod Rules
 pub mod Names
 pub mod HashKeys

@@ -45,7 +45,7 @@ pub fn instances_are_values()
     ensures { InstanceValues }
 {}
 
-/// A machine stores nothing but its state, its limits and its allocator.
+/// A machine stores nothing but its state, its limits and its allocator, as contracts see these.
 pub fn keeps_its_state()
     ensures { KeepsItsState }
 {}

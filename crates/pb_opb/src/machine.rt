@@ -31,32 +31,16 @@ pub struct OpbMachine {
 }
 
 impl Model for OpbMachine {
-    ghost use Rattle.pb_text.specs.Limits.{largest, top_of};
     ghost use Rattle.pb_opb.specs.State.{OpbState};
 
     ghost Value = { OpbState };
 
+    ghost use Rattle.pb_opb.specs.Fields.{state_of};
     ghost use Rattle.pb_opb.specs.Order.{IsInOrder};
 
-    ghost view = { λ m. record {
-      limit = largest m.limits;
-      top = top_of m.limits;
-      variables = m.variables;
-      owed = m.owed;
-      phase = m.phase;
-      text = m.text;
-      sums = m.sums;
-    } };
+    ghost view = { state_of };
 
-    ghost invariant = { λ m. IsInOrder (record {
-      limit = largest m.limits;
-      top = top_of m.limits;
-      variables = m.variables;
-      owed = m.owed;
-      phase = m.phase;
-      text = m.text;
-      sums = m.sums;
-    }) };
+    ghost invariant = { λ m. IsInOrder (state_of m) };
 }
 
 impl OpbMachine {

@@ -1,9 +1,11 @@
 -- The line machines: they read the rest of a statement after its first word.
 pub mod ByteKind
 pub mod Claim
+pub mod ClaimFields
 pub mod ClaimState
 pub mod Count
 pub mod Ended
+pub mod Fields
 pub mod Finished
 pub mod IdPrefix
 pub mod Ids

@@ -1,6 +1,8 @@
 //! The laws of proofs and their texts.
 
-ghost use Rattle.pb_proof.specs.Fields.{CountKeeps, IdsKeeps, LiteralsKeeps, RupKeeps, ClaimKeeps, PolKeeps, ProofKeeps};
+ghost use Rattle.pb_proof.specs.Fields.{ProofKeeps};
+ghost use Rattle.pb_proof.specs.Line.ClaimFields.{ClaimKeeps};
+ghost use Rattle.pb_proof.specs.Line.Fields.{CountKeeps, IdsKeeps, LiteralsKeeps, RupKeeps, PolKeeps};
 ghost use Rattle.pb_proof.specs.Formats.{ReadsProofs, OneProof, FixedMarks, NoFront, LargerLimits};
 
 pub mod values;
@@ -31,7 +33,8 @@ pub fn larger_limits()
     ensures { LargerLimits }
 {}
 
-/// A machine stores nothing besides its state, its limits, its allocator and, for `pol`, its vector of words.
+/// A machine stores nothing besides its state, its limits, its allocator and, for `pol`, its vector of words, as contracts
+/// see these.
 pub fn keeps_its_state()
     ensures count { CountKeeps }
     ensures ids { IdsKeeps }

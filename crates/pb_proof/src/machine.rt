@@ -26,24 +26,14 @@ pub struct ProofMachine {
 }
 
 impl Model for ProofMachine {
-    ghost use Rattle.pb_text.specs.Limits.{largest, top_of};
+    ghost use Rattle.pb_proof.specs.Fields.{proof_state};
     ghost use Rattle.pb_proof.specs.Machine.State.{ProofState, IsInOrder};
 
     ghost Value = { ProofState };
 
-    ghost view = { λ m. record {
-      limit = largest m.limits;
-      top = top_of m.limits;
-      phase = m.phase;
-      line = m.line;
-    } };
+    ghost view = { proof_state };
 
-    ghost invariant = { λ m. IsInOrder (record {
-      limit = largest m.limits;
-      top = top_of m.limits;
-      phase = m.phase;
-      line = m.line;
-    }) };
+    ghost invariant = { λ m. IsInOrder (proof_state m) };
 }
 
 /// Replaces a line machine, or none, by another, or by none.

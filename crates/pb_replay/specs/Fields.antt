@@ -18,6 +18,6 @@ pub record AreAlike (a b : Running) : Type 0 where
   pub concluded : a.concluded ≡ b.concluded
   pub visits : a.visits ≡ b.visits
 
--- It stores nothing besides these and its fault.
+-- It stores nothing besides these and its fault, as contracts see these.
 abbrev pub KeepsItsState : Type 0
 KeepsItsState = (a b : Inside) → AreAlike a.running b.running → a.fault ≡ b.fault → a ≡ b

@@ -34,12 +34,12 @@ pub fn canonical_spells()
     ensures bytes { CanonicalBytes }
 {}
 
-/// A machine stores only its state and its allocator.
+/// A machine stores only its state and its allocator, as contracts see these.
 pub fn keeps_its_state()
     ensures { KeepsItsState }
 {}
 
-/// A name stores only its text, and a short text only its length, its 22 bytes and its allocator.
+/// A name stores only its text, and a short text only its length, its 22 bytes and its allocator, as contracts see these.
 pub fn names_keep_their_texts()
     ensures names { NameKeeps }
     ensures short { ShortKeeps }

@@ -11,6 +11,6 @@ pub record AreAlike {M E : Type 0} {g : Ghosts M E} (a b : Feeder M E g) : Type 
   pub longest : a.longest ≡ b.longest
   pub stop : a.stop ≡ b.stop
 
--- A feeder stores nothing else.
+-- A feeder stores nothing else, as contracts see these.
 abbrev pub KeepsItsParts : (M E : Type 0) (g : Ghosts M E) → Type 0
 KeepsItsParts M E g = (a b : Feeder M E g) → AreAlike a b → a ≡ b

@@ -149,6 +149,8 @@ impl<M: Machine> Feeder<M> {
         ensures again { (stop : Stop) → halt_of self.old ≡ Some stop → (result ≡ Err stop) × (self.new ≡ self.old) }
         ensures done { is_complete self.old ≡ true → halt_of self.old ≡ None
             → (result ≡ Ok (record { used = 0; event = None })) × (self.new ≡ self.old) }
+        // Without an event it takes the whole piece, unless the text was complete before.
+        ensures whole { (fed : Fed M.Event) → result ≡ Ok fed → fed.event ≡ None → is_complete self.old ≡ false → fed.used ≡ length piece.now }
         // With an event, it takes the bytes through the last one of that event, and at least one.
         ensures some { (fed : Fed M.Event) (event : Spanned M.Event) → result ≡ Ok fed → fed.event ≡ Some event → 0 < fed.used }
         ensures past { (fed : Fed M.Event) (event : Spanned M.Event) → result ≡ Ok fed → fed.event ≡ Some event → event.past ≡ place_of self.new }

@@ -47,12 +47,12 @@ pub fn fixed_marks<M: Machine>()
 {}
 
 /// A feeder stores only its machine, the positions of the next byte and of the statement that has begun, its limit and
-/// its stop.
+/// its stop, as contracts see these. What the types of the fields hide is not covered.
 pub fn keeps_its_parts<M: Machine>()
     ensures { KeepsItsParts M M.Event M.Machine }
 {}
 
-/// A list stores only the vector of its values, and a text only the vector of its bytes.
+/// A list stores only the vector of its values, and a text only the vector of its bytes, as contracts see these.
 pub fn lists_keep_their_items<T>()
     ensures lists { SequenceKeeps T }
     ensures texts { BytesKeep }

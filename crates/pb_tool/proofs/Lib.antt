@@ -32,3 +32,4 @@ mod Refusing
 mod Accepting
 mod OneAnswer
 mod CheckGiven
+mod Watched

@@ -2,6 +2,6 @@
 use Rattle.std.specs.Prelude.{◌≡◌}
 use Rattle.pb_tool.specs.declared.checker.Checker.TheInside.{Inside}
 
--- It has nothing beside its feeder, its replay and its fault.
+-- It has nothing beside its feeder, its replay and its fault, as contracts see these.
 abbrev pub KeepsItsParts : Type 0
 KeepsItsParts = (a b : Inside) → a.feeder ≡ b.feeder → a.replay ≡ b.replay → a.fault ≡ b.fault → a ≡ b

@@ -19,6 +19,7 @@ pub mod Single
 pub mod Stays
 pub mod Tidy
 pub mod Verified
+pub mod Watched
 pub mod Seen
 pub mod Words
 pub mod Fields

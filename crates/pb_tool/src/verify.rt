@@ -15,6 +15,7 @@ ghost use Rattle.pb_tool.specs.Headline.{TrueOf, UnsatOf};
 ghost use Rattle.pb_tool.specs.Runs.{IsNoReplay, IsReplayOf, IsToldAs, Replays, Runs, faults_of_instance, faults_of_proof, faults_of_text};
 ghost use Rattle.pb_tool.specs.Seen.{SawInstance, SawProof, SawText};
 ghost use Rattle.pb_tool.specs.Verified.{ChecksFiles, IsTold};
+ghost use Rattle.pb_tool.specs.Watched.{IsWatched, IsWatchedGiven, ShowsProof, ShowsRun, call_for};
 
 use crate::checker::{CheckFault, step_by};
 use crate::fault::{Input, ToolFault, refused};
@@ -145,6 +146,12 @@ pub fn check_watched<I: Source, P: Source, W: Sink, V: Watch>(
     // `Read` comes only if the source of that input failed.
     ensures instance { I.faults instance.new ≡ faults_of_instance result (I.faults instance.old) }
     ensures proof { P.faults proof.new ≡ faults_of_proof result (P.faults proof.old) }
+    // The watch got a call for each statement that was taken, in order, with its span and the replay after it. If a statement
+    // was rejected, the last call says so. It got no other call.
+    ensures watched { IsWatched limits (unwrap_or longest (2 ^ 40)) V.got (I.left instance.old) (P.left proof.old) watch.old
+        result (I.left instance.new) (P.left proof.new) watch.new }
+    ensures watched_given { IsWatchedGiven limits (unwrap_or longest (2 ^ 40)) V.got (I.history instance.old) (P.history proof.old) watch.old
+        result (I.history instance.new) (P.history proof.new) watch.new }
 {
     verified_is_true();
     let longest = longest.unwrap_or(BYTE_LIMIT);
@@ -204,6 +211,10 @@ fn replayed<S: Source, V: Watch>(
         OfGiven (λ left rest. Replays replay.limits longest replay.problem first left result rest) (S.history input.old) (S.history input.new) }
     ensures seen { SawProof (S.shown input.new) (S.ended input.new) result }
     ensures faults { S.faults input.new ≡ faults_of_proof result (S.faults input.old) }
+    ensures shown { (first : State) → StandsFor replay first →
+        ShowsProof replay.limits longest V.got replay.problem first (S.left input.old) watch.old result (S.left input.new) watch.new }
+    ensures shown_given { (first : State) → StandsFor replay first →
+        OfGiven (λ left rest. ShowsProof replay.limits longest V.got replay.problem first left watch.old result rest watch.new) (S.history input.old) (S.history input.new) }
 {
     outcomes_are_single();
     let (verdict, place) = match run(alloc, &mut replay, input, watch, longest) {
@@ -266,6 +277,7 @@ fn step_watched<V: Watch>(
     ensures unvalued { (at : Place) (n : ℕ) → result ≡ Err (CheckFault.Step at (Fault.NotTotal n)) → n < length replay.old.names }
     ensures limits { replay.new.limits ≡ replay.old.limits }
     ensures problem { replay.new.problem ≡ replay.old.problem }
+    ensures shown { V.got watch.old (call_for read replay.new result) watch.new }
 {
     let done = step_by(replay, &read);
     match done {
@@ -292,6 +304,10 @@ fn run<S: Source, V: Watch>(
     ensures reach { IfOk result (λ r. IsInReach r.1) }
     ensures seen { IfErr result (SawText (S.shown input.new) (S.ended input.new)) }
     ensures faults { S.faults input.new ≡ faults_of_text result (S.faults input.old) }
+    ensures shown { (first : State) → StandsFor replay.old first →
+        ShowsRun replay.old.limits longest V.got replay.old.problem first (S.left input.old) watch.old result (S.left input.new) watch.new }
+    ensures shown_given { (first : State) → StandsFor replay.old first →
+        OfGiven (λ left rest. ShowsRun replay.old.limits longest V.got replay.old.problem first left watch.old result rest watch.new) (S.history input.old) (S.history input.new) }
 {
     proofs_are_exact();
     reads_are_of_proofs();

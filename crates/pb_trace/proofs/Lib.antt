@@ -2,3 +2,4 @@ pub mod Adding
 pub mod Deleting
 pub mod Shown
 pub mod Storing
+mod TracedLines

@@ -21,7 +21,7 @@ use Rattle.pb_replay.specs.Conclusions.{none_left, named, lower_bound, upper_bou
 use Rattle.pb_replay.specs.Kept.{StandsFor}
 use Rattle.pb_replay.specs.Problem.{Problem}
 use Rattle.pb_replay.specs.Replay.{State, Deleted, place}
-use Rattle.pb_replay.specs.Statements.{Does, mentioned}
+use Rattle.pb_replay.specs.Statements.{Does, Outcome, mentioned}
 use Rattle.pb_replay.proofs.lemmas.Accepting.{needed, followed, ok-same}
 use Rattle.pb_replay.proofs.lemmas.Concluded.{contradicted-has}
 use Rattle.pb_trace.specs.Laws.{FirstIsEmpty, IsEmptyAt, StoresTheLive}
@@ -123,3 +123,10 @@ stores-live old new st (s, before) empty steps =
     let N : Stage → Type 0 = λ x. IsEmptyAt x new.live in
     let M : List (Option Form) → Type 0 = λ x. IsEmptyAt t.next x in
     (rw (← before.live, ← after.live) all.0, subst N after.next (subst M after.live all.1))
+
+-- the same for two states of an accepted statement
+pub state-stores : (limit top : ℕ) (v : Problem) (s t : State) (st : Statement) → IsEmptyAt s.next s.live → Outcome limit top v s st (Ok t)
+    → (stored_after (extended s.live t.live) st ≡ t.live) × IsEmptyAt t.next t.live
+state-stores limit top v s t st empty out =
+    let due = needed out in
+    stored limit top v (record s { names = with_names s.names (mentioned st) }) t st due.0 empty due.1

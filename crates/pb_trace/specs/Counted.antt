@@ -5,6 +5,7 @@ use Rattle.pb_text.specs.declared.Spanned.{Spanned}
 use Rattle.pb_proof.specs.declared.Statement.{Statement}
 use Rattle.pb_proof.specs.declared.Statement.TheVariants.{Header, F, Pol, Rup, Soli, Solx, Delete, Output, Conclude, End}
 use Rattle.pb_replay.specs.Kept.{Replaying}
+use Rattle.pb_tool.specs.Watched.{Call, Accepted, Rejected}
 use Rattle.pb_trace.specs.declared.stats.Stats.{Stats}
 
 -- a count saturates
@@ -91,3 +92,8 @@ measured s read replay = record s {
 -- the counts after an accepted statement, from the replay after it
 abbrev pub seen : Stats → Spanned Statement → Replaying → Stats
 seen s read replay = measured (counted s read.event) read replay
+
+-- the counts after a call; a rejected statement is not counted
+abbrev pub seen_by : Stats → Call → Stats
+seen_by s (Accepted read replay) = seen s read replay
+seen_by s (Rejected read replay fault) = s

@@ -1,12 +1,17 @@
--- What is stored of the constraints is what the replay has.
-use Rattle.std.specs.Prelude.{◌≡◌, List, [], Option, Ok}
+-- What is stored of the constraints is what the replay has, and what is written for a proof.
+use Rattle.std.specs.Prelude.{◌≡◌, ℕ, List, [], ◌∷◌, ◌++◌, Option, Ok}
+use Rattle.pb_text.specs.Writing.{Wrote}
+use Rattle.pb_text.specs.declared.Limits.{Limits}
+use Rattle.pb_text.specs.declared.Spanned.{Spanned}
 use Rattle.pb_proof.specs.declared.Stage.{Stage}
 use Rattle.pb_proof.specs.declared.Stage.TheVariants.{Opening, Formula, Steps, Claim, Closing, Complete}
 use Rattle.pb_proof.specs.declared.Statement.{Statement}
 use Rattle.pb_normal.specs.Form.{Form}
 use Rattle.pb_replay.specs.Kept.{Replaying, StandsFor, StepsAs}
+use Rattle.pb_replay.specs.Problem.{Problem}
 use Rattle.pb_replay.specs.Replay.{State, first_state}
-use Rattle.pb_trace.specs.Traced.{extended, stored_after}
+use Rattle.pb_tool.specs.Watched.{Call, Accepted, Rejected, GotEach, ShowsEach}
+use Rattle.pb_trace.specs.Traced.{Tracing, TracesCall, extended, line_bytes, stored_after}
 
 -- before `f` there is no constraint
 abbrev pub IsEmptyAt : Stage → List (Option Form) → Type 0
@@ -24,3 +29,15 @@ FirstIsEmpty = (r : Replaying) → StandsFor r (first_state r.problem) → IsEmp
 abbrev pub StoresTheLive : Type 0
 StoresTheLive = (old new : Replaying) (st : Statement) → ((s : State) × StandsFor old s) → IsEmptyAt old.next old.live → StepsAs old st (Ok tt) new
     → (stored_after (extended old.live new.live) st ≡ new.live) × IsEmptyAt new.next new.live
+
+-- the lines of accepted statements, each from the constraints that are live before it
+abbrev pub lines_of : List (Option Form) → List Call → List ℕ
+lines_of live [] = []
+lines_of live (Accepted read replay ∷ calls) = line_bytes live read replay ++ lines_of replay.live calls
+lines_of live (Rejected read replay fault ∷ calls) = lines_of live calls
+
+-- A new trace that got a call for each of these accepted statements has written their lines, if it could write all.
+abbrev pub TracesEachLine : {S : Type 0} → (S → Option (List ℕ)) → (S → ℕ) → Type 0
+TracesEachLine {S} contents faults = (limits : Limits) (v : Problem) (marks : List (Spanned Statement)) (calls : List Call) (last : State) (old new : Tracing S)
+    → old.stored ≡ [] → old.end ≡ Ok tt → ShowsEach limits v (first_state v) marks calls last → GotEach (TracesCall contents faults) old calls new → new.end ≡ Ok tt
+    → Wrote contents faults old.out (lines_of [] calls) new.out

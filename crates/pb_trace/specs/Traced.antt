@@ -1,7 +1,10 @@
 -- The line of an accepted statement.
 use Rattle.std.specs.Prelude.{◌≡◌, ℕ, zero, suc, ◌+◌, ◌-◌, ℤ, if◌then◌else◌, List, [], ◌∷◌, ◌++◌, length, drop, map, get_or, set, codes, Option, Some, None, Result, Ok, Err}
 use Rattle.std.specs.Fmt.{signed_decimal}
+use Rattle.std.specs.List.{flat_map, range_with_len}
+use Rattle.std.specs.Result.{IsErr}
 use Rattle.pb_text.specs.declared.Spanned.{Spanned}
+use Rattle.pb_text.specs.Whole.{gathered}
 use Rattle.pb_text.specs.Writing.{Wrote, Broke}
 use Rattle.pb_sums.specs.Canonical.{place_bytes}
 use Rattle.pb_proof.specs.Canonical.{statement_bytes}
@@ -10,6 +13,7 @@ use Rattle.pb_proof.specs.declared.Statement.TheVariants.{Header, F, Pol, Rup, S
 use Rattle.pb_normal.specs.Form.{Form}
 use Rattle.pb_replay.specs.Kept.{Replaying}
 use Rattle.pb_replay.specs.Replay.{place}
+use Rattle.pb_tool.specs.Watched.{Call, Accepted, Rejected}
 use Rattle.pb_tool.specs.declared.Input.TheVariants.{Proof}
 use Rattle.pb_tool.specs.declared.ToolFault.{ToolFault}
 use Rattle.pb_tool.specs.declared.ToolFault.TheVariants.{Memory as NoMemory, Write as NotWritten}
@@ -31,11 +35,9 @@ abbrev pub found_bytes : List ℕ → List (List ℕ) → ℕ → Option Form �
 found_bytes arrow names id None = []
 found_bytes arrow names id (Some f) = change_bytes arrow names id f
 
--- the live constraints with the next so many ids
+-- the live constraints with the next so many ids, in order
 abbrev pub added_bytes : List (List ℕ) → List (Option Form) → ℕ → ℕ → List ℕ
-added_bytes names live newest zero = []
-added_bytes names live newest (suc more) =
-    found_bytes (codes " -> ") names (newest + 1) (get_or live newest None) ++ added_bytes names live (newest + 1) more
+added_bytes names live newest more = flat_map (λ i. found_bytes (codes " -> ") names (i + 1) (get_or live i None)) (range_with_len newest more)
 
 -- the constraints after one is deleted by its id as written
 abbrev pub without : List (Option Form) → ℤ → List (Option Form)
@@ -45,10 +47,9 @@ abbrev pub deletion_bytes : List (List ℕ) → List (Option Form) → ℤ → L
 deletion_bytes names live id =
     let index = place (length live) id in found_bytes (codes " -> no ") names (index + 1) (get_or live index None)
 
--- the same for ids in turn
+-- the same for ids in turn, and what is written of it
 abbrev pub without_all : List (Option Form) → List ℤ → List (Option Form)
-without_all live [] = live
-without_all live (id ∷ ids) = without_all (without live id) ids
+without_all = gathered without
 
 abbrev pub deleted_bytes : List (List ℕ) → List (Option Form) → List ℤ → List ℕ
 deleted_bytes names live [] = []
@@ -105,9 +106,27 @@ end_of None = Ok tt
 end_of (Some Memory) = Err (NoMemory Proof)
 end_of (Some Write) = Err NotWritten
 
--- What a line leaves in its sink: the whole line; a prefix of it, and one fault; or nothing, if memory ran out.
+-- what a trace holds: its sink, the constraints as the replay has them, and how it ends
+pub record Tracing (S : Type 0) : Type 0 where
+  pub out : S
+  pub stored : List (Option Form)
+  pub end : Result Unit ToolFault
+
 module _ {S : Type 0} (contents : S → Option (List ℕ)) (faults : S → ℕ) where
-  abbrev pub Traces : S → List ℕ → Option Broken → S → Type 0
-  Traces old line None new = Wrote contents faults old line new
-  Traces old line (Some Write) new = Broke contents faults old line new
-  Traces old line (Some Memory) new = new ≡ old
+  -- What a line leaves in its sink: the whole line; a prefix of it, and one fault; or nothing, if memory ran out.
+  abbrev pub Traces : S → List ℕ → Result Unit ToolFault → S → Type 0
+  Traces old line (Ok u) new = Wrote contents faults old line new
+  Traces old line (Err NotWritten) new = Broke contents faults old line new
+  Traces old line (Err (NoMemory Proof)) new = new ≡ old
+  Traces old line (Err _) new = ⊥
+
+  -- What a call does to a trace. An accepted statement adds its line, and what is stored of the constraints is again what
+  -- the replay has. Once a line could not be written, nothing changes.
+  pub record ShowsLine (old : Tracing S) (read : Spanned Statement) (replay : Replaying) (new : Tracing S) : Type 0 where
+    pub text : old.end ≡ Ok tt → Traces old.out (line_bytes old.stored read replay) new.end new.out
+    pub stored : old.end ≡ Ok tt → new.end ≡ Ok tt → new.stored ≡ stored_after (extended old.stored replay.live) read.event
+    pub ended : IsErr old.end → new ≡ old
+
+  abbrev pub TracesCall : Tracing S → Call → Tracing S → Type 0
+  TracesCall old (Accepted read replay) new = ShowsLine old read replay new
+  TracesCall old (Rejected read replay fault) new = IsErr old.end → new ≡ old

@@ -2,7 +2,7 @@
 
 ghost use Rattle.std.specs.Prelude.{◌≡◌};
 ghost use Rattle.pb_text.specs.Writing.{Writes};
-ghost use Rattle.pb_trace.specs.Counted.{counted, deletions_of, seen, statements_in, stats_bytes, visits_of};
+ghost use Rattle.pb_trace.specs.Counted.{counted, deletions_of, seen, seen_by, statements_in, stats_bytes, visits_of};
 
 use crate::write::write_counted;
 use pb_proof::Statement;
@@ -138,6 +138,8 @@ fn deletions_of(statement: &Statement) -> u64
 }
 
 impl Watch for Stats {
+    ghost got = { λ old call new. new ≡ seen_by old call };
+
     fn accepted(&mut self, read: &Spanned<Statement>, replay: &Replay)
         ensures { self.new ≡ seen self.old read.now replay.now }
     {

@@ -1,6 +1,6 @@
 //! The constraints of a replay, stored for the reasons of a rejection.
 
-ghost use Rattle.std.specs.Prelude.{◌≡◌, ◌<◌, ◌+◌, ◌-◌, [], ◌∷◌, ◌++◌, Some, None, IfErr, OnOk, MatchOption, get_or, if◌then◌else◌, length, set};
+ghost use Rattle.std.specs.Prelude.{◌≡◌, ◌<◌, ◌+◌, ◌-◌, [], ◌∷◌, ◌++◌, Some, None, IfErr, OnOk, MatchOption, get_or, if◌then◌else◌, length, set, slice_get, take};
 ghost use Rattle.std.specs.Option.{option_copied};
 ghost use Rattle.pb_replay.specs.Replay.{place};
 ghost use Rattle.pb_trace.specs.Traced.{live_in, extended};
@@ -70,7 +70,8 @@ impl Constraints {
 
     /// The constraints so far are those of the instance.
     pub(crate) fn end_instance(&mut self)
-        ensures { self.new.forms ≡ self.old.forms }
+        ensures forms { self.new.forms ≡ self.old.forms }
+        ensures loaded { self.new.loaded ≡ length self.old.forms.items }
     {
         self.loaded = self.forms.len();
     }
@@ -83,7 +84,10 @@ impl Constraints {
     }
 
     /// The constraint with an id, live or deleted.
-    pub(crate) fn find(&self, id: u64) -> Option<&Stored> {
+    pub(crate) fn find(&self, id: u64) -> Option<&Stored>
+        ensures none { id ≡ 0 → result ≡ None }
+        ensures found { 0 < id → option_copied result ≡ slice_get self.now.forms.items (id - 1) }
+    {
         if id == 0 {
             return None;
         }
@@ -136,12 +140,16 @@ impl Constraints {
     }
 
     /// All constraints, live or deleted.
-    pub(crate) fn all(&self) -> &[Stored] {
+    pub(crate) fn all(&self) -> &[Stored]
+        ensures { result.now ≡ self.now.forms.items }
+    {
         self.forms.as_slice()
     }
 
     /// The constraints of the instance.
-    pub(crate) fn loaded(&self) -> &[Stored] {
+    pub(crate) fn loaded(&self) -> &[Stored]
+        ensures { result.now ≡ take self.now.loaded self.now.forms.items }
+    {
         &self.forms[..self.loaded.min(self.forms.len())]
     }
 }

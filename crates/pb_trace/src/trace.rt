@@ -1,7 +1,7 @@
 //! `pb trace`: the statements of a check, each with what it adds.
 
-ghost use Rattle.std.specs.Prelude.{◌≡◌, [], Some, None, IsSome, OnOk};
-ghost use Rattle.pb_trace.specs.Traced.{Traces, broken_by, end_of, extended, line_bytes, live_in, stored_after};
+ghost use Rattle.std.specs.Prelude.{◌≡◌, [], OnOk};
+ghost use Rattle.pb_trace.specs.Traced.{Traces, TracesCall, broken_by, end_of, extended, line_bytes, stored_after};
 
 use crate::broken::Broken;
 use crate::line::write_line;
@@ -13,6 +13,7 @@ use pb_replay::{Fault, Replay};
 use pb_text::{Sink, Spanned, write_bytes};
 use pb_tool::{CheckFault, Input, ToolFault, Watch};
 use std::alloc::Global;
+use std::marker::Model;
 
 /// Writes a line for each accepted statement: its position, its canonical text, and each constraint that it adds, as in
 /// `3:1 pol 1 2 + -> 3: >= 1 ;`. A line of `del id` has the deleted constraints, and one of `soli` the best value so far. If a
@@ -25,12 +26,20 @@ pub struct Trace<S> {
     broken: Option<Broken>,
 }
 
+impl<S> Model for Trace<S> {
+    ghost use Rattle.pb_trace.specs.Traced.{Tracing, end_of, live_in};
+
+    ghost Value = { Tracing S };
+
+    ghost view = { λ t. record { out = t.out; stored = live_in t.constraints.forms.items; end = end_of t.broken } };
+}
+
 impl<S: Sink> Trace<S> {
     /// Before any statement.
     pub fn new(alloc: Global, out: S) -> Trace<S>
         ensures out { result.out ≡ out }
-        ensures stored { result.constraints.forms.items ≡ [] }
-        ensures broken { result.broken ≡ None }
+        ensures stored { result.stored ≡ [] }
+        ensures end { result.end ≡ Ok tt }
     {
         Trace {
             out,
@@ -42,7 +51,7 @@ impl<S: Sink> Trace<S> {
 
     /// Whether all lines were written. Otherwise memory ran out, or the output could not be written.
     pub fn end(&self) -> Result<(), ToolFault>
-        ensures { result ≡ end_of self.now.broken }
+        ensures { result ≡ self.now.end }
     {
         match self.broken {
             None => Ok(()),
@@ -53,11 +62,9 @@ impl<S: Sink> Trace<S> {
 
     /// Writes the line of an accepted statement.
     fn write_accepted(&mut self, read: &Spanned<Statement>, replay: &Replay) -> Result<(), Broken>
-        ensures text { Traces S.contents S.faults self.old.out (line_bytes (live_in self.old.constraints.forms.items) read.now replay.now)
-            (broken_by result) self.new.out }
-        ensures stored { OnOk result (live_in self.new.constraints.forms.items
-            ≡ stored_after (extended (live_in self.old.constraints.forms.items) replay.now.live) read.now.event) }
-        ensures broken { self.new.broken ≡ self.old.broken }
+        ensures text { Traces S.contents S.faults self.old.out (line_bytes self.old.stored read.now replay.now) (end_of (broken_by result)) self.new.out }
+        ensures stored { OnOk result (self.new.stored ≡ stored_after (extended self.old.stored replay.now.live) read.now.event) }
+        ensures end { self.new.end ≡ self.old.end }
     {
         let newest = self.constraints.newest();
         self.constraints.extend(replay)?;
@@ -94,13 +101,9 @@ impl<S: Sink> Trace<S> {
 }
 
 impl<S: Sink> Watch for Trace<S> {
-    fn accepted(&mut self, read: &Spanned<Statement>, replay: &Replay)
-        ensures text { self.old.broken ≡ None →
-            Traces S.contents S.faults self.old.out (line_bytes (live_in self.old.constraints.forms.items) read.now replay.now) self.new.broken self.new.out }
-        ensures stored { self.old.broken ≡ None → self.new.broken ≡ None → live_in self.new.constraints.forms.items
-            ≡ stored_after (extended (live_in self.old.constraints.forms.items) replay.now.live) read.now.event }
-        ensures ended { IsSome self.old.broken → self.new ≡ self.old }
-    {
+    ghost got = { TracesCall S.contents S.faults };
+
+    fn accepted(&mut self, read: &Spanned<Statement>, replay: &Replay) {
         if self.broken.is_some() {
             return;
         }
@@ -109,9 +112,7 @@ impl<S: Sink> Watch for Trace<S> {
         }
     }
 
-    fn rejected(&mut self, read: &Spanned<Statement>, replay: &Replay, fault: CheckFault)
-        ensures { IsSome self.old.broken → self.new ≡ self.old }
-    {
+    fn rejected(&mut self, read: &Spanned<Statement>, replay: &Replay, fault: CheckFault) {
         if self.broken.is_some() {
             return;
         }

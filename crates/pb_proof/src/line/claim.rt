@@ -27,24 +27,14 @@ pub struct ClaimMachine {
 }
 
 impl Model for ClaimMachine {
-    ghost use Rattle.pb_text.specs.Limits.{largest, top_of};
+    ghost use Rattle.pb_proof.specs.Line.ClaimFields.{claim_state};
     ghost use Rattle.pb_proof.specs.Line.ClaimState.{ClaimState, IsClaimInOrder};
 
     ghost Value = { ClaimState };
 
-    ghost view = { λ m. record {
-      limit = largest m.limits;
-      top = top_of m.limits;
-      phase = m.phase;
-      literals = m.literals;
-    } };
+    ghost view = { claim_state };
 
-    ghost invariant = { λ m. IsClaimInOrder (record {
-      limit = largest m.limits;
-      top = top_of m.limits;
-      phase = m.phase;
-      literals = m.literals;
-    }) };
+    ghost invariant = { λ m. IsClaimInOrder (claim_state m) };
 }
 
 /// The conclusion, with the literals that are given for it.

@@ -23,13 +23,14 @@ pub struct CountMachine {
 }
 
 impl Model for CountMachine {
+    ghost use Rattle.pb_proof.specs.Line.Fields.{count_state};
     ghost use Rattle.pb_proof.specs.Line.Count.{CountState, IsCountInOrder};
 
     ghost Value = { CountState };
 
-    ghost view = { λ m. record { top = m.top; phase = m.phase } };
+    ghost view = { count_state };
 
-    ghost invariant = { λ m. IsCountInOrder (record { top = m.top; phase = m.phase }) };
+    ghost invariant = { λ m. IsCountInOrder (count_state m) };
 }
 
 /// The action for the next digit of a count.

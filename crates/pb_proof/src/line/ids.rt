@@ -29,13 +29,14 @@ pub struct IdsMachine {
 }
 
 impl Model for IdsMachine {
+    ghost use Rattle.pb_proof.specs.Line.Fields.{ids_state};
     ghost use Rattle.pb_proof.specs.Line.Ids.{IdsState, IsIdsInOrder};
 
     ghost Value = { IdsState };
 
-    ghost view = { λ m. record { top = m.top; ids = m.ids; phase = m.phase } };
+    ghost view = { ids_state };
 
-    ghost invariant = { λ m. IsIdsInOrder (record { top = m.top; ids = m.ids; phase = m.phase }) };
+    ghost invariant = { λ m. IsIdsInOrder (ids_state m) };
 }
 
 /// The action for the next digit of an id.

@@ -26,13 +26,14 @@ pub struct LiteralsMachine {
 }
 
 impl Model for LiteralsMachine {
+    ghost use Rattle.pb_proof.specs.Line.Fields.{literals_state};
     ghost use Rattle.pb_proof.specs.Line.Literals.{LiteralsState, IsLiteralsInOrder};
 
     ghost Value = { LiteralsState };
 
-    ghost view = { λ m. record { joined = m.joined; literals = m.literals; name = m.name; phase = m.phase } };
+    ghost view = { literals_state };
 
-    ghost invariant = { λ m. IsLiteralsInOrder (record { joined = m.joined; literals = m.literals; name = m.name; phase = m.phase }) };
+    ghost invariant = { λ m. IsLiteralsInOrder (literals_state m) };
 }
 
 /// The action for a byte at which the line may end.

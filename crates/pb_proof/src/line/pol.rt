@@ -42,22 +42,15 @@ pub struct PolMachine {
 
 impl Model for PolMachine {
     ghost use Rattle.std.specs.Prelude.{◌<◌, ◌≤◌, ◌^◌, vec_len};
+    ghost use Rattle.pb_proof.specs.Line.Fields.{pol_state};
     ghost use Rattle.pb_proof.specs.Line.Pol.{PhaseFits};
     ghost use Rattle.pb_proof.specs.Line.PolState.{PolState, IsPolInOrder};
 
     ghost Value = { PolState };
 
-    ghost view = { λ m. record {
-      limit = m.limit;
-      top = m.top;
-      work = record { words = m.words.items; depth = m.depth; name = m.name; phase = m.phase };
-    } };
+    ghost view = { pol_state };
 
-    ghost invariant = { λ m. (m.limit < 2 ^ 127) × (m.top < 2 ^ 63) × (m.depth ≤ vec_len m.words) × PhaseFits m.limit m.top m.depth m.phase × IsPolInOrder (record {
-      limit = m.limit;
-      top = m.top;
-      work = record { words = m.words.items; depth = m.depth; name = m.name; phase = m.phase };
-    }) };
+    ghost invariant = { λ m. (m.limit < 2 ^ 127) × (m.top < 2 ^ 63) × (m.depth ≤ vec_len m.words) × PhaseFits m.limit m.top m.depth m.phase × IsPolInOrder (pol_state m) };
 }
 
 /// The answer to a byte that the grammar does not allow.

@@ -24,13 +24,14 @@ pub(crate) struct RupMachine {
 }
 
 impl Model for RupMachine {
+    ghost use Rattle.pb_proof.specs.Line.Fields.{rup_state};
     ghost use Rattle.pb_proof.specs.Line.Rup.{RupState, IsRupInOrder};
 
     ghost Value = { RupState };
 
-    ghost view = { λ m. record { phase = m.phase; sums = m.sums; linear = m.linear } };
+    ghost view = { rup_state };
 
-    ghost invariant = { λ m. IsRupInOrder (record { phase = m.phase; sums = m.sums; linear = m.linear }) };
+    ghost invariant = { λ m. IsRupInOrder (rup_state m) };
 }
 
 /// What the machine does with a byte.

@@ -7,6 +7,7 @@ use Rattle.std.proofs.lemmas.List.Sums.{sum_by-cons}
 use Rattle.pb_replay.specs.declared.numbered.NumberedLiteral.{NumberedLiteral}
 use Rattle.pb_replay.specs.declared.propagate.term.Term.{Term}
 use Rattle.pb_replay.specs.Engine.Lists.{Shape, negation, has, open_part, open_sum, Puts, Derives, begin, put, Conflicts, opposed, broken, IsSettled}
+use Rattle.pb_replay.specs.Engine.Rest.{IsRefuted, opposite, derived}
 use Rattle.pb_replay.specs.Clauses.Truths.{true_at, false_at}
 use Rattle.pb_replay.specs.Clauses.Links.{list_at}
 use Rattle.pb_replay.specs.Clauses.Runs.{IsUnit, IsBroken}
@@ -128,6 +129,11 @@ derives-joined xs clauses a _ j (put {list} l d m) = put l (derives-joined xs cl
 pub conflicts-joined : (xs : List Shape) (clauses : List (List ℕ)) (list : List NumberedLiteral) → AreJoined xs clauses → Conflicts xs list → Conflicts (joined xs clauses) list
 conflicts-joined xs clauses list j (opposed l here there) = opposed l here there
 conflicts-joined xs clauses list j (broken f among low) = broken f (kept-joined xs clauses f j among (omega (arith, low))) low
+
+pub refuted-joined : (xs : List Shape) (clauses : List (List ℕ)) (given list : List NumberedLiteral) → AreJoined xs clauses → IsRefuted xs given list → IsRefuted (joined xs clauses) given list
+refuted-joined xs clauses given list j (opposite l here there) = opposite l here there
+refuted-joined xs clauses given list j (derived d low) =
+    derived (record { first = d.first; within = d.within; covers = d.covers; derived = derives-joined xs clauses d.first list j d.derived }) (conflicts-joined xs clauses list j low)
 
 -- what a clause derives
 unit-some : (codes : List ℕ) (x : ℕ) → Contains codes x → 0 < length codes

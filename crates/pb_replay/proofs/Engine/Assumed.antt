@@ -1,17 +1,17 @@
 -- The given literals, and what a completion from them is.
 use Rattle.std.specs.Prelude.{Option, Some, None}
-use Rattle.std.proofs.Common.{◌≡◌, ℕ, ◌+◌, ◌<◌, ◌||◌, ◌++◌, ◌∷◌, [], List, Bool, true, false, refl, sym, ◌∙◌, ap, inl, inr, length, get_or, take}
+use Rattle.std.proofs.Common.{◌≡◌, ℕ, ◌+◌, ◌<◌, ◌||◌, ◌++◌, ◌∷◌, [], List, Bool, true, false, refl, sym, ◌∙◌, ap, inl, inr, length, get_or, take, arith}
 use Rattle.std.specs.Cmp.{both_ways as same_answers}
 use Rattle.std.proofs.lemmas.Bool.{both_ways, or_cases}
 use Rattle.std.proofs.lemmas.List.{take_more}
 use Rattle.pb_normal.specs.Form.{Form}
 use Rattle.pb_replay.specs.declared.numbered.NumberedLiteral.{NumberedLiteral}
-use Rattle.pb_replay.specs.Engine.Lists.{Shape, negation, same, has, says, holds, IsWithin, opposed as both}
+use Rattle.pb_replay.specs.Engine.Lists.{Shape, negation, same, has, says, holds, IsWithin, Conflicts, opposed as both, broken as low, begin as start}
 use Rattle.pb_replay.specs.Engine.Counts.{Adopted, kept, added, AreSingle, more}
 use Rattle.pb_replay.specs.Propagation.{on, begin, MeetsConflict, IsCompletion}
 use Rattle.pb_replay.specs.Engine.Live.{value_says, Gives}
 use Rattle.pb_replay.specs.Engine.Rest.{IsRefuted, opposite as opposites, derived as from, IsEnded}
-use Rattle.pb_replay.proofs.Engine.Literals.{literal, has-none, has-get, has-push_old, has-push_new, push-within}
+use Rattle.pb_replay.proofs.Engine.Literals.{literal, open_sum-within, has-none, has-get, has-push_old, has-push_new, push-within}
 use Rattle.pb_replay.proofs.Engine.Bridge.{AreKept, Matches, only-same, Derived, derives, conflicts, is-closed, has-none as conflict-free}
 use Rattle.pb_replay.proofs.lemmas.Completing.{closed-none}
 use Rattle.pb_replay.proofs.Engine.Values.{Agree, opposite}
@@ -44,6 +44,12 @@ assumed-next given old _ i d inside free (added absent opened) a =
 
 pub within-none : (list given : List NumberedLiteral) → list ≡ [] → IsWithin list given
 within-none list given e l h = absurd (both_ways _ (has-none l) (sym (ap (λ xs. has xs l) e) ∙ h))
+
+-- some of what is given falsifies a form
+pub given-refuted : (shapes : List Shape) (given list : List NumberedLiteral) → IsWithin list given → Conflicts shapes list → IsRefuted shapes given given
+given-refuted shapes given list within (both l here there) = opposites l (within l here) (within (negation l) there)
+given-refuted shapes given list within (low f among less) =
+    from (record { first = given; within = λ l h. h; covers = λ l h. h; derived = start }) (low f among (omega (arith, less, open_sum-within list given within f.terms)))
 
 -- the list as given
 pub on-has : (list : List NumberedLiteral) → Matches list list

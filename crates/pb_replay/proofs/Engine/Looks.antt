@@ -16,7 +16,6 @@ use Rattle.pb_replay.proofs.Engine.Runs.{Tidy-pass, Tidy-settle, done-new}
 -- a form's terms are being passed; the second state is the one before the first of them
 pub record IsLooking (aside : List ℕ) (forms : List Shape) (lists : List (List Weighted)) (form : ℕ) (list0 : List NumberedLiteral) (cands0 work0 : List ℕ) (visits0 : ℕ) (opens cands : List ℕ) (list : List NumberedLiteral) (work trail : List ℕ) (next visits : ℕ) : Type 0 where
   pub derived : Derives forms list0 list
-  pub counted : IsCounted forms opens list []
   pub tidy : IsTidy aside forms opens cands list work trail next form
   pub there : IsAbsent work 0 form → ⊥
   pub paid : IsPaid lists list0 list cands0 cands work0 work visits0 visits 0
@@ -60,7 +59,7 @@ open-now forms opens list form d inside c =
 pub Looking-next : (aside : List ℕ) (forms : List Shape) (lists : List (List Weighted)) (form : ℕ) (list0 : List NumberedLiteral) (cands0 work0 : List ℕ) (visits0 : ℕ) (opens cands : List ℕ) (list : List NumberedLiteral) (work trail : List ℕ) (next visits seen : ℕ) (opens' cands' : List ℕ) (list' : List NumberedLiteral) (work' trail' : List ℕ) (visits' : ℕ) (f : Shape) (c : ℕ) (t : Term) →
     form < length forms → ((d : Shape) → get_or forms form d ≡ f) → c ≡ get_or cands form 0 → c < length f.terms → t ≡ get_or f.terms c t →
     seen ≡ min (visits + 1) (2 ^ 64 - 1) → visits ≤ seen → get_or opens form 0 < f.degree + t.coefficient →
-    Adopted t.literal list list' → IsCounted forms opens' list' [] →
+    Adopted t.literal list list' → IsCounted forms opens list [] →
     ((busy : ℕ) → IsTidy aside forms opens cands list work trail next busy → IsTidy aside forms opens' cands list' work' trail' next busy) →
     IsPaid lists list list' cands cands work work' seen visits' 0 →
     ((s : ℕ) → IsAbsent work' 0 s → IsAbsent work 0 s) → length work ≤ length work' → length opens' ≡ length opens →
@@ -69,7 +68,7 @@ pub Looking-next : (aside : List ℕ) (forms : List Shape) (lists : List (List W
     IsLooking aside forms lists form list0 cands0 work0 visits0 opens' cands' list' work' trail' next visits'
 Looking-next aside forms lists form list0 cands0 work0 visits0 opens cands list work trail next visits seen opens' cands' list' work' trail' visits' f c t inside is at here item counted_visit rising low adopted counted tidy paid gone longer sizes passed p =
     let room : form < length cands = omega (arith, inside, p.candidate_sizes) in
-    let now : get_or opens form 0 ≡ open_sum list (get_or forms form f).terms = open-now forms opens list form f inside p.counted in
+    let now : get_or opens form 0 ≡ open_sum list (get_or forms form f).terms = open-now forms opens list form f inside counted in
     let now_f : get_or opens form 0 ≡ open_sum list f.terms = rw (is f) at now in
     let low_t : open_sum list f.terms < f.degree + t.coefficient = omega (arith, now_f, low) in
     let low_f : open_sum list f.terms < f.degree + (get_or f.terms c t).coefficient = rw (← item) low_t in
@@ -80,7 +79,6 @@ Looking-next aside forms lists form list0 cands0 work0 visits0 opens cands list 
     let raised : sum cands' ≡ sum cands + 1 = ap sum (passed ∙ ap (λ x. set cands form (x + 1)) at) ∙ sum-raise cands form room in
     record {
       derived = adopted-derived forms list0 list list' form f c t inside here_is low_is adopted_is p.derived;
-      counted = counted;
       tidy = Tidy-pass aside forms opens' cands cands' list' work' trail' next form c f.terms t passed at room (λ d h. ap (λ (x : Shape). x.terms) (is d)) here (adopted-done (get_or f.terms c t).literal list list' adopted_f) (λ a. p.there (gone form a)) (tidy form p.tidy);
       there = λ a. p.there (gone form a);
       paid = record {
@@ -117,10 +115,9 @@ Looking-conflict forms opens list form f inside is c low =
 pub shape-at : (keep : List Kept) (form : ℕ) (k : Kept) → form < length keep → k ≡ get_or keep form k → (d : Shape) → get_or (shapes_of keep) form d ≡ kept_shape k
 shape-at keep form k inside is d = get_or-map kept_shape keep form k d inside ∙ ap kept_shape (sym is)
 
-pub Looking-start : (aside : List ℕ) (forms : List Shape) (lists : List (List Weighted)) (form : ℕ) (opens cands : List ℕ) (list : List NumberedLiteral) (work trail : List ℕ) (next visits : ℕ) → IsCounted forms opens list [] → IsTidy aside forms opens cands list work trail next form → (IsAbsent work 0 form → ⊥) → length opens ≡ length forms → length cands ≡ length forms → next ≤ length work → IsLooking aside forms lists form list cands work visits opens cands list work trail next visits
-Looking-start aside forms lists form opens cands list work trail next visits counted tidy there o c within = record {
+pub Looking-start : (aside : List ℕ) (forms : List Shape) (lists : List (List Weighted)) (form : ℕ) (opens cands : List ℕ) (list : List NumberedLiteral) (work trail : List ℕ) (next visits : ℕ) → IsTidy aside forms opens cands list work trail next form → (IsAbsent work 0 form → ⊥) → length opens ≡ length forms → length cands ≡ length forms → next ≤ length work → IsLooking aside forms lists form list cands work visits opens cands list work trail next visits
+Looking-start aside forms lists form opens cands list work trail next visits tidy there o c within = record {
   derived = begin;
-  counted = counted;
   tidy = tidy;
   there = there;
   paid = record { upper = omega arith; work = omega arith; rising = omega arith };
@@ -138,7 +135,7 @@ pub Looking-next_by : (aside : List ℕ) (keep : List Kept) (lists : List (List 
     form < length keep → k ≡ get_or keep form k → o ≡ get_or opens form o → c ≡ get_or cands form c → items ≡ (terms_of k.terms) → c < length items → t ≡ get_or items c t →
     seen ≡ min (visits + 1) (2 ^ 64 - 1) → visits ≤ seen → o < k.degree + t.coefficient →
     mid ≡ cands → next' ≡ next →
-    Adopted t.literal list list' → IsCounted (shapes_of keep) opens' list' [] →
+    Adopted t.literal list list' → IsCounted (shapes_of keep) opens list [] →
     ((busy : ℕ) → IsTidy aside (shapes_of keep) opens cands list work trail next busy → IsTidy aside (shapes_of keep) opens' mid list' work' trail' next' busy) →
     IsPaid lists list list' cands mid work work' seen visits' 0 →
     ((s : ℕ) → IsAbsent work' 0 s → IsAbsent work 0 s) → length work ≤ length work' → length opens' ≡ length opens →

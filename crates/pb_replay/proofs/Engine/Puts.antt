@@ -1,10 +1,11 @@
 use Rattle.std.specs.Prelude.{All, map, Bool, true, false, if◌then◌else◌}
 use Rattle.std.proofs.Common.{◌≡◌, ℕ, ◌+◌, ◌-◌, ◌*◌, ◌^◌, ◌<◌, ◌≤◌, [], List, sym, ◌∙◌, ap, subst, arith, length, get_or, set, drop, min, length-set, Vec, Global}
 use Rattle.std.proofs.lemmas.List.{drop_more, get_or-map, length-map}
+use Rattle.std.proofs.lemmas.List.Elements.{Contains-get_or}
 use Rattle.std.proofs.Math.ListN.{get_or-map as get_or-map-default}
 use Rattle.pb_replay.specs.declared.numbered.NumberedLiteral.{NumberedLiteral}
 use Rattle.pb_replay.specs.declared.propagate.store.Occurrence.{Occurrence}
-use Rattle.pb_replay.specs.Engine.Lists.{Shape, Weighted, negation, size}
+use Rattle.pb_replay.specs.Engine.Lists.{Shape, Weighted, negation, size, Conflicts, broken}
 use Rattle.pb_replay.specs.Engine.Counts.{place, IsCounted, IsTidy, IsAbsent, IsCalm, Grown}
 use Rattle.pb_replay.specs.Engine.Fields.{entries_of, lists_of}
 use Rattle.pb_replay.specs.Engine.Links.{weighted, coefficient_at}
@@ -54,6 +55,12 @@ Putting-next forms es opens0 cands list work0 trail0 next visits0 opens work tra
   where
     least_upper : (v w a i : ℕ) → w ≡ min (v + 1) (2 ^ 64 - 1) → v ≤ a + i → w ≤ a + (i + 1)
     least_upper v w a i e h = omega arith
+
+-- a form whose open sum is too small is falsified, also while entries are still to be subtracted
+pub counted-conflict : (forms : List Shape) (opens : List ℕ) (list : List NumberedLiteral) (rest : List Weighted) (form : ℕ) → form < length forms → IsCounted forms opens list rest → ((d : Shape) → get_or opens form 0 < (get_or forms form d).degree) → Conflicts forms list
+counted-conflict forms opens list rest form inside counted low =
+    let none : Shape = record { terms = []; degree = 0 } in
+    broken (get_or forms form none) (Contains-get_or forms form none inside) (omega (arith, low none, counted.each form none inside))
 
 -- in terms of what the program reads
 pub lists-at : (occ : List (Vec Occurrence Global)) (p q : ℕ) (v : Vec Occurrence Global) → q < length occ → v ≡ get_or occ q v → q ≡ p → get_or (lists_of occ) p [] ≡ v.items

@@ -60,7 +60,7 @@ impl Model for Engine {
     ghost invariant = { λ e. e.spent ≡ false → IsAtRest e.store e.run e.eager e.clauses (forms_of e.store.kept.items) × ArePlaced (forms_of e.store.kept.items) e.places.items };
 }
 
-// Assigns the given literals. Returns whether two of them are opposite.
+// Assigns the given literals. Returns whether two of them are opposite, or a form is then falsified.
 fn assume(store: &Store, run: &mut Run, given: &[NumberedLiteral]) -> Result<bool, AllocError>
     requires store { IsSound store.now }
     requires inside { All (λ l. l.variable < store.now.variables) given.now }
@@ -75,9 +75,9 @@ fn assume(store: &Store, run: &mut Run, given: &[NumberedLiteral]) -> Result<boo
     ensures next { OnOk result (run.new.next ≡ run.old.next) }
     ensures within { OnOk result (length run.old.work.items ≤ length run.new.work.items) }
     ensures single { OnOk result (AreSingle run.new.assignment.list.items) }
-    ensures counted { OnOk result (IsCounted (shapes_of store.now.kept.items) run.new.opens.items run.new.assignment.list.items []) }
+    ensures counted { IfOk result (λ found. found ≡ false → IsCounted (shapes_of store.now.kept.items) run.new.opens.items run.new.assignment.list.items []) }
     ensures tidy { OnOk result ((aside : List ℕ) (busy : ℕ) → IsTidy aside (shapes_of store.now.kept.items) run.old.opens.items run.old.candidates.items run.old.assignment.list.items run.old.work.items run.old.trail.items run.old.next busy → IsTidy aside (shapes_of store.now.kept.items) run.new.opens.items run.new.candidates.items run.new.assignment.list.items run.new.work.items run.new.trail.items run.new.next busy) }
-    ensures opposite { IfOk result (λ found. found ≡ true → (l : NumberedLiteral) × (has given.now l ≡ true) × (has given.now (negation l) ≡ true)) }
+    ensures refuted { IfOk result (λ found. found ≡ true → IsRefuted (shapes_of store.now.kept.items) given.now given.now) }
     ensures same { IfOk result (λ found. found ≡ false → IsWithin run.new.assignment.list.items given.now × IsWithin given.now run.new.assignment.list.items) }
 {
     'given: for i in 0..given.len() {
@@ -85,7 +85,9 @@ fn assume(store: &Store, run: &mut Run, given: &[NumberedLiteral]) -> Result<boo
         if run.assignment.contains(literal.negation()) {
             return Ok(true);
         }
-        try_put(store, run, literal)?;
+        if try_put(store, run, literal)? {
+            return Ok(true);
+        }
     }
     Ok(false)
 }
@@ -117,7 +119,7 @@ fn settle(
     ensures opens { OnOk result (length run.new.opens.items ≡ length store.now.kept.items) }
     ensures candidates { OnOk result (length run.new.candidates.items ≡ length store.now.kept.items) }
     ensures undone { OnOk result (IsUndone (shapes_of store.now.kept.items) run.new.opens.items run.new.candidates.items run.new.trail.items 0) }
-    ensures refuted { IfOk result (λ found. found ≡ true → IsRefuted (all_of store.now clauses.old) given.now run.new.assignment.list.items) }
+    ensures refuted { IfOk result (λ found. found ≡ true → (list : List NumberedLiteral) × IsRefuted (all_of store.now clauses.old) given.now list) }
     ensures ended { IfOk result (λ found. found ≡ false → IsEnded (all_of store.now clauses.old) given.now run.new.assignment.list.items) }
 {
     if assume(store, run, given)? {

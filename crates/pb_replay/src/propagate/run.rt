@@ -57,8 +57,8 @@ fn queue(work: &mut Vec<usize>, form: usize, left: u128, bound: u128) -> Result<
 }
 
 /// Subtracts a visited entry from its form's open sum. Adds the form to the work list if it may then propagate or is
-/// falsified.
-fn lower(store: &Store, run: &mut Run, entry: Visited) -> Result<(), AllocError>
+/// falsified. Returns whether it is falsified.
+fn lower(store: &Store, run: &mut Run, entry: Visited) -> Result<bool, AllocError>
     requires form { entry.form < length store.now.kept.items }
     requires index { entry.index < length (terms_at (shapes_of store.now.kept.items) entry.form) }
     requires inside { entry.form < length run.old.opens.items }
@@ -70,6 +70,7 @@ fn lower(store: &Store, run: &mut Run, entry: Visited) -> Result<(), AllocError>
     ensures assignment { run.new.assignment ≡ run.old.assignment }
     ensures next { run.new.next ≡ run.old.next }
     ensures visits { run.new.visits ≡ run.old.visits }
+    ensures falsified { IfOk result (λ found. found ≡ true → (d : Shape) → slice_index_or run.new.opens.items entry.form 0 < (slice_index_or (shapes_of store.now.kept.items) entry.form d).degree) }
 {
     let kept = &store.kept[entry.form];
     let opened = run.opens[entry.form];
@@ -77,7 +78,7 @@ fn lower(store: &Store, run: &mut Run, entry: Visited) -> Result<(), AllocError>
     let left = opened - weight_of(kept, &entry);
     queue(&mut run.work, entry.form, left, kept.bound)?;
     run.opens[entry.form] = left;
-    Ok(())
+    Ok(is_below(left, kept.degree))
 }
 
 /// The index of a literal's occurrence list.
@@ -92,8 +93,9 @@ pub fn place_of(literal: NumberedLiteral) -> usize
     }
 }
 
-/// Assigns a literal, and subtracts the entries of its negation from the open sums.
-pub fn put(store: &Store, run: &mut Run, literal: NumberedLiteral) -> Result<(), AllocError>
+/// Assigns a literal, and subtracts the entries of its negation from the open sums, up to the first form that is then
+/// falsified. Returns whether there is one.
+pub fn put(store: &Store, run: &mut Run, literal: NumberedLiteral) -> Result<bool, AllocError>
     requires store { IsSound store.now }
     requires inside { literal.variable < store.now.variables }
     requires values { length run.old.assignment.values.items ≡ store.now.variables }
@@ -109,7 +111,8 @@ pub fn put(store: &Store, run: &mut Run, literal: NumberedLiteral) -> Result<(),
     ensures covered { AreCovered (entries_of (shapes_of store.now.kept.items) store.now.occurrences.items) run.old.assignment.list.items run.new.assignment.list.items run.old.candidates.items run.new.candidates.items run.old.visits run.new.visits 0 }
     ensures single { AreSingle run.old.assignment.list.items → AreSingle run.new.assignment.list.items }
     ensures list { OnOk result (run.new.assignment.list.items ≡ run.old.assignment.list.items ++ literal ∷ []) }
-    ensures counted { OnOk result (IsCounted (shapes_of store.now.kept.items) run.new.opens.items run.new.assignment.list.items []) }
+    ensures counted { IfOk result (λ found. found ≡ false → IsCounted (shapes_of store.now.kept.items) run.new.opens.items run.new.assignment.list.items []) }
+    ensures conflict { IfOk result (λ found. found ≡ true → Conflicts (shapes_of store.now.kept.items) run.new.assignment.list.items) }
     ensures tidy { OnOk result ((aside : List ℕ) (busy : ℕ) → IsTidy aside (shapes_of store.now.kept.items) run.old.opens.items run.old.candidates.items run.old.assignment.list.items run.old.work.items run.old.trail.items run.old.next busy → IsTidy aside (shapes_of store.now.kept.items) run.new.opens.items run.new.candidates.items run.new.assignment.list.items run.new.work.items run.new.trail.items run.new.next busy) }
     ensures paid { OnOk result (IsPaid (entries_of (shapes_of store.now.kept.items) store.now.occurrences.items) run.old.assignment.list.items run.new.assignment.list.items run.old.candidates.items run.new.candidates.items run.old.work.items run.new.work.items run.old.visits run.new.visits 0) }
     ensures kept_work { OnOk result ((s : ℕ) → IsAbsent run.new.work.items 0 s → IsAbsent run.old.work.items 0 s) }
@@ -119,13 +122,15 @@ pub fn put(store: &Store, run: &mut Run, literal: NumberedLiteral) -> Result<(),
     let entries = &store.occurrences[place_of(literal.negation())];
     'entries: for j in 0..entries.len() {
         let entry = visit(entries, j, &mut run.visits);
-        lower(store, run, entry)?;
+        if lower(store, run, entry)? {
+            return Ok(true);
+        }
     }
-    Ok(())
+    Ok(false)
 }
 
-/// Assigns a literal if its variable has no value.
-pub fn try_put(store: &Store, run: &mut Run, literal: NumberedLiteral) -> Result<(), AllocError>
+/// Assigns a literal if its variable has no value. Returns whether a form is then falsified.
+pub fn try_put(store: &Store, run: &mut Run, literal: NumberedLiteral) -> Result<bool, AllocError>
     requires store { IsSound store.now }
     requires inside { literal.variable < store.now.variables }
     requires values { length run.old.assignment.values.items ≡ store.now.variables }
@@ -139,24 +144,25 @@ pub fn try_put(store: &Store, run: &mut Run, literal: NumberedLiteral) -> Result
     ensures covered { AreCovered (entries_of (shapes_of store.now.kept.items) store.now.occurrences.items) run.old.assignment.list.items run.new.assignment.list.items run.old.candidates.items run.new.candidates.items run.old.visits run.new.visits 0 }
     ensures single { AreSingle run.old.assignment.list.items → AreSingle run.new.assignment.list.items }
     ensures adopted { OnOk result (Adopted literal run.old.assignment.list.items run.new.assignment.list.items) }
-    ensures counted { OnOk result (IsCounted (shapes_of store.now.kept.items) run.new.opens.items run.new.assignment.list.items []) }
+    ensures counted { IfOk result (λ found. found ≡ false → IsCounted (shapes_of store.now.kept.items) run.new.opens.items run.new.assignment.list.items []) }
+    ensures conflict { IfOk result (λ found. found ≡ true → Conflicts (shapes_of store.now.kept.items) run.new.assignment.list.items) }
     ensures tidy { OnOk result ((aside : List ℕ) (busy : ℕ) → IsTidy aside (shapes_of store.now.kept.items) run.old.opens.items run.old.candidates.items run.old.assignment.list.items run.old.work.items run.old.trail.items run.old.next busy → IsTidy aside (shapes_of store.now.kept.items) run.new.opens.items run.new.candidates.items run.new.assignment.list.items run.new.work.items run.new.trail.items run.new.next busy) }
     ensures paid { OnOk result (IsPaid (entries_of (shapes_of store.now.kept.items) store.now.occurrences.items) run.old.assignment.list.items run.new.assignment.list.items run.old.candidates.items run.new.candidates.items run.old.work.items run.new.work.items run.old.visits run.new.visits 0) }
     ensures kept_work { OnOk result ((s : ℕ) → IsAbsent run.new.work.items 0 s → IsAbsent run.old.work.items 0 s) }
     ensures longer_work { OnOk result (length run.old.work.items ≤ length run.new.work.items) }
 {
     if run.assignment.contains(literal) {
-        return Ok(());
+        return Ok(false);
     }
     if run.assignment.contains(literal.negation()) {
-        return Ok(());
+        return Ok(false);
     }
-    put(store, run, literal)?;
-    Ok(())
+    let found = put(store, run, literal)?;
+    Ok(found)
 }
 
-/// Visits a form until its candidate requires nothing. Returns whether the form is falsified. Waiting forms are visited
-/// later.
+/// Visits a form until its candidate requires nothing. Returns whether it or another form is falsified. Waiting forms are
+/// visited later.
 fn look(store: &Store, run: &mut Run, form: usize, waiting: &[usize]) -> Result<bool, AllocError>
     requires store { IsSound store.now }
     requires form { form < length store.now.kept.items }
@@ -173,7 +179,7 @@ fn look(store: &Store, run: &mut Run, form: usize, waiting: &[usize]) -> Result<
     ensures next { OnOk result (run.new.next ≡ run.old.next) }
     ensures within { OnOk result (run.new.next ≤ length run.new.work.items) }
     ensures derived { OnOk result (Derives (shapes_of store.now.kept.items) run.old.assignment.list.items run.new.assignment.list.items) }
-    ensures counted { OnOk result (IsCounted (shapes_of store.now.kept.items) run.new.opens.items run.new.assignment.list.items []) }
+    ensures counted { IfOk result (λ found. found ≡ false → IsCounted (shapes_of store.now.kept.items) run.new.opens.items run.new.assignment.list.items []) }
     ensures bounded { sum run.new.candidates.items ≤ sum_by (λ f. length f.terms) (shapes_of store.now.kept.items) }
     ensures covered { AreCovered (entries_of (shapes_of store.now.kept.items) store.now.occurrences.items) run.old.assignment.list.items run.new.assignment.list.items run.old.candidates.items run.new.candidates.items run.old.visits run.new.visits 1 }
     ensures single { AreSingle run.old.assignment.list.items → AreSingle run.new.assignment.list.items }
@@ -199,8 +205,11 @@ fn look(store: &Store, run: &mut Run, form: usize, waiting: &[usize]) -> Result<
         if !demands {
             return Ok(false);
         }
-        try_put(store, run, term.literal)?;
+        let found = try_put(store, run, term.literal)?;
         run.candidates[form] = candidate + 1;
+        if found {
+            return Ok(true);
+        }
     }
 }
 

@@ -26,8 +26,8 @@ fn literal_of(code: u32) -> NumberedLiteral
     }
 }
 
-/// Visits the clauses in which a falsified literal is watched, and propagates what they force. Returns whether one of them
-/// is falsified.
+/// Visits the clauses in which a falsified literal is watched, and propagates what they force. Returns whether one of them,
+/// or a form, is falsified.
 pub fn walk(
     store: &Store,
     clauses: &mut Clauses,
@@ -53,7 +53,7 @@ pub fn walk(
     ensures derived { OnOk result (Derives (all_of store.now clauses.old) run.old.assignment.list.items run.new.assignment.list.items) }
     ensures grows { OnOk result (Grows run.old.assignment.values.items run.new.assignment.values.items) }
     ensures conflict { IfOk result (λ found. found ≡ true → Conflicts (all_of store.now clauses.old) run.new.assignment.list.items) }
-    ensures counted { OnOk result (IsCounted (shapes_of store.now.kept.items) run.new.opens.items run.new.assignment.list.items []) }
+    ensures counted { IfOk result (λ found. found ≡ false → IsCounted (shapes_of store.now.kept.items) run.new.opens.items run.new.assignment.list.items []) }
     ensures tidy { OnOk result ((aside : List ℕ) (busy : ℕ) → IsTidy aside (shapes_of store.now.kept.items) run.old.opens.items run.old.candidates.items run.old.assignment.list.items run.old.work.items run.old.trail.items run.old.next busy → IsTidy aside (shapes_of store.now.kept.items) run.new.opens.items run.new.candidates.items run.new.assignment.list.items run.new.work.items run.new.trail.items run.new.next busy) }
     ensures single { AreSingle run.old.assignment.list.items → AreSingle run.new.assignment.list.items }
     ensures longer_work { OnOk result (length run.old.work.items ≤ length run.new.work.items) }
@@ -80,7 +80,9 @@ pub fn walk(
             }
             Visit::Leaves => {}
             Visit::Forces(code) => {
-                put(store, run, literal_of(code))?;
+                if put(store, run, literal_of(code))? {
+                    return Ok(true);
+                }
                 index += 1;
             }
             Visit::Falsified => {

@@ -19,13 +19,13 @@ use crate::propagate::engine::Engine;
 use crate::state::Running;
 use crate::state::find::{find, number_of};
 use crate::state::live::{add, widen};
-use pb_normal::{Names, Normal};
+use pb_normal::{Names, Normal, Sum};
 use pb_proof::{PolWord, Statement};
 use pb_text::{Limits, Sequence};
 use std::alloc::{AllocError, Global};
 
 /// Removes the last form from the stack.
-fn pop(stack: &mut Vec<Normal>) -> Normal
+fn pop<'a>(stack: &mut Vec<Sum<'a>>) -> Sum<'a>
     requires { 0 < length stack.old.items }
     ensures { stack.old.items ≡ stack.new.items ++ result ∷ [] }
 {
@@ -36,59 +36,69 @@ fn pop(stack: &mut Vec<Normal>) -> Normal
 }
 
 /// The sum of two forms.
-fn sum_of(left: &Normal, right: &Normal, limits: Limits) -> Result<Normal, Fault>
-    ensures ok { IfOk result (λ r. some (IsSum left.now right.now) (limited (largest limits)) (Ok r)) }
-    ensures err { IfErr result (λ e. (e ≡ Fault.Memory) ⊎ some (IsSum left.now right.now) (limited (largest limits)) (Err e)) }
+fn sum_of<'a>(
+    alloc: Global,
+    left: Sum<'a>,
+    right: Sum<'a>,
+    limits: Limits,
+) -> Result<Sum<'a>, Fault>
+    ensures ok { IfOk result (λ r. some (IsSum left.entry right.entry) (limited (largest limits)) (Ok r)) }
+    ensures err { IfErr result (λ e. (e ≡ Fault.Memory) ⊎ some (IsSum left.entry right.entry) (limited (largest limits)) (Err e)) }
 {
-    match left.add(right, limits) {
+    match left.add(alloc, right, limits) {
         Ok(sum) => Ok(sum),
         Err(fault) => Err(Fault::from(fault)),
     }
 }
 
 /// A form times a factor.
-fn product_of(form: &Normal, factor: i128, limits: Limits) -> Result<Normal, Fault>
+fn product_of<'a>(
+    alloc: Global,
+    form: Sum<'a>,
+    factor: i128,
+    limits: Limits,
+) -> Result<Sum<'a>, Fault>
     requires { pos 1 ≤ℤ factor }
-    ensures ok { IfOk result (λ r. limited (largest limits) (multiplied (unsigned_abs factor) form.now) (Ok r)) }
-    ensures err { IfErr result (λ e. (e ≡ Fault.Memory) ⊎ limited (largest limits) (multiplied (unsigned_abs factor) form.now) (Err e)) }
+    ensures ok { IfOk result (λ r. limited (largest limits) (multiplied (unsigned_abs factor) form.entry) (Ok r)) }
+    ensures err { IfErr result (λ e. (e ≡ Fault.Memory) ⊎ limited (largest limits) (multiplied (unsigned_abs factor) form.entry) (Err e)) }
 {
-    match form.multiply(factor, limits) {
+    match form.multiply(alloc, factor, limits) {
         Ok(product) => Ok(product),
         Err(fault) => Err(Fault::from(fault)),
     }
 }
 
 /// A form divided by a divisor.
-fn quotient_of(form: &Normal, divisor: i128) -> Result<Normal, Fault>
+fn quotient_of<'a>(alloc: Global, form: Sum<'a>, divisor: i128) -> Result<Sum<'a>, Fault>
     requires { pos 1 ≤ℤ divisor }
-    ensures ok { IfOk result (λ r. r ≡ divided (unsigned_abs divisor) form.now) }
+    ensures ok { IfOk result (λ r. r ≡ divided (unsigned_abs divisor) form.entry) }
     ensures err { IfErr result (λ e. e ≡ Fault.Memory) }
 {
-    let quotient = form.divide(divisor)?;
+    let quotient = form.divide(alloc, divisor)?;
     Ok(quotient)
 }
 
 /// A form saturated.
-fn saturation_of(form: &Normal) -> Result<Normal, Fault>
-    ensures ok { IfOk result (λ r. r ≡ saturated form.now) }
+fn saturation_of<'a>(alloc: Global, form: Sum<'a>) -> Result<Sum<'a>, Fault>
+    ensures ok { IfOk result (λ r. r ≡ saturated form.entry) }
     ensures err { IfErr result (λ e. e ≡ Fault.Memory) }
 {
-    let saturation = form.saturate()?;
+    let saturation = form.saturate(alloc)?;
     Ok(saturation)
 }
 
 /// A form weakened on a variable.
-fn weakening_of(form: &Normal, variable: usize) -> Result<Normal, Fault>
-    ensures ok { IfOk result (λ r. r ≡ weakened variable form.now) }
+fn weakening_of<'a>(alloc: Global, form: Sum<'a>, variable: usize) -> Result<Sum<'a>, Fault>
+    ensures ok { IfOk result (λ r. r ≡ weakened variable form.entry) }
     ensures err { IfErr result (λ e. e ≡ Fault.Memory) }
 {
-    let weakening = form.weaken(variable)?;
+    let weakening = form.weaken(alloc, variable)?;
     Ok(weakening)
 }
 
 /// Pushes a form on the stack.
-fn push(stack: &mut Vec<Normal>, form: Normal) -> Result<(), Fault>
-    ensures ok { OnOk result (stack.new.items ≡ stack.old.items ++ form ∷ []) }
+fn push<'a>(stack: &mut Vec<Sum<'a>>, form: Sum<'a>) -> Result<(), Fault>
+    ensures ok { OnOk result (stack.new.items ≡ stack.old.items ++ form.entry ∷ []) }
     ensures err { IfErr result (λ e. e ≡ Fault.Memory) }
 {
     match stack.push(form) {
@@ -98,14 +108,14 @@ fn push(stack: &mut Vec<Normal>, form: Normal) -> Result<(), Fault>
 }
 
 /// The form that a word pushes on the stack, in place of the forms that it takes.
-fn made(
+fn made<'a>(
     alloc: Global,
     names: &Names,
-    engine: &Engine,
+    engine: &'a Engine,
     word: &PolWord,
-    stack: &mut Vec<Normal>,
+    stack: &mut Vec<Sum<'a>>,
     limits: Limits,
-) -> Result<Normal, Fault>
+) -> Result<Sum<'a>, Fault>
     requires takes { takes word.now ≤ length stack.old.items }
     requires named { HasNames names.now (word_names (word.now ∷ [])) }
     requires value { IsWord (largest limits) (top_of limits) word.now }
@@ -115,33 +125,34 @@ fn made(
 {
     match word {
         PolWord::Id(id) => match find(engine, *id) {
-            Some(form) => Ok(form.copy()?),
+            Some(form) => Ok(Sum::held(form)),
             None => Err(Fault::NoSuchId(*id)),
         },
         PolWord::Axiom(literal) => {
             let variable = number_of(names, literal.name.as_str());
-            Ok(Normal::axiom(alloc, variable, literal.negated)?)
+            let axiom = Normal::axiom(alloc, variable, literal.negated)?;
+            Ok(Sum::made(axiom))
         }
         PolWord::Add => {
             let right = pop(stack);
             let left = pop(stack);
-            sum_of(&left, &right, limits)
+            sum_of(alloc, left, right, limits)
         }
         PolWord::Multiply(factor) => {
             let form = pop(stack);
-            product_of(&form, *factor, limits)
+            product_of(alloc, form, *factor, limits)
         }
         PolWord::Divide(divisor) => {
             let form = pop(stack);
-            quotient_of(&form, *divisor)
+            quotient_of(alloc, form, *divisor)
         }
         PolWord::Saturate => {
             let form = pop(stack);
-            saturation_of(&form)
+            saturation_of(alloc, form)
         }
         PolWord::Weaken(name) => {
             let form = pop(stack);
-            weakening_of(&form, number_of(names, name.as_str()))
+            weakening_of(alloc, form, number_of(names, name.as_str()))
         }
     }
 }
@@ -195,7 +206,8 @@ fn evaluated(
             return Err(fault);
         }
     }
-    Ok(pop(&mut stack))
+    let form = pop(&mut stack).into_normal(alloc)?;
+    Ok(form)
 }
 
 /// `pol`: the form of an expression is added.

@@ -4,6 +4,7 @@ use Rattle.pb_replay.specs.declared.verdict.Verdict.TheVariants.{Unsat}
 use Rattle.pb_tool.proofs.Accepted as accepted
 use Rattle.pb_tool.proofs.Looked.{opening_unseen, replay_unseen}
 use Rattle.pb_tool.proofs.Headline as headline
+use Rattle.pb_tool.proofs.Watched.{watched_none, watched_ok, watched_refused, watched_unwritten}
 use Rattle.pb_tool.proofs.verify.check_watched.Goals as goal
 
 pub returns-in-Err-clause-checks : goal.returns-in-Err-clause-checks
@@ -110,3 +111,59 @@ returns-in-Err-replayed-clause-seen_instance g c =
 
 pub returns-in-Err-replayed-clause-seen_proof : goal.returns-in-Err-replayed-clause-seen_proof
 returns-in-Err-replayed-clause-seen_proof g c = c.in-Err-replayed.ensures.seen
+
+-- ---- what the watch got
+
+pub returns-in-Err-clause-watched : goal.returns-in-Err-clause-watched
+returns-in-Err-clause-watched g c =
+    watched_none c.args.limits c.unwrap_or-longest.result _ c.unwrap_or-longest.ensures g.V.Watch.got (g.I.Source.left c.args.instance.now) (g.I.Source.left c.opened.new.input) (g.P.Source.left c.args.proof.now) (g.P.Source.left c.args.proof.now) c.args.watch.now c.args.watch.now c.in-Err.fault c.in-Err.ensures.refused refl
+
+pub returns-in-Err-clause-watched_given : goal.returns-in-Err-clause-watched_given
+returns-in-Err-clause-watched_given g c =
+    let (given, seen, e, refused) = c.in-Err.ensures.refused_given in (
+      given,
+      seen,
+      e,
+      (
+        [],
+        [],
+        sym (append-nil (g.P.Source.history c.args.proof.now)),
+        watched_none c.args.limits c.unwrap_or-longest.result _ c.unwrap_or-longest.ensures g.V.Watch.got (Some (given ++ seen)) (Some seen) (Some []) (Some []) c.args.watch.now c.args.watch.now c.in-Err.fault refused refl,
+      ),
+    )
+
+pub returns-in-Err-replayed-clause-watched : goal.returns-in-Err-replayed-clause-watched
+returns-in-Err-replayed-clause-watched g c =
+    let h = c.in-Ok.ensures.opened in
+    watched_refused c.args.limits c.unwrap_or-longest.result _ c.unwrap_or-longest.ensures g.V.Watch.got (g.I.Source.left c.args.instance.now) (g.I.Source.left c.opened.new.input) (g.P.Source.left c.args.proof.now) (g.P.Source.left c.replayed.new.input) c.args.watch.now c.replayed.new.watch c.in-Ok.replay h c.in-Err-replayed.fault
+    (c.in-Err-replayed.ensures.shown (first_state c.in-Ok.replay.problem) h.first)
+
+pub returns-in-Err-replayed-clause-watched_given : goal.returns-in-Err-replayed-clause-watched_given
+returns-in-Err-replayed-clause-watched_given g c =
+    let (one, left, e, h) = c.in-Ok.ensures.given in
+    let (other, rest, f, owed) = c.in-Err-replayed.ensures.shown_given (first_state c.in-Ok.replay.problem) h.first in
+    (one, left, e, (other, rest, f, watched_refused c.args.limits c.unwrap_or-longest.result _ c.unwrap_or-longest.ensures g.V.Watch.got (Some (one ++ left)) (Some left) (Some (other ++ rest)) (Some rest) c.args.watch.now c.replayed.new.watch c.in-Ok.replay h c.in-Err-replayed.fault owed))
+
+pub returns-in-Ok-write_verdict-clause-watched : goal.returns-in-Ok-write_verdict-clause-watched
+returns-in-Ok-write_verdict-clause-watched g c =
+    let h = c.in-Ok.ensures.opened in
+    watched_ok c.args.limits c.unwrap_or-longest.result _ c.unwrap_or-longest.ensures g.V.Watch.got (g.I.Source.left c.args.instance.now) (g.I.Source.left c.opened.new.input) (g.P.Source.left c.args.proof.now) (g.P.Source.left c.replayed.new.input) c.args.watch.now c.replayed.new.watch c.in-Ok.replay h c.in-Ok-replayed.verdict
+    (c.in-Ok-replayed.ensures.shown (first_state c.in-Ok.replay.problem) h.first)
+
+pub returns-in-Ok-write_verdict-clause-watched_given : goal.returns-in-Ok-write_verdict-clause-watched_given
+returns-in-Ok-write_verdict-clause-watched_given g c =
+    let (one, left, e, h) = c.in-Ok.ensures.given in
+    let (other, rest, f, owed) = c.in-Ok-replayed.ensures.shown_given (first_state c.in-Ok.replay.problem) h.first in
+    (one, left, e, (other, rest, f, watched_ok c.args.limits c.unwrap_or-longest.result _ c.unwrap_or-longest.ensures g.V.Watch.got (Some (one ++ left)) (Some left) (Some (other ++ rest)) (Some rest) c.args.watch.now c.replayed.new.watch c.in-Ok.replay h c.in-Ok-replayed.verdict owed))
+
+pub returns-in-Err-write_verdict-clause-watched : goal.returns-in-Err-write_verdict-clause-watched
+returns-in-Err-write_verdict-clause-watched g c =
+    let h = c.in-Ok.ensures.opened in
+    watched_unwritten c.args.limits c.unwrap_or-longest.result _ c.unwrap_or-longest.ensures g.V.Watch.got (g.I.Source.left c.args.instance.now) (g.I.Source.left c.opened.new.input) (g.P.Source.left c.args.proof.now) (g.P.Source.left c.replayed.new.input) c.args.watch.now c.replayed.new.watch c.in-Ok.replay h c.in-Ok-replayed.verdict
+    (c.in-Ok-replayed.ensures.shown (first_state c.in-Ok.replay.problem) h.first)
+
+pub returns-in-Err-write_verdict-clause-watched_given : goal.returns-in-Err-write_verdict-clause-watched_given
+returns-in-Err-write_verdict-clause-watched_given g c =
+    let (one, left, e, h) = c.in-Ok.ensures.given in
+    let (other, rest, f, owed) = c.in-Ok-replayed.ensures.shown_given (first_state c.in-Ok.replay.problem) h.first in
+    (one, left, e, (other, rest, f, watched_unwritten c.args.limits c.unwrap_or-longest.result _ c.unwrap_or-longest.ensures g.V.Watch.got (Some (one ++ left)) (Some left) (Some (other ++ rest)) (Some rest) c.args.watch.now c.replayed.new.watch c.in-Ok.replay h c.in-Ok-replayed.verdict owed))

@@ -1,10 +1,12 @@
-use Rattle.std.proofs.Common.{Err, sym, subst}
+use Rattle.std.proofs.Common.{Ok, Err, sym, subst}
+use Rattle.pb_text.specs.Blank.{ReadsBlank}
 use Rattle.pb_tool.specs.Runs.{Replays}
 use Rattle.pb_tool.specs.Verified.{InProof, BehindProof}
 use Rattle.pb_tool.specs.declared.fault.ToolFault.{ToolFault}
 use Rattle.pb_tool.proofs.Accepted.{step_told, whole_file}
 use Rattle.pb_tool.proofs.CheckGiven.{given_behind, given_text, given_told, given_whole}
 use Rattle.pb_tool.proofs.Looked.{told_unseen}
+use Rattle.pb_tool.proofs.Watched.{given_proof_behind, given_proof_ended, given_proof_rejected, given_proof_stopped, proof_behind, proof_ended, proof_rejected, proof_stopped}
 use Rattle.pb_tool.proofs.verify.replayed.Goals as goal
 
 pub returns-in-Err-Text-clause-replayed : goal.returns-in-Err-Text-clause-replayed
@@ -73,3 +75,45 @@ pub returns-in-Err-Text-clause-faults : goal.returns-in-Err-Text-clause-faults
 returns-in-Err-Text-clause-faults g c =
     let t = rw (c.in-Err-Text.is, c.in-Err-Text.field-0-is) at c.run.ensures in
     rw c.refused.ensures t.faults
+
+-- ---- what the watch got
+
+pub returns-in-Err-Text-clause-shown : goal.returns-in-Err-Text-clause-shown
+returns-in-Err-Text-clause-shown g c first at =
+    let t = rw (c.in-Err-Text.is, c.in-Err-Text.field-0-is) at c.run.ensures in
+    proof_stopped c.args.replay.limits c.args.longest g.V.Watch.got c.args.replay.problem first c.args.watch.now c.run.new.watch (g.S.Source.left c.args.input.now) (g.S.Source.left c.run.new.input) c.in-Err-Text.stop c.refused.result c.refused.ensures (t.shown first at)
+
+pub returns-in-Err-Text-clause-shown_given : goal.returns-in-Err-Text-clause-shown_given
+returns-in-Err-Text-clause-shown_given g c first at =
+    let t = rw (c.in-Err-Text.is, c.in-Err-Text.field-0-is) at c.run.ensures in
+    given_proof_stopped c.args.replay.limits c.args.longest g.V.Watch.got c.args.replay.problem first c.args.watch.now c.run.new.watch (g.S.Source.history c.args.input.now) (g.S.Source.history c.run.new.input) c.in-Err-Text.stop c.refused.result c.refused.ensures (t.shown_given first at)
+
+pub returns-in-Err-Step-clause-shown : goal.returns-in-Err-Step-clause-shown
+returns-in-Err-Step-clause-shown g c first at =
+    let t = rw (c.in-Err-Step.is, c.in-Err-Step.field-0-is) at c.run.ensures in
+    proof_rejected c.args.replay.limits c.args.longest g.V.Watch.got c.args.replay.problem first c.args.watch.now c.run.new.watch (g.S.Source.left c.args.input.now) (g.S.Source.left c.run.new.input) c.run.new.replay.names c.in-Err-Step.place c.in-Err-Step.fault c.refusal.result c.refusal.ensures (t.shown first at)
+
+pub returns-in-Err-Step-clause-shown_given : goal.returns-in-Err-Step-clause-shown_given
+returns-in-Err-Step-clause-shown_given g c first at =
+    let t = rw (c.in-Err-Step.is, c.in-Err-Step.field-0-is) at c.run.ensures in
+    given_proof_rejected c.args.replay.limits c.args.longest g.V.Watch.got c.args.replay.problem first c.args.watch.now c.run.new.watch (g.S.Source.history c.args.input.now) (g.S.Source.history c.run.new.input) c.run.new.replay.names c.in-Err-Step.place c.in-Err-Step.fault c.refusal.result c.refusal.ensures (t.shown_given first at)
+
+pub returns-in-Ok-rest_is_blank-clause-shown : goal.returns-in-Ok-rest_is_blank-clause-shown
+returns-in-Ok-rest_is_blank-clause-shown g c first at =
+    let t = rw c.in-Ok.is at c.run.ensures in
+    proof_ended c.args.replay.limits c.args.longest g.V.Watch.got c.args.replay.problem first c.args.watch.now c.run.new.watch (g.S.Source.left c.args.input.now) (g.S.Source.left c.run.new.input) (g.S.Source.left c.rest_is_blank.new.source) c.in-Ok.ended (t.shown first at)
+
+pub returns-in-Ok-rest_is_blank-clause-shown_given : goal.returns-in-Ok-rest_is_blank-clause-shown_given
+returns-in-Ok-rest_is_blank-clause-shown_given g c first at =
+    let t = rw c.in-Ok.is at c.run.ensures in
+    given_proof_ended c.args.replay.limits c.args.longest g.V.Watch.got c.args.replay.problem first c.args.watch.now c.run.new.watch (g.S.Source.history c.args.input.now) (g.S.Source.history c.run.new.input) (g.S.Source.history c.rest_is_blank.new.source) c.in-Ok.ended (t.shown_given first at) (λ left rest. ReadsBlank c.in-Ok.ended.1 left (Ok tt) rest) c.in-Ok-rest_is_blank.ensures.given
+
+pub returns-clause-shown : goal.returns-clause-shown
+returns-clause-shown g c first at =
+    let t = rw c.in-Ok.is at c.run.ensures in
+    proof_behind c.args.replay.limits c.args.longest g.V.Watch.got c.args.replay.problem first c.args.watch.now c.run.new.watch (g.S.Source.left c.args.input.now) (g.S.Source.left c.run.new.input) (g.S.Source.left c.rest_is_blank.new.source) c.in-Ok.ended c.in-Err.stop c.refused-in-Err.result c.refused-in-Err.ensures (t.shown first at)
+
+pub returns-clause-shown_given : goal.returns-clause-shown_given
+returns-clause-shown_given g c first at =
+    let t = rw c.in-Ok.is at c.run.ensures in
+    given_proof_behind c.args.replay.limits c.args.longest g.V.Watch.got c.args.replay.problem first c.args.watch.now c.run.new.watch (g.S.Source.history c.args.input.now) (g.S.Source.history c.run.new.input) (g.S.Source.history c.rest_is_blank.new.source) c.in-Ok.ended (t.shown_given first at) (λ left rest. ReadsBlank c.in-Ok.ended.1 left (Err c.in-Err.stop) rest) c.in-Err.ensures.given c.in-Err.stop c.refused-in-Err.result c.refused-in-Err.ensures

@@ -6,6 +6,7 @@ use Rattle.pb_tool.proofs.CheckGiven.{given_ended, given_step, given_stopped, mo
 use Rattle.pb_tool.proofs.GivenRow.{given_next, given_row, given_so_far}
 use Rattle.pb_tool.proofs.Replayed as replayed
 use Rattle.pb_tool.proofs.Shown.{fewer, first_pull, so_far_within}
+use Rattle.pb_tool.proofs.Watched.{shown_ended, shown_ended_given, shown_first, shown_next, shown_rejected, shown_rejected_given, shown_stopped, shown_stopped_given}
 use Rattle.pb_tool.proofs.verify.run.Goals as goal
 
 pub loop-read-init : goal.loop-read-init
@@ -19,6 +20,7 @@ loop-read-init g c = record {
     first_pull c.args.longest _ (g.S.Source.left c.args.input.now) c.within-feeder.result (rw (c.new.ensures.begins, c.limits.ensures) at c.within-feeder.ensures.stands) c.within-feeder.ensures.running (ap (λ (p : Place). p.offset) c.within-feeder.ensures.place),
     λ first at. (first, at, refl),
     ([], sym (append-nil (g.S.Source.history c.args.input.now)), ap (λ (p : Place). p.offset) c.within-feeder.ensures.place, rw (c.new.ensures.begins, c.limits.ensures) at c.within-feeder.ensures.stands, c.within-feeder.ensures.running),
+    shown_first g.V.Watch.got c.args.watch.now c.args.replay.now,
   );
 }
 
@@ -54,6 +56,7 @@ loop-read-preserved g c =
         λ first at. replayed.led_more c.proofs_are_exact.ensures c.args.replay.now.limits c.args.longest (g.S.Source.left c.args.input.now) (g.S.Source.left c.pull.new.source) c.args.replay.now.problem first c.loop-read.replay i.led.0 (i.led.2 first at) i.unspent c.step_watched.new.replay c.in-Ok-Some.read i.limited i.problem u.steps,
         given_next c.args.longest _ (g.S.Source.history c.args.input.now) (g.S.Source.history c.loop-read.input) (g.S.Source.history c.pull.new.source) i.led.0 c.loop-read.feeder c.pull.new.feeder i.led.3 (g.S.Source.left c.loop-read.input) (g.S.Source.left c.pull.new.source) c.in-Ok-Some.read
             (t.pulls c.args.longest _ i.led.3.0 i.led.0 (rw i.led.3.4 tt) i.led.3.3) t.stop,
+        shown_next g.V.Watch.got c.args.watch.now c.args.replay.now i.led.0 c.loop-read.watch c.loop-read.replay i.led.4 c.in-Ok-Some.read c.step_watched.new.replay c.step_watched.new.watch i.unspent i.limited i.problem u.steps u.shown,
       );
     }
 
@@ -140,3 +143,48 @@ pub returns-in-Err-clause-seen : goal.returns-in-Err-clause-seen
 returns-in-Err-clause-seen g c =
     let t = rw c.in-Err.is at c.pull.ensures in
     t.shown c.loop-read.invariant.led.1.running
+
+-- ---- what the watch got
+
+pub returns-in-Err-step_watched-clause-shown : goal.returns-in-Err-step_watched-clause-shown
+returns-in-Err-step_watched-clause-shown g c first at =
+    let i = c.loop-read.invariant in
+    let t = rw (c.in-Ok-Some.is, c.in-Ok-Some.field-0-is) at c.pull.ensures in
+    let (more, sofar) = t.row c.args.longest _ (g.S.Source.left c.args.input.now) i.led.0 i.led.1 in
+    let u = c.in-Err-step_watched.ensures in
+    shown_rejected g.V.Watch.got c.args.watch.now c.args.replay.now i.led.0 c.loop-read.watch c.loop-read.replay i.led.4 c.in-Ok-Some.read c.step_watched.new.replay c.step_watched.new.watch i.unspent i.limited i.problem c.proofs_are_exact.ensures c.args.longest first at c.in-Err-step_watched.fault (g.S.Source.left c.args.input.now) (g.S.Source.left c.pull.new.source) u.steps u.names u.unvalued u.shown sofar
+
+pub returns-in-Err-step_watched-clause-shown_given : goal.returns-in-Err-step_watched-clause-shown_given
+returns-in-Err-step_watched-clause-shown_given g c first at =
+    let i = c.loop-read.invariant in
+    let t = rw (c.in-Ok-Some.is, c.in-Ok-Some.field-0-is) at c.pull.ensures in
+    let u = c.in-Err-step_watched.ensures in
+    shown_rejected_given g.V.Watch.got c.args.watch.now c.args.replay.now i.led.0 c.loop-read.watch c.loop-read.replay i.led.4 c.in-Ok-Some.read c.step_watched.new.replay c.step_watched.new.watch i.unspent i.limited i.problem c.proofs_are_exact.ensures c.args.longest first at c.in-Err-step_watched.fault (g.S.Source.history c.args.input.now) (g.S.Source.history c.pull.new.source) u.steps u.names u.unvalued u.shown
+    (given_so_far c.args.longest _ (g.S.Source.history c.args.input.now) (g.S.Source.history c.loop-read.input) (g.S.Source.history c.pull.new.source) i.led.0 c.loop-read.feeder c.pull.new.feeder i.led.3 (g.S.Source.left c.loop-read.input) (g.S.Source.left c.pull.new.source) c.in-Ok-Some.read
+    (given_row c.args.longest _ (g.S.Source.history c.args.input.now) (g.S.Source.history c.loop-read.input) (g.S.Source.history c.pull.new.source) i.led.0 c.loop-read.feeder c.pull.new.feeder i.led.3 (g.S.Source.left c.loop-read.input) (g.S.Source.left c.pull.new.source) (Ok (Some c.in-Ok-Some.read)) (t.pulls c.args.longest _ i.led.3.0 i.led.0 (rw i.led.3.4 tt) i.led.3.3) t.stop t.last t.past))
+
+pub returns-in-Err-clause-shown : goal.returns-in-Err-clause-shown
+returns-in-Err-clause-shown g c first at =
+    let i = c.loop-read.invariant in
+    let t = rw c.in-Err.is at c.pull.ensures in
+    shown_stopped g.V.Watch.got c.args.watch.now c.args.replay.now c.proofs_are_exact.ensures c.args.longest first at i.led.0 c.loop-read.watch c.loop-read.replay i.led.4 (g.S.Source.left c.args.input.now) (g.S.Source.left c.pull.new.source) c.in-Err.stop (t.row c.args.longest _ (g.S.Source.left c.args.input.now) i.led.0 i.led.1)
+
+pub returns-in-Err-clause-shown_given : goal.returns-in-Err-clause-shown_given
+returns-in-Err-clause-shown_given g c first at =
+    let i = c.loop-read.invariant in
+    let t = rw c.in-Err.is at c.pull.ensures in
+    shown_stopped_given g.V.Watch.got c.args.watch.now c.args.replay.now c.proofs_are_exact.ensures c.args.longest first at i.led.0 c.loop-read.watch c.loop-read.replay i.led.4 (g.S.Source.history c.args.input.now) (g.S.Source.history c.pull.new.source) c.in-Err.stop
+    (given_row c.args.longest _ (g.S.Source.history c.args.input.now) (g.S.Source.history c.loop-read.input) (g.S.Source.history c.pull.new.source) i.led.0 c.loop-read.feeder c.pull.new.feeder i.led.3 (g.S.Source.left c.loop-read.input) (g.S.Source.left c.pull.new.source) (Err c.in-Err.stop) (t.pulls c.args.longest _ i.led.3.0 i.led.0 (rw i.led.3.4 tt) i.led.3.3) t.stop t.last t.past)
+
+pub returns-clause-shown : goal.returns-clause-shown
+returns-clause-shown g c first at =
+    let i = c.loop-read.invariant in
+    let t = rw (c.in-Ok-None.is, c.in-Ok-None.field-0-is) at c.pull.ensures in
+    shown_ended g.V.Watch.got c.args.watch.now c.args.replay.now c.proofs_are_exact.ensures c.args.longest first at i.led.0 c.loop-read.watch c.loop-read.replay i.led.4 (g.S.Source.left c.args.input.now) (g.S.Source.left c.pull.new.source) (place_of c.pull.new.feeder) c.place.result c.in-Some.verdict (sym c.place.ensures.place) (t.row c.args.longest _ (g.S.Source.left c.args.input.now) i.led.0 i.led.1)
+
+pub returns-clause-shown_given : goal.returns-clause-shown_given
+returns-clause-shown_given g c first at =
+    let i = c.loop-read.invariant in
+    let t = rw (c.in-Ok-None.is, c.in-Ok-None.field-0-is) at c.pull.ensures in
+    shown_ended_given g.V.Watch.got c.args.watch.now c.args.replay.now c.proofs_are_exact.ensures c.args.longest first at i.led.0 c.loop-read.watch c.loop-read.replay i.led.4 (g.S.Source.history c.args.input.now) (g.S.Source.history c.pull.new.source) (place_of c.pull.new.feeder) c.place.result c.in-Some.verdict (sym c.place.ensures.place)
+    (given_row c.args.longest _ (g.S.Source.history c.args.input.now) (g.S.Source.history c.loop-read.input) (g.S.Source.history c.pull.new.source) i.led.0 c.loop-read.feeder c.pull.new.feeder i.led.3 (g.S.Source.left c.loop-read.input) (g.S.Source.left c.pull.new.source) (Ok None) (t.pulls c.args.longest _ i.led.3.0 i.led.0 (rw i.led.3.4 tt) i.led.3.3) t.stop t.last t.past)

@@ -2,18 +2,20 @@ use Rattle.std.specs.Prelude.{filter}
 use Rattle.std.proofs.Common.{length, arith}
 use Rattle.pb_replay.proofs.Clauses.Watching.{ready-running}
 use Rattle.pb_replay.specs.Engine.Rest.{waits}
-use Rattle.pb_replay.specs.Engine.Rest.{opposite, derived}
+use Rattle.pb_replay.specs.Engine.Fields.{shapes_of}
+use Rattle.pb_replay.specs.Engine.Rest.{derived}
+use Rattle.pb_replay.specs.Clauses.Shapes.{clauses_of}
+use Rattle.pb_replay.proofs.Clauses.Shapes.{refuted-joined}
 use Rattle.pb_replay.proofs.propagate.engine.settle.Goals as goal
 
 pub returns-then-branch-clause-refuted : goal.returns-then-branch-clause-refuted
 returns-then-branch-clause-refuted c = λ found.
-    let told = c.in_ok-assume.ensures.opposite c.if-branch.true in
-    opposite told.0 told.1 told.2
+    (c.args.given.now, refuted-joined (shapes_of c.args.store.now.kept.items) (clauses_of c.args.clauses.now) c.args.given.now c.args.given.now c.requires.joined (c.in_ok-assume.ensures.refuted c.if-branch.true))
 
 pub returns-clause-refuted : goal.returns-clause-refuted
 returns-clause-refuted c = λ found.
     let same = c.in_ok-assume.ensures.same c.if-branch.false in
-    derived (record { first = c.assume.new.run.assignment.list.items; within = same.0; covers = same.1; derived = c.in_ok-found.ensures.derived }) (c.in_ok-found.ensures.conflict found)
+    (c.propagate.new.run.assignment.list.items, derived (record { first = c.assume.new.run.assignment.list.items; within = same.0; covers = same.1; derived = c.in_ok-found.ensures.derived }) (c.in_ok-found.ensures.conflict found))
 
 pub returns-clause-ended : goal.returns-clause-ended
 returns-clause-ended c = λ found.

@@ -6,7 +6,7 @@ use Rattle.std.proofs.lemmas.List.Sums.{get_or-le-sum_by}
 use Rattle.pb_replay.specs.declared.propagate.term.Term.{Term}
 use Rattle.pb_replay.specs.Engine.Fields.{shapes_of, entries_of, kept_shape}
 use Rattle.pb_replay.specs.Engine.Terms.{terms_of}
-use Rattle.pb_replay.proofs.Engine.Looks.{Looking-start, Looking-next_by, calm-by, waiting-by, Looking-settled_by, Looking-conflict, shape-at, term-inside}
+use Rattle.pb_replay.proofs.Engine.Looks.{IsLooking, Looking-start, Looking-next_by, calm-by, waiting-by, Looking-settled_by, Looking-conflict, shape-at, term-inside}
 use Rattle.pb_replay.proofs.Engine.Spent.{sum-bounded, derivation-single}
 use Rattle.pb_replay.proofs.propagate.run.look.Goals as goal
 
@@ -17,7 +17,8 @@ terms-init c =
     record {
       values = refl;
       next = refl;
-      looking = Looking-start (filter (waits store.kept.items) c.args.waiting.now) (shapes_of store.kept.items) (entries_of (shapes_of store.kept.items) store.occurrences.items) c.args.form run.opens.items run.candidates.items run.assignment.list.items run.work.items run.trail.items run.next run.visits c.requires.counted c.requires.tidy c.requires.there
+      counted = c.requires.counted;
+      looking = Looking-start (filter (waits store.kept.items) c.args.waiting.now) (shapes_of store.kept.items) (entries_of (shapes_of store.kept.items) store.occurrences.items) c.args.form run.opens.items run.candidates.items run.assignment.list.items run.work.items run.trail.items run.next run.visits c.requires.tidy c.requires.there
           (c.requires.opens ∙ sym (length-map store.kept.items kept_shape)) (c.requires.candidates ∙ sym (length-map store.kept.items kept_shape)) c.requires.next;
     }
 
@@ -31,7 +32,7 @@ returns-then-falsified-clause-conflict c = λ found.
     let read = get_or_read run.opens.items c.args.form c.index-opened.result.now room c.index-opened.ensures 0 in
     let low : get_or run.opens.items c.args.form 0 < c.index-kept.result.now.degree = omega (arith, read, c.is_below-falsified.ensures.below c.if-falsified.true) in
     Looking-conflict (shapes_of store.kept.items) run.opens.items run.assignment.list.items c.args.form (kept_shape c.index-kept.result.now) inside
-    (shape-at store.kept.items c.args.form c.index-kept.result.now c.requires.form c.index-kept.ensures) c.terms.invariant.looking.counted low
+    (shape-at store.kept.items c.args.form c.index-kept.result.now c.requires.form c.index-kept.ensures) c.terms.invariant.counted low
 
 pub returns-then-candidate-len-clause-tidy : goal.returns-then-candidate-len-clause-tidy
 returns-then-candidate-len-clause-tidy c = λ found.
@@ -72,16 +73,17 @@ terms-preserved c =
     let run = c.terms.run in
     let start = c.args.run.now in
     let done = c.try_put.new.run in
-    let told = c.in_ok-try_put.ensures in
+    let told = c.in_ok-found.ensures in
     record {
       values = told.values ∙ c.terms.invariant.values;
       next = told.next ∙ c.terms.invariant.next;
+      counted = told.counted c.if-found.false;
       looking = Looking-next_by (filter (waits store.kept.items) c.args.waiting.now) store.kept.items (entries_of (shapes_of store.kept.items) store.occurrences.items) c.args.form start.assignment.list.items start.candidates.items start.work.items start.visits run.opens.items run.candidates.items run.assignment.list.items run.work.items run.trail.items run.next run.visits c.visit_term-term.new.visits
           done.opens.items done.candidates.items (set done.candidates.items c.args.form (c.index-candidate.result.now + 1)) done.assignment.list.items done.work.items done.trail.items done.next done.visits
           c.index-kept.result.now (terms_of c.index-kept.result.now.terms) c.index-opened.result.now c.index-candidate.result.now c.visit_term-term.result
           c.requires.form c.index-kept.ensures c.index-opened.ensures c.index-candidate.ensures refl (omega (arith, c.if-candidate-len.false, c.len.ensures)) (c.visit_term-term.ensures.item c.visit_term-term.result)
           c.visit_term-term.ensures.count c.visit_term-term.ensures.rising (c.is_below-demands.ensures.below c.if-not-demands.false)
-          (ap (λ (v : Vec ℕ Global). v.items) told.candidates) told.next told.adopted told.counted (told.tidy (filter (waits store.kept.items) c.args.waiting.now)) told.paid told.kept_work told.longer_work told.opens refl c.terms.invariant.looking;
+          (ap (λ (v : Vec ℕ Global). v.items) told.candidates) told.next told.adopted c.terms.invariant.counted (told.tidy (filter (waits store.kept.items) c.args.waiting.now)) told.paid told.kept_work told.longer_work told.opens refl c.terms.invariant.looking;
     }
 
 pub returns-then-falsified-clause-bounded : goal.returns-then-falsified-clause-bounded
@@ -108,11 +110,11 @@ returns-then-candidate-len-clause-single c = λ s. derivation-single (shapes_of 
 pub returns-then-not-demands-clause-single : goal.returns-then-not-demands-clause-single
 returns-then-not-demands-clause-single c = λ s. derivation-single (shapes_of c.args.store.now.kept.items) _ _ s c.terms.invariant.looking.derived
 
-pub returns-in_err-try_put-clause-single : goal.returns-in_err-try_put-clause-single
-returns-in_err-try_put-clause-single c = λ s. c.try_put.ensures.single (derivation-single (shapes_of c.args.store.now.kept.items) _ _ s c.terms.invariant.looking.derived)
+pub returns-in_err-found-clause-single : goal.returns-in_err-found-clause-single
+returns-in_err-found-clause-single c = λ s. c.try_put.ensures.single (derivation-single (shapes_of c.args.store.now.kept.items) _ _ s c.terms.invariant.looking.derived)
 
-pub returns-in_err-try_put-clause-bounded : goal.returns-in_err-try_put-clause-bounded
-returns-in_err-try_put-clause-bounded c =
+pub returns-in_err-found-clause-bounded : goal.returns-in_err-found-clause-bounded
+returns-in_err-found-clause-bounded c =
     let same = ap (λ (v : Vec ℕ Global). sum v.items) c.try_put.ensures.candidates in
     omega (arith, same, sum-bounded (shapes_of c.args.store.now.kept.items) c.terms.run.candidates.items c.terms.invariant.looking.candidate_sizes c.terms.invariant.looking.tidy.bounded)
 
@@ -135,7 +137,7 @@ pub returns-then-falsified-clause-derived : goal.returns-then-falsified-clause-d
 returns-then-falsified-clause-derived c = c.terms.invariant.looking.derived
 
 pub returns-then-falsified-clause-counted : goal.returns-then-falsified-clause-counted
-returns-then-falsified-clause-counted c = c.terms.invariant.looking.counted
+returns-then-falsified-clause-counted c = λ found. absurd cc
 
 pub returns-then-falsified-clause-undone : goal.returns-then-falsified-clause-undone
 returns-then-falsified-clause-undone c = record { clean = c.terms.invariant.looking.tidy.clean; named = c.terms.invariant.looking.tidy.marked }
@@ -173,7 +175,7 @@ pub returns-then-candidate-len-clause-derived : goal.returns-then-candidate-len-
 returns-then-candidate-len-clause-derived c = c.terms.invariant.looking.derived
 
 pub returns-then-candidate-len-clause-counted : goal.returns-then-candidate-len-clause-counted
-returns-then-candidate-len-clause-counted c = c.terms.invariant.looking.counted
+returns-then-candidate-len-clause-counted c = λ found. c.terms.invariant.counted
 
 pub returns-then-candidate-len-clause-undone : goal.returns-then-candidate-len-clause-undone
 returns-then-candidate-len-clause-undone c = record { clean = c.terms.invariant.looking.tidy.clean; named = c.terms.invariant.looking.tidy.marked }
@@ -211,7 +213,7 @@ pub returns-then-not-demands-clause-derived : goal.returns-then-not-demands-clau
 returns-then-not-demands-clause-derived c = c.terms.invariant.looking.derived
 
 pub returns-then-not-demands-clause-counted : goal.returns-then-not-demands-clause-counted
-returns-then-not-demands-clause-counted c = c.terms.invariant.looking.counted
+returns-then-not-demands-clause-counted c = λ found. c.terms.invariant.counted
 
 pub returns-then-not-demands-clause-undone : goal.returns-then-not-demands-clause-undone
 returns-then-not-demands-clause-undone c = record { clean = c.terms.invariant.looking.tidy.clean; named = c.terms.invariant.looking.tidy.marked }
@@ -233,5 +235,39 @@ returns-then-not-demands-clause-found c = λ small.
     let before = c.terms.invariant.looking.found (omega (arith, small, rising)) in
     omega (arith, before, rising)
 
-pub returns-in_err-try_put-clause-covered : goal.returns-in_err-try_put-clause-covered
-returns-in_err-try_put-clause-covered c = omega (arith, c.terms.invariant.looking.paid.upper, c.visit_term-term.ensures.count, c.try_put.ensures.covered)
+pub returns-in_err-found-clause-covered : goal.returns-in_err-found-clause-covered
+returns-in_err-found-clause-covered c = omega (arith, c.terms.invariant.looking.paid.upper, c.visit_term-term.ensures.count, c.try_put.ensures.covered)
+
+-- where a further form is falsified: the term is passed
+passed : (c : goal.Then-found) → IsLooking (filter (waits c.args.store.now.kept.items) c.args.waiting.now) (shapes_of c.args.store.now.kept.items) (entries_of (shapes_of c.args.store.now.kept.items) c.args.store.now.occurrences.items) c.args.form c.args.run.now.assignment.list.items c.args.run.now.candidates.items c.args.run.now.work.items c.args.run.now.visits
+    c.try_put.new.run.opens.items (set c.try_put.new.run.candidates.items c.args.form (c.index-candidate.result.now + 1)) c.try_put.new.run.assignment.list.items c.try_put.new.run.work.items c.try_put.new.run.trail.items c.try_put.new.run.next c.try_put.new.run.visits
+passed c =
+    let store = c.args.store.now in
+    let run = c.terms.run in
+    let start = c.args.run.now in
+    let done = c.try_put.new.run in
+    let told = c.in_ok-found.ensures in
+    Looking-next_by (filter (waits store.kept.items) c.args.waiting.now) store.kept.items (entries_of (shapes_of store.kept.items) store.occurrences.items) c.args.form start.assignment.list.items start.candidates.items start.work.items start.visits run.opens.items run.candidates.items run.assignment.list.items run.work.items run.trail.items run.next run.visits c.visit_term-term.new.visits
+    done.opens.items done.candidates.items (set done.candidates.items c.args.form (c.index-candidate.result.now + 1)) done.assignment.list.items done.work.items done.trail.items done.next done.visits
+    c.index-kept.result.now (terms_of c.index-kept.result.now.terms) c.index-opened.result.now c.index-candidate.result.now c.visit_term-term.result
+    c.requires.form c.index-kept.ensures c.index-opened.ensures c.index-candidate.ensures refl (omega (arith, c.if-candidate-len.false, c.len.ensures)) (c.visit_term-term.ensures.item c.visit_term-term.result)
+    c.visit_term-term.ensures.count c.visit_term-term.ensures.rising (c.is_below-demands.ensures.below c.if-not-demands.false)
+    (ap (λ (v : Vec ℕ Global). v.items) told.candidates) told.next told.adopted c.terms.invariant.counted (told.tidy (filter (waits store.kept.items) c.args.waiting.now)) told.paid told.kept_work told.longer_work told.opens refl c.terms.invariant.looking
+
+pub returns-then-found-clause-derived : goal.returns-then-found-clause-derived
+returns-then-found-clause-derived c = (passed c).derived
+
+pub returns-then-found-clause-bounded : goal.returns-then-found-clause-bounded
+returns-then-found-clause-bounded c = sum-bounded (shapes_of c.args.store.now.kept.items) _ (passed c).candidate_sizes (passed c).tidy.bounded
+
+pub returns-then-found-clause-single : goal.returns-then-found-clause-single
+returns-then-found-clause-single c = λ s. derivation-single (shapes_of c.args.store.now.kept.items) _ _ s (passed c).derived
+
+pub returns-then-found-clause-undone : goal.returns-then-found-clause-undone
+returns-then-found-clause-undone c = record { clean = (passed c).tidy.clean; named = (passed c).tidy.marked }
+
+pub returns-then-found-clause-conflict : goal.returns-then-found-clause-conflict
+returns-then-found-clause-conflict c = λ found. c.in_ok-found.ensures.conflict c.if-found.true
+
+pub returns-then-found-clause-found : goal.returns-then-found-clause-found
+returns-then-found-clause-found c = (passed c).found

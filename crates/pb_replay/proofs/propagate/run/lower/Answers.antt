@@ -1,5 +1,5 @@
 use Rattle.std.proofs.Common.{ℕ, [], ◌-◌, ◌∙◌, set, get_or, length, ap, subst, arith}
-use Rattle.std.proofs.lemmas.List.{get_or_read}
+use Rattle.std.proofs.lemmas.List.{get_or_read, get_or-set_same}
 use Rattle.pb_replay.specs.Engine.Lists.{Shape}
 use Rattle.pb_replay.specs.Engine.Counts.{IsCalm}
 use Rattle.pb_replay.specs.Engine.Fields.{shapes_of}
@@ -33,3 +33,10 @@ returns-clause-trail c =
     let run = c.args.run.now in
     let e = c.args.entry in
     grown-by e.form run.trail.items _ (λ other. changed-at c.args.store.now.kept.items run.opens.items e.form c.index-kept.result.now c.index-opened.result.now c.requires.form c.index-kept.ensures c.requires.inside c.index-opened.ensures other) c.in_ok-note.ensures
+
+pub returns-clause-falsified : goal.returns-clause-falsified
+returns-clause-falsified c = λ found d.
+    let opens = c.args.run.now.opens.items in
+    let e = c.args.entry in
+    let shape = shape-at c.args.store.now.kept.items e.form c.index-kept.result.now c.requires.form c.index-kept.ensures d in
+    omega (arith, c.is_below.ensures.below found, ap (λ (f : Shape). f.degree) shape, get_or-set_same opens e.form (c.index-opened.result.now - c.weight_of.result) 0 c.requires.inside)

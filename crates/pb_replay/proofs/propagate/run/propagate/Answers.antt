@@ -195,7 +195,7 @@ work-preserved-then-walked-len c =
       taken = c.work.invariant.taken;
       watching = watching-next (all_of store c.args.clauses.now) c.args.clauses.now c.work.clauses c.walk.new.clauses run.assignment.values.items done.assignment.values.items run.assignment.list.items done.assignment.list.items c.work.walked l inside c.index-literal.ensures next.failed told.literals told.running derived walked w;
       state = Propagating-walk (waits store.kept.items) c.args.waiting.now (shapes_of store.kept.items) (all_of store c.args.clauses.now) (entries_of (shapes_of store.kept.items) store.occurrences.items) (length store.kept.items) start.assignment.list.items start.candidates.items start.work.items start.next start.visits (cost c.args.clauses.now c.work.clauses c.work.walked run.assignment.list.items) (cost c.args.clauses.now c.walk.new.clauses (c.work.walked + 1) done.assignment.list.items) c.work.taken run.opens.items run.candidates.items run.assignment.list.items run.work.items run.trail.items run.next run.visits done.opens.items done.candidates.items done.assignment.list.items done.work.items done.trail.items done.next done.visits
-          told.next (ap (λ (v : Vec ℕ Global). v.items) told.candidates) derived told.counted (told.tidy (filter (waits store.kept.items) (drop c.work.taken c.args.waiting.now)) (length store.kept.items) state.tidy) paid told.work told.rising told.found told.opens told.longer_work state;
+          told.next (ap (λ (v : Vec ℕ Global). v.items) told.candidates) derived (told.counted c.if-branch-2.false) (told.tidy (filter (waits store.kept.items) (drop c.work.taken c.args.waiting.now)) (length store.kept.items) state.tidy) paid told.work told.rising told.found told.opens told.longer_work state;
     }
 
 pub look-requires-clause-tidy : goal.look-requires-clause-tidy
@@ -298,7 +298,7 @@ work-preserved-else-branch c =
       taken = c.work.invariant.taken;
       watching = watching-grow (all_of store c.args.clauses.now) c.args.clauses.now c.work.clauses run.assignment.values.items done.assignment.values.items run.assignment.list.items done.assignment.list.items c.work.walked grows derived w;
       state = Propagating-next (waits store.kept.items) c.args.waiting.now (shapes_of store.kept.items) (all_of store c.args.clauses.now) (entries_of (shapes_of store.kept.items) store.occurrences.items) (length store.kept.items) start.assignment.list.items start.candidates.items start.work.items start.next start.visits (cost c.args.clauses.now c.work.clauses c.work.walked run.assignment.list.items) c.work.taken run.opens.items run.candidates.items run.assignment.list.items run.work.items run.trail.items run.next run.visits done.opens.items done.candidates.items done.assignment.list.items done.work.items done.trail.items done.next done.visits (cost c.args.clauses.now c.work.clauses c.work.walked done.assignment.list.items)
-          (cost-grow (all_of store c.args.clauses.now) c.args.clauses.now c.work.clauses run.assignment.list.items done.assignment.list.items c.work.walked w.within derived) told.next derived told.counted tidy told.paid told.found told.opens told.candidates told.within state;
+          (cost-grow (all_of store c.args.clauses.now) c.args.clauses.now c.work.clauses run.assignment.list.items done.assignment.list.items c.work.walked w.within derived) told.next derived (told.counted c.if-branch.false) tidy told.paid told.found told.opens told.candidates told.within state;
     }
 
 pub returns-in_err-choose-clause-bounded : goal.returns-in_err-choose-clause-bounded

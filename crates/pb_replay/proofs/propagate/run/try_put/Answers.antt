@@ -18,4 +18,4 @@ pub returns-clause-adopted : goal.returns-clause-adopted
 returns-clause-adopted c =
     let absent : has c.args.run.now.assignment.list.items c.args.literal ≡ false = cc (c.contains.ensures, c.if-contains.false) in
     let opened : has c.args.run.now.assignment.list.items (negation c.args.literal) ≡ false = cc (c.contains-2.ensures, c.if-contains-2.false, c.negation.ensures) in
-    rw c.in_ok-put.ensures.list (added absent opened)
+    rw c.in_ok-found.ensures.list (added absent opened)

@@ -8,8 +8,8 @@ use Rattle.pb_replay.specs.Clauses.Runs.{HasFound, AreServed, index_after, IsBro
 use Rattle.pb_replay.specs.Clauses.Shapes.{clauses_of}
 use Rattle.pb_replay.proofs.Clauses.Linked.{list-here}
 use Rattle.pb_replay.proofs.Clauses.Literals.{true-listed, false-listed}
-use Rattle.pb_replay.proofs.Clauses.Shapes.{broken-conflicts}
-use Rattle.pb_replay.proofs.Clauses.Walks.{walking-start, walking-next, walking-forces, walked-end}
+use Rattle.pb_replay.proofs.Clauses.Shapes.{broken-conflicts, conflicts-joined}
+use Rattle.pb_replay.proofs.Clauses.Walks.{IsWalking, walking-start, walking-next, walking-forces, walked-end}
 use Rattle.pb_replay.proofs.propagate.walk.walk.Goals as goal
 
 pub watches-init : goal.watches-init
@@ -117,7 +117,7 @@ watches-preserved c =
       next = told.next ∙ i.next;
       longer = omega (arith, i.longer, told.longer_work);
       single = λ s. told.single (i.single s);
-      counted = told.counted;
+      counted = told.counted c.if-branch.false;
       tidy = λ aside busy t. told.tidy aside busy (i.tidy aside busy t);
       work = omega (arith, i.work, paid.work);
     }
@@ -137,3 +137,41 @@ returns-clause-walked c = λ no_conflict walked s.
     walked-end c.watches.run.assignment.values.items c.watches.clauses walked c.args.literal c.watches.index w.running.stored.linked
     (omega (arith, c.watches-test.false, c.watch_count.ensures))
     (w.served walked s)
+
+-- where a form is falsified: the literal was put
+forced : (c : goal.Then-branch) → IsWalking (shapes_of c.args.store.now.kept.items) (entries_of (shapes_of c.args.store.now.kept.items) c.args.store.now.occurrences.items) c.args.clauses.now c.visit_clause.new.clauses c.args.run.now.assignment.values.items c.put.new.run.assignment.values.items c.args.run.now.assignment.list.items c.put.new.run.assignment.list.items c.args.literal (c.watches.index + 1) c.args.run.now.visits c.put.new.run.visits
+forced c =
+    let w = c.watches.invariant.walking in
+    let shapes = shapes_of c.args.store.now.kept.items in
+    let lists = entries_of shapes c.args.store.now.occurrences.items in
+    let values = c.watches.run.assignment.values.items in
+    let room : c.args.literal < length c.watches.clauses.lists.items = omega (arith, c.requires.literal, w.sizes) in
+    let inside : c.watches.index < length (list_at (lists_of c.watches.clauses.lists.items) c.args.literal) = omega (arith, c.watches-test.true, c.watch_count.ensures) in
+    let found = subst (HasFound c.watches.run.assignment.values.items c.watches.clauses c.visit_clause.new.clauses c.args.literal c.watches.index) c.in-Forces.is (subst (λ vs. HasFound vs c.watches.clauses c.visit_clause.new.clauses c.args.literal c.watches.index c.in_ok-visit_clause.field-0) c.as_slice.ensures.value c.in_ok-visit_clause.ensures.found) in
+    let i = c.watches.invariant in
+    let told = c.in_ok-put-in-Forces.ensures in
+    let done = c.put.new.run in
+    let listed = told.list ∙ ap (λ k. c.watches.run.assignment.list.items ++ (k ∷ [])) c.literal_of.ensures in
+    let paid = told.paid in
+    let same = ap (λ (v : Vec ℕ Global). sum v.items) told.candidates in
+    walking-forces shapes lists c.args.clauses.now c.watches.clauses c.visit_clause.new.clauses c.args.run.now.assignment.values.items values done.assignment.values.items c.args.run.now.assignment.list.items c.watches.run.assignment.list.items done.assignment.list.items c.args.literal c.watches.index c.args.run.now.visits c.watches.run.visits c.visit_clause.new.visits done.visits c.in-Forces.code c.requires.joined
+    c.in_ok-visit_clause.ensures.literals c.in_ok-visit_clause.ensures.lists (subst (λ vs. IsRunning vs c.visit_clause.new.clauses) c.as_slice.ensures.value c.in_ok-visit_clause.ensures.running)
+    (λ walked s. subst (λ r. AreServed c.watches.run.assignment.values.items c.visit_clause.new.clauses.watches.items walked c.args.literal (index_after c.watches.index r)) c.in-Forces.is (subst (λ vs. (xs : List ℕ) → AreServed vs c.watches.clauses.watches.items xs c.args.literal c.watches.index → AreServed vs c.visit_clause.new.clauses.watches.items xs c.args.literal (index_after c.watches.index c.in_ok-visit_clause.field-0)) c.as_slice.ensures.value c.in_ok-visit_clause.ensures.served walked s))
+    inside found.0 found.1 found.2 c.in_ok-visit_clause.ensures.covered c.in_ok-visit_clause.ensures.visited c.in_ok-visit_clause.ensures.rising
+    (omega (arith, paid.upper, same)) paid.rising told.values listed c.watches.run.assignment.agrees done.assignment.agrees w
+
+pub returns-then-branch-clause-running : goal.returns-then-branch-clause-running
+returns-then-branch-clause-running c = (forced c).running
+
+pub returns-then-branch-clause-derived : goal.returns-then-branch-clause-derived
+returns-then-branch-clause-derived c = (forced c).derived
+
+pub returns-then-branch-clause-grows : goal.returns-then-branch-clause-grows
+returns-then-branch-clause-grows c = (forced c).grows
+
+pub returns-then-branch-clause-conflict : goal.returns-then-branch-clause-conflict
+returns-then-branch-clause-conflict c = λ found.
+    conflicts-joined (shapes_of c.args.store.now.kept.items) (clauses_of c.args.clauses.now) c.put.new.run.assignment.list.items c.requires.joined (c.in_ok-put-in-Forces.ensures.conflict c.if-branch.true)
+
+pub returns-then-branch-clause-tidy : goal.returns-then-branch-clause-tidy
+returns-then-branch-clause-tidy c = λ aside busy t. c.in_ok-put-in-Forces.ensures.tidy aside busy (c.watches.invariant.tidy aside busy t)

@@ -23,4 +23,4 @@ loop-word-preserved c =
     stands_next _ _ _ _ _ _ _ c.loop-word-test.true c.word-item.is _ c.loop-word.invariant c.in-Ok.form _ _ c.in-Ok.ensures.ok c.in-Ok.ensures.count c.in_default.ensures.ok
 
 pub returns-clause-ok : goal.returns-clause-ok
-returns-clause-ok c = some_form _ _ _ _ _ _ _ _ _ c.requires.postfix c.loop-word-test.false c.loop-word.invariant c.pop.ensures
+returns-clause-ok c = rw c.in_ok-form.ensures.same (some_form _ _ _ _ _ _ _ _ _ c.requires.postfix c.loop-word-test.false c.loop-word.invariant c.pop.ensures)

@@ -1,9 +1,10 @@
+use Rattle.std.proofs.Common.{◌∙◌}
 use Rattle.pb_replay.proofs.lemmas.Made.{axiom_made, weaken_made, saturate_made, add_fails}
 use Rattle.pb_replay.proofs.step.pol.made.Goals as goal
 
 pub returns-in_ok-axiom-in-Axiom-clause-ok : goal.returns-in_ok-axiom-in-Axiom-clause-ok
 returns-in_ok-axiom-in-Axiom-clause-ok c =
-    axiom_made _ _ _ _ _ _ _ _ _ c.in-Axiom.is c.as_str.ensures c.number_of-variable.ensures c.in_ok-axiom-in-Axiom.ensures.axiom
+    axiom_made _ _ _ _ _ _ _ _ _ c.in-Axiom.is c.as_str.ensures c.number_of-variable.ensures (c.made.ensures.same ∙ c.in_ok-axiom-in-Axiom.ensures.axiom)
 
 pub returns-in-Add-clause-err : goal.returns-in-Add-clause-err
 returns-in-Add-clause-err c =

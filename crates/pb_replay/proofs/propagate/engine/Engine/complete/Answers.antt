@@ -64,7 +64,7 @@ returns-then-found-clause-conflict c =
     let both = c.self.invariant (ap (λ (v : Standing). v.spent) c.self.view_is ∙ c.requires.ready) in
     let r = both.0 in
     let shapes = all_of e.store e.clauses in
-    rw (← c.self.view_is) (refuted-meets (Live (numbered (forms_of e.store.kept.items) e.places.items)) shapes c.args.given.now c.settle.new.run.assignment.list.items (placed-kept (forms_of e.store.kept.items) e.places.items shapes both.1 (slots-kept (forms_of e.store.kept.items) shapes r.slots)) (c.in_ok-found.ensures.refuted c.if-found.true))
+    rw (← c.self.view_is) (refuted-meets (Live (numbered (forms_of e.store.kept.items) e.places.items)) shapes c.args.given.now (c.in_ok-found.ensures.refuted c.if-found.true).0 (placed-kept (forms_of e.store.kept.items) e.places.items shapes both.1 (slots-kept (forms_of e.store.kept.items) shapes r.slots)) (c.in_ok-found.ensures.refuted c.if-found.true).1)
 
 pub invariant_of-self-2 : goal.invariant_of-self-2
 invariant_of-self-2 c = λ ready.

@@ -1,0 +1,72 @@
+//! `pb show` and `pb tidy` over a reader.
+
+ghost use Rattle.std.specs.Prelude.{IfSome, ◌<◌};
+
+use crate::output::{CAPACITY, flushed, keys_of};
+use crate::tied::{Shared, Tied};
+use crate::until::UntilFault;
+use pb_text::{Limits, Over};
+use pb_tool::{Input, ToolFault, show, tidy_with_hasher};
+use std::alloc::Global;
+use std::cell::RefCell;
+use std::io::{self, BufReader, BufWriter, Read, Write};
+use std::random::RandomSource;
+
+/// Shows the input of a reader. What was written is flushed before more is read.
+pub(crate) fn show_over<I: Read + Drop, O: Write + Drop>(
+    alloc: Global,
+    input: I,
+    out: O,
+    longest: Option<u64>,
+    limits: Limits,
+) -> Result<(), ToolFault>
+    requires { IfSome longest (λ n. 0 < n) }
+{
+    let out = match BufWriter::with_capacity(alloc, CAPACITY, UntilFault::new(out)) {
+        Ok(out) => RefCell::new(out),
+        Err(_) => return Err(ToolFault::Memory(Input::File)),
+    };
+    let Ok(input) = BufReader::with_capacity(alloc, CAPACITY, Tied::new(input, &out)) else {
+        return Err(ToolFault::Memory(Input::File));
+    };
+    let done = show(
+        alloc,
+        &mut Over::new(input),
+        &mut Over::new(Shared::new(&out)),
+        longest,
+        limits,
+    );
+    flushed(done, &mut out.into_inner())
+}
+
+/// Tidies the input of a reader.
+pub(crate) fn tidy_over<R: Print + RandomSource + AllocGlobal, I: Read + Drop>(
+    rt: &R,
+    input: I,
+    normal: bool,
+    longest: Option<u64>,
+    limits: Limits,
+) -> Result<(), ToolFault>
+    requires { IfSome longest (λ n. 0 < n) }
+{
+    let Ok(mut out) = BufWriter::with_capacity(
+        rt.alloc(),
+        CAPACITY,
+        UntilFault::new(io::writer(rt)),
+    ) else {
+        return Err(ToolFault::Memory(Input::File));
+    };
+    let Ok(input) = BufReader::with_capacity(rt.alloc(), CAPACITY, input) else {
+        return Err(ToolFault::Memory(Input::File));
+    };
+    let done = tidy_with_hasher(
+        rt.alloc(),
+        keys_of(rt),
+        &mut Over::new(input),
+        normal,
+        &mut Over::new(&mut out),
+        longest,
+        limits,
+    );
+    flushed(done, &mut out)
+}

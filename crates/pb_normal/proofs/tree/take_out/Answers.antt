@@ -1,0 +1,25 @@
+use Rattle.std.proofs.Common.{sym, ◌∙◌}
+use Rattle.pb_normal.proofs.KeyedTerms.{IsKeyed-remove}
+use Rattle.pb_normal.proofs.Removals.{values-remove, dropped-none, dropped-some, size-some}
+use Rattle.pb_normal.proofs.tree.take_out.Goals as goal
+
+pub returns-in-Some-clause-keyed : goal.returns-in-Some-clause-keyed
+returns-in-Some-clause-keyed c = IsKeyed-remove c.args.terms.now c.remove.new.self c.args.variable c.requires.keyed c.remove.ensures.entries
+
+pub returns-in-Some-clause-weakened : goal.returns-in-Some-clause-weakened
+returns-in-Some-clause-weakened c = values-remove c.args.terms.now c.remove.new.self c.args.variable c.requires.rising c.requires.keyed c.remove.ensures.entries
+
+pub returns-in-Some-clause-dropped : goal.returns-in-Some-clause-dropped
+returns-in-Some-clause-dropped c =
+    dropped-some c.args.terms.now c.remove.new.self c.args.variable c.in-Some.t c.requires.rising c.requires.keyed (sym c.in-Some.is ∙ c.remove.ensures.value) c.remove.ensures.entries
+
+pub returns-in-Some-clause-size : goal.returns-in-Some-clause-size
+returns-in-Some-clause-size c =
+    size-some c.args.terms.now c.remove.new.self c.args.variable c.in-Some.t (sym c.in-Some.is ∙ c.remove.ensures.value) c.remove.ensures.entries
+
+pub returns-in-None-clause-weakened : goal.returns-in-None-clause-weakened
+returns-in-None-clause-weakened c = values-remove c.args.terms.now c.remove.new.self c.args.variable c.requires.rising c.requires.keyed c.remove.ensures.entries
+
+pub returns-in-None-clause-dropped : goal.returns-in-None-clause-dropped
+returns-in-None-clause-dropped c =
+    dropped-none c.args.terms.now c.remove.new.self c.args.variable c.requires.rising c.requires.keyed (sym c.in-None.is ∙ c.remove.ensures.value) c.remove.ensures.entries

@@ -1,0 +1,180 @@
+//! Sums that grow.
+
+ghost use Rattle.std.specs.Prelude.{◌≡◌, ◌≤ℤ◌, pos, length, IfOk, IfErr, Err};
+ghost use Rattle.std.specs.Int.RustNames.{unsigned_abs};
+ghost use Rattle.pb_text.specs.Limits.{largest};
+ghost use Rattle.pb_normal.specs.Form.{IsWithin};
+ghost use Rattle.pb_normal.specs.Rules.{IsSum, Passes, SumPasses, multiplied, divided, saturated, weakened};
+
+use crate::fault::NormalFault;
+use crate::form::Normal;
+use crate::kind::{Kind, Listing};
+use pb_text::Limits;
+use std::alloc::Global;
+use std::marker::Model;
+
+/// The fewest terms for which a form becomes a tree.
+const MANY: usize = 32;
+
+/// How many small changes in a row make the list anew, before the form becomes a tree. To make a tree takes about as long.
+const LISTED: usize = 16;
+
+/// A form that one rule after another changes.
+///
+/// A change is small if it weakens, or adds a form with few terms. After some small changes in a row, each takes time in
+/// the terms that it adds, and not in all terms of the form.
+#[derive(Drop)]
+pub struct Sum<'a> {
+    kind: Kind<'a>,
+    changes: usize,
+}
+
+impl<'a> Model for Sum<'a> {
+    ghost use Rattle.pb_normal.specs.Form.{Form};
+    ghost use Rattle.pb_normal.specs.Growing.{kind_form};
+
+    ghost Value = { Form };
+
+    ghost view = { λ s. kind_form s.kind };
+}
+
+impl<'a> Sum<'a> {
+    /// A form that stands elsewhere. Nothing is copied.
+    pub fn held(form: &'a Normal) -> Sum<'a>
+        ensures same { result ≡ form.now }
+    {
+        Sum {
+            kind: Kind::Listing(Listing::Held(form)),
+            changes: 0,
+        }
+    }
+
+    /// A form of its own.
+    pub fn made(form: Normal) -> Sum<'a>
+        ensures same { result ≡ form }
+    {
+        Sum {
+            kind: Kind::Listing(Listing::Made(form)),
+            changes: 0,
+        }
+    }
+
+    /// How many terms it has.
+    pub fn len(&self) -> usize
+        ensures length { result ≡ length self.now.terms }
+    {
+        self.kind.len()
+    }
+
+    /// The form.
+    pub fn into_normal(self, alloc: Global) -> Result<Normal, NormalFault>
+        ensures same { IfOk result (λ r. r ≡ self.entry) }
+        ensures memory { IfErr result (λ e. e ≡ NormalFault.Memory) }
+    {
+        match self.kind.listing(alloc)? {
+            Listing::Held(form) => form.copy(),
+            Listing::Made(form) => Ok(form),
+        }
+    }
+
+    /// The sum of both. `Overflow` comes only if the sum of its coefficients or its degree exceeds the limit.
+    pub fn add(self, alloc: Global, other: Sum<'a>, limits: Limits) -> Result<Sum<'a>, NormalFault>
+        ensures sum { IfOk result (λ r. IsSum self.entry other.entry r) }
+        ensures within { IfOk result (λ r. IsWithin (largest limits) r) }
+        ensures overflow { result ≡ Err NormalFault.Overflow → SumPasses (largest limits) self.entry other.entry }
+    {
+        if self.len() < other.len() {
+            return other.take(alloc, self, limits);
+        }
+        self.take(alloc, other, limits)
+    }
+
+    // The sum with a form that has as many terms, or fewer.
+    fn take(self, alloc: Global, other: Sum<'a>, limits: Limits) -> Result<Sum<'a>, NormalFault>
+        ensures sum { IfOk result (λ r. IsSum self.entry other.entry r) }
+        ensures within { IfOk result (λ r. IsWithin (largest limits) r) }
+        ensures overflow { result ≡ Err NormalFault.Overflow → SumPasses (largest limits) self.entry other.entry }
+    {
+        let small = self.len() >= MANY && other.len() <= self.len() / 8;
+        let other = other.kind.listing(alloc)?;
+        let changes = counted(small, self.changes);
+        if changes > LISTED {
+            let tree = self.kind.tree(alloc)?.add(other.form(), limits)?;
+            return Ok(Sum {
+                kind: Kind::Tree(tree),
+                changes,
+            });
+        }
+        let listing = self.kind.listing(alloc)?;
+        let sum = listing.form().add(other.form(), limits)?;
+        Ok(Sum {
+            kind: Kind::Listing(Listing::Made(sum)),
+            changes,
+        })
+    }
+
+    /// All coefficients and the degree multiplied. `Overflow` comes only if the sum of the coefficients or the degree
+    /// of the result exceeds the limit.
+    pub fn multiply(
+        self,
+        alloc: Global,
+        factor: i128,
+        limits: Limits,
+    ) -> Result<Sum<'a>, NormalFault>
+        requires { pos 1 ≤ℤ factor }
+        ensures product { IfOk result (λ r. r ≡ multiplied (unsigned_abs factor) self.entry) }
+        ensures within { IfOk result (λ r. IsWithin (largest limits) r) }
+        ensures overflow { result ≡ Err NormalFault.Overflow → Passes (largest limits) (multiplied (unsigned_abs factor) self.entry) }
+    {
+        let listing = self.kind.listing(alloc)?;
+        let product = listing.form().multiply(factor, limits)?;
+        Ok(Sum::made(product))
+    }
+
+    /// All coefficients and the degree divided and rounded up.
+    pub fn divide(self, alloc: Global, divisor: i128) -> Result<Sum<'a>, NormalFault>
+        requires { pos 1 ≤ℤ divisor }
+        ensures quotient { IfOk result (λ r. r ≡ divided (unsigned_abs divisor) self.entry) }
+        ensures memory { IfErr result (λ e. e ≡ NormalFault.Memory) }
+    {
+        let listing = self.kind.listing(alloc)?;
+        let quotient = listing.form().divide(divisor)?;
+        Ok(Sum::made(quotient))
+    }
+
+    /// Every coefficient reduced to at most the degree.
+    pub fn saturate(self, alloc: Global) -> Result<Sum<'a>, NormalFault>
+        ensures saturated { IfOk result (λ r. r ≡ saturated self.entry) }
+        ensures memory { IfErr result (λ e. e ≡ NormalFault.Memory) }
+    {
+        let listing = self.kind.listing(alloc)?;
+        let saturation = listing.form().saturate()?;
+        Ok(Sum::made(saturation))
+    }
+
+    /// Without the term on a variable, whose coefficient is subtracted from the degree.
+    pub fn weaken(self, alloc: Global, variable: usize) -> Result<Sum<'a>, NormalFault>
+        ensures weakened { IfOk result (λ r. r ≡ weakened variable self.entry) }
+        ensures memory { IfErr result (λ e. e ≡ NormalFault.Memory) }
+    {
+        let changes = counted(true, self.changes);
+        if changes > LISTED && self.len() >= MANY {
+            let tree = self.kind.tree(alloc)?;
+            return Ok(Sum {
+                kind: Kind::Tree(tree.weaken(variable)),
+                changes,
+            });
+        }
+        let listing = self.kind.listing(alloc)?;
+        let weakening = listing.form().weaken(variable)?;
+        Ok(Sum {
+            kind: Kind::Listing(Listing::Made(weakening)),
+            changes,
+        })
+    }
+}
+
+// The number of small changes in a row after one more change.
+fn counted(small: bool, changes: usize) -> usize {
+    if small { changes.saturating_add(1) } else { 0 }
+}

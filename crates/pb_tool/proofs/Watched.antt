@@ -1,0 +1,260 @@
+-- The calls that a watch gets for the statements of a proof.
+use Rattle.std.proofs.Common.{◌≡◌, ◌⊎◌, ℕ, List, [], ◌∷◌, ◌++◌, Bool, true, false, Option, Some, None, Result, Ok, Err, refl, sym, ap, ◌∙◌, subst, inl, inr, string_bytes, append_assoc}
+use Rattle.pb_text.specs.Limits.{largest, top_of}
+use Rattle.pb_text.specs.Pulling.{OfGiven}
+use Rattle.pb_text.specs.PullsInARow.{TookAll, TookSoFar}
+use Rattle.pb_text.specs.Stopping.{IsAsking}
+use Rattle.pb_text.specs.declared.Limits.{Limits}
+use Rattle.pb_text.specs.declared.Place.{Place}
+use Rattle.pb_text.specs.declared.Spanned.{Spanned}
+use Rattle.pb_text.specs.declared.Stop.{Stop}
+use Rattle.pb_text.proofs.Wholes.{given_both}
+use Rattle.pb_proof.specs.Formats.{ReadsProofs}
+use Rattle.pb_proof.specs.declared.Statement.{Statement}
+use Rattle.pb_replay.specs.Kept.{Replaying, StandsFor}
+use Rattle.pb_replay.specs.Meaning.{IsFront}
+use Rattle.pb_replay.specs.Problem.{Problem}
+use Rattle.pb_replay.specs.Replay.{State, first_state}
+use Rattle.pb_replay.specs.Statements.{Outcome}
+use Rattle.pb_replay.specs.declared.fault.Fault.{Fault}
+use Rattle.pb_replay.specs.declared.fault.Fault.TheVariants.{Memory as no_memory, NotTotal}
+use Rattle.pb_replay.specs.declared.verdict.Verdict.{Verdict}
+use Rattle.pb_tool.specs.Checker.{IsAt, StepsFrom}
+use Rattle.pb_tool.specs.Checks.{KeepsNames, Takes}
+use Rattle.pb_tool.specs.Files.{IsVeri}
+use Rattle.pb_tool.specs.Runs.{IsNoReplay, IsReplayOf, IsToldAs}
+use Rattle.pb_tool.specs.Verified.{IsTold}
+use Rattle.pb_tool.specs.Watched.{Call, Accepted, Rejected, GotEach, IsShown, IsShownUpTo, IsShownWhole, IsWatched, ShowsEach, ShowsProof, ShowsRun}
+use Rattle.pb_tool.specs.declared.checker.CheckFault.{CheckFault}
+use Rattle.pb_tool.specs.declared.checker.CheckFault.TheVariants as check
+use Rattle.pb_tool.specs.declared.fault.ToolFault.{ToolFault}
+use Rattle.pb_tool.specs.declared.fault.ToolFault.TheVariants.{Text, Open, Overflow, Memory, Write, Step}
+use Rattle.pb_tool.specs.declared.fault.Input.TheVariants.{File, Instance as of_instance, Proof as of_proof}
+use Rattle.pb_tool.proofs.Checked.{TellsOld, failed}
+use Rattle.pb_tool.proofs.GivenRow.{all_of}
+use Rattle.pb_tool.proofs.Replayed.{MayTake, Taken, to_proof}
+use Rattle.pb_tool.proofs.Shown.{all_to, so_far_to}
+
+-- the result of a step, from any state of the replay
+abbrev Answers : Replaying → Spanned Statement → Result Unit CheckFault → Replaying → Type 0
+Answers old m result new = (now : Result State Fault) → IsAt old now → StepsFrom old.limits old.problem now m result new
+
+module _ {V : Type 0} (got : V → Call → V → Type 0) where
+  -- one call more
+  pub got_more : (old : V) (calls : List Call) (mid : V) (call : Call) (new : V) → GotEach got old calls mid → got mid call new → GotEach got old (calls ++ call ∷ []) new
+  got_more old [] mid call new h k = (new, subst (λ (x : V). got x call new) h k, refl)
+  got_more old (c ∷ calls) mid call new (next, first, rest) k = (next, first, got_more next calls mid call new rest k)
+
+module _ (limits : Limits) (v : Problem) where
+  -- one statement more
+  pub shows_more : (s : State) (marks : List (Spanned Statement)) (calls : List Call) (t : State) (m : Spanned Statement) (r : Replaying) (u : State)
+      → ShowsEach limits v s marks calls t → Outcome (largest limits) (top_of limits) v t m.event (Ok u) → StandsFor r u → r.fault ≡ None
+      → ShowsEach limits v s (marks ++ m ∷ []) (calls ++ Accepted m r ∷ []) u
+  shows_more s [] [] t m r u h out at none = (refl, u, subst (λ (x : State). Outcome (largest limits) (top_of limits) v x m.event (Ok u)) (sym h) out, at, none, refl)
+  shows_more s [] (c ∷ calls) t m r u h out at none = absurd h
+  shows_more s (n ∷ marks) [] t m r u h out at none = absurd h
+  shows_more s (n ∷ marks) (Rejected k q f ∷ calls) t m r u h out at none = absurd h
+  shows_more s (n ∷ marks) (Accepted k q ∷ calls) t m r u (same, a, does, is, runs, rest) out at none =
+      (same, a, does, is, runs, shows_more a marks calls t m r u rest out at none)
+
+-- The watch got a call for each statement so far.
+abbrev pub HasShown : {V : Type 0} → (V → Call → V → Type 0) → V → Replaying → List (Spanned Statement) → V → Replaying → Type 0
+HasShown got old began marks new r =
+    (calls : List Call) × GotEach got old calls new
+    × ((first : State) → StandsFor began first → (t : State) × StandsFor r t × ShowsEach began.limits began.problem first marks calls t)
+
+module _ {V : Type 0} (got : V → Call → V → Type 0) (old : V) (began : Replaying) where
+  pub shown_first : HasShown got old began [] old began
+  shown_first = ([], refl, λ first at. (first, at, refl))
+
+  module _ (marks : List (Spanned Statement)) (mid : V) (r : Replaying) (h : HasShown got old began marks mid r) (m : Spanned Statement) (new : Replaying) (after : V) (none : r.fault ≡ None) (limited : r.limits ≡ began.limits) (problem : r.problem ≡ began.problem) where
+    -- the state after an accepted statement
+    next_shown : Answers r m (Ok tt) new → (first : State) → StandsFor began first → (t : State) × StandsFor new t × ShowsEach began.limits began.problem first (marks ++ m ∷ []) (h.0 ++ Accepted m new ∷ []) t
+    next_shown steps first at =
+        let (t, stands, shows) = h.2 first at in
+        let (u, now, takes) = steps (Ok t) (none, stands) in
+        let here = subst (λ (x : Problem). Takes began.limits x (Ok t) m.event u) problem (subst (λ (x : Limits). Takes x r.problem (Ok t) m.event u) limited takes) in
+        (u, now.1, shows_more began.limits began.problem first marks h.0 t m new u shows here now.1 now.0)
+
+    pub shown_next : Answers r m (Ok tt) new → got mid (Accepted m new) after → HasShown got old began (marks ++ m ∷ []) after new
+    shown_next steps call = (h.0 ++ Accepted m new ∷ [], got_more got old h.0 mid (Accepted m new) after h.1 call, next_shown steps)
+
+    module _ (exact : ReadsProofs) (longest : ℕ) (first : State) (at : StandsFor began first) (x : CheckFault) where
+      -- a rejected statement
+      pub shown_rejected : (before rest : Option (List ℕ)) → Answers r m (Err x) new → IsFront r.names new.names → TellsOld r x → got mid (Rejected m new x) after
+          → TookSoFar (Taken began.limits) longest before rest (marks ++ m ∷ []) m.past → ShowsRun began.limits longest got began.problem first before old (Err x) rest after
+      shown_rejected before rest steps names tells call t =
+          let (last, stands, shows) = h.2 first at in
+          let (e, is, refuses) = steps (Ok last) (none, stands) in
+          subst (λ (y : CheckFault). ShowsRun began.limits longest got began.problem first before old (Err y) rest after) (sym is) (record {
+            marks = marks;
+            rejected = m;
+            took = so_far_to (Taken began.limits) (IsVeri began.limits) longest (to_proof exact began.limits longest) before rest (marks ++ m ∷ []) m.past t;
+            begins_is = refl;
+            calls = h.0;
+            last = last;
+            shows = shows;
+            replay = new;
+            names = subst (λ (y : List (List ℕ)). KeepsNames y new.names e) (sym stands.names) (names, λ n k. tells m.first n (ap (λ (y : CheckFault). failed y) (is ∙ ap (λ (f : Fault). check.Step m.first f) k)));
+            got_are = subst (λ (y : CheckFault). GotEach got old (h.0 ++ Rejected m new y ∷ []) after) is (got_more got old h.0 mid (Rejected m new x) after h.1 call);
+          })
+
+      pub shown_rejected_given : (before rest : List ℕ) → Answers r m (Err x) new → IsFront r.names new.names → TellsOld r x → got mid (Rejected m new x) after
+          → OfGiven (λ left others. TookSoFar (Taken began.limits) longest left others (marks ++ m ∷ []) m.past) before rest
+          → OfGiven (λ left others. ShowsRun began.limits longest got began.problem first left old (Err x) others after) before rest
+      shown_rejected_given before rest steps names tells call (given, seen, e, t) = (given, seen, e, shown_rejected (Some (given ++ seen)) (Some seen) steps names tells call t)
+
+  module _ (exact : ReadsProofs) (longest : ℕ) (first : State) (at : StandsFor began first) (marks : List (Spanned Statement)) (new : V) (r : Replaying) (h : HasShown got old began marks new r) where
+    -- all that was read
+    shown_all : (before rest : Option (List ℕ)) (place : Place) (done : Bool) (stop : Option Stop) → TookAll (Taken began.limits) longest before rest marks place done stop → IsShown began.limits longest got began.problem first before old rest place done stop new
+    shown_all before rest place done stop t =
+        let (last, stands, shows) = h.2 first at in
+        record {
+          marks = marks;
+          took = all_to (Taken began.limits) (IsVeri began.limits) longest (to_proof exact began.limits longest) before rest marks place done stop t;
+          calls = h.0;
+          last = last;
+          shows = shows;
+          got_are = h.1;
+        }
+
+    pub shown_stopped : (before rest : Option (List ℕ)) (s : Stop) → (all : TookAll (Taken began.limits) longest before rest marks s.place false (Some s)) × IsAsking (MayTake began.limits) all.used all.seen s.why
+        → ShowsRun began.limits longest got began.problem first before old (Err (check.Text s)) rest new
+    shown_stopped before rest s (all, asking) = shown_all before rest s.place false (Some s) all
+
+    pub shown_stopped_given : (before rest : List ℕ) (s : Stop)
+        → OfGiven (λ left others. (all : TookAll (Taken began.limits) longest left others marks s.place false (Some s)) × IsAsking (MayTake began.limits) all.used all.seen s.why) before rest
+        → OfGiven (λ left others. ShowsRun began.limits longest got began.problem first left old (Err (check.Text s)) others new) before rest
+    shown_stopped_given before rest s (given, seen, e, all) = (given, seen, e, shown_stopped (Some (given ++ seen)) (Some seen) s all)
+
+    pub shown_ended : (before rest : Option (List ℕ)) (place at : Place) (w : Verdict) → place ≡ at → TookAll (Taken began.limits) longest before rest marks place true None
+        → ShowsRun began.limits longest got began.problem first before old (Ok (w, at)) rest new
+    shown_ended before rest place at w same all = subst (λ (p : Place). IsShown began.limits longest got began.problem first before old rest p true None new) same (shown_all before rest place true None all)
+
+    pub shown_ended_given : (before rest : List ℕ) (place at : Place) (w : Verdict) → place ≡ at → OfGiven (λ left others. TookAll (Taken began.limits) longest left others marks place true None) before rest
+        → OfGiven (λ left others. ShowsRun began.limits longest got began.problem first left old (Ok (w, at)) others new) before rest
+    shown_ended_given before rest place at w same (given, seen, e, all) = (given, seen, e, shown_ended (Some (given ++ seen)) (Some seen) place at w same all)
+
+-- ---- a proof, with the rest after it
+
+module _ (limits : Limits) (longest : ℕ) {V : Type 0} (got : V → Call → V → Type 0) (v : Problem) (first : State) (old new : V) where
+  abbrev Run : Result (Verdict × Place) CheckFault → Option (List ℕ) → Option (List ℕ) → Type 0
+  Run result before after = ShowsRun limits longest got v first before old result after new
+
+  abbrev Whole : Result Verdict ToolFault → Option (List ℕ) → Option (List ℕ) → Type 0
+  Whole result before after = ShowsProof limits longest got v first before old result after new
+
+  -- a text that stopped
+  pub proof_stopped : (before after : Option (List ℕ)) (s : Stop) (f : ToolFault) → f ≡ Text of_proof s → Run (Err (check.Text s)) before after → Whole (Err f) before after
+  proof_stopped before after s f is h = subst (λ (x : ToolFault). Whole (Err x) before after) (sym is) (inl h)
+
+  -- a rejected statement
+  pub proof_rejected : (before after : Option (List ℕ)) (names : List (List ℕ)) (place : Place) (e : Fault) (f : ToolFault) → IsToldAs names place e f → Run (Err (check.Step place e)) before after → Whole (Err f) before after
+  proof_rejected before after names place e (Step at x name) (same, why) h =
+      (e, by why, subst (λ (p : Place). IsShownUpTo limits longest got v first before old after p e new) (sym same) h)
+    where
+      by : ((x ≡ no_memory) × ((n : ℕ) × (e ≡ NotTotal n))) ⊎ ((x ≡ e) × IsTold names e (string_bytes name)) → (x ≡ e) ⊎ ((x ≡ no_memory) × (n : ℕ) × (e ≡ NotTotal n))
+      by (inl (k, (n, told))) = inr (k, n, told)
+      by (inr (k, told)) = inl k
+  proof_rejected before after names place e (Text i s) told h = absurd told
+  proof_rejected before after names place e (Open i) told h = absurd told
+  proof_rejected before after names place e (Overflow i) told h = absurd told
+  proof_rejected before after names place e (Memory i) told h = absurd told
+  proof_rejected before after names place e Write told h = absurd told
+
+  -- a whole proof; a blank rest follows, or one that is not blank
+  pub proof_ended : (before mid after : Option (List ℕ)) (ended : Verdict × Place) → Run (Ok ended) before mid → Whole (Ok ended.0) before after
+  proof_ended before mid after ended h = (mid, ended.1, h)
+
+  pub proof_behind : (before mid after : Option (List ℕ)) (ended : Verdict × Place) (s : Stop) (f : ToolFault) → f ≡ Text of_proof s → Run (Ok ended) before mid → Whole (Err f) before after
+  proof_behind before mid after ended s f is h = subst (λ (x : ToolFault). Whole (Err x) before after) (sym is) (inr (mid, ended.1, h))
+
+-- ---- the same for the bytes that the calls of the source gave
+
+module _ (limits : Limits) (longest : ℕ) {V : Type 0} (got : V → Call → V → Type 0) (v : Problem) (first : State) (old new : V) where
+  abbrev RunGiven : Result (Verdict × Place) CheckFault → List ℕ → List ℕ → Type 0
+  RunGiven result before after = OfGiven (λ left rest. ShowsRun limits longest got v first left old result rest new) before after
+
+  abbrev WholeGiven : Result Verdict ToolFault → List ℕ → List ℕ → Type 0
+  WholeGiven result before after = OfGiven (λ left rest. ShowsProof limits longest got v first left old result rest new) before after
+
+  pub given_proof_stopped : (before after : List ℕ) (s : Stop) (f : ToolFault) → f ≡ Text of_proof s → RunGiven (Err (check.Text s)) before after → WholeGiven (Err f) before after
+  given_proof_stopped before after s f is (given, seen, e, h) = (given, seen, e, proof_stopped limits longest got v first old new (Some (given ++ seen)) (Some seen) s f is h)
+
+  pub given_proof_rejected : (before after : List ℕ) (names : List (List ℕ)) (place : Place) (e : Fault) (f : ToolFault) → IsToldAs names place e f → RunGiven (Err (check.Step place e)) before after → WholeGiven (Err f) before after
+  given_proof_rejected before after names place e f told (given, seen, is, h) = (given, seen, is, proof_rejected limits longest got v first old new (Some (given ++ seen)) (Some seen) names place e f told h)
+
+  -- the whole proof, with another rest
+  whole_of : (used seen other : List ℕ) (place : Place) → IsShown limits longest got v first (Some (used ++ seen)) old (Some seen) place true None new → IsShown limits longest got v first (Some (used ++ other)) old (Some other) place true None new
+  whole_of used seen other place h =
+      record { marks = h.marks; took = all_of (IsVeri limits) longest used seen other h.marks place h.took; calls = h.calls; last = h.last; shows = h.shows; got_are = h.got_are }
+
+  -- with all bytes that follow it
+  whole_with : (used seen rest end : List ℕ) (place : Place) → IsShown limits longest got v first (Some (used ++ seen)) old (Some seen) place true None new → IsShownWhole limits longest got v first (Some ((used ++ rest) ++ end)) old new
+  whole_with used seen rest end place h =
+      (Some (rest ++ end), place, subst (λ (x : List ℕ). IsShown limits longest got v first (Some x) old (Some (rest ++ end)) place true None new) (sym (append_assoc used rest end)) (whole_of used seen (rest ++ end) place h))
+
+  module _ (before mid after : List ℕ) (ended : Verdict × Place) (runs : RunGiven (Ok ended) before mid) (P : Option (List ℕ) → Option (List ℕ) → Type 0) (more : OfGiven P mid after) where
+    pub given_proof_ended : WholeGiven (Ok ended.0) before after
+    given_proof_ended = (
+      runs.0 ++ more.0,
+      more.1,
+      given_both before mid after runs.0 more.0 runs.2 more.2,
+      whole_with runs.0 runs.1 more.0 more.1 ended.1 runs.3,
+    )
+
+    pub given_proof_behind : (s : Stop) (f : ToolFault) → f ≡ Text of_proof s → WholeGiven (Err f) before after
+    given_proof_behind s f is = (
+      runs.0 ++ more.0,
+      more.1,
+      given_both before mid after runs.0 more.0 runs.2 more.2,
+      subst (λ (x : ToolFault). ShowsProof limits longest got v first (Some ((runs.0 ++ more.0) ++ more.1)) old (Err x) (Some more.1) new) (sym is) (inr (whole_with runs.0 runs.1 more.0 more.1 ended.1 runs.3)),
+    )
+
+-- ---- two sources
+
+module _ (limits : Limits) (longest n : ℕ) (is : longest ≡ n) {V : Type 0} (got : V → Call → V → Type 0) (i i' p p' : Option (List ℕ)) (old new : V) where
+  abbrev Watches : Result Verdict ToolFault → Type 0
+  Watches result = IsWatched limits n got i p old result i' p' new
+
+  -- there is no replay
+  pub watched_none : (f : ToolFault) → IsNoReplay limits longest i i' f → new ≡ old → Watches (Err f)
+  watched_none (Text of_instance s) h same = same
+  watched_none (Text File s) h same = absurd h
+  watched_none (Text of_proof s) h same = absurd h
+  watched_none (Overflow of_instance) h same = same
+  watched_none (Overflow File) h same = absurd h
+  watched_none (Overflow of_proof) h same = absurd h
+  watched_none (Memory of_instance) h same = same
+  watched_none (Memory File) h same = absurd h
+  watched_none (Memory of_proof) h same = absurd h
+  watched_none (Open input) h same = absurd h
+  watched_none Write h same = absurd h
+  watched_none (Step place e name) h same = absurd h
+
+  module _ (r : Replaying) (h : IsReplayOf limits longest i i' r) where
+    abbrev Owes : Result Verdict ToolFault → Type 0
+    Owes result = ShowsProof r.limits longest got r.problem (first_state r.problem) p old result p' new
+
+    here : (result : Result Verdict ToolFault) → Owes result → ShowsProof limits longest got r.problem (first_state r.problem) p old result p' new
+    here result owed = subst (λ (x : Limits). ShowsProof x longest got r.problem (first_state r.problem) p old result p' new) h.limited owed
+
+    pub watched_ok : (w : Verdict) → Owes (Ok w) → Watches (Ok w)
+    watched_ok w owed = subst (λ (m : ℕ). IsWatched limits m got i p old (Ok w) i' p' new) is (h.instance, h.file, r.problem, h.opened, here (Ok w) owed)
+
+    pub watched_unwritten : (w : Verdict) → Owes (Ok w) → Watches (Err Write)
+    watched_unwritten w owed = subst (λ (m : ℕ). IsWatched limits m got i p old (Err Write) i' p' new) is (h.instance, h.file, r.problem, h.opened, here (Ok w) owed)
+
+    -- the proof was rejected
+    pub watched_refused : (f : ToolFault) → Owes (Err f) → Watches (Err f)
+    watched_refused f owed = subst (λ (m : ℕ). IsWatched limits m got i p old (Err f) i' p' new) is (by f (here (Err f) owed))
+      where
+        by : (f : ToolFault) → ShowsProof limits longest got r.problem (first_state r.problem) p old (Err f) p' new → IsWatched limits longest got i p old (Err f) i' p' new
+        by (Step place e name) x = (h.instance, h.file, r.problem, h.opened, x)
+        by (Text of_proof s) x = (h.instance, h.file, r.problem, h.opened, x)
+        by (Text File s) x = absurd x
+        by (Text of_instance s) x = absurd x
+        by (Overflow input) x = absurd x
+        by (Memory input) x = absurd x
+        by (Open input) x = absurd x
+        by Write x = (h.instance, h.file, r.problem, h.opened, x)

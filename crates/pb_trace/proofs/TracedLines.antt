@@ -1,0 +1,67 @@
+-- The lines of accepted statements, one after another.
+use Rattle.std.proofs.Common.{◌≡◌, ℕ, List, [], ◌∷◌, ◌++◌, Option, Result, Ok, Err, refl, sym, ap, ◌∙◌, subst}
+use Rattle.std.specs.Result.{IsErr}
+use Rattle.pb_text.specs.Limits.{largest, top_of}
+use Rattle.pb_text.specs.Writing.{Wrote}
+use Rattle.pb_text.specs.declared.Limits.{Limits}
+use Rattle.pb_text.specs.declared.Spanned.{Spanned}
+use Rattle.pb_text.proofs.Parts.{part_wrote}
+use Rattle.pb_text.proofs.Writing.{writes_nothing}
+use Rattle.pb_proof.specs.declared.Statement.{Statement}
+use Rattle.pb_normal.specs.Form.{Form}
+use Rattle.pb_replay.specs.Problem.{Problem}
+use Rattle.pb_replay.specs.Replay.{State, first_state}
+use Rattle.pb_replay.specs.Statements.{Outcome}
+use Rattle.pb_tool.specs.Watched.{Call, Accepted, Rejected, GotEach, ShowsEach}
+use Rattle.pb_tool.specs.declared.ToolFault.{ToolFault}
+use Rattle.pb_trace.specs.Laws.{IsEmptyAt, TracesEachLine, lines_of}
+use Rattle.pb_trace.specs.Traced.{ShowsLine, Traces, TracesCall, Tracing, extended, line_bytes, stored_after}
+use Rattle.pb_trace.proofs.Storing.{state-stores}
+
+module _ {S : Type 0} (contents : S → Option (List ℕ)) (faults : S → ℕ) where
+  -- after a fault nothing changes
+  stays : (calls : List Call) (old new : Tracing S) → IsErr old.end → GotEach (TracesCall contents faults) old calls new → new ≡ old
+  stays [] old new h got = got
+  stays (Accepted m r ∷ calls) old new h (mid, first, rest) =
+      let same : mid ≡ old = first.ended h in
+      stays calls mid new (subst (λ (x : Tracing S). IsErr x.end) (sym same) h) rest ∙ same
+  stays (Rejected m r f ∷ calls) old new h (mid, first, rest) =
+      let same : mid ≡ old = first h in
+      stays calls mid new (subst (λ (x : Tracing S). IsErr x.end) (sym same) h) rest ∙ same
+
+  failed_stays : (calls : List Call) (old new : Tracing S) (f : ToolFault) → old.end ≡ Err f → new.end ≡ Ok tt → GotEach (TracesCall contents faults) old calls new → ⊥
+  failed_stays calls old new f is done got =
+      let same : new ≡ old = stays calls old new (rw is refl) got in
+      let e : Ok tt ≡ Err f = sym done ∙ (ap (λ (x : Tracing S). x.end) same ∙ is) in
+      absurd (cc e)
+
+  module _ (limits : Limits) (v : Problem) where
+    -- Everything that is so before a statement is so after it.
+    one_line : (s u : State) (m : Spanned Statement) (live : List (Option Form)) (old mid : Tracing S) (n : Spanned Statement) → IsEmptyAt s.next s.live → old.stored ≡ s.live → n ≡ m → Outcome (largest limits) (top_of limits) v s m.event (Ok u) → u.live ≡ live
+        → mid.stored ≡ stored_after (extended old.stored live) n.event → (mid.stored ≡ u.live) × IsEmptyAt u.next u.live
+    one_line s u m live old mid n empty stored same out is after =
+        let step = state-stores (largest limits) (top_of limits) v s u m.event empty out in
+        (rw (stored, ← is, same) at after ∙ step.0, step.1)
+
+    all_lines : (s t : State) (marks : List (Spanned Statement)) (calls : List Call) (old new : Tracing S) → IsEmptyAt s.next s.live → old.stored ≡ s.live → old.end ≡ Ok tt
+        → ShowsEach limits v s marks calls t → GotEach (TracesCall contents faults) old calls new → new.end ≡ Ok tt → Wrote contents faults old.out (lines_of s.live calls) new.out
+    all_lines s t [] [] old new empty stored begun shows got done = subst (λ (x : Tracing S). Wrote contents faults old.out [] x.out) (sym got) (writes_nothing contents faults old.out)
+    all_lines s t [] (c ∷ calls) old new empty stored begun shows got done = absurd shows
+    all_lines s t (m ∷ marks) [] old new empty stored begun shows got done = absurd shows
+    all_lines s t (m ∷ marks) (Rejected n r f ∷ calls) old new empty stored begun shows got done = absurd shows
+    all_lines s t (m ∷ marks) (Accepted n r ∷ calls) old new empty stored begun (same, u, out, stands, runs, rest) (mid, first, others) done =
+        by mid.end refl (λ live empty' on. all_lines u t marks calls mid new empty' live on rest others done)
+      where
+        by : (e : Result Unit ToolFault) → mid.end ≡ e → (mid.stored ≡ u.live → IsEmptyAt u.next u.live → mid.end ≡ Ok tt → Wrote contents faults mid.out (lines_of u.live calls) new.out) → Wrote contents faults old.out (line_bytes s.live n r ++ lines_of r.live calls) new.out
+        by (Ok x) is ih =
+            let next = one_line s u m r.live old mid n empty stored same out stands.live (first.stored begun is) in
+            let text : Wrote contents faults old.out (line_bytes s.live n r) mid.out =
+            subst (λ (y : List (Option Form)). Wrote contents faults old.out (line_bytes y n r) mid.out) stored (subst (λ (y : Result Unit ToolFault). Traces contents faults old.out (line_bytes old.stored n r) y mid.out) is (first.text begun)) in
+            let after : Wrote contents faults mid.out (lines_of r.live calls) new.out =
+            subst (λ (y : List (Option Form)). Wrote contents faults mid.out (lines_of y calls) new.out) stands.live (ih next.0 next.1 is) in
+            part_wrote contents faults old.out mid.out new.out (line_bytes s.live n r) (lines_of r.live calls) _ refl text after
+        by (Err f) is ih = absurd (failed_stays calls mid new f is done others)
+
+pub traces-each-line : {S : Type 0} (contents : S → Option (List ℕ)) (faults : S → ℕ) → TracesEachLine contents faults
+traces-each-line contents faults limits v marks calls last old new stored begun shows got done =
+    all_lines contents faults limits v (first_state v) last marks calls old new refl stored begun shows got done
