@@ -12,7 +12,7 @@ use Rattle.pb_normal.specs.declared.entry.Entry.{Entry}
 use Rattle.pb_normal.specs.Form.{total, each}
 use Rattle.pb_replay.specs.declared.propagate.term.Term.{Term}
 use Rattle.pb_replay.specs.declared.propagate.term.Rank.{Rank}
-use Rattle.pb_replay.specs.Engine.Forms.{entry_of, as_term, entry_at_place, picked, IsPlaced}
+use Rattle.pb_replay.specs.Engine.Forms.{entry_of, as_term, entry_at_place, picked, IsPlaced, AreAll}
 use Rattle.pb_replay.specs.Engine.Counts.{AreFalling, IsCalm}
 
 -- the ranks of the first terms
@@ -40,6 +40,42 @@ standing-next es ranks more i inside m old =
 
 pub standing-all : (es : List Entry) (ranks : List Rank) (i : ℕ) → length es ≤ i → IsStanding es ranks i → All (IsPlaced es) ranks × (map entry_of (picked es (map (λ r. r.place) ranks)) ≡ es)
 standing-all es ranks i all old = (old.placed, old.same ∙ take_all i es all)
+
+-- the first positions
+pub record ArePlaces (es : List Entry) (places : List ℕ) (i : ℕ) : Type 0 where
+  pub inside : All (λ p. p < length es) places
+  pub same : map entry_of (picked es places) ≡ take i es
+
+pub places-none : (es : List Entry) (places : List ℕ) → places ≡ [] → ArePlaces es places 0
+places-none es places e = rw e (record { inside = λ k d h. absurd (omega (arith, h)); same = refl })
+
+pub places-next : (es : List Entry) (places more : List ℕ) (i : ℕ) → i < length es → more ≡ places ++ (i ∷ []) → ArePlaces es places i → ArePlaces es more (i + 1)
+places-next es places more i inside m old =
+    let pick : ℕ → Term = λ q. as_term (entry_at_place es q) in
+    rw m (record {
+      inside = All-push (λ p. p < length es) places i old.inside inside;
+      same =
+          ap (map entry_of) (map-append pick places (i ∷ []))
+          ∙ map-append entry_of (picked es places) (pick i ∷ [])
+          ∙ ap (λ xs. xs ++ (entry_at_place es i ∷ [])) old.same
+          ∙ sym (take_more es i (record { variable = 0; negated = false; coefficient = 0 }) inside);
+    })
+
+pub places-all : (es : List Entry) (places : List ℕ) (i : ℕ) → length es ≤ i → ArePlaces es places i → AreAll es places
+places-all es places i all old = (old.inside, old.same ∙ take_all i es all)
+
+-- with equal coefficients any terms fall
+pub equal-falling : (es : List Entry) (places : List ℕ) → ((i j : ℕ) (d : Entry) → i < length es → j < length es → (get_or es i d).coefficient ≡ (get_or es j d).coefficient) → All (λ p. p < length es) places → AreFalling (picked es places)
+equal-falling es places equal all i j d less inside =
+    let inside_j : j < length places = omega (arith, inside, length-map places pick) in
+    let inside_i : i < length places = omega (arith, less, inside_j) in
+    omega (arith, at i inside_i, at j inside_j, equal (get_or places j 0) (get_or places i 0) (record { variable = 0; negated = false; coefficient = 0 }) (all j 0 inside_j) (all i 0 inside_i))
+  where
+    pick : ℕ → Term
+    pick q = as_term (entry_at_place es q)
+
+    at : (k : ℕ) → k < length places → (get_or (picked es places) k d).coefficient ≡ (entry_at_place es (get_or places k 0)).coefficient
+    at k h = ap (λ (t : Term). t.coefficient) (get_or-map pick places k 0 d h)
 
 picked-ranks : (es : List Entry) (ranks : List Rank) → map (λ (r : Rank). entry_of (as_term (entry_at_place es r.place))) ranks ≡ map entry_of (picked es (map (λ r. r.place) ranks))
 picked-ranks es [] = refl

@@ -1,5 +1,5 @@
 -- A form as the engine stores it.
-use Rattle.std.specs.Prelude.{◌≡◌, ℕ, ◌<◌, false, List, [], Option, Some, None, map, length, slice_index_or, IsPermutation}
+use Rattle.std.specs.Prelude.{◌≡◌, ℕ, ◌<◌, All, false, List, [], Option, Some, None, map, length, slice_index_or, IsPermutation}
 use Rattle.pb_normal.specs.declared.entry.Entry.{Entry}
 use Rattle.pb_normal.specs.Form.{Form, IsNormal}
 use Rattle.pb_replay.specs.declared.propagate.term.Term.{Term}
@@ -26,6 +26,10 @@ picked es places = map (λ p. as_term (entry_at_place es p)) places
 -- the position is inside the list, and the coefficient is that of its entry
 abbrev pub IsPlaced : List Entry → Rank → Type 0
 IsPlaced es r = (r.place < length es) × (r.coefficient ≡ (entry_at_place es r.place).coefficient)
+
+-- the positions pick all entries in their order
+abbrev pub AreAll : List Entry → List ℕ → Type 0
+AreAll es places = All (λ p. p < length es) places × (map entry_of (picked es places) ≡ es)
 
 -- the same terms, perhaps in another order
 pub record IsKeptAs (f : Form) (s : Shape) : Type 0 where

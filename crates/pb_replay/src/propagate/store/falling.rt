@@ -1,7 +1,7 @@
 //! A form with its terms in order of falling coefficient.
 
-ghost use Rattle.std.specs.Prelude.{◌≡◌, ◌<◌, ◌^◌, All, IfOk, length, map, sum_by, IsPermutation};
-ghost use Rattle.pb_replay.specs.Engine.Forms.{entry_of, as_term, entries_in, picked, IsPlaced};
+ghost use Rattle.std.specs.Prelude.{◌≡◌, ℕ, List, ◌<◌, ◌^◌, true, All, IfOk, length, map, sum_by, slice_index_or, IsPermutation};
+ghost use Rattle.pb_replay.specs.Engine.Forms.{entry_of, as_term, entries_in, picked, IsPlaced, AreAll};
 ghost use Rattle.pb_replay.specs.Engine.Counts.{AreFalling};
 
 use crate::numbered::NumberedLiteral;
@@ -69,6 +69,45 @@ fn places_of(alloc: Global, ranks: &[Rank]) -> Result<Vec<usize>, AllocError>
     Ok(places)
 }
 
+// Whether all coefficients are equal.
+fn are_equal(entries: &[Entry]) -> bool
+    ensures { result ≡ true → (i j : ℕ) (d : Entry) → i < length entries.now → j < length entries.now → (slice_index_or entries.now i d).coefficient ≡ (slice_index_or entries.now j d).coefficient }
+{
+    'entries: for i in 1..entries.len() {
+        if entries[i].coefficient != entries[0].coefficient {
+            return false;
+        }
+    }
+    true
+}
+
+// The positions in the order of the form.
+fn all_places(alloc: Global, count: usize) -> Result<Vec<usize>, AllocError>
+    ensures { (es : List Entry) → length es ≡ count → IfOk result (λ places. AreAll es places.items) }
+{
+    let mut places = Vec::with_capacity(alloc, count)?;
+    'places: for place in 0..count {
+        places.push(place)?;
+    }
+    Ok(places)
+}
+
+// The positions in order of falling coefficient. If all coefficients are equal, nothing is sorted.
+fn order_of(alloc: Global, entries: &[Entry]) -> Result<Vec<usize>, AllocError>
+    requires { sum_by (λ e. e.coefficient) entries.now < 2 ^ 127 }
+    ensures inside { IfOk result (λ order. All (λ p. p < length entries.now) order.items) }
+    ensures same { IfOk result (λ order. IsPermutation (map entry_of (picked entries.now order.items)) entries.now) }
+    ensures falling { IfOk result (λ order. AreFalling (picked entries.now order.items)) }
+{
+    if are_equal(entries) {
+        let places = all_places(alloc, entries.len())?;
+        return Ok(places);
+    }
+    let ranks = ranked(alloc, entries)?;
+    let order = places_of(alloc, ranks.as_slice())?;
+    Ok(order)
+}
+
 impl Falling {
     ghost use Rattle.std.specs.Prelude.{◌≡◌, ◌<◌, [], Some, None, IfOk, IfSome, IfNone, is_some, length, map, IsPermutation, slice_index_or};
     ghost use Rattle.pb_replay.specs.declared.propagate.term.Term.{Term};
@@ -104,8 +143,7 @@ impl Falling {
         ensures same { IfOk result (λ f. IsPermutation (map entry_of (terms_of f)) form.terms) }
         ensures falling { IfOk result (λ f. AreFalling (terms_of f)) }
     {
-        let ranks = ranked(alloc, form.entries())?;
-        let order = places_of(alloc, ranks.as_slice())?;
+        let order = order_of(alloc, form.entries())?;
         Ok(Falling {
             form: Some(form),
             order,
