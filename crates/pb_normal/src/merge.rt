@@ -55,7 +55,7 @@ pub(crate) fn merged(
     ensures rising { IfOk result (λ r. IsRising 0 r.0.items) }
     ensures adds { IfOk result (λ r. Adds left.now right.now r.0.items r.1) }
 {
-    let mut out = Vec::new(alloc);
+    let mut out = Vec::with_capacity(alloc, left.len() + right.len())?;
     let mut cancelled = 0;
     let mut i = 0;
     let mut j = 0;
