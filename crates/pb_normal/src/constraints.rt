@@ -115,7 +115,7 @@ fn load_tested(
     ensures err { IfErr result (λ e. (e ≡ NormalFault.Memory) × AfterFront names.old (constraint_names constraints.now) names.new) }
 {
     names.tell_distinct();
-    let mut forms = Vec::new(alloc);
+    let mut forms = Vec::with_capacity(alloc, constraints.len())?;
     for constraint in constraints {
         match add(alloc, names, constraint, limits, &mut forms) {
             Ok(()) => {}

@@ -6,7 +6,7 @@ use Rattle.pb_normal.proofs.Loaded.{after_at, all_read, loaded_at, loaded_none, 
 use Rattle.pb_normal.proofs.constraints.load_tested.Goals as goal
 
 pub loop-constraint-init : goal.loop-constraint-init
-loop-constraint-init c = rw c.new-forms.ensures.items (loaded_none c.args.names.now)
+loop-constraint-init c = rw c.in_ok-forms.ensures.items (loaded_none c.args.names.now)
 
 pub loop-constraint-preserved : goal.loop-constraint-preserved
 loop-constraint-preserved c =
