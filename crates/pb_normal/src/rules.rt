@@ -142,65 +142,71 @@ fn measures_of_sum(left: &Normal, right: &Normal) -> (u128, u128)
     (sizes - 2 * gone, degrees.saturating_sub(gone))
 }
 
+// The five lists below have room for all terms from the start, so each is allocated once.
+
 fn multiplied_terms(alloc: Global, terms: &[Entry], k: u128) -> Result<Vec<Entry>, AllocError>
     requires { All (λ t. t.coefficient * k < 2 ^ 128) terms.now }
     ensures { IfOk result (λ v. v.items ≡ map (λ t. with_coefficient t (t.coefficient * k)) terms.now) }
 {
-    terms
-        .iter()
-        .map(|t| Entry {
+    let mut out = Vec::with_capacity(alloc, terms.len())?;
+    out.extend(
+        terms.iter().map(|t| Entry {
             coefficient: t.coefficient * k,
             ..*t
-        })
-        .collect(alloc)
+        }),
+    )?;
+    Ok(out)
 }
 
 fn divided_terms(alloc: Global, terms: &[Entry], k: u128) -> Result<Vec<Entry>, AllocError>
     requires { 0 < k }
     ensures { IfOk result (λ v. v.items ≡ map (λ t. with_coefficient t (div_ceil t.coefficient k)) terms.now) }
 {
-    terms
-        .iter()
-        .map(|t| Entry {
+    let mut out = Vec::with_capacity(alloc, terms.len())?;
+    out.extend(
+        terms.iter().map(|t| Entry {
             coefficient: t.coefficient.div_ceil(k),
             ..*t
-        })
-        .collect(alloc)
+        }),
+    )?;
+    Ok(out)
 }
 
 fn saturated_terms(alloc: Global, terms: &[Entry], degree: u128) -> Result<Vec<Entry>, AllocError>
     ensures { IfOk result (λ v. v.items ≡ filter (λ t. nat_lt 0 t.coefficient) (map (λ t. with_coefficient t (min t.coefficient degree)) terms.now)) }
 {
-    terms
-        .iter()
-        .map(|t| Entry {
-            coefficient: t.coefficient.min(degree),
-            ..*t
-        })
-        .filter(|t| t.coefficient > 0)
-        .collect(alloc)
+    let mut out = Vec::with_capacity(alloc, terms.len())?;
+    out.extend(
+        terms
+            .iter()
+            .map(|t| Entry {
+                coefficient: t.coefficient.min(degree),
+                ..*t
+            })
+            .filter(|t| t.coefficient > 0),
+    )?;
+    Ok(out)
 }
 
 fn opposite_terms(alloc: Global, terms: &[Entry]) -> Result<Vec<Entry>, AllocError>
     ensures { IfOk result (λ v. v.items ≡ map opposite terms.now) }
 {
-    terms
-        .iter()
-        .map(|t| Entry {
+    let mut out = Vec::with_capacity(alloc, terms.len())?;
+    out.extend(
+        terms.iter().map(|t| Entry {
             negated: !t.negated,
             ..*t
-        })
-        .collect(alloc)
+        }),
+    )?;
+    Ok(out)
 }
 
 fn terms_without(alloc: Global, terms: &[Entry], variable: usize) -> Result<Vec<Entry>, AllocError>
     ensures { IfOk result (λ v. v.items ≡ filter (λ t. not (t.variable == variable)) terms.now) }
 {
-    terms
-        .iter()
-        .map(|t| *t)
-        .filter(|t| t.variable != variable)
-        .collect(alloc)
+    let mut out = Vec::with_capacity(alloc, terms.len())?;
+    out.extend(terms.iter().map(|t| *t).filter(|t| t.variable != variable))?;
+    Ok(out)
 }
 
 // The sum of the coefficients on a variable and on its negation.

@@ -1,0 +1,15 @@
+use Rattle.std.proofs.Common.{rules, tests, min, nat_lt}
+use Rattle.std.proofs.lemmas.Iterator.{YieldsList-from_map, YieldsList-from_slice}
+use Rattle.std.proofs.lemmas.Iterator.Consumers.{YieldsList-at, YieldsList-from_filter}
+use Rattle.std.proofs.lemmas.Iterator.Adapters.{items_from_extend}
+use Rattle.pb_normal.specs.declared.entry.Entry.{Entry}
+use Rattle.pb_normal.specs.Rules.{with_coefficient}
+use Rattle.pb_normal.proofs.rules.saturated_terms.Goals as goal
+
+pub returns : goal.returns
+returns c =
+    let h = items_from_extend c.extend.result c.extend.ensures.ran
+    (YieldsList-from_filter _ (λ (t : Entry). nat_lt 0 t.coefficient)
+    (YieldsList-at c.filter.ensures.source (YieldsList-from_map _ (λ (t : Entry). with_coefficient t (min t.coefficient c.args.degree)) (YieldsList-from_slice c.args.terms.now cc) c.map.ensures.closure (λ x r q k. search (rules, tests))))
+    c.filter.ensures.closure (λ x b q k. search (rules, tests))) in
+    search rules
