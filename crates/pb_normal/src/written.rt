@@ -33,7 +33,7 @@ fn named_terms(alloc: Global, names: &Names, terms: &[Entry]) -> Result<Vec<Term
     requires small { total each terms.now < 2 ^ 127 }
     ensures { IfOk result (λ v. v.items ≡ map (term_of names.now) terms.now) }
 {
-    let mut out = Vec::new(alloc);
+    let mut out = Vec::with_capacity(alloc, terms.len())?;
     for t in terms {
         let name = Name::from_text(alloc, names.text_of(t.variable))?;
         let literal = Literal {
