@@ -101,7 +101,7 @@ impl Normal {
         ensures normal { IfOk result (λ r. IsNormal r) }
         ensures memory { IfErr result (λ e. e ≡ NormalFault.Memory) }
     {
-        let mut terms = Vec::new(alloc);
+        let mut terms = Vec::with_capacity(alloc, 1)?;
         terms.push(Entry {
             variable,
             negated,
