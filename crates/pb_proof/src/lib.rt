@@ -5,6 +5,7 @@ mod conclusion;
 pub mod laws;
 mod line;
 mod machine;
+mod piece;
 mod proof;
 mod read;
 mod statement;

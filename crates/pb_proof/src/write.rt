@@ -3,61 +3,18 @@
 ghost use Rattle.std.specs.Prelude.{◌≡◌, [], ◌∷◌, ◌++◌};
 ghost use Rattle.std.specs.Fmt.{signed_decimal};
 ghost use Rattle.pb_text.specs.Writing.{Writes};
-ghost use Rattle.pb_proof.specs.Canonical.{literal_line, word_bytes, listed_bytes, bound_bytes, id_shown_bytes, shown_bytes, claim_bytes, count_bytes, statement_bytes, proof_bytes};
+ghost use Rattle.pb_proof.specs.Canonical.{literal_line, listed_bytes, bound_bytes, id_shown_bytes, shown_bytes, claim_bytes, count_bytes, statement_bytes, proof_bytes};
 ghost use Rattle.pb_proof.specs.Line.Ended.{ended_lines};
+
+mod words;
 
 use crate::conclusion::{Bound, Conclusion};
 use crate::proof::Proof;
 use crate::statement::Statement;
 use crate::word::PolWord;
+use crate::write::words::write_words;
 use pb_sums::{Linear, Literal, write_count, write_linear, write_literal, write_number};
 use pb_text::{Failed, Sequence, Sink, write_bytes};
-
-/// Writes a number, and then an operator with a space before it.
-fn write_factor<S: Sink>(factor: i128, operator: &[u8], out: &mut S) -> Result<(), Failed>
-    ensures { Writes S.contents S.faults out.old (signed_decimal factor ++ operator.now) result out.new }
-{
-    write_number(factor, out)?;
-    write_bytes(operator, out)
-}
-
-/// Writes a name, and then ` w`.
-fn write_weakened<S: Sink>(name: &[u8], out: &mut S) -> Result<(), Failed>
-    ensures { Writes S.contents S.faults out.old (name.now ++ (32 ∷ 119 ∷ [])) result out.new }
-{
-    write_bytes(name, out)?;
-    write_bytes(b" w", out)
-}
-
-fn write_word<S: Sink>(word: &PolWord, out: &mut S) -> Result<(), Failed>
-    ensures { Writes S.contents S.faults out.old (word_bytes word.now) result out.new }
-{
-    match word {
-        PolWord::Id(id) => write_number(*id as i128, out),
-        PolWord::Axiom(literal) => write_literal(literal, out),
-        PolWord::Add => write_bytes(b"+", out),
-        PolWord::Multiply(factor) => write_factor(*factor, b" *", out),
-        PolWord::Divide(divisor) => write_factor(*divisor, b" d", out),
-        PolWord::Saturate => write_bytes(b"s", out),
-        PolWord::Weaken(name) => write_weakened(name.as_str().as_bytes(), out),
-    }
-}
-
-fn write_next_word<S: Sink>(word: &PolWord, out: &mut S) -> Result<(), Failed>
-    ensures { Writes S.contents S.faults out.old (32 ∷ word_bytes word.now) result out.new }
-{
-    write_bytes(b" ", out)?;
-    write_word(word, out)
-}
-
-fn write_words<S: Sink>(words: &[PolWord], out: &mut S) -> Result<(), Failed>
-    ensures { Writes S.contents S.faults out.old (listed_bytes word_bytes words.now) result out.new }
-{
-    for word in words {
-        write_next_word(word, out)?;
-    }
-    Ok(())
-}
 
 fn write_next_literal<S: Sink>(literal: &Literal, out: &mut S) -> Result<(), Failed>
     ensures { Writes S.contents S.faults out.old (32 ∷ literal_line literal.now) result out.new }

@@ -1,6 +1,6 @@
 -- What is written, in parts.
-use Rattle.std.proofs.Common.{◌≡◌, ℕ, suc, ◌+◌, ◌<◌, List, [], ◌∷◌, ◌++◌, take, drop, length, refl, ap, sym, append_assoc, ◌∙◌, get_or, take-append-drop}
-use Rattle.std.proofs.lemmas.List.{append-nil, take_more}
+use Rattle.std.proofs.Common.{◌≡◌, ℕ, suc, ◌+◌, ◌-◌, ◌<◌, ◌≤◌, List, [], ◌∷◌, ◌++◌, take, drop, length, refl, ap, sym, append_assoc, ◌∙◌, arith, get_or, take-append-drop}
+use Rattle.std.proofs.lemmas.List.{append-nil, take_more, drop_all}
 use Rattle.std.proofs.Math.Seq.{drop-cons}
 use Rattle.pb_proof.specs.Canonical.{listed_bytes, statement_bytes, lines, proof_bytes}
 use Rattle.pb_proof.specs.Line.Ended.{ended_lines}
@@ -18,7 +18,7 @@ module _ {A : Type 0} (line : A → List ℕ) where
   unfolding listed_bytes
   listed-cons x xs = refl
 
-  listed-append : (xs ys : List A) → listed_bytes line (xs ++ ys) ≡ listed_bytes line xs ++ listed_bytes line ys
+  pub listed-append : (xs ys : List A) → listed_bytes line (xs ++ ys) ≡ listed_bytes line xs ++ listed_bytes line ys
   unfolding listed_bytes
   listed-append [] ys = refl
   listed-append (x ∷ xs) ys =
@@ -37,6 +37,23 @@ module _ {A : Type 0} (line : A → List ℕ) where
       ap (listed_bytes line) (sym (take-append-drop i xs))
       ∙ (listed-append (take i xs) (drop i xs)
       ∙ ap (λ z. listed_bytes line (take i xs) ++ z) (ap (listed_bytes line) (drop-cons xs i d h) ∙ listed-cons (get_or xs i d) (drop (suc i) xs)))
+
+  -- a prefix of the list, and the rest
+  pub listed_split : (xs : List A) (n : ℕ) → listed_bytes line xs ≡ listed_bytes line (take n xs) ++ listed_bytes line (drop n xs)
+  listed_split xs n = ap (listed_bytes line) (sym (take-append-drop n xs)) ∙ listed-append (take n xs) (drop n xs)
+
+  pub listed_past : (xs : List A) (n : ℕ) → length xs ≤ n → listed_bytes line (drop n xs) ≡ []
+  listed_past xs n h = ap (listed_bytes line) (drop_all n xs h) ∙ listed_none
+
+  -- the list from an index on
+  pub listed_from : (xs : List A) (i : ℕ) (x : A) → 0 < i → i ≤ length xs → x ≡ get_or xs (i - 1) x →
+      listed_bytes line (drop (i - 1) xs) ≡ (32 ∷ line x) ++ listed_bytes line (drop i xs)
+  listed_from xs i x some within e =
+      let next : suc (i - 1) ≡ i = omega arith in
+      ap (listed_bytes line) (drop-cons xs (i - 1) x (omega arith))
+      ∙ (listed-cons (get_or xs (i - 1) x) (drop (suc (i - 1)) xs)
+      ∙ (ap (λ (n : ℕ). (32 ∷ line (get_or xs (i - 1) x)) ++ listed_bytes line (drop n xs)) next
+      ∙ ap (λ (y : A). (32 ∷ line y) ++ listed_bytes line (drop i xs)) (sym e)))
 
 -- each with a line feed after it
 pub ended_none : ended_lines [] ≡ []

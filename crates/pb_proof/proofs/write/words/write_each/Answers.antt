@@ -4,7 +4,7 @@ use Rattle.pb_text.proofs.Writing.{writes_nothing}
 use Rattle.pb_text.proofs.Parts.{part_then, part_broke, part_wrote}
 use Rattle.pb_proof.specs.Canonical.{word_bytes}
 use Rattle.pb_proof.proofs.lemmas.Written.{listed_none, listed_more, listed_at}
-use Rattle.pb_proof.proofs.write.write_words.Goals as goal
+use Rattle.pb_proof.proofs.write.words.write_each.Goals as goal
 
 pub loop-word-init : goal.loop-word-init
 loop-word-init g c = subst (λ (z : List ℕ). Wrote g.S.Sink.contents g.S.Sink.faults c.args.out.now z c.args.out.now) (sym (listed_none word_bytes)) (writes_nothing g.S.Sink.contents g.S.Sink.faults c.args.out.now)

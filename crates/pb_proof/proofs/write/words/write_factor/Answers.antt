@@ -2,7 +2,7 @@ use Rattle.std.proofs.Common.{refl}
 use Rattle.pb_text.proofs.Parts.{part_then, part_broke}
 use Rattle.std.specs.Int.{w128}
 use Rattle.std.proofs.lemmas.Int.{to_z-of_z}
-use Rattle.pb_proof.proofs.write.write_factor.Goals as goal
+use Rattle.pb_proof.proofs.write.words.write_factor.Goals as goal
 
 pub returns-in_err-write_number : goal.returns-in_err-write_number
 returns-in_err-write_number g c =

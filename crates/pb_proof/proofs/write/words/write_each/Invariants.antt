@@ -2,7 +2,7 @@ use Rattle.std.proofs.Common.{take}
 use Rattle.pb_text.specs.Writing.{Wrote}
 use Rattle.pb_proof.specs.Canonical.{listed_bytes}
 use Rattle.pb_proof.specs.Canonical.{word_bytes}
-use Rattle.pb_proof.proofs.write.write_words.Given as goal
+use Rattle.pb_proof.proofs.write.words.write_each.Given as goal
 
 abbrev pub invariant-loop-word : goal.invariant-loop-word
 invariant-loop-word g l = Wrote g.S.Sink.contents g.S.Sink.faults l.initial.out (listed_bytes word_bytes (take l.word-index l.words)) l.out

@@ -1,6 +1,6 @@
 use Rattle.std.proofs.Common.{refl}
 use Rattle.pb_text.proofs.Parts.{part_then, part_broke}
-use Rattle.pb_proof.proofs.write.write_next_word.Goals as goal
+use Rattle.pb_proof.proofs.write.words.write_weakened.Goals as goal
 
 pub returns-in_err-write_bytes : goal.returns-in_err-write_bytes
 returns-in_err-write_bytes g c =
@@ -9,4 +9,4 @@ returns-in_err-write_bytes g c =
 pub returns : goal.returns
 returns g c =
     part_then g.S.Sink.contents g.S.Sink.faults _ _ _ _ _ _ _ refl c.in_ok-write_bytes.ensures
-    c.write_word.ensures
+    c.write_bytes-2.ensures

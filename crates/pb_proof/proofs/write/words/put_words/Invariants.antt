@@ -1,0 +1,9 @@
+use Rattle.std.proofs.Common.{◌≡◌, ◌≤◌, ◌++◌, length, drop}
+use Rattle.pb_proof.specs.Canonical.{word_bytes, listed_bytes}
+use Rattle.pb_proof.proofs.write.words.put_words.Given as goal
+
+abbrev pub invariant-loop-left : goal.invariant-loop-left
+invariant-loop-left l = (l.left ≤ length l.words) × (l.piece ≡ listed_bytes word_bytes (drop l.left l.words) ++ l.fn.piece)
+
+abbrev pub decreases-loop-left : goal.decreases-loop-left
+decreases-loop-left l = l.left
