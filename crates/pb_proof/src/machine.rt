@@ -186,19 +186,6 @@ impl ProofMachine {
         let _ = self.is_done();
         length
     }
-
-    /// Takes bytes at the start of a text together, on a fast path. Returns how many it took.
-    #[inline(always)]
-    fn take_many(&mut self, text: &[u8]) -> usize
-        ensures bound { result ≤ length text.now }
-        ensures runs { Runs proofs self.old (take result text.now) self.new }
-        ensures state { IsState proofs self.new }
-    {
-        match self.phase {
-            Phase::Spelling(_, _) => self.take_words(text),
-            _ => self.give_front(text),
-        }
-    }
 }
 
 impl Machine for ProofMachine {
@@ -234,11 +221,28 @@ impl Machine for ProofMachine {
     }
 
     fn take_front(&mut self, piece: &[u8]) -> usize {
-        let length = self.take_many(piece);
+        let length = self.take_words(piece);
         if length > 0 {
             return length;
         }
         if self.goes(piece[0]) { 1 } else { 0 }
+    }
+
+    /// Within a line it stops where the line machine stops, as `goes` gives that machine nothing.
+    fn run(&mut self, piece: &[u8]) -> usize {
+        let _ = self.is_done();
+        let mut taken: usize = 0;
+        while taken < piece.len() {
+            if matches!(self.phase, Phase::Inside(_)) {
+                return taken + self.give_front(&piece[taken..]);
+            }
+            let more = self.take_front(&piece[taken..]);
+            if more == 0 {
+                return taken;
+            }
+            taken += more;
+        }
+        taken
     }
 
     fn push(&mut self, byte: u8) -> Push<Statement> {

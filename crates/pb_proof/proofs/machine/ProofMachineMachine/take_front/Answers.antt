@@ -6,6 +6,6 @@ use Rattle.pb_proof.proofs.machine.ProofMachineMachine.take_front.Goals as goal
 
 pub returns-then-goes-clause-runs : goal.returns-then-goes-clause-runs
 returns-then-goes-clause-runs c =
-    let none : c.take_many-length.result ≡ 0 = omega arith in
-    let same = subst (λ (n : ℕ). Runs proofs c.args.self.now (take n c.args.piece.now) c.take_many-length.new.self) none c.take_many-length.ensures.runs in
-    runs_on proofs c.args.self.now c.args.piece.now 0 c.take_many-length.new.self c.goes.new.self c.requires same c.if-goes.ensures.goes c.goes.ensures.state
+    let none : c.take_words-length.result ≡ 0 = omega arith in
+    let same = subst (λ (n : ℕ). Runs proofs c.args.self.now (take n c.args.piece.now) c.take_words-length.new.self) none c.take_words-length.ensures.runs in
+    runs_on proofs c.args.self.now c.args.piece.now 0 c.take_words-length.new.self c.goes.new.self c.requires same c.if-goes.ensures.goes c.goes.ensures.state
