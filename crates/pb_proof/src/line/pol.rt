@@ -20,7 +20,7 @@ use crate::line::pol::front::{held_before, operator};
 use crate::line::pol::kind::kind_of;
 use crate::line::pol::phase::{Change, Held, Kind, Move, Phase};
 use crate::line::pol::transition::{in_hand, is_done, is_in_number, plan};
-use crate::line::pol::words::{count_units, finish, turn};
+use crate::line::pol::words::{count_units, finish, make_room, turn};
 use crate::word::PolWord;
 use pb_sums::Name;
 use pb_text::bytes::is_digit;
@@ -85,7 +85,7 @@ impl PolMachine {
 
 impl PolMachine {
     ghost use Rattle.std.specs.Prelude.{◌≤◌, ◌<◌, take, length};
-    ghost use Rattle.pb_text.specs.Automaton.{IsState, Runs};
+    ghost use Rattle.pb_text.specs.Automaton.{Goes, IsState, Runs};
     ghost use Rattle.pb_proof.specs.Line.PolState.{pol_automaton};
 
     /// Takes an id and the space after it, if a word may begin here.
@@ -102,7 +102,7 @@ impl PolMachine {
         let Some((length, id)) = id_prefix(self.top, text) else {
             return 0;
         };
-        if self.words.reserve(1).is_err() {
+        if make_room(&mut self.words).is_err() {
             return 0;
         }
         self.words.push_reserved(PolWord::Id(id as i64));
@@ -144,7 +144,21 @@ impl PolMachine {
         2
     }
 
-    /// Takes a word and the space after it, on a fast path.
+    /// Takes the space before the first word.
+    #[inline(always)]
+    fn take_space(&mut self, byte: u8) -> bool
+        ensures goes { Goes pol_automaton self.old byte result self.new }
+        ensures state { IsState pol_automaton self.new }
+    {
+        let _ = self.is_done();
+        if byte != b' ' || !matches!(self.phase, Phase::Start) {
+            return false;
+        }
+        self.phase = Phase::Gap(Held::Nothing);
+        true
+    }
+
+    /// Takes a word and the space after it, or the space before the first word, on a fast path.
     #[inline(always)]
     fn take_word(&mut self, text: &[u8]) -> usize
         requires { 0 < length text.now }
@@ -153,10 +167,13 @@ impl PolMachine {
         ensures state { IsState pol_automaton self.new }
     {
         if is_digit(text[0]) {
-            self.take_id(text)
-        } else {
-            self.take_operator(text)
+            return self.take_id(text);
         }
+        let length = self.take_operator(text);
+        if length > 0 {
+            return length;
+        }
+        if self.take_space(text[0]) { 1 } else { 0 }
     }
 }
 
@@ -214,7 +231,8 @@ impl Machine for PolMachine {
 
     fn take_front(&mut self, piece: &[u8]) -> usize {
         let length = self.take_word(piece);
-        if length > 0 {
+        // A line feed takes no word with it, and ends the line.
+        if length > 0 || piece[0] == b'\n' {
             return length;
         }
         if self.goes(piece[0]) { 1 } else { 0 }

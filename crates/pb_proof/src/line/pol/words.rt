@@ -12,6 +12,9 @@ use pb_text::Sequence;
 use std::alloc::{AllocError, Global};
 use std::mem;
 
+/// The number of words that there is room for at first.
+const FIRST: usize = 8;
+
 /// Whether the change adds a word.
 fn adds(change: Change) -> bool
     ensures { result ≡ adds change }
@@ -63,6 +66,19 @@ fn change_words(words: &mut Vec<PolWord>, name: Name, change: Change)
     }
 }
 
+/// Makes room for one more word, and at first for several: most lines have more than four words.
+pub fn make_room(words: &mut Vec<PolWord>) -> Result<(), AllocError>
+    ensures words { words.new.items ≡ words.old.items }
+    ensures ok { OnOk result (vec_len words.new < vec_capacity words.new) }
+{
+    if words.capacity() == 0 {
+        words.reserve(FIRST)?;
+    } else {
+        words.reserve(1)?;
+    }
+    Ok(())
+}
+
 /// Ends a word. If memory runs out, nothing changes.
 pub fn turn(
     alloc: Global,
@@ -77,7 +93,7 @@ pub fn turn(
     ensures err { OnErr result ((adds change ≡ true) × (words.new.items ≡ words.old.items) × (depth.new ≡ depth.old) × (name.new ≡ name.old)) }
 {
     if adds(change) {
-        words.reserve(1)?;
+        make_room(words)?;
     }
     let whole = mem::replace(name, Name::new(alloc));
     change_words(words, whole, change);

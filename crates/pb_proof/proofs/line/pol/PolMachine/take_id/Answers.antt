@@ -23,8 +23,8 @@ returns-clause-runs c = rw (← c.self.view_is) (
     let small : c.in-Some.id < 2 ^ 63 = omega (arith, fits, c.self.invariant.1) in
     let more : c.push_reserved.new.self.items ≡ ws ++ Id (pos c.in-Some.id) ∷ [] =
     c.push_reserved.ensures.items
-    ∙ (ap (λ z. c.reserve.new.self.items ++ Id z ∷ []) (to_z_pos w64 c.in-Some.id small)
-    ∙ ap (λ (xs : List PolWord). xs ++ Id (pos c.in-Some.id) ∷ []) c.reserve.ensures.items) in
+    ∙ (ap (λ z. c.make_room.new.words.items ++ Id z ∷ []) (to_z_pos w64 c.in-Some.id small)
+    ∙ ap (λ (xs : List PolWord). xs ++ Id (pos c.in-Some.id) ∷ []) c.make_room.ensures.words) in
     let deeper : suc depth ≡ depth + 1 = omega arith in
     subst (λ (s : PolState). Runs pol_automaton (state limit top ws depth c.self.inside.name c.self.inside.phase) front s)
     (same_state limit top _ _ _ _ _ _ _ _ (sym more) deeper (sym c.new.ensures) (ap phase.Gap (sym c.held_number.ensures)))
