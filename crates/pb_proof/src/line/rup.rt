@@ -161,7 +161,28 @@ impl RupMachine {
         }
     }
 
-    /// Gives bytes at the start of a text to the machine for sums, if it has begun. Returns how many it took.
+    /// Gives the first bytes of a constraint to the machine for sums. Returns how many it took.
+    fn begin_front(&mut self, text: &[u8]) -> usize
+        requires { self.old.phase ≡ RupPhase.Gap }
+        ensures bound { result ≤ length text.now }
+        ensures runs { Runs rup_automaton self.old (take result text.now) self.new }
+        ensures state { IsState rup_automaton self.new }
+    {
+        let _ = self.is_done();
+        if text.is_empty() || is_blank(text[0]) {
+            return 0;
+        }
+        let taken = self.sums.run(text);
+        if taken == 0 {
+            return 0;
+        }
+        self.phase = RupPhase::Inside;
+        let _ = self.is_done();
+        taken
+    }
+
+    /// Gives bytes at the start of a text to the machine for sums, if a constraint has begun or may begin. Returns how many
+    /// it took.
     fn give_front(&mut self, text: &[u8]) -> usize
         ensures bound { result ≤ length text.now }
         ensures runs { Runs rup_automaton self.old (take result text.now) self.new }
@@ -169,6 +190,7 @@ impl RupMachine {
     {
         let taken = match self.phase {
             RupPhase::Inside => self.sums.run(text),
+            RupPhase::Gap => self.begin_front(text),
             _ => 0,
         };
         let _ = self.is_done();

@@ -1,6 +1,7 @@
 -- A run of the line machine is a run of the proof machine.
 -- A run of the sum machine is a run of the `rup` machine.
-use Rattle.std.proofs.Common.{◌≡◌, ℕ, List, [], ◌∷◌, refl, sym, ap, ap₂, subst, ◌∙◌, Option, Some}
+use Rattle.std.proofs.Common.{◌≡◌, ℕ, zero, suc, ◌<◌, ◌≤◌, false, List, [], ◌∷◌, length, take, get_or, refl, sym, ap, ap₂, subst, arith, ◌∙◌, Option, Some}
+use Rattle.pb_text.specs.Classes.{is_blank}
 use Rattle.pb_text.specs.Automaton.{Next, Go, End, Refuse, Pushes, Runs}
 use Rattle.pb_text.specs.declared.machine.Push.{Push}
 use Rattle.pb_text.specs.declared.machine.Push.TheVariants as push
@@ -10,7 +11,7 @@ use Rattle.pb_sums.specs.declared.SumEvent.{SumEvent}
 use Rattle.pb_proof.specs.Line.Rup.{RupState, rup_automaton, rup_plan, rup_act, rup_over, IsRupInOrder}
 use Rattle.pb_proof.specs.Line.Machine.{line_automaton}
 use Rattle.pb_proof.specs.Machine.State.{ProofState, proofs, giving, over, Holds, IsInOrder}
-use Rattle.pb_proof.specs.declared.line.rup.phase.RupPhase.TheVariants.{Inside as InsideRup}
+use Rattle.pb_proof.specs.declared.line.rup.phase.RupPhase.TheVariants.{Gap as GapRup, Inside as InsideRup}
 use Rattle.pb_proof.specs.declared.line.rup.phase.RupMove.TheVariants.{Give}
 use Rattle.pb_proof.specs.declared.line.LineMachine.{LineMachine}
 use Rattle.pb_proof.specs.declared.machine.phase.LineKind.{LineKind}
@@ -91,3 +92,16 @@ rup_runs_given s h at text new runs =
       subst (λ x. Runs rup_automaton x text (record s { sums = new })) (sym same) (subst (λ x. Runs rup_automaton (record s { phase = InsideRup }) text x) further k.0),
       subst IsRupInOrder further k.1,
     )
+
+-- the first bytes of a constraint, after blanks
+pub rup_runs_begun : (s : RupState) → IsRupInOrder s → s.phase ≡ GapRup → (n : ℕ) (text : List ℕ) (new : SumState) → 0 < n → n ≤ length text → is_blank (get_or text 0 0) ≡ false
+    → Runs sums s.sums (take n text) new
+    → Runs rup_automaton s (take n text) (record s { phase = InsideRup; sums = new }) × IsRupInOrder (record s { phase = InsideRup; sums = new })
+rup_runs_begun s h at n [] new some fits begins runs = absurd (omega arith)
+rup_runs_begun s h at zero (b ∷ text) new some fits begins runs = absurd (omega arith)
+rup_runs_begun s h at (suc n) (b ∷ text) new some fits begins (mid, goes, state, rest) =
+    let planned : rup_plan s.phase b ≡ Give = rw (at, begins) refl in
+    let next : RupState = record { phase = InsideRup; sums = mid; linear = s.linear } in
+    let k = rup_states.give_order s h b mid planned goes state in
+    let (runs, order) = within_rup s.linear mid k (take n text) new rest in
+    ((next, ap (rup_act s b) planned ∙ ap (rup_over s) goes, rup_states.rup_is_state next k, runs), order)
