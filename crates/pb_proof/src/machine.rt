@@ -1,6 +1,6 @@
 //! The machine for proofs.
 
-ghost use Rattle.std.specs.Prelude.{◌≡◌, false, Option};
+ghost use Rattle.std.specs.Prelude.{◌≡◌, false, None, Option};
 ghost use Rattle.pb_text.specs.Limits.{largest, top_of};
 
 mod end;
@@ -36,7 +36,14 @@ impl Model for ProofMachine {
     ghost invariant = { λ m. IsInOrder (proof_state m) };
 }
 
-/// Replaces a line machine, or none, by another, or by none.
+/// Drops a line machine, if there is one.
+fn clear(line: &mut Option<LineMachine>)
+    ensures { line.new ≡ None }
+{
+    *line = None;
+}
+
+/// Replaces a line machine, or none, by another.
 fn replace(line: &mut Option<LineMachine>, next: Option<LineMachine>)
     ensures { line.new ≡ next }
 {
@@ -130,7 +137,7 @@ impl ProofMachine {
         match line.push(byte) {
             Push::Go => Push::Go,
             Push::Event(statement) => {
-                replace(&mut self.line, None);
+                clear(&mut self.line);
                 self.phase = Phase::Between(stage_behind(kind));
                 Push::Event(statement)
             }
@@ -215,9 +222,7 @@ impl Machine for ProofMachine {
 
     #[inline(always)]
     fn closes(&mut self, byte: u8) -> Option<Statement> {
-        let statement = self.end(byte);
-        let _ = self.is_done();
-        statement
+        self.end(byte)
     }
 
     fn take_front(&mut self, piece: &[u8]) -> usize {
