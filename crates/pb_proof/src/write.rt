@@ -150,8 +150,7 @@ fn write_f<S: Sink>(count: Option<u64>, out: &mut S) -> Result<(), Failed>
 fn write_pol<S: Sink>(words: &[PolWord], out: &mut S) -> Result<(), Failed>
     ensures { Writes S.contents S.faults out.old (statement_bytes (Statement.Pol words.now)) result out.new }
 {
-    write_bytes(b"pol", out)?;
-    write_words(words, out)
+    write_words(b"pol", words, out)
 }
 
 /// Writes a word, and the literals after it.

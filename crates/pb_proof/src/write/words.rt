@@ -148,25 +148,51 @@ fn put_words(words: &[PolWord], piece: &mut Piece) -> usize
     left
 }
 
-/// Writes words, the last ones in one piece.
-fn write_batch<S: Sink>(words: &[PolWord], out: &mut S) -> Result<(), Failed>
-    ensures { Writes S.contents S.faults out.old (listed_bytes word_bytes words.now) result out.new }
+/// Writes a text and words, the last words in one piece.
+fn write_parts<S: Sink>(
+    lead: &[u8],
+    words: &[PolWord],
+    piece: &Piece,
+    out: &mut S,
+) -> Result<(), Failed>
+    ensures { Writes S.contents S.faults out.old (lead.now ++ (listed_bytes word_bytes words.now ++ piece.now)) result out.new }
+{
+    write_bytes(lead, out)?;
+    write_each(words, out)?;
+    write_bytes(piece.as_bytes(), out)
+}
+
+/// Writes a text and words, in one piece if they fit.
+fn write_batch<S: Sink>(lead: &[u8], words: &[PolWord], out: &mut S) -> Result<(), Failed>
+    ensures { Writes S.contents S.faults out.old (lead.now ++ listed_bytes word_bytes words.now) result out.new }
 {
     let mut piece = Piece::new();
     let left = put_words(words, &mut piece);
-    write_each(&words[..left], out)?;
+    if left > 0 || lead.len() > piece.room() {
+        return write_parts(lead, &words[..left], &piece, out);
+    }
+    piece.put_text(lead);
     write_bytes(piece.as_bytes(), out)
 }
 
 /// Writes words with a space before each.
-pub fn write_words<S: Sink>(words: &[PolWord], out: &mut S) -> Result<(), Failed>
+fn write_further<S: Sink>(words: &[PolWord], out: &mut S) -> Result<(), Failed>
     ensures { Writes S.contents S.faults out.old (listed_bytes word_bytes words.now) result out.new }
 {
     let mut rest = words;
     while !rest.is_empty() {
         let (batch, behind) = rest.split_at(rest.len().min(BATCH));
-        write_batch(batch, out)?;
+        write_batch(b"", batch, out)?;
         rest = behind;
     }
     Ok(())
+}
+
+/// Writes a text, and words with a space before each.
+pub fn write_words<S: Sink>(lead: &[u8], words: &[PolWord], out: &mut S) -> Result<(), Failed>
+    ensures { Writes S.contents S.faults out.old (lead.now ++ listed_bytes word_bytes words.now) result out.new }
+{
+    let (batch, rest) = words.split_at(words.len().min(BATCH));
+    write_batch(lead, batch, out)?;
+    write_further(rest, out)
 }

@@ -1,34 +1,23 @@
-use Rattle.std.proofs.Common.{◌≡◌, ℕ, List, [], ◌++◌, refl, sym, ap, subst, append_assoc, ◌∙◌}
-use Rattle.pb_text.specs.Writing.{Wrote}
-use Rattle.pb_text.proofs.Writing.{writes_nothing}
-use Rattle.pb_text.proofs.Parts.{part_then, part_broke, part_wrote}
+use Rattle.std.proofs.Common.{◌≡◌, ◌++◌, ℕ, List, ap, sym, append_assoc, ◌∙◌}
+use Rattle.pb_text.proofs.Parts.{part_then, part_broke}
 use Rattle.pb_proof.specs.Canonical.{word_bytes, listed_bytes}
 use Rattle.pb_proof.specs.declared.word.PolWord.{PolWord}
-use Rattle.pb_proof.proofs.lemmas.Written.{listed_none, listed-append}
+use Rattle.pb_proof.proofs.lemmas.Written.{listed-append}
 use Rattle.pb_proof.proofs.write.words.write_words.Goals as goal
 
-pub loop-rest-init : goal.loop-rest-init
-loop-rest-init g c = (
-  [],
-  refl,
-  subst (λ (z : List ℕ). Wrote g.S.Sink.contents g.S.Sink.faults c.args.out.now z c.args.out.now) (sym (listed_none word_bytes)) (writes_nothing g.S.Sink.contents g.S.Sink.faults c.args.out.now),
-)
+-- a text, and words in two parts
+parts : (lead : List ℕ) (all batch rest : List PolWord) → all ≡ batch ++ rest
+    → lead ++ listed_bytes word_bytes all ≡ (lead ++ listed_bytes word_bytes batch) ++ listed_bytes word_bytes rest
+parts lead all batch rest e =
+    ap (λ z. lead ++ listed_bytes word_bytes z) e
+    ∙ (ap (λ z. lead ++ z) (listed-append word_bytes batch rest) ∙ sym (append_assoc lead (listed_bytes word_bytes batch) (listed_bytes word_bytes rest)))
 
 pub returns-in_err-write_batch : goal.returns-in_err-write_batch
 returns-in_err-write_batch g c =
-    let front = c.loop-rest.invariant.0 in
-    let batch = c.split_at.result.0.now in
-    let behind = c.split_at.result.1.now in
-    let rest : listed_bytes word_bytes c.loop-rest.rest.now ≡ listed_bytes word_bytes batch ++ listed_bytes word_bytes behind = ap (listed_bytes word_bytes) c.split_at.ensures.by_index.0 ∙ listed-append word_bytes batch behind in
-    part_then g.S.Sink.contents g.S.Sink.faults _ _ _ _ _ _ _ (ap (listed_bytes word_bytes) c.loop-rest.invariant.1 ∙ listed-append word_bytes front c.loop-rest.rest.now) c.loop-rest.invariant.2
-    (part_broke g.S.Sink.contents g.S.Sink.faults _ _ _ _ _ _ rest c.from_residual.ensures.0 c.in_err-write_batch.ensures)
+    part_broke g.S.Sink.contents g.S.Sink.faults _ _ _ _ _ _
+    (parts c.args.lead.now c.args.words.now c.split_at.result.0.now c.split_at.result.1.now c.split_at.ensures.by_index.0) c.from_residual.ensures.0 c.in_err-write_batch.ensures
 
-pub loop-rest-preserved : goal.loop-rest-preserved
-loop-rest-preserved g c =
-    let front = c.loop-rest.invariant.0 in
-    let batch = c.split_at.result.0.now in
-    let behind = c.split_at.result.1.now in (
-      front ++ batch,
-      c.loop-rest.invariant.1 ∙ (ap (λ (z : List PolWord). front ++ z) c.split_at.ensures.by_index.0 ∙ sym (append_assoc front batch behind)),
-      part_wrote g.S.Sink.contents g.S.Sink.faults _ _ _ _ _ _ (listed-append word_bytes front batch) c.loop-rest.invariant.2 c.in_ok-write_batch.ensures,
-    )
+pub returns : goal.returns
+returns g c =
+    part_then g.S.Sink.contents g.S.Sink.faults _ _ _ _ _ _ _
+    (parts c.args.lead.now c.args.words.now c.split_at.result.0.now c.split_at.result.1.now c.split_at.ensures.by_index.0) c.in_ok-write_batch.ensures c.write_further.ensures

@@ -2,7 +2,7 @@ use Rattle.std.proofs.Common.{◌≡◌, ◌++◌, List, length}
 use Rattle.pb_text.specs.Writing.{Wrote}
 use Rattle.pb_proof.specs.Canonical.{word_bytes, listed_bytes}
 use Rattle.pb_proof.specs.declared.word.PolWord.{PolWord}
-use Rattle.pb_proof.proofs.write.words.write_words.Given as goal
+use Rattle.pb_proof.proofs.write.words.write_further.Given as goal
 
 abbrev pub invariant-loop-rest : goal.invariant-loop-rest
 invariant-loop-rest g l = (front : List PolWord) × (l.fn.words ≡ front ++ l.rest) × Wrote g.S.Sink.contents g.S.Sink.faults l.fn.out (listed_bytes word_bytes front) l.out
