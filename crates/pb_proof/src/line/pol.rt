@@ -18,7 +18,7 @@ use crate::line::id_prefix::id_prefix;
 use crate::line::pol::close::held_number;
 use crate::line::pol::front::{held_before, operator};
 use crate::line::pol::kind::kind_of;
-use crate::line::pol::phase::{Change, Held, Kind, Move, Phase};
+use crate::line::pol::phase::{Change, Held, Kind, Move, Phase, Role};
 use crate::line::pol::transition::{in_hand, is_done, is_in_number, plan};
 use crate::line::pol::words::{count_units, finish, make_room, turn};
 use crate::word::PolWord;
@@ -158,7 +158,26 @@ impl PolMachine {
         true
     }
 
-    /// Takes a word and the space after it, or the space before the first word, on a fast path.
+    /// Takes an `s`, if the operator may come here. A name may begin with it too.
+    #[inline(always)]
+    fn take_saturate(&mut self, byte: u8) -> bool
+        ensures goes { Goes pol_automaton self.old byte result self.new }
+        ensures state { IsState pol_automaton self.new }
+    {
+        let _ = self.is_done();
+        if byte != b's' || self.depth == 0 || held_before(self.phase).is_none() {
+            return false;
+        }
+        let mut name = Name::new(self.alloc);
+        if name.push(byte).is_err() {
+            return false;
+        }
+        self.name = name;
+        self.phase = Phase::Lone(Role::Saturate);
+        true
+    }
+
+    /// Takes a word and the space after it on a fast path. The space before the first word and an `s` are taken alone.
     #[inline(always)]
     fn take_word(&mut self, text: &[u8]) -> usize
         requires { 0 < length text.now }
@@ -173,7 +192,10 @@ impl PolMachine {
         if length > 0 {
             return length;
         }
-        if self.take_space(text[0]) { 1 } else { 0 }
+        if self.take_space(text[0]) {
+            return 1;
+        }
+        if self.take_saturate(text[0]) { 1 } else { 0 }
     }
 }
 

@@ -1,4 +1,4 @@
-use Rattle.std.proofs.Common.{◌≡◌, ℕ, take, subst, arith}
+use Rattle.std.proofs.Common.{◌≡◌, ℕ, [], take, subst, sym, arith}
 use Rattle.pb_text.specs.Automaton.{Runs}
 use Rattle.pb_text.proofs.Running.{runs_on}
 use Rattle.pb_proof.specs.Line.PolState.{pol_automaton}
@@ -9,3 +9,10 @@ returns-then-take_space-clause-runs c =
     let none : c.take_operator-length.result ≡ 0 = omega arith in
     let same = subst (λ (n : ℕ). Runs pol_automaton c.args.self.now (take n c.args.text.now) c.take_operator-length.new.self) none c.take_operator-length.ensures.runs in
     runs_on pol_automaton c.args.self.now c.args.text.now 0 c.take_operator-length.new.self c.take_space.new.self c.requires same c.if-take_space.ensures.goes c.take_space.ensures.state
+
+pub returns-then-take_saturate-clause-runs : goal.returns-then-take_saturate-clause-runs
+returns-then-take_saturate-clause-runs c =
+    let none : c.take_operator-length.result ≡ 0 = omega arith in
+    let same = subst (λ (n : ℕ). Runs pol_automaton c.args.self.now (take n c.args.text.now) c.take_operator-length.new.self) none c.take_operator-length.ensures.runs in
+    let still = subst (λ x. Runs pol_automaton c.args.self.now [] x) (sym c.if-take_space.ensures.goes) same in
+    runs_on pol_automaton c.args.self.now c.args.text.now 0 c.take_space.new.self c.take_saturate.new.self c.requires still c.if-take_saturate.ensures.goes c.take_saturate.ensures.state
