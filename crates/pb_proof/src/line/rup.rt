@@ -196,6 +196,43 @@ impl RupMachine {
         let _ = self.is_done();
         taken
     }
+
+    /// Takes the `;` of a constraint that is complete.
+    #[inline(always)]
+    fn take_end(&mut self, byte: u8) -> bool
+        ensures goes { Goes rup_automaton self.old byte result self.new }
+        ensures state { IsState rup_automaton self.new }
+    {
+        let _ = self.is_done();
+        let RupPhase::Inside = self.phase else {
+            return false;
+        };
+        let Some(event) = self.sums.closes(byte) else {
+            let _ = self.is_done();
+            return false;
+        };
+        self.linear = Some(linear_of(event));
+        self.phase = RupPhase::Tail;
+        let _ = self.is_done();
+        true
+    }
+
+    /// Takes bytes of a constraint at the start of a text, and its `;` after them. Returns how many it took.
+    #[inline(always)]
+    fn take_linear(&mut self, text: &[u8]) -> usize
+        ensures bound { result ≤ length text.now }
+        ensures runs { Runs rup_automaton self.old (take result text.now) self.new }
+        ensures state { IsState rup_automaton self.new }
+    {
+        let taken = self.give_front(text);
+        if taken == 0 || taken == text.len() {
+            return taken;
+        }
+        if self.take_end(text[taken]) {
+            return taken + 1;
+        }
+        taken
+    }
 }
 
 impl Machine for RupMachine {
@@ -225,7 +262,7 @@ impl Machine for RupMachine {
     }
 
     fn take_front(&mut self, piece: &[u8]) -> usize {
-        let length = self.give_front(piece);
+        let length = self.take_linear(piece);
         if length > 0 {
             return length;
         }

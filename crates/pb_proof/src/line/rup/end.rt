@@ -16,14 +16,14 @@ impl RupMachine {
         ensures { Closes rup_automaton self.old byte result self.new }
     {
         match rup_plan(self.phase, byte) {
-            RupMove::Finish => self.take_linear(byte),
+            RupMove::Finish => self.give_linear(byte),
             _ => None,
         }
     }
 
     /// Returns the constraint, if there is one.
     #[inline(always)]
-    fn take_linear(&mut self, byte: u8) -> Option<Linear>
+    fn give_linear(&mut self, byte: u8) -> Option<Linear>
         requires { rup_plan self.old.phase byte ≡ RupMove.Finish }
         ensures { Closes rup_automaton self.old byte result self.new }
     {

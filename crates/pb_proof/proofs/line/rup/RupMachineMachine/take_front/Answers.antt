@@ -6,6 +6,6 @@ use Rattle.pb_proof.proofs.line.rup.RupMachineMachine.take_front.Goals as goal
 
 pub returns-then-goes-clause-runs : goal.returns-then-goes-clause-runs
 returns-then-goes-clause-runs c =
-    let none : c.give_front-length.result ≡ 0 = omega arith in
-    let same = subst (λ (n : ℕ). Runs rup_automaton c.args.self.now (take n c.args.piece.now) c.give_front-length.new.self) none c.give_front-length.ensures.runs in
-    runs_on rup_automaton c.args.self.now c.args.piece.now 0 c.give_front-length.new.self c.goes.new.self c.requires same c.if-goes.ensures.goes c.goes.ensures.state
+    let none : c.take_linear-length.result ≡ 0 = omega arith in
+    let same = subst (λ (n : ℕ). Runs rup_automaton c.args.self.now (take n c.args.piece.now) c.take_linear-length.new.self) none c.take_linear-length.ensures.runs in
+    runs_on rup_automaton c.args.self.now c.args.piece.now 0 c.take_linear-length.new.self c.goes.new.self c.requires same c.if-goes.ensures.goes c.goes.ensures.state

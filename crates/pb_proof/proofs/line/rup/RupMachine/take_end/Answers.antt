@@ -1,0 +1,13 @@
+use Rattle.std.proofs.Common.{sym, subst}
+use Rattle.std.specs.Prelude.{Some}
+use Rattle.pb_proof.specs.Line.Rup.{RupState, IsRupInOrder}
+use Rattle.pb_proof.specs.contracts.line.rup.RupMachine.{the_view}
+use Rattle.pb_proof.specs.declared.line.rup.phase.RupPhase.TheVariants.{Tail}
+use Rattle.pb_proof.proofs.lemmas.Rup.States.{tail_order}
+use Rattle.pb_proof.proofs.line.rup.RupMachine.take_end.Goals as goal
+
+pub invariant_of-self-2 : goal.invariant_of-self-2
+invariant_of-self-2 c =
+    let s : RupState = the_view c.self.inside in
+    let order = tail_order s c.args.byte c.in-Some.event c.closes.new.self c.in-Some.ensures.closes c.in-Some.ensures.state in
+    subst (λ x. IsRupInOrder (record { phase = Tail; sums = c.closes.new.self; linear = Some x })) (sym c.linear_of.ensures) order
