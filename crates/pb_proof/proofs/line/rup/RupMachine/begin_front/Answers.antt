@@ -1,4 +1,4 @@
-use Rattle.std.proofs.Common.{◌≡◌, ◌<◌, ℕ, false, get_or, arith, subst, sym, ◌∙◌}
+use Rattle.std.proofs.Common.{◌≡◌, ◌<◌, false, get_or, arith, subst, sym, ◌∙◌}
 use Rattle.pb_text.specs.Classes.{is_blank}
 use Rattle.pb_proof.specs.Line.Rup.{RupState}
 use Rattle.pb_proof.specs.contracts.line.rup.RupMachine.{the_view}
