@@ -1,7 +1,8 @@
 //! The machine for proofs.
 
-ghost use Rattle.std.specs.Prelude.{◌≡◌, false, None, Option};
+ghost use Rattle.std.specs.Prelude.{◌≡◌, false, None, Some, Option};
 ghost use Rattle.pb_text.specs.Limits.{largest, top_of};
+ghost use Rattle.pb_proof.specs.Line.Machine.{line_first};
 
 mod end;
 pub(crate) mod phase;
@@ -43,11 +44,11 @@ fn clear(line: &mut Option<LineMachine>)
     *line = None;
 }
 
-/// Replaces a line machine, or none, by another.
-fn replace(line: &mut Option<LineMachine>, next: Option<LineMachine>)
-    ensures { line.new ≡ next }
+/// Makes the line machine for this kind of line. Creating it does not allocate.
+fn start_line(line: &mut Option<LineMachine>, alloc: Global, limits: Limits, kind: LineKind)
+    ensures { line.new ≡ Some (line_first (largest limits) (top_of limits) kind) }
 {
-    *line = next;
+    *line = Some(line_first(alloc, limits, kind));
 }
 
 impl ProofMachine {
@@ -102,10 +103,7 @@ impl ProofMachine {
                 Push::Go
             }
             Move::Begin(kind) => {
-                replace(
-                    &mut self.line,
-                    Some(line_first(self.alloc, self.limits, kind)),
-                );
+                start_line(&mut self.line, self.alloc, self.limits, kind);
                 self.phase = Phase::Inside(kind);
                 Push::Go
             }
@@ -181,8 +179,7 @@ impl ProofMachine {
         match next {
             Move::To(phase) => self.phase = phase,
             Move::Begin(kind) => {
-                let line = line_first(self.alloc, self.limits, kind);
-                replace(&mut self.line, Some(line));
+                start_line(&mut self.line, self.alloc, self.limits, kind);
                 self.phase = Phase::Inside(kind);
             }
             _ => {
@@ -209,8 +206,7 @@ impl Machine for ProofMachine {
                 true
             }
             Move::Begin(kind) => {
-                let line = line_first(self.alloc, self.limits, kind);
-                replace(&mut self.line, Some(line));
+                start_line(&mut self.line, self.alloc, self.limits, kind);
                 self.phase = Phase::Inside(kind);
                 true
             }

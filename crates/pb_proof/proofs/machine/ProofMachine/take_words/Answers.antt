@@ -1,4 +1,4 @@
-use Rattle.std.proofs.Common.{take, ap, sym, subst, ◌∙◌, Some}
+use Rattle.std.proofs.Common.{take, sym, subst}
 use Rattle.pb_text.specs.Automaton.{Runs}
 use Rattle.pb_proof.specs.Machine.State.{ProofState, proofs, IsInOrder}
 use Rattle.pb_proof.specs.Machine.Words.{IsRest}
@@ -18,7 +18,7 @@ pub invariant_of-self-in-Begin : goal.invariant_of-self-in-Begin
 invariant_of-self-in-Begin c =
     let s : ProofState = the_view c.self.inside in
     let front = take c.in-Some.length c.args.text.now in
-    let line = ap Some (sym c.line_first-line.ensures) ∙ sym c.replace.ensures in
+    let line = sym c.start_line.ensures in
     subst (λ x. IsInOrder (record { limit = s.limit; top = s.top; phase = Inside c.in-Begin.kind; line = x })) line
     (words_begin s c.self.invariant front c.in-Begin.kind (subst (IsRest s.phase front) c.in-Begin.is c.in-Some.ensures.rest)).1
 
@@ -30,7 +30,7 @@ returns-clause-runs c =
       | in-To w ↦ rw (w.self-is, ← c.self.view_is)
           (words_to s c.self.invariant front w.in-To.phase (subst (IsRest s.phase front) w.in-To.is c.in-Some.ensures.rest)).0
       | in-Begin w ↦ rw (w.self-is, ← c.self.view_is) (
-          let line = ap Some (sym w.line_first-line.ensures) ∙ sym w.replace.ensures in
+          let line = sym w.start_line.ensures in
           subst (λ x. Runs proofs s front (record { limit = s.limit; top = s.top; phase = Inside w.in-Begin.kind; line = x })) line
           (words_begin s c.self.invariant front w.in-Begin.kind (subst (IsRest s.phase front) w.in-Begin.is c.in-Some.ensures.rest)).0
           )

@@ -1,4 +1,4 @@
-use Rattle.std.proofs.Common.{◌∙◌, ap, sym, subst, Some}
+use Rattle.std.proofs.Common.{sym, subst}
 use Rattle.pb_proof.specs.Machine.State.{ProofState, IsInOrder}
 use Rattle.pb_proof.specs.contracts.machine.ProofMachine.{the_view}
 use Rattle.pb_proof.specs.declared.machine.phase.Phase.TheVariants.{Inside}
@@ -12,4 +12,4 @@ pub invariant_of-self-in-Begin : goal.invariant_of-self-in-Begin
 invariant_of-self-in-Begin c =
     let s : ProofState = the_view c.self.inside in
     subst (λ x. IsInOrder (record { limit = s.limit; top = s.top; phase = Inside c.in-Begin.kind; line = x }))
-    (ap Some (sym c.line_first-line.ensures) ∙ sym c.replace.ensures) (begin_order s c.self.invariant c.args.byte c.in-Begin.kind)
+    (sym c.start_line.ensures) (begin_order s c.self.invariant c.args.byte c.in-Begin.kind)
