@@ -9,6 +9,7 @@ ghost use Rattle.pb_proof.specs.Line.Ended.{ended_lines};
 mod words;
 
 use crate::conclusion::{Bound, Conclusion};
+use crate::piece::Piece;
 use crate::proof::Proof;
 use crate::statement::Statement;
 use crate::word::PolWord;
@@ -35,8 +36,10 @@ fn write_literals<S: Sink>(literals: &[Literal], out: &mut S) -> Result<(), Fail
 fn write_next_id<S: Sink>(id: i64, out: &mut S) -> Result<(), Failed>
     ensures { Writes S.contents S.faults out.old (32 ∷ signed_decimal id) result out.new }
 {
-    write_bytes(b" ", out)?;
-    write_number(id as i128, out)
+    let mut piece = Piece::new();
+    piece.put_number(id as i128);
+    piece.put(b' ');
+    write_bytes(piece.as_bytes(), out)
 }
 
 fn write_ids<S: Sink>(ids: &[i64], out: &mut S) -> Result<(), Failed>
