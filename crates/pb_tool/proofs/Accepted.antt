@@ -26,7 +26,7 @@ use Rattle.pb_tool.specs.Files.{IsVeri}
 use Rattle.pb_tool.specs.Checks.{KeepsNames}
 use Rattle.pb_tool.specs.Runs.{IsNoReplay, IsReplayOf, IsToldAs, Replays, Runs, faults_of_instance}
 use Rattle.pb_tool.specs.Verified.{ChecksFiles, IsAccepted, IsTold, IsVerified, verdict_line}
-use Rattle.pb_tool.specs.declared.checker.CheckFault.TheVariants as check
+use Rattle.pb_tool.specs.declared.commands.check.checker.CheckFault.TheVariants as check
 use Rattle.pb_tool.specs.declared.fault.ToolFault.{ToolFault}
 use Rattle.pb_tool.specs.declared.fault.ToolFault.TheVariants.{Text, Open, Overflow, Memory, Write, Step}
 use Rattle.pb_tool.specs.declared.fault.Input.TheVariants.{File, Instance as of_instance, Proof as of_proof}

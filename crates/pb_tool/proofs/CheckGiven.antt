@@ -24,8 +24,8 @@ use Rattle.pb_text.specs.Whole.{events_at}
 use Rattle.pb_tool.specs.Files.{AsksVeri, IsVeri}
 use Rattle.pb_tool.specs.Runs.{IsToldAs, Replays, Runs}
 use Rattle.pb_tool.specs.Verified.{BehindProof, InProof, IsAccepted, IsRefusedText}
-use Rattle.pb_tool.specs.declared.checker.CheckFault.{CheckFault}
-use Rattle.pb_tool.specs.declared.checker.CheckFault.TheVariants as check
+use Rattle.pb_tool.specs.declared.commands.check.checker.CheckFault.{CheckFault}
+use Rattle.pb_tool.specs.declared.commands.check.checker.CheckFault.TheVariants as check
 use Rattle.pb_tool.specs.declared.fault.ToolFault.{ToolFault}
 use Rattle.pb_tool.specs.declared.fault.ToolFault.TheVariants.{Text}
 use Rattle.pb_tool.specs.declared.fault.Input.TheVariants.{Proof as of_proof}

@@ -41,8 +41,8 @@ use Rattle.pb_text.proofs.Wholes.{marks_events}
 use Rattle.pb_tool.specs.Checker.{Checking, ProofFeeder, IsAt, IsRunning, Stands, StepsFrom, TextsAreRead}
 use Rattle.pb_tool.specs.Checks.{Checks, IsReplayed, KeepsNames, KeepsNamesOf, Leads, Takes, Refuses}
 use Rattle.pb_tool.specs.Pieces.{AnyCutting, bytes_to, ChecksAt, ChecksOnce, IsOpen, IsUnread, Feeds, WantsMemory, joined, fault_of, is_whole, place_in}
-use Rattle.pb_tool.specs.declared.checker.CheckFault.{CheckFault}
-use Rattle.pb_tool.specs.declared.checker.CheckFault.TheVariants.{Text, Step}
+use Rattle.pb_tool.specs.declared.commands.check.checker.CheckFault.{CheckFault}
+use Rattle.pb_tool.specs.declared.commands.check.checker.CheckFault.TheVariants.{Text, Step}
 use Rattle.pb_tool.proofs.Fronts.{no_front}
 
 abbrev pub failed : CheckFault → Result Unit CheckFault

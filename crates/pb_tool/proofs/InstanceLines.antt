@@ -14,7 +14,7 @@ use Rattle.pb_tool.specs.Gathered.{TidiesEach}
 use Rattle.pb_tool.specs.InstanceText.{line, line_if, with, asks, text_of, IsTextOf}
 use Rattle.pb_tool.specs.Tidy.{tidied, AsksOpb, IsOpb, Tidies}
 use Rattle.pb_tool.specs.declared.fault.ToolFault.{ToolFault}
-use Rattle.pb_tool.specs.declared.instance_text.InstanceText.{InstanceText}
+use Rattle.pb_tool.specs.declared.commands.tidy.instance_text.InstanceText.{InstanceText}
 use Rattle.pb_tool.proofs.Ordered.{line_more, value_of, is_value, text_behind}
 use Rattle.pb_tool.proofs.TextFile.{tidies_value}
 

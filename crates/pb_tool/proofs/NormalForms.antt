@@ -18,7 +18,7 @@ use Rattle.pb_normal.proofs.WrittenForms.{HasNames-append}
 use Rattle.pb_tool.specs.InstanceText.{line}
 use Rattle.pb_tool.specs.Normalised.{SomePasses}
 use Rattle.pb_tool.specs.NormalText.{AreLines, form_lines}
-use Rattle.pb_tool.specs.declared.normal.FormLines.{FormLines}
+use Rattle.pb_tool.specs.declared.commands.tidy.form_lines.FormLines.{FormLines}
 
 -- the names of some terms, and of one more
 pub named_at : (old names new : List (List ℕ)) (ts : List Term) (i : ℕ) (t : Term) → i < length ts → t ≡ get_or ts i t → names ≡ with_names old (names_of (take i ts)) → new ≡ with_name names t.literal.name

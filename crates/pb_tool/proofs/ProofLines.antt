@@ -16,7 +16,7 @@ use Rattle.pb_tool.specs.Files.{tidied_proof, AsksVeri, IsVeri, TidiesProof}
 use Rattle.pb_tool.specs.Gathered.{TidiesEach}
 use Rattle.pb_tool.specs.ProofText.{line, with, text_of, IsTextOf}
 use Rattle.pb_tool.specs.declared.fault.ToolFault.{ToolFault}
-use Rattle.pb_tool.specs.declared.proof_text.ProofText.{ProofText}
+use Rattle.pb_tool.specs.declared.commands.tidy.proof_text.ProofText.{ProofText}
 use Rattle.pb_tool.proofs.TextFile.{tidies_value}
 
 -- lines, each with its line feed

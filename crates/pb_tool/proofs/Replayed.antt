@@ -34,8 +34,8 @@ use Rattle.pb_tool.specs.Files.{AsksVeri, IsVeri}
 use Rattle.pb_tool.specs.Runs.{Runs, faults_of_text}
 use Rattle.pb_tool.specs.Seen.{SawText}
 use Rattle.pb_tool.specs.Verified.{IsAccepted}
-use Rattle.pb_tool.specs.declared.checker.CheckFault.{CheckFault}
-use Rattle.pb_tool.specs.declared.checker.CheckFault.TheVariants as check
+use Rattle.pb_tool.specs.declared.commands.check.checker.CheckFault.{CheckFault}
+use Rattle.pb_tool.specs.declared.commands.check.checker.CheckFault.TheVariants as check
 use Rattle.pb_text.proofs.Unkept.{asking_to}
 use Rattle.pb_tool.proofs.Checked.{TellsOld, accepts_more, failed, last_is_value, proofs_read, shown_at, there}
 use Rattle.pb_tool.proofs.Shown.{all_to, so_far_to}

@@ -25,8 +25,8 @@ use Rattle.pb_tool.specs.Files.{IsVeri}
 use Rattle.pb_tool.specs.Runs.{IsNoReplay, IsReplayOf, IsToldAs}
 use Rattle.pb_tool.specs.Verified.{IsTold}
 use Rattle.pb_tool.specs.Watched.{Call, Accepted, Rejected, GotEach, IsShown, IsShownUpTo, IsShownWhole, IsWatched, ShowsEach, ShowsProof, ShowsRun}
-use Rattle.pb_tool.specs.declared.checker.CheckFault.{CheckFault}
-use Rattle.pb_tool.specs.declared.checker.CheckFault.TheVariants as check
+use Rattle.pb_tool.specs.declared.commands.check.checker.CheckFault.{CheckFault}
+use Rattle.pb_tool.specs.declared.commands.check.checker.CheckFault.TheVariants as check
 use Rattle.pb_tool.specs.declared.fault.ToolFault.{ToolFault}
 use Rattle.pb_tool.specs.declared.fault.ToolFault.TheVariants.{Text, Open, Overflow, Memory, Write, Step}
 use Rattle.pb_tool.specs.declared.fault.Input.TheVariants.{File, Instance as of_instance, Proof as of_proof}

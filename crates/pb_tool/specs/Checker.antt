@@ -16,8 +16,8 @@ use Rattle.pb_replay.specs.Kept.{StandsFor}
 use Rattle.pb_replay.specs.declared.fault.Fault.{Fault}
 use Rattle.pb_text.specs.Whole.{events_at}
 use Rattle.pb_tool.specs.Checks.{Checks, IsRefusedAt, KeepsNamesOf, Leads, Takes, Refuses}
-use Rattle.pb_tool.specs.declared.checker.CheckFault.{CheckFault}
-use Rattle.pb_tool.specs.declared.checker.CheckFault.TheVariants.{Text, Step}
+use Rattle.pb_tool.specs.declared.commands.check.checker.CheckFault.{CheckFault}
+use Rattle.pb_tool.specs.declared.commands.check.checker.CheckFault.TheVariants.{Text, Step}
 
 -- a feeder of the machine of proofs
 abbrev pub ProofFeeder : Type 0

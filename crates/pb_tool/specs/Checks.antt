@@ -17,8 +17,8 @@ use Rattle.pb_replay.specs.Statements.{Outcome, Accepts, MayWantAt}
 use Rattle.pb_replay.specs.declared.fault.Fault.{Fault}
 use Rattle.pb_replay.specs.declared.fault.Fault.TheVariants as fault
 use Rattle.pb_replay.specs.declared.verdict.Verdict.{Verdict}
-use Rattle.pb_tool.specs.declared.checker.CheckFault.{CheckFault}
-use Rattle.pb_tool.specs.declared.checker.CheckFault.TheVariants.{Text, Step}
+use Rattle.pb_tool.specs.declared.commands.check.checker.CheckFault.{CheckFault}
+use Rattle.pb_tool.specs.declared.commands.check.checker.CheckFault.TheVariants.{Text, Step}
 
 -- The old names are a prefix of the new ones. A name that the fault gives by its number is among the old ones.
 abbrev pub KeepsNames : List (List ℕ) → List (List ℕ) → Fault → Type 0

@@ -5,8 +5,8 @@ use Rattle.pb_text.specs.Reasons.{place_text, reason_of, stop_text}
 use Rattle.pb_text.specs.declared.place.Why.{Why}
 use Rattle.pb_text.specs.declared.place.Why.TheVariants as why
 use Rattle.pb_replay.specs.Faults.{fault_text}
-use Rattle.pb_tool.specs.declared.checker.CheckFault.{CheckFault}
-use Rattle.pb_tool.specs.declared.checker.CheckFault.TheVariants as check
+use Rattle.pb_tool.specs.declared.commands.check.checker.CheckFault.{CheckFault}
+use Rattle.pb_tool.specs.declared.commands.check.checker.CheckFault.TheVariants as check
 use Rattle.pb_tool.specs.declared.fault.Input.{Input}
 use Rattle.pb_tool.specs.declared.fault.Input.TheVariants.{File, Instance, Proof}
 use Rattle.pb_tool.specs.declared.fault.ToolFault.{ToolFault}

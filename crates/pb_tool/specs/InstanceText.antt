@@ -7,7 +7,7 @@ use Rattle.pb_opb.specs.declared.OpbEvent.{OpbEvent}
 use Rattle.pb_opb.specs.declared.OpbEvent.TheVariants.{Header, Objective}
 use Rattle.pb_tool.specs.Show.{line_of}
 use Rattle.pb_tool.specs.Tidy.{tidied}
-use Rattle.pb_tool.specs.declared.instance_text.InstanceText.{InstanceText}
+use Rattle.pb_tool.specs.declared.commands.tidy.instance_text.InstanceText.{InstanceText}
 
 -- the line of a statement
 abbrev pub line : OpbEvent → List ℕ

@@ -16,10 +16,10 @@ use Rattle.pb_normal.specs.Written.{linear_of, names_of}
 use Rattle.pb_replay.specs.Problem.{objective_of}
 use Rattle.pb_tool.specs.InstanceText.{line}
 use Rattle.pb_tool.specs.Normalised.{SomePasses}
-use Rattle.pb_tool.specs.declared.normal.FormLines.{FormLines}
-use Rattle.pb_tool.specs.declared.normal_text.Forms.{Forms}
-use Rattle.pb_tool.specs.declared.normal_text.Standing.{Standing}
-use Rattle.pb_tool.specs.declared.normal_text.Standing.TheVariants.{Kept, Lost, Overflows}
+use Rattle.pb_tool.specs.declared.commands.tidy.form_lines.FormLines.{FormLines}
+use Rattle.pb_tool.specs.declared.commands.tidy.normal_text.Forms.{Forms}
+use Rattle.pb_tool.specs.declared.commands.tidy.normal_text.Standing.{Standing}
+use Rattle.pb_tool.specs.declared.commands.tidy.normal_text.Standing.TheVariants.{Kept, Lost, Overflows}
 
 -- the lines of forms, written out with the names
 abbrev pub form_lines : List (List ℕ) → List Form → List ℕ

@@ -18,9 +18,9 @@ use Rattle.pb_replay.specs.Replay.{State}
 use Rattle.pb_replay.specs.declared.fault.Fault.{Fault}
 use Rattle.pb_tool.specs.Checker.{Checking, Stands}
 use Rattle.pb_tool.specs.Checks.{Checks}
-use Rattle.pb_tool.specs.declared.checker.Went.{Went}
-use Rattle.pb_tool.specs.declared.checker.CheckFault.{CheckFault}
-use Rattle.pb_tool.specs.declared.checker.CheckFault.TheVariants.{Text, Step}
+use Rattle.pb_tool.specs.declared.commands.check.checker.Went.{Went}
+use Rattle.pb_tool.specs.declared.commands.check.checker.CheckFault.{CheckFault}
+use Rattle.pb_tool.specs.declared.commands.check.checker.CheckFault.TheVariants.{Text, Step}
 
 -- why it stopped, if it did
 abbrev pub fault_of : Checking → Option CheckFault

@@ -7,7 +7,7 @@ use Rattle.pb_proof.specs.declared.statement.Statement.{Statement}
 use Rattle.pb_proof.specs.declared.statement.Statement.TheVariants.{Header, F, Output, Conclude, End}
 use Rattle.pb_tool.specs.Files.{tidied_proof}
 use Rattle.pb_tool.specs.Show.{line_of}
-use Rattle.pb_tool.specs.declared.proof_text.ProofText.{ProofText}
+use Rattle.pb_tool.specs.declared.commands.tidy.proof_text.ProofText.{ProofText}
 
 -- the line of a statement
 abbrev pub line : Statement → List ℕ

@@ -21,8 +21,8 @@ use Rattle.pb_tool.specs.Checks.{KeepsNames}
 use Rattle.pb_tool.specs.Files.{AsksVeri, IsProofFile}
 use Rattle.pb_tool.specs.Tidy.{IsOpbFile, IsNoOpbFile}
 use Rattle.pb_tool.specs.Verified.{ComesTo, IsAccepted, IsRefusedStep, IsRefusedText, IsTold}
-use Rattle.pb_tool.specs.declared.checker.CheckFault.{CheckFault}
-use Rattle.pb_tool.specs.declared.checker.CheckFault.TheVariants as check
+use Rattle.pb_tool.specs.declared.commands.check.checker.CheckFault.{CheckFault}
+use Rattle.pb_tool.specs.declared.commands.check.checker.CheckFault.TheVariants as check
 use Rattle.pb_tool.specs.declared.fault.ToolFault.{ToolFault}
 use Rattle.pb_tool.specs.declared.fault.ToolFault.TheVariants.{Text, Overflow, Memory, Step}
 use Rattle.pb_tool.specs.declared.fault.Input.TheVariants.{Instance as of_instance, Proof as of_proof}

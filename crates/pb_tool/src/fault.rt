@@ -6,7 +6,9 @@ ghost use Rattle.pb_text.specs.Writing.{Writes};
 ghost use Rattle.pb_text.specs.Reasons.{hex_of, place_text, reason_of};
 ghost use Rattle.pb_tool.specs.Faults.{exit_status, fault_line, prefix_of};
 
-use crate::refusal::write_step;
+mod rejected;
+
+use crate::fault::rejected::write_step;
 use itoa::Buffer;
 use pb_replay::Fault;
 use pb_text::{Failed, Place, Sink, Stop, Why, write_bytes};

@@ -11,11 +11,11 @@ ghost use Rattle.pb_tool.specs.Words.{AreFilesOf, AreInRange, AreNumbersOf, Asks
 ghost use Rattle.pb_tool.specs.Words.{HasRanges, IsEntryFault, IsFlag, IsFlagFault, IsInstanceFault};
 ghost use Rattle.pb_tool.specs.Words.{IsNumberFault, IsReader, IsSwitch, pb_command};
 
-mod commands;
 mod fault;
+mod options;
 
-use crate::words::commands::command;
 use crate::words::fault::{wrong_number, wrong_words};
+use crate::words::options::command;
 use clap::ArgMatches;
 use clap::error::ErrorKind;
 pub use fault::WordsFault;

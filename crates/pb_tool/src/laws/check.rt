@@ -6,7 +6,7 @@ ghost use Rattle.pb_tool.specs.Headline.{UnsatIsExact, UnsatIsTrue, VerdictsAreT
 ghost use Rattle.pb_tool.specs.Pieces.{AnyCutting};
 ghost use Rattle.pb_tool.specs.Single.{AllSingle};
 
-use crate::checker::texts_are_read;
+use crate::commands::check::checker::texts_are_read;
 use pb_proof::laws::values::{one_value, proofs_are_values};
 use pb_replay::laws::{outcomes_are_single, verdicts_are_true};
 use pb_text::Sink;

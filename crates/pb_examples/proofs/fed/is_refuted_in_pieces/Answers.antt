@@ -6,7 +6,7 @@ use Rattle.pb_text.specs.Reading.{byte_limit}
 use Rattle.pb_replay.specs.declared.verdict.Verdict.{Verdict}
 use Rattle.pb_replay.specs.declared.verdict.Verdict.TheVariants.{Unsat}
 use Rattle.pb_tool.specs.Pieces.{ChecksAt, IsOpen, place_in}
-use Rattle.pb_tool.specs.declared.checker.CheckFault.{CheckFault}
+use Rattle.pb_tool.specs.declared.commands.check.checker.CheckFault.{CheckFault}
 use Rattle.pb_examples.specs.Fed.{Verifies}
 use Rattle.pb_examples.proofs.Sound.{true_of}
 use Rattle.pb_examples.proofs.fed.is_refuted_in_pieces.Goals as goal

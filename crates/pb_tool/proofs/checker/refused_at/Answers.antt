@@ -1,5 +1,0 @@
-use Rattle.std.proofs.Common.{refl}
-use Rattle.pb_tool.proofs.checker.refused_at.Goals as goal
-
-pub returns : goal.returns
-returns c = refl

@@ -1,5 +1,0 @@
-use Rattle.pb_tool.proofs.Checked.{texts_read}
-use Rattle.pb_tool.proofs.checker.texts_are_read.Goals as goal
-
-pub returns : goal.returns
-returns c = texts_read c.proofs_are_exact.ensures c.standing_is_reading.ensures

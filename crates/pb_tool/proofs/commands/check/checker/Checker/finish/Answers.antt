@@ -1,0 +1,35 @@
+use Rattle.std.proofs.Common.{rules, sym, ◌∙◌}
+use Rattle.pb_tool.proofs.Checked as checked
+use Rattle.pb_tool.proofs.commands.check.checker.Checker.finish.Goals as goal
+
+pub unreachable-requires : goal.unreachable-requires
+unreachable-requires c =
+    let (limits, longest, v, first, input, h) = c.self.invariant in
+    checked.no_verdict c.texts_are_read.ensures limits longest v first input c.self.inside.feeder c.self.inside.replay c.self.inside.fault c.in_default.is h
+    c.whole_proofs_conclude.ensures (sym c.is_done.ensures.done ∙ c.if-is_done.true) (sym c.in-None.is ∙ c.verdict.ensures.verdict)
+
+pub invariant_of-self : goal.invariant_of-self
+invariant_of-self c =
+    let (limits, longest, v, first, input, h) = c.self.invariant in (
+      limits,
+      longest,
+      v,
+      first,
+      input,
+      rw c.place.ensures.place (checked.cut_text c.texts_are_read.ensures limits longest v first input c.self.inside.feeder c.self.inside.replay c.self.inside.fault c.in_default.is h
+          (sym c.is_done.ensures.done ∙ c.if-is_done.false)),
+    )
+
+pub returns-in-Some-verdict-clause-ends : goal.returns-in-Some-verdict-clause-ends
+returns-in-Some-verdict-clause-ends c limits longest v first input none given =
+    rw (← c.self.view_is) (checked.verdict_here c.texts_are_read.ensures limits longest v first input c.self.inside.feeder c.self.inside.replay c.self.inside.fault c.in_default.is (rw (← c.self.view_is) at given)
+    c.whole_proofs_conclude.ensures (sym c.is_done.ensures.done ∙ c.if-is_done.true) c.in-Some-verdict.verdict
+    (sym c.in-Some-verdict.is ∙ c.verdict.ensures.verdict))
+
+pub returns-else-is_done-clause-ends : goal.returns-else-is_done-clause-ends
+returns-else-is_done-clause-ends c limits longest v first input none given =
+    rw c.place.ensures.place (checked.cut_text c.texts_are_read.ensures limits longest v first input c.self.inside.feeder c.self.inside.replay c.self.inside.fault c.in_default.is (rw (← c.self.view_is) at given)
+    (sym c.is_done.ensures.done ∙ c.if-is_done.false))
+
+pub returns-else-is_done-clause-replay : goal.returns-else-is_done-clause-replay
+returns-else-is_done-clause-replay c = search rules

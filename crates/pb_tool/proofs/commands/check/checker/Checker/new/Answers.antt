@@ -1,0 +1,8 @@
+use Rattle.std.proofs.Common.{[], refl}
+use Rattle.pb_tool.proofs.Checked.{leads_none, somewhere}
+use Rattle.pb_tool.proofs.commands.check.checker.Checker.new.Goals as goal
+
+pub invariant_of-result : goal.invariant_of-result
+invariant_of-result c =
+    let (first, at) = somewhere c.args.replay c.tell_sound.ensures.sound in
+    (c.args.replay.limits, _, c.args.replay.problem, first, [], record { marks = []; stands = rw (c.new-machine.ensures.begins, c.limits.ensures) at c.within.ensures.stands; running = c.within.ensures.running; limits_are = refl; problem = refl; now = first; at = at; accepted = leads_none c.args.replay.limits c.args.replay.problem first })

@@ -1,0 +1,33 @@
+use Rattle.std.proofs.Common.{◌≡◌, ◌+◌, ◌-◌, ◌^◌, List, None}
+use Rattle.pb_text.specs.Feeding.{place_of}
+use Rattle.pb_text.specs.Limits.{largest, top_of}
+use Rattle.pb_text.specs.PullsInARow.{HasPulled}
+use Rattle.pb_text.specs.declared.Spanned.{Spanned}
+use Rattle.pb_proof.specs.Machine.State.{begin}
+use Rattle.pb_proof.specs.declared.Statement.{Statement}
+use Rattle.pb_replay.specs.Replay.{State}
+use Rattle.pb_replay.specs.Statements.{Accepts}
+use Rattle.pb_text.specs.Whole.{events_at}
+use Rattle.pb_replay.specs.Kept.{StandsFor}
+use Rattle.pb_tool.proofs.GivenRow.{HasGiven}
+use Rattle.pb_tool.proofs.Watched.{HasShown}
+use Rattle.pb_tool.proofs.commands.check.proof.run.Given as goal
+
+-- The statements so far were accepted and shown, and the source has not failed. This holds for the bytes that are known of the
+-- source and for those that its calls have given.
+abbrev pub invariant-loop-read : goal.invariant-loop-read
+invariant-loop-read g l = record {
+  faults : g.S.Source.faults l.input ≡ g.S.Source.faults l.fn.input;
+  unspent : l.replay.fault ≡ None;
+  limited : l.replay.limits ≡ l.fn.replay.limits;
+  problem : l.replay.problem ≡ l.fn.replay.problem;
+  led : (marks : List (Spanned Statement))
+      × HasPulled l.fn.longest (begin (largest l.fn.replay.limits) (top_of l.fn.replay.limits)) (g.S.Source.left l.fn.input) marks l.feeder (g.S.Source.left l.input)
+      × ((first : State) → StandsFor l.fn.replay first → (t : State) × StandsFor l.replay t × Accepts (largest l.fn.replay.limits) (top_of l.fn.replay.limits) l.fn.replay.problem first (events_at marks) t)
+      × HasGiven l.fn.longest (begin (largest l.fn.replay.limits) (top_of l.fn.replay.limits)) (g.S.Source.history l.fn.input) marks l.feeder (g.S.Source.history l.input)
+      × HasShown g.V.Watch.got l.fn.watch l.fn.replay marks l.watch l.replay;
+}
+
+-- the bytes that may still be read
+abbrev pub decreases-loop-read : goal.decreases-loop-read
+decreases-loop-read g l = 2 ^ 40 + 1 - (place_of l.feeder).offset

@@ -1,0 +1,103 @@
+use Rattle.std.proofs.Common.{◌^◌, ◌≤◌, [], ◌∷◌, ◌++◌, ap, ◌∙◌, append-nil, refl, subst, sym, Some, None, Ok, Err}
+use Rattle.pb_text.specs.Automaton.{Accepts, MayAsk}
+use Rattle.pb_text.specs.Feeding.{place_of}
+use Rattle.pb_text.specs.declared.Place.{Place}
+use Rattle.pb_text.proofs.Parts.{part_wrote}
+use Rattle.pb_text.proofs.Writing.{writes_nothing}
+use Rattle.pb_text.specs.Pulling.{OfGiven}
+use Rattle.pb_tool.specs.Show.{EndsAt, InText}
+use Rattle.pb_tool.proofs.GivenRow.{given_broken, given_next, given_refused, given_row, given_shown, given_so_far}
+use Rattle.pb_tool.proofs.Shown.{fewer, first_pull, shown_more, shows_end, so_far_within}
+use Rattle.pb_tool.proofs.commands.show.show_each.Goals as goal
+
+pub loop-read-init : goal.loop-read-init
+loop-read-init g c = record {
+  faults = refl;
+  shown = (
+    [],
+    first_pull {g = g.M.Machine} c.args.longest c.args.machine (g.S.Source.left c.args.input.now) c.within-feeder.result c.within-feeder.ensures.stands c.within-feeder.ensures.running (ap (λ (p : Place). p.offset) c.within-feeder.ensures.place),
+    writes_nothing g.W.Sink.contents g.W.Sink.faults c.args.out.now,
+  );
+  given = (
+    [],
+    ([], sym (append-nil (g.S.Source.history c.args.input.now)), ap (λ (p : Place). p.offset) c.within-feeder.ensures.place, c.within-feeder.ensures.stands, c.within-feeder.ensures.running),
+    writes_nothing g.W.Sink.contents g.W.Sink.faults c.args.out.now,
+  );
+}
+
+pub loop-read-smaller : goal.loop-read-smaller
+loop-read-smaller g c =
+    let (marks, pulled, wrote) = c.loop-read.invariant.shown in
+    let t = rw (c.in-Ok-Some.is, c.in-Ok-Some.field-0-is) at c.pull.ensures in
+    let (more, sofar) = t.row c.args.longest c.args.machine (g.S.Source.left c.args.input.now) marks pulled in
+    let within = so_far_within (Accepts g.M.Machine.automaton c.args.machine) c.args.longest (g.S.Source.left c.args.input.now) (g.S.Source.left c.pull.new.source) (marks ++ c.in-Ok-Some.read ∷ []) c.in-Ok-Some.read.past sofar in
+    fewer _ _ (subst (λ (p : Place). p.offset ≤ 2 ^ 40) (t.past c.in-Ok-Some.read refl) within) (t.onward c.in-Ok-Some.read refl)
+
+pub loop-read-preserved : goal.loop-read-preserved
+loop-read-preserved g c =
+    let (marks, pulled, wrote) = c.loop-read.invariant.shown in
+    let (given_marks, has, went) = c.loop-read.invariant.given in
+    let t = rw (c.in-Ok-Some.is, c.in-Ok-Some.field-0-is) at c.pull.ensures in
+    let (more, sofar) = t.row c.args.longest c.args.machine (g.S.Source.left c.args.input.now) marks pulled in
+    record {
+      faults = rw pulled.running at t.faults ∙ c.loop-read.invariant.faults;
+      shown = (marks ++ c.in-Ok-Some.read ∷ [], more, part_wrote g.W.Sink.contents g.W.Sink.faults _ _ _ _ _ _ (shown_more g.E.Canonical.text marks c.in-Ok-Some.read) wrote c.in-Ok.ensures);
+      given = (
+        given_marks ++ c.in-Ok-Some.read ∷ [],
+        given_next {g = g.M.Machine} c.args.longest c.args.machine (g.S.Source.history c.args.input.now) (g.S.Source.history c.loop-read.input) (g.S.Source.history c.pull.new.source) given_marks c.loop-read.feeder c.pull.new.feeder has (g.S.Source.left c.loop-read.input) (g.S.Source.left c.pull.new.source) c.in-Ok-Some.read (t.pulls c.args.longest c.args.machine has.0 given_marks (rw has.4 tt) has.3) t.stop,
+        part_wrote g.W.Sink.contents g.W.Sink.faults _ _ _ _ _ _ (shown_more g.E.Canonical.text given_marks c.in-Ok-Some.read) went c.in-Ok.ensures,
+      );
+    }
+
+pub returns-in-Err-show_one-clause-shows : goal.returns-in-Err-show_one-clause-shows
+returns-in-Err-show_one-clause-shows g c =
+    let (marks, pulled, wrote) = c.loop-read.invariant.shown in
+    let t = rw (c.in-Ok-Some.is, c.in-Ok-Some.field-0-is) at c.pull.ensures in
+    let (more, sofar) = t.row c.args.longest c.args.machine (g.S.Source.left c.args.input.now) marks pulled in
+    (marks, c.in-Ok-Some.read, c.loop-read.out, sofar, wrote, c.in-Err-show_one.ensures)
+
+pub returns-in-Err-clause-shows : goal.returns-in-Err-clause-shows
+returns-in-Err-clause-shows g c =
+    let (marks, pulled, wrote) = c.loop-read.invariant.shown in
+    let t = rw c.in-Err.is at c.pull.ensures in
+    let (all, asking) = t.row c.args.longest c.args.machine (g.S.Source.left c.args.input.now) marks pulled in
+    rw c.refused.ensures (marks, InText all asking, wrote)
+
+pub returns-clause-shows : goal.returns-clause-shows
+returns-clause-shows g c =
+    let (marks, pulled, wrote) = c.loop-read.invariant.shown in
+    let t = rw (c.in-Ok-None.is, c.in-Ok-None.field-0-is) at c.pull.ensures in
+    let all = t.row c.args.longest c.args.machine (g.S.Source.left c.args.input.now) marks pulled in
+    let ends = subst (λ (p : Place). EndsAt p (g.S.Source.left c.pull.new.source) c.end_of.result (g.S.Source.left c.end_of.new.input)) c.place.ensures.place c.end_of.ensures.ends in
+    shows_end (Accepts g.M.Machine.automaton c.args.machine) c.args.longest (MayAsk g.M.Machine.automaton c.args.machine) g.E.Canonical.text g.W.Sink.contents g.W.Sink.faults (g.S.Source.left c.args.input.now) (g.S.Source.left c.pull.new.source) (g.S.Source.left c.end_of.new.input) marks _ _ _ c.end_of.result all ends wrote
+
+pub returns-in-Err-show_one-clause-given : goal.returns-in-Err-show_one-clause-given
+returns-in-Err-show_one-clause-given g c =
+    let (marks, has, wrote) = c.loop-read.invariant.given in
+    let t = rw (c.in-Ok-Some.is, c.in-Ok-Some.field-0-is) at c.pull.ensures in
+    given_broken (Accepts g.M.Machine.automaton c.args.machine) c.args.longest (MayAsk g.M.Machine.automaton c.args.machine) g.E.Canonical.text g.W.Sink.contents g.W.Sink.faults (g.S.Source.history c.args.input.now) (g.S.Source.history c.pull.new.source) marks c.in-Ok-Some.read c.args.out.now c.loop-read.out c.show_one.new.out
+    (given_so_far {g = g.M.Machine} c.args.longest c.args.machine (g.S.Source.history c.args.input.now) (g.S.Source.history c.loop-read.input) (g.S.Source.history c.pull.new.source) marks c.loop-read.feeder c.pull.new.feeder has (g.S.Source.left c.loop-read.input) (g.S.Source.left c.pull.new.source) c.in-Ok-Some.read (given_row {g = g.M.Machine} c.args.longest c.args.machine (g.S.Source.history c.args.input.now) (g.S.Source.history c.loop-read.input) (g.S.Source.history c.pull.new.source) marks c.loop-read.feeder c.pull.new.feeder has (g.S.Source.left c.loop-read.input) (g.S.Source.left c.pull.new.source) (Ok (Some c.in-Ok-Some.read)) (t.pulls c.args.longest c.args.machine has.0 marks (rw has.4 tt) has.3) t.stop t.last t.past))
+    wrote c.in-Err-show_one.ensures
+
+pub returns-in-Err-clause-given : goal.returns-in-Err-clause-given
+returns-in-Err-clause-given g c =
+    let (marks, has, wrote) = c.loop-read.invariant.given in
+    let t = rw c.in-Err.is at c.pull.ensures in
+    rw c.refused.ensures (given_refused (Accepts g.M.Machine.automaton c.args.machine) c.args.longest (MayAsk g.M.Machine.automaton c.args.machine) g.E.Canonical.text g.W.Sink.contents g.W.Sink.faults (g.S.Source.history c.args.input.now) (g.S.Source.history c.pull.new.source) marks c.in-Err.stop c.args.out.now c.loop-read.out
+    (given_row {g = g.M.Machine} c.args.longest c.args.machine (g.S.Source.history c.args.input.now) (g.S.Source.history c.loop-read.input) (g.S.Source.history c.pull.new.source) marks c.loop-read.feeder c.pull.new.feeder has (g.S.Source.left c.loop-read.input) (g.S.Source.left c.pull.new.source) (Err c.in-Err.stop) (t.pulls c.args.longest c.args.machine has.0 marks (rw has.4 tt) has.3) t.stop t.last t.past)
+    wrote)
+
+pub returns-clause-given : goal.returns-clause-given
+returns-clause-given g c =
+    let (marks, has, wrote) = c.loop-read.invariant.given in
+    let t = rw (c.in-Ok-None.is, c.in-Ok-None.field-0-is) at c.pull.ensures in
+    let ends = subst (λ (p : Place). OfGiven (λ left rest. EndsAt p left c.end_of.result rest) (g.S.Source.history c.pull.new.source) (g.S.Source.history c.end_of.new.input)) c.place.ensures.place c.end_of.ensures.given in
+    given_shown (Accepts g.M.Machine.automaton c.args.machine) c.args.longest (MayAsk g.M.Machine.automaton c.args.machine) g.E.Canonical.text g.W.Sink.contents g.W.Sink.faults (g.S.Source.history c.args.input.now) (g.S.Source.history c.pull.new.source) (g.S.Source.history c.end_of.new.input) marks (place_of c.pull.new.feeder) c.args.out.now c.loop-read.out c.end_of.result
+    (given_row {g = g.M.Machine} c.args.longest c.args.machine (g.S.Source.history c.args.input.now) (g.S.Source.history c.loop-read.input) (g.S.Source.history c.pull.new.source) marks c.loop-read.feeder c.pull.new.feeder has (g.S.Source.left c.loop-read.input) (g.S.Source.left c.pull.new.source) (Ok None) (t.pulls c.args.longest c.args.machine has.0 marks (rw has.4 tt) has.3) t.stop t.last t.past)
+    ends wrote
+
+pub returns-in-Err-clause-seen : goal.returns-in-Err-clause-seen
+returns-in-Err-clause-seen g c =
+    let (marks, pulled, wrote) = c.loop-read.invariant.shown in
+    let t = rw c.in-Err.is at c.pull.ensures in
+    rw c.refused.ensures (t.shown pulled.running)

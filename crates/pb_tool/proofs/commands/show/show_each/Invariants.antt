@@ -1,0 +1,23 @@
+use Rattle.std.proofs.Common.{◌≡◌, ◌+◌, ◌-◌, ◌^◌, List}
+use Rattle.pb_text.specs.Feeding.{place_of}
+use Rattle.pb_text.specs.PullsInARow.{HasPulled}
+use Rattle.pb_text.specs.Writing.{Wrote}
+use Rattle.pb_text.specs.declared.Spanned.{Spanned}
+use Rattle.pb_tool.specs.Show.{shown}
+use Rattle.pb_tool.proofs.GivenRow.{HasGiven}
+use Rattle.pb_tool.proofs.commands.show.show_each.Given as goal
+
+-- The lines of the statements so far were written, and the source has not failed. This holds for the bytes that are
+-- known of the source and for those that its calls have given.
+abbrev pub invariant-loop-read : goal.invariant-loop-read
+invariant-loop-read g l = record {
+  faults : g.S.Source.faults l.input ≡ g.S.Source.faults l.fn.input;
+  given : (marks : List (Spanned _)) × HasGiven {g = g.M.Machine} l.fn.longest l.fn.machine (g.S.Source.history l.fn.input) marks l.feeder (g.S.Source.history l.input)
+      × Wrote g.W.Sink.contents g.W.Sink.faults l.fn.out (shown g.E.Canonical.text marks) l.out;
+  shown : (marks : List (Spanned _)) × HasPulled {g = g.M.Machine} l.fn.longest l.fn.machine (g.S.Source.left l.fn.input) marks l.feeder (g.S.Source.left l.input)
+      × Wrote g.W.Sink.contents g.W.Sink.faults l.fn.out (shown g.E.Canonical.text marks) l.out;
+}
+
+-- the bytes that may still be read
+abbrev pub decreases-loop-read : goal.decreases-loop-read
+decreases-loop-read g l = 2 ^ 40 + 1 - (place_of l.feeder).offset

@@ -1,0 +1,8 @@
+use Rattle.std.proofs.Common.{◌≡◌, take}
+use Rattle.pb_normal.specs.Names.{with_names}
+use Rattle.pb_normal.specs.Written.{names_of}
+use Rattle.pb_tool.proofs.commands.tidy.form_lines.number_names.Given as goal
+
+-- the names of the terms so far are numbered
+abbrev pub invariant-loop-term : goal.invariant-loop-term
+invariant-loop-term l = l.names ≡ with_names l.initial.names (names_of (take l.term-index l.terms))

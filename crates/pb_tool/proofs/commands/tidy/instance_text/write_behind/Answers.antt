@@ -1,0 +1,11 @@
+use Rattle.std.proofs.Common.{refl}
+use Rattle.pb_text.proofs.Parts.{part_then, part_broke}
+use Rattle.pb_tool.proofs.commands.tidy.instance_text.write_behind.Goals as goal
+
+pub returns-in_err-write_line_if : goal.returns-in_err-write_line_if
+returns-in_err-write_line_if g c =
+    part_broke g.W.Sink.contents g.W.Sink.faults _ _ _ _ _ _ refl c.from_residual.ensures.0 c.in_err-write_line_if.ensures
+
+pub returns : goal.returns
+returns g c =
+    part_then g.W.Sink.contents g.W.Sink.faults _ _ _ _ _ _ _ refl c.in_ok-write_line_if.ensures c.write_line.ensures

@@ -1,0 +1,18 @@
+use Rattle.std.proofs.Common.{Some, ◌++◌}
+use Rattle.pb_text.specs.Automaton.{Accepts, MayAsk}
+use Rattle.pb_opb.specs.State.{opb}
+use Rattle.pb_tool.proofs.InstanceLines.{tidies_text}
+use Rattle.pb_tool.proofs.commands.tidy.tidy_instance.Goals as goal
+
+pub returns-clause-tidies : goal.returns-clause-tidies
+returns-clause-tidies g c =
+    tidies_text c.args.limits c.args.longest (Accepts opb c.new.result) c.new.ensures.accepts c.new-2.result c.new-2.ensures.page c.new-2.ensures.objective (MayAsk opb c.new.result) c.new.ensures.asks g.W.Sink.contents g.W.Sink.faults _ _ c.tidy_each.result _ _ c.tidy_each.ensures.tidies
+
+pub returns-clause-given : goal.returns-clause-given
+returns-clause-given g c =
+    let (given, seen, e, tidies) = c.tidy_each.ensures.given in (
+      given,
+      seen,
+      e,
+      tidies_text c.args.limits c.args.longest (Accepts opb c.new.result) c.new.ensures.accepts c.new-2.result c.new-2.ensures.page c.new-2.ensures.objective (MayAsk opb c.new.result) c.new.ensures.asks g.W.Sink.contents g.W.Sink.faults (Some (given ++ seen)) c.args.out.now c.tidy_each.result (Some seen) c.tidy_each.new.out tidies,
+    )

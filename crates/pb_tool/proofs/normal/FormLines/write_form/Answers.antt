@@ -1,5 +1,0 @@
-use Rattle.std.proofs.Common.{rules}
-use Rattle.pb_tool.proofs.normal.FormLines.write_form.Goals as goal
-
-pub returns-in-Ok-write_line-clause-text : goal.returns-in-Ok-write_line-clause-text
-returns-in-Ok-write_line-clause-text c = search rules

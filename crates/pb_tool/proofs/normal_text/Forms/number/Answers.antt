@@ -1,8 +1,0 @@
-use Rattle.pb_normal.specs.Written.{names_of}
-use Rattle.pb_tool.proofs.NormalForms.{lines_named}
-use Rattle.pb_tool.proofs.normal_text.Forms.number.Goals as goal
-
-pub returns-in-Ok-clause-made : goal.returns-in-Ok-clause-made
-returns-in-Ok-clause-made c = λ named cs made.
-    let kept = rw c.in-Kept.is at made in
-    rw c.in-Kept.is (lines_named named cs (names_of c.args.terms.now) c.args.self.now.lines c.number.new.self kept.0 c.in-Ok.ensures.names c.number.ensures.text c.number.ensures.count, kept.1)

@@ -1,8 +1,0 @@
-use Rattle.std.proofs.Common.{ℕ, List, [], Option, ap, ◌∙◌}
-use Rattle.std.proofs.lemmas.Option.{unwrap_or-slice_get}
-use Rattle.std.specs.Prelude.{unwrap_or}
-use Rattle.pb_tool.proofs.verify.copied_name.Goals as goal
-
-pub returns-in-None : goal.returns-in-None
-returns-in-None c =
-    c.new.ensures.bytes ∙ (ap (λ (o : Option (List ℕ)). unwrap_or o []) c.in-None.ensures ∙ unwrap_or-slice_get c.args.replay.now.names c.args.number [])

@@ -1,6 +1,0 @@
-use Rattle.pb_tool.proofs.verify.opened.Goals as goal
-
-pub returns-in-Err-clause-refused_given : goal.returns-in-Err-clause-refused_given
-returns-in-Err-clause-refused_given g c =
-    let (given, seen, e, refused) = c.in-Err.ensures.refused_given in
-    rw c.refused.ensures (given, seen, e, refused)

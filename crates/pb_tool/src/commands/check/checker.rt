@@ -1,0 +1,297 @@
+//! Checks a proof whose text comes in pieces of any size.
+
+ghost use Rattle.std.specs.Prelude.{◌≡◌, ◌<◌, ℕ, Err, Result, Some, length};
+ghost use Rattle.pb_text.specs.Limits.{largest, top_of};
+ghost use Rattle.pb_proof.specs.Values.{IsStatementValue};
+ghost use Rattle.pb_replay.specs.Replay.{State};
+ghost use Rattle.pb_replay.specs.declared.fault.Fault.{Fault as AFault};
+ghost use Rattle.pb_replay.specs.Meaning.{IsFront};
+ghost use Rattle.pb_tool.specs.Checker.{IsAt, StepsFrom, TextsAreRead};
+ghost use Rattle.pb_tool.specs.Faults.{check_fault_text};
+
+use pb_proof::laws::values::reads_are_of_proofs;
+use pb_proof::laws::{no_front, proofs_are_exact};
+use pb_proof::{ProofMachine, Statement};
+use pb_replay::laws::whole_proofs_conclude;
+use pb_replay::{Fault, Replay, Verdict};
+use pb_text::laws::standing_is_reading;
+use pb_text::{BYTE_LIMIT, Feeder, Place, Spanned, Stop, Why};
+use std::alloc::Global;
+use std::error::Error;
+use std::fmt;
+use std::marker::Model;
+
+/// Why a proof is rejected.
+#[derive(Clone, Copy, Debug, PartialEq, Eq)]
+pub enum CheckFault {
+    /// The reader stopped at a position of the text.
+    Text(Stop),
+    /// The statement that begins at the position was rejected.
+    Step(Place, Fault),
+}
+
+impl fmt::Display for CheckFault {
+    ghost output = { λ fault. Some (check_fault_text fault) };
+
+    fn fmt<W: fmt::Write>(&self, f: &mut fmt::Formatter<W>) -> fmt::Result {
+        match *self {
+            CheckFault::Text(stop) => write!(f, "{stop}"),
+            CheckFault::Step(place, fault) => {
+                let (line, column) = (place.line, place.column);
+                write!(f, "line {line} column {column}: {fault}")
+            }
+        }
+    }
+}
+
+impl Error for CheckFault {}
+
+/// How far a piece was consumed: the number of bytes used, and whether a statement ends there.
+#[derive(Clone, Copy, Debug, PartialEq, Eq)]
+pub(crate) struct Went {
+    pub(crate) used: usize,
+    pub(crate) more: bool,
+}
+
+/// Checks a proof whose text comes in pieces of any size. Each statement goes to the replay when its last byte has come.
+#[derive(Drop)]
+pub struct Checker {
+    feeder: Feeder<ProofMachine>,
+    replay: Replay,
+    fault: Option<CheckFault>,
+}
+
+impl Model for Checker {
+    ghost use Rattle.pb_tool.specs.Checker.{Checking, IsSomewhere};
+
+    ghost Value = { Checking };
+
+    ghost view = { λ c. record { feeder = c.feeder; replay = c.replay; fault = c.fault } };
+
+    // `Stands` holds of the checker for some text.
+    ghost invariant = { λ c. IsSomewhere c.feeder c.replay c.fault };
+}
+
+impl Checker {
+    ghost use Rattle.pb_text.specs.Feeding.{state_of};
+    ghost use Rattle.pb_proof.specs.Machine.State.{proofs};
+    ghost use Rattle.std.specs.Prelude.{◌+◌, ◌<◌, ◌≤◌, ◌++◌, [], ℕ, OnOk, List, None, Some, Err, IfErr, IfOk, IfSome, length, slice_get, unwrap_or, true, ◌^◌};
+    ghost use Rattle.std.specs.Option.{option_copied};
+    ghost use Rattle.pb_text.specs.Blank.{IsInReach};
+    ghost use Rattle.pb_text.specs.declared.Limits.{Limits};
+    ghost use Rattle.pb_replay.specs.Problem.{Problem};
+    ghost use Rattle.pb_tool.specs.Checks.{Ends};
+    ghost use Rattle.pb_tool.specs.Pieces.{ChecksAt, ChecksOnce, EndsStatement, HoldsOpen, IsOpen, IsUnread, WantsMemory, bytes_gone, fault_in, fault_of, is_whole, place_in};
+    ghost use Rattle.pb_tool.specs.declared.commands.check.checker.CheckFault.{CheckFault as ACheckFault};
+
+    /// A checker of a proof for the replay, in whatever state the replay is. It stops at a statement that has not ended
+    /// within its first `longest` bytes, if there is such a limit.
+    pub fn new(alloc: Global, replay: Replay, longest: Option<u64>) -> Checker
+        requires { IfSome longest (λ n. 0 < n) }
+        ensures stands { (first : Result State AFault) → IsAt replay first
+            → ChecksAt replay.limits (unwrap_or longest (2 ^ 40)) replay.problem first [] result }
+        ensures running { fault_of result ≡ None }
+        ensures place { place_in result ≡ Place.START }
+        ensures replay { result.replay ≡ replay }
+    {
+        replay.tell_sound();
+        let machine = ProofMachine::new(alloc, replay.limits());
+        Checker {
+            feeder: Feeder::within(machine, longest.unwrap_or(BYTE_LIMIT)),
+            replay,
+            fault: None,
+        }
+    }
+
+    /// The position of the next byte.
+    pub fn place(&self) -> Place
+        ensures place { result ≡ place_in self.now }
+        ensures reach { IsInReach result }
+    {
+        self.feeder.place()
+    }
+
+    /// The name with a number, also after a fault.
+    pub fn name_of(&self, number: usize) -> Option<&str>
+        ensures { option_copied result ≡ slice_get self.now.replay.names number }
+    {
+        self.replay.name_of(number)
+    }
+
+    /// How much of the current statement is stored.
+    pub fn held(&self) -> usize
+        ensures kept { result ≡ proofs.kept (state_of self.now.feeder) }
+        ensures few { (limits : Limits) (longest : ℕ) (v : Problem) (first : Result State AFault) (input : List ℕ)
+            → fault_of self.now ≡ None
+            → ChecksAt limits longest v first input self.now
+            → HoldsOpen limits input (place_in self.now) result }
+        // After the last byte of a statement nothing is stored.
+        ensures none { (limits : Limits) (longest : ℕ) (v : Problem) (first : Result State AFault) (input : List ℕ)
+            → fault_of self.now ≡ None
+            → ChecksAt limits longest v first input self.now
+            → EndsStatement limits input
+            → result ≡ 0 }
+    {
+        proofs_are_exact();
+        no_front();
+        texts_are_read();
+        self.feeder.held()
+    }
+
+    /// Takes a piece of the text and steps through each statement that ends in it. Returns the number of bytes it used:
+    /// the whole piece, or the bytes through the last byte of the proof, and none after that. After a fault it returns
+    /// that fault again.
+    pub fn feed(&mut self, piece: &[u8]) -> Result<usize, CheckFault>
+        // What held of the checker for all the text before now holds for that text followed by this piece.
+        ensures checks { ChecksOnce self.old piece.now self.new }
+        ensures fault { fault_of self.new ≡ fault_in result }
+        ensures used { IfOk result (λ n. ((place_in self.new).offset ≡ (place_in self.old).offset + n) × (n ≤ length piece.now)) }
+        ensures again { (e : ACheckFault) → fault_of self.old ≡ Some e → (result ≡ Err e) × (self.new ≡ self.old) }
+        // No name is forgotten, whatever the result is. A name that a rejection gives by its number is there.
+        ensures names { IsFront self.old.replay.names self.new.replay.names }
+        ensures told { (at : Place) (n : ℕ) → fault_of self.old ≡ None → result ≡ Err (ACheckFault.Step at (AFault.NotTotal n)) → n < length self.new.replay.names }
+        // There is no reader that could fail.
+        ensures unread { fault_of self.old ≡ None → IfErr result IsUnread }
+        // Memory for the text runs out only at a byte that may allocate.
+        ensures memory { (limits : Limits) (longest : ℕ) (v : Problem) (first : Result State AFault) (input : List ℕ)
+            → fault_of self.old ≡ None
+            → ChecksAt limits longest v first input self.old
+            → IfErr result (WantsMemory limits (input ++ piece.now)) }
+    {
+        if let Some(fault) = self.fault {
+            return Err(fault);
+        }
+        let mut used = 0;
+        loop {
+            match self.advance(&piece[used..]) {
+                Ok(went) => {
+                    used += went.used;
+                    if !went.more {
+                        return Ok(used);
+                    }
+                }
+                Err(fault) => return Err(fault),
+            }
+        }
+    }
+
+    /// Consumes the piece up to the end of the next statement, which it steps through, or all of it.
+    fn advance(&mut self, piece: &[u8]) -> Result<Went, CheckFault>
+        requires { fault_of self.old ≡ None }
+        ensures stands { (limits : Limits) (longest : ℕ) (v : Problem) (first : Result State AFault) (input : List ℕ)
+            → ChecksAt limits longest v first input self.old
+            → ChecksAt limits longest v first (input ++ bytes_gone result piece.now) self.new }
+        ensures open { IsOpen (fault_of self.new) }
+        ensures names { IsFront self.old.replay.names self.new.replay.names }
+        ensures told { (at : Place) (n : ℕ) → result ≡ Err (ACheckFault.Step at (AFault.NotTotal n)) → n < length self.new.replay.names }
+        ensures fault { fault_of self.new ≡ fault_in result }
+        ensures used { IfOk result (λ w. ((place_in self.new).offset ≡ (place_in self.old).offset + w.used) × (w.used ≤ length piece.now)) }
+        ensures onward { IfOk result (λ w. w.more ≡ true → 0 < w.used) }
+        ensures unread { IfErr result IsUnread }
+        ensures memory { (limits : Limits) (longest : ℕ) (v : Problem) (first : Result State AFault) (input : List ℕ)
+            → ChecksAt limits longest v first input self.old
+            → IfErr result (WantsMemory limits (input ++ piece.now)) }
+    {
+        texts_are_read();
+        reads_are_of_proofs();
+        let fed = match self.feeder.feed(piece) {
+            Ok(fed) => fed,
+            Err(stop) => {
+                let fault = CheckFault::Text(stop);
+                self.fault = Some(fault);
+                return Err(fault);
+            }
+        };
+        let used = fed.used;
+        let Some(read) = fed.event else {
+            return Ok(Went { used, more: false });
+        };
+        match step_through(&mut self.replay, read) {
+            Ok(()) => Ok(Went { used, more: true }),
+            Err(fault) => {
+                self.fault = Some(fault);
+                Err(fault)
+            }
+        }
+    }
+
+    /// Call this at the end of the text: it returns what the proof has shown, or why it is rejected.
+    pub fn finish(&mut self) -> Result<Verdict, CheckFault>
+        ensures ends { (limits : Limits) (longest : ℕ) (v : Problem) (first : Result State AFault) (input : List ℕ)
+            → fault_of self.old ≡ None
+            → ChecksAt limits longest v first input self.old
+            → Ends limits longest v first input (place_in self.new) result }
+        ensures fault { fault_of self.new ≡ fault_in result }
+        ensures place { place_in self.new ≡ place_in self.old }
+        // A success changes nothing, and the replay never changes.
+        ensures ok { OnOk result (self.new ≡ self.old) }
+        ensures replay { self.new.replay ≡ self.old.replay }
+        // It does not allocate. The only fault that first comes here is that the text was cut.
+        ensures first { fault_of self.old ≡ None
+            → IfErr result (λ e. e ≡ CheckFault.Text (record { place = place_in self.old; why = Why.Ended })) }
+        ensures again { (e : ACheckFault) → fault_of self.old ≡ Some e → (result ≡ Err e) × (self.new ≡ self.old) }
+    {
+        if let Some(fault) = self.fault {
+            return Err(fault);
+        }
+        texts_are_read();
+        whole_proofs_conclude();
+        if self.feeder.is_done() {
+            match self.replay.verdict() {
+                Some(verdict) => Ok(verdict),
+                None => unreachable!(),
+            }
+        } else {
+            let fault = CheckFault::Text(Stop {
+                place: self.feeder.place(),
+                why: Why::Ended,
+            });
+            self.fault = Some(fault);
+            Err(fault)
+        }
+    }
+}
+
+/// Steps through a statement that was read, and drops the statement.
+pub(crate) fn step_through(replay: &mut Replay, read: Spanned<Statement>) -> Result<(), CheckFault>
+    requires { IsStatementValue (largest replay.old.limits) (top_of replay.old.limits) read.event }
+    ensures steps { (now : Result State AFault) → IsAt replay.old now
+        → StepsFrom replay.old.limits replay.old.problem now read result replay.new }
+    ensures names { IsFront replay.old.names replay.new.names }
+    ensures unvalued { (at : Place) (n : ℕ) → result ≡ Err (CheckFault.Step at (Fault.NotTotal n)) → n < length replay.old.names }
+    ensures limits { replay.new.limits ≡ replay.old.limits }
+    ensures problem { replay.new.problem ≡ replay.old.problem }
+{
+    step_by(replay, &read)
+}
+
+/// The same for a statement that the caller keeps.
+pub(crate) fn step_by(replay: &mut Replay, read: &Spanned<Statement>) -> Result<(), CheckFault>
+    requires { IsStatementValue (largest replay.old.limits) (top_of replay.old.limits) read.now.event }
+    ensures steps { (now : Result State AFault) → IsAt replay.old now
+        → StepsFrom replay.old.limits replay.old.problem now read.now result replay.new }
+    ensures names { IsFront replay.old.names replay.new.names }
+    ensures unvalued { (at : Place) (n : ℕ) → result ≡ Err (CheckFault.Step at (Fault.NotTotal n)) → n < length replay.old.names }
+    ensures limits { replay.new.limits ≡ replay.old.limits }
+    ensures problem { replay.new.problem ≡ replay.old.problem }
+{
+    match replay.step(&read.event) {
+        Ok(()) => Ok(()),
+        Err(fault) => Err(refused_at(read, fault)),
+    }
+}
+
+/// The fault of a rejected statement, at its first byte.
+fn refused_at(read: &Spanned<Statement>, fault: Fault) -> CheckFault
+    ensures { result ≡ CheckFault.Step read.now.first fault }
+{
+    CheckFault::Step(read.first, fault)
+}
+
+/// If `StandsAt` holds of a feeder of proofs and an input, the feeder has read that input (`Reads`).
+pub(crate) fn texts_are_read()
+    ensures { TextsAreRead }
+{
+    proofs_are_exact();
+    standing_is_reading::<ProofMachine>();
+}

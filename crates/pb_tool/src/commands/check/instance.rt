@@ -1,0 +1,40 @@
+//! The instance of a check, and the replay that begins with it.
+
+ghost use Rattle.std.specs.Prelude.{◌≡◌, ◌<◌, Err, Result, IfErr, IfOk};
+ghost use Rattle.pb_text.specs.Pulling.{OfGiven};
+ghost use Rattle.pb_tool.specs.Runs.{IsNoReplay, IsReplayOf, faults_of_instance};
+ghost use Rattle.pb_tool.specs.Seen.{SawInstance};
+
+use crate::fault::{Input, ToolFault, refused};
+use crate::file::read_instance_file;
+use pb_normal::HashKeys;
+use pb_replay::{Fault, Replay};
+use pb_text::{Limits, Source};
+use std::alloc::Global;
+
+/// The replay of an instance. Only white space and comments may follow the instance.
+pub(crate) fn opened<S: Source>(
+    alloc: Global,
+    keys: HashKeys,
+    input: &mut S,
+    longest: u64,
+    limits: Limits,
+) -> Result<Replay, ToolFault>
+    requires { 0 < longest }
+    ensures opened { IfOk result (λ r. IsReplayOf limits longest (S.left input.old) (S.left input.new) r) }
+    ensures refused { IfErr result (IsNoReplay limits longest (S.left input.old) (S.left input.new)) }
+    ensures given { IfOk result (λ r. OfGiven (λ left rest. IsReplayOf limits longest left rest r) (S.history input.old) (S.history input.new)) }
+    ensures refused_given { IfErr result (λ f. OfGiven (λ left rest. IsNoReplay limits longest left rest f) (S.history input.old) (S.history input.new)) }
+    ensures seen { SawInstance (S.shown input.new) (S.ended input.new) result }
+    ensures faults { S.faults input.new ≡ faults_of_instance result (S.faults input.old) }
+{
+    let instance = match read_instance_file(alloc, input, longest, limits) {
+        Ok(instance) => instance,
+        Err(stop) => return Err(refused(Input::Instance, stop)),
+    };
+    match Replay::with_hasher(alloc, keys, &instance, limits) {
+        Ok(replay) => Ok(replay),
+        Err(Fault::Memory) => Err(ToolFault::Memory(Input::Instance)),
+        Err(_) => Err(ToolFault::Overflow(Input::Instance)),
+    }
+}

@@ -1,0 +1,103 @@
+//! The text of a proof, built as its statements come.
+
+ghost use Rattle.std.specs.Prelude.{◌≡◌, ◌++◌, OnErr, OnOk};
+ghost use Rattle.pb_text.specs.Writing.{Writes};
+ghost use Rattle.pb_tool.specs.ProofText.{back_of, front_of, line, text_of};
+
+use crate::canonical::{Canonical, write_line};
+use crate::commands::tidy::page::Page;
+use pb_proof::{Conclusion, Statement};
+use pb_text::{Failed, Gather, Sink, write_bytes};
+use std::alloc::{AllocError, Global};
+
+/// The statements of a proof so far. The steps are stored as text. The count of `f` and the conclusion are stored as
+/// values, which allocates nothing.
+#[derive(Drop)]
+pub(crate) struct ProofText {
+    count: Option<u64>,
+    steps: Page,
+    conclusion: Statement,
+}
+
+impl ProofText {
+    ghost use Rattle.std.specs.Prelude.{[]};
+
+    /// Before any statement.
+    pub(crate) fn new(alloc: Global) -> ProofText
+        ensures { result.steps.text ≡ [] }
+    {
+        ProofText {
+            count: None,
+            steps: Page::new(alloc),
+            conclusion: Statement::Conclude(Conclusion::NoClaim),
+        }
+    }
+
+    /// Writes the lines before the steps.
+    fn write_front<W: Sink>(&self, out: &mut W) -> Result<(), Failed>
+        ensures { Writes W.contents W.faults out.old (front_of self.now) result out.new }
+    {
+        write_line(&Statement::Header, out)?;
+        write_line(&Statement::F(self.count), out)
+    }
+
+    /// Writes the lines after the steps.
+    fn write_back<W: Sink>(&self, out: &mut W) -> Result<(), Failed>
+        ensures { Writes W.contents W.faults out.old (back_of self.now) result out.new }
+    {
+        write_line(&Statement::Output, out)?;
+        write_line(&self.conclusion, out)?;
+        write_line(&Statement::End, out)
+    }
+
+    /// Adds a step to the text. If memory ran out, the text is unchanged.
+    fn push(&mut self, step: &Statement) -> Result<(), AllocError>
+        ensures ok { OnOk result (self.new ≡ record self.old { steps = record self.old.steps { text = self.old.steps.text ++ line step.now } }) }
+        ensures unchanged { OnErr result (self.new ≡ self.old) }
+    {
+        let mark = self.steps.mark();
+        match write_line(step, &mut self.steps) {
+            Ok(()) => Ok(()),
+            Err(Failed) => {
+                self.steps.back_to(mark);
+                Err(AllocError)
+            }
+        }
+    }
+}
+
+impl Canonical for ProofText {
+    ghost text = { text_of };
+
+    fn write_text<W: Sink>(&self, out: &mut W) -> Result<(), Failed> {
+        self.write_front(out)?;
+        write_bytes(self.steps.as_slice(), out)?;
+        self.write_back(out)
+    }
+}
+
+impl Gather for ProofText {
+    ghost use Rattle.pb_proof.specs.Gather.{asks};
+    ghost use Rattle.pb_tool.specs.ProofText.{with};
+
+    type Event = Statement;
+
+    ghost with = { λ t s. with t s };
+
+    ghost asks = { λ t s. asks s };
+
+    fn add(&mut self, statement: Statement) -> Result<(), AllocError> {
+        match statement {
+            Statement::Header | Statement::Output | Statement::End => Ok(()),
+            Statement::F(count) => {
+                self.count = count;
+                Ok(())
+            }
+            Statement::Conclude(_) => {
+                self.conclusion = statement;
+                Ok(())
+            }
+            step => self.push(&step),
+        }
+    }
+}
