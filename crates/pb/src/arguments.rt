@@ -1,7 +1,7 @@
 //! The arguments of the command line, and what is answered if they give no job.
 
 ghost use Rattle.std.specs.Prelude.{IfOk};
-ghost use Rattle.pb_tool.specs.Words.{HasRanges};
+ghost use Rattle.pb_tool.specs.contract.Words.{HasRanges};
 
 use crate::answers::{USAGE, answer_fault, answer_memory};
 use crate::until::UntilFault;

@@ -1,7 +1,7 @@
 //! The command `pb`: its arguments, its files and its exit status.
 #![tactic(auto)]
 
-ghost use Rattle.pb_tool.specs.Words.{HasRanges};
+ghost use Rattle.pb_tool.specs.contract.Words.{HasRanges};
 
 mod answers;
 mod arguments;

@@ -5,8 +5,8 @@ use Rattle.pb_text.specs.Over.{told}
 use Rattle.pb_text.specs.declared.Limits.{Limits}
 use Rattle.pb_text.specs.declared.over.Over.{Over}
 use Rattle.pb_replay.specs.declared.verdict.Verdict.{Verdict}
-use Rattle.pb_tool.specs.Files.{ShowsFile, TidiesFile}
-use Rattle.pb_tool.specs.Verified.{ChecksFiles}
+use Rattle.pb_tool.specs.meaning.Files.{ShowsFile, TidiesFile}
+use Rattle.pb_tool.specs.meaning.Verified.{ChecksFiles}
 use Rattle.pb_tool.specs.declared.fault.ToolFault.{ToolFault}
 use Rattle.pb_c.specs.Answers.{empty, faults, written}
 use Rattle.pb_c.specs.declared.page.Page.{Page}

@@ -10,11 +10,11 @@ use Rattle.pb_replay.specs.declared.fault.Fault.{Fault}
 use Rattle.pb_replay.specs.declared.fault.Fault.TheVariants as step
 use Rattle.pb_replay.specs.declared.verdict.Verdict.{Verdict}
 use Rattle.pb_replay.specs.declared.verdict.Verdict.TheVariants.{NoClaim, Unsat, Sat, Bounds}
-use Rattle.pb_tool.specs.Faults.{exit_status, stop_status}
-use Rattle.pb_tool.specs.Refusals.{refusal_status}
-use Rattle.pb_tool.specs.Headline.{IsUnsatisfiable, VerdictsAreTrue}
-use Rattle.pb_tool.specs.Tidy.{IsOpbFile}
-use Rattle.pb_tool.specs.Verified.{ChecksFiles, verdict_line}
+use Rattle.pb_tool.specs.contract.Faults.{exit_status, stop_status}
+use Rattle.pb_tool.specs.contract.Refusals.{refusal_status}
+use Rattle.pb_tool.specs.meaning.Headline.{IsUnsatisfiable, VerdictsAreTrue}
+use Rattle.pb_tool.specs.meaning.Tidy.{IsOpbFile}
+use Rattle.pb_tool.specs.meaning.Verified.{ChecksFiles, verdict_line}
 use Rattle.pb_tool.specs.declared.fault.ToolFault.{ToolFault}
 use Rattle.pb_tool.specs.declared.fault.ToolFault.TheVariants.{Text, Open, Overflow, Memory, Write, Step}
 use Rattle.pb_c.specs.Answers.{AnswersCheck, IsTextOf, empty, faults, status_of, written}

@@ -2,9 +2,9 @@
 use Rattle.std.specs.Prelude.{◌≡◌, ◌⊎◌, ◌^◌, ℕ, List, [], codes, Bool, Option, Some, Result, Ok, Err, unwrap_or}
 use Rattle.pb_text.specs.declared.Limits.{Limits}
 use Rattle.pb_replay.specs.declared.verdict.Verdict.{Verdict}
-use Rattle.pb_tool.specs.Faults.{exit_status, fault_line}
-use Rattle.pb_tool.specs.Files.{ShowsFile, TidiesFile}
-use Rattle.pb_tool.specs.Verified.{ChecksFiles}
+use Rattle.pb_tool.specs.contract.Faults.{exit_status, fault_line}
+use Rattle.pb_tool.specs.meaning.Files.{ShowsFile, TidiesFile}
+use Rattle.pb_tool.specs.meaning.Verified.{ChecksFiles}
 use Rattle.pb_tool.specs.declared.fault.ToolFault.{ToolFault}
 use Rattle.pb_c.specs.Options.{AreWrong, IsAsked}
 use Rattle.pb_c.specs.Telling.{IsFrontOf, Puts}

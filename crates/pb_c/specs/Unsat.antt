@@ -4,9 +4,9 @@ use Rattle.pb_text.specs.declared.Limits.{Limits}
 use Rattle.pb_opb.specs.declared.Instance.{Instance}
 use Rattle.pb_replay.specs.Meaning.{MeansWritten}
 use Rattle.pb_replay.specs.declared.verdict.Verdict.{Verdict}
-use Rattle.pb_tool.specs.Headline.{IsUnsatisfiable}
-use Rattle.pb_tool.specs.Tidy.{IsOpbFile}
-use Rattle.pb_tool.specs.Verified.{verdict_line}
+use Rattle.pb_tool.specs.meaning.Headline.{IsUnsatisfiable}
+use Rattle.pb_tool.specs.meaning.Tidy.{IsOpbFile}
+use Rattle.pb_tool.specs.meaning.Verified.{verdict_line}
 use Rattle.pb_c.specs.Options.{IsAsked}
 use Rattle.pb_c.specs.Telling.{Puts}
 use Rattle.pb_c.specs.declared.options.Options.{Options}

@@ -1,7 +1,7 @@
 //! What the tool returns for texts in memory: a text and a status.
 
 ghost use Rattle.std.specs.Prelude.{◌≡◌, ◌<◌, ◌^◌, IfSome, unwrap_or};
-ghost use Rattle.pb_tool.specs.Faults.{exit_status, fault_line};
+ghost use Rattle.pb_tool.specs.contract.Faults.{exit_status, fault_line};
 ghost use Rattle.pb_c.specs.Answers.{AnswerOfCheck, AnswerOfShow, AnswerOfTidy};
 ghost use Rattle.pb_c.specs.Telling.{IsFrontOf};
 

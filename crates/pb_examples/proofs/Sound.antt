@@ -18,7 +18,7 @@ use Rattle.pb_replay.specs.Replay.{State}
 use Rattle.pb_replay.specs.Statements.{Accepts}
 use Rattle.pb_replay.specs.declared.fault.Fault.{Fault}
 use Rattle.pb_replay.specs.declared.verdict.Verdict.{Verdict}
-use Rattle.pb_tool.specs.Checker.{IsAt}
+use Rattle.pb_tool.specs.contract.Checker.{IsAt}
 use Rattle.pb_examples.specs.Fed.{Verifies}
 
 -- a complete proof has the verdict of its conclusion

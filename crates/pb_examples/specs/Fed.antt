@@ -9,9 +9,9 @@ use Rattle.pb_replay.specs.Replay.{State}
 use Rattle.pb_replay.specs.declared.fault.Fault.{Fault}
 use Rattle.pb_replay.specs.declared.verdict.Verdict.{Verdict}
 use Rattle.pb_replay.specs.declared.verdict.Verdict.TheVariants.{Unsat}
-use Rattle.pb_tool.specs.Checker.{IsAt}
-use Rattle.pb_tool.specs.Checks.{Ends}
-use Rattle.pb_tool.specs.Headline.{IsUnsatisfiable}
+use Rattle.pb_tool.specs.contract.Checker.{IsAt}
+use Rattle.pb_tool.specs.contract.Checks.{Ends}
+use Rattle.pb_tool.specs.meaning.Headline.{IsUnsatisfiable}
 
 -- No assignment solves the instance that the replay was opened for.
 abbrev pub IsRefuted : Replaying → Type 0

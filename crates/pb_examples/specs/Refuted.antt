@@ -3,8 +3,8 @@ use Rattle.std.specs.Prelude.{◌↔◌, ℕ, List, Bool, IsTrue}
 use Rattle.pb_text.specs.Reading.{byte_limit}
 use Rattle.pb_text.specs.declared.Limits.{Limits}
 use Rattle.pb_replay.specs.declared.verdict.Verdict.TheVariants.{Unsat}
-use Rattle.pb_tool.specs.Decided.{AreVerified}
-use Rattle.pb_tool.specs.Headline.{AreWidest}
+use Rattle.pb_tool.specs.meaning.Decided.{AreVerified}
+use Rattle.pb_tool.specs.meaning.Headline.{AreWidest}
 
 -- Under the widest limits the answer is true if and only if the two texts are an instance and a proof of UNSAT that the rules accept.
 abbrev pub IsAnswer : List ℕ → List ℕ → Bool → Type 0

@@ -1,7 +1,7 @@
 //! The first program of README.md, which has it word for word.
 
 ghost use Rattle.std.specs.Prelude.{◌≡◌, true, IfOk};
-ghost use Rattle.pb_tool.specs.Headline.{IsUnsatText};
+ghost use Rattle.pb_tool.specs.meaning.Headline.{IsUnsatText};
 ghost use Rattle.pb_examples.specs.Refuted.{IsAnswer};
 
 use pb_replay::Verdict;

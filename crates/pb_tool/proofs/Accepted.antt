@@ -22,10 +22,10 @@ use Rattle.pb_replay.specs.declared.fault.Fault.{Fault}
 use Rattle.pb_replay.specs.declared.fault.Fault.TheVariants.{Memory as no_memory, NotTotal}
 use Rattle.pb_replay.specs.declared.fault.Fault.TheVariants as why
 use Rattle.pb_replay.specs.declared.verdict.Verdict.{Verdict}
-use Rattle.pb_tool.specs.Files.{IsVeri}
-use Rattle.pb_tool.specs.Checks.{KeepsNames}
-use Rattle.pb_tool.specs.Runs.{IsNoReplay, IsReplayOf, IsToldAs, Replays, Runs, faults_of_instance}
-use Rattle.pb_tool.specs.Verified.{ChecksFiles, IsAccepted, IsTold, IsVerified, verdict_line}
+use Rattle.pb_tool.specs.meaning.Files.{IsVeri}
+use Rattle.pb_tool.specs.contract.Checks.{KeepsNames}
+use Rattle.pb_tool.specs.contract.Runs.{IsNoReplay, IsReplayOf, IsToldAs, Replays, Runs, faults_of_instance}
+use Rattle.pb_tool.specs.meaning.Verified.{ChecksFiles, IsAccepted, IsTold, IsVerified, verdict_line}
 use Rattle.pb_tool.specs.declared.commands.check.checker.CheckFault.TheVariants as check
 use Rattle.pb_tool.specs.declared.fault.ToolFault.{ToolFault}
 use Rattle.pb_tool.specs.declared.fault.ToolFault.TheVariants.{Text, Open, Overflow, Memory, Write, Step}

@@ -14,8 +14,8 @@ use Rattle.pb_replay.specs.Statements.{Outcome, Accepts}
 use Rattle.pb_replay.specs.declared.fault.Fault.{Fault}
 use Rattle.pb_replay.specs.declared.fault.Fault.TheVariants.{Memory, Overflow, FormulaCount, NoSuchId, NotImplied, Conflict, NotTotal, Violates, NoObjective, NotContradiction, SolutionLogged, NoSolution, NotBound, IdsSpent, Order}
 use Rattle.pb_text.specs.Whole.{events_at}
-use Rattle.pb_tool.specs.Files.{IsVeri}
-use Rattle.pb_tool.specs.Verified.{ComesTo, IsRefusedStep, IsTold}
+use Rattle.pb_tool.specs.meaning.Files.{IsVeri}
+use Rattle.pb_tool.specs.meaning.Verified.{ComesTo, IsRefusedStep, IsTold}
 use Rattle.pb_tool.proofs.Fronts.{Compared, two_fronts}
 use Rattle.pb_tool.proofs.OneRead.{Begins, marks_begin, so_far_reached}
 

@@ -19,11 +19,11 @@ use Rattle.pb_replay.specs.Laws.{UnvaluedMayWant}
 use Rattle.pb_replay.specs.Statements.{Accepts}
 use Rattle.pb_replay.specs.declared.fault.Fault.{Fault}
 use Rattle.pb_replay.specs.declared.verdict.Verdict.{Verdict}
-use Rattle.pb_tool.specs.Checker.{IsAt, StepsFrom}
+use Rattle.pb_tool.specs.contract.Checker.{IsAt, StepsFrom}
 use Rattle.pb_text.specs.Whole.{events_at}
-use Rattle.pb_tool.specs.Files.{AsksVeri, IsVeri}
-use Rattle.pb_tool.specs.Runs.{IsToldAs, Replays, Runs}
-use Rattle.pb_tool.specs.Verified.{BehindProof, InProof, IsAccepted, IsRefusedText}
+use Rattle.pb_tool.specs.meaning.Files.{AsksVeri, IsVeri}
+use Rattle.pb_tool.specs.contract.Runs.{IsToldAs, Replays, Runs}
+use Rattle.pb_tool.specs.meaning.Verified.{BehindProof, InProof, IsAccepted, IsRefusedText}
 use Rattle.pb_tool.specs.declared.commands.check.checker.CheckFault.{CheckFault}
 use Rattle.pb_tool.specs.declared.commands.check.checker.CheckFault.TheVariants as check
 use Rattle.pb_tool.specs.declared.fault.ToolFault.{ToolFault}

@@ -38,9 +38,9 @@ use Rattle.pb_replay.specs.declared.fault.Fault.TheVariants.{Memory, NotTotal}
 use Rattle.pb_replay.specs.declared.verdict.Verdict.{Verdict}
 use Rattle.std.specs.Prelude.{IsSome, not, is_some}
 use Rattle.pb_text.proofs.Wholes.{marks_events}
-use Rattle.pb_tool.specs.Checker.{Checking, ProofFeeder, IsAt, IsRunning, Stands, StepsFrom, TextsAreRead}
-use Rattle.pb_tool.specs.Checks.{Checks, IsReplayed, KeepsNames, KeepsNamesOf, Leads, Takes, Refuses}
-use Rattle.pb_tool.specs.Pieces.{AnyCutting, bytes_to, ChecksAt, ChecksOnce, IsOpen, IsUnread, Feeds, WantsMemory, joined, fault_of, is_whole, place_in}
+use Rattle.pb_tool.specs.contract.Checker.{Checking, ProofFeeder, IsAt, IsRunning, Stands, StepsFrom, TextsAreRead}
+use Rattle.pb_tool.specs.contract.Checks.{Checks, IsReplayed, KeepsNames, KeepsNamesOf, Leads, Takes, Refuses}
+use Rattle.pb_tool.specs.contract.Pieces.{AnyCutting, bytes_to, ChecksAt, ChecksOnce, IsOpen, IsUnread, Feeds, WantsMemory, joined, fault_of, is_whole, place_in}
 use Rattle.pb_tool.specs.declared.commands.check.checker.CheckFault.{CheckFault}
 use Rattle.pb_tool.specs.declared.commands.check.checker.CheckFault.TheVariants.{Text, Step}
 use Rattle.pb_tool.proofs.Fronts.{no_front}

@@ -20,10 +20,10 @@ use Rattle.pb_opb.specs.Values.{IsValueOf}
 use Rattle.pb_proof.specs.Canonical.{statement_bytes}
 use Rattle.pb_proof.specs.Gather as veri_keeping
 use Rattle.pb_proof.specs.Proofs.{IsProof, IsProofOf}
-use Rattle.pb_tool.specs.Files.{tidied_proof, MayBeProof, MayBeInstance, AsksVeri, IsVeri, ShowsFile, TidiesFile, TidiesProof}
-use Rattle.pb_tool.specs.Show.{IsSpelling, IsRefusedAfter, InText, InRest, Shows}
-use Rattle.pb_tool.specs.Tidy.{tidied, AsksOpb, IsFile, IsOpb, IsRefused, Tidies, TidiesAs}
-use Rattle.pb_tool.specs.Tidy.IsRefused.{InText as in_text, InRest as in_rest}
+use Rattle.pb_tool.specs.meaning.Files.{tidied_proof, MayBeProof, MayBeInstance, AsksVeri, IsVeri, ShowsFile, TidiesFile, TidiesProof}
+use Rattle.pb_tool.specs.contract.Show.{IsSpelling, IsRefusedAfter, InText, InRest, Shows}
+use Rattle.pb_tool.specs.meaning.Tidy.{tidied, AsksOpb, IsFile, IsOpb, IsRefused, Tidies, TidiesAs}
+use Rattle.pb_tool.specs.meaning.Tidy.IsRefused.{InText as in_text, InRest as in_rest}
 use Rattle.pb_tool.specs.declared.fault.ToolFault.{ToolFault}
 use Rattle.pb_tool.specs.declared.fault.ToolFault.TheVariants.{Text, Open, Overflow, Memory, Write, Step}
 use Rattle.pb_tool.specs.declared.fault.Input.TheVariants.{File}

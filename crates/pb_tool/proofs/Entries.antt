@@ -7,7 +7,7 @@ use Rattle.std.specs.Str.Parse.{digits_value, without_leading_plus}
 use Rattle.clap.specs.Words.{IsUnsignedIn}
 use Rattle.clap.specs.Walk.{Row}
 use Rattle.pb_tool.specs.declared.words.fault.WordsFault.{WordsFault}
-use Rattle.pb_tool.specs.Words.{IsChecker, IsEntryFault, IsFlag, IsInstanceFault, IsNumberFault, IsSwitch}
+use Rattle.pb_tool.specs.contract.Words.{IsChecker, IsEntryFault, IsFlag, IsInstanceFault, IsNumberFault, IsSwitch}
 
 pub absent : (low high : ℕ) (found : Option (List ℕ)) → None ≡ found → IsFlag low high found None
 absent low high found e = subst (λ (t : Option (List ℕ)). IsFlag low high t None) e refl

@@ -10,7 +10,7 @@ use Rattle.pb_opb.specs.declared.OpbEvent.{OpbEvent}
 use Rattle.pb_opb.specs.declared.OpbEvent.TheVariants.{Objective, Constraint}
 use Rattle.pb_opb.specs.declared.Instance.{Instance}
 use Rattle.pb_opb.specs.declared.Comment as comment
-use Rattle.pb_tool.specs.Tidy.{ends_in_feed, is_bare, tidied}
+use Rattle.pb_tool.specs.meaning.Tidy.{ends_in_feed, is_bare, tidied}
 
 -- the text ends with this byte
 abbrev EndsWith : ℕ → List ℕ → Type 0

@@ -11,15 +11,15 @@ use Rattle.pb_text.specs.declared.Spanned.{Spanned}
 use Rattle.pb_text.specs.declared.Stop.{Stop}
 use Rattle.pb_text.proofs.PullsInARow.{took_join}
 use Rattle.pb_text.proofs.Wholes.{given_both}
-use Rattle.pb_tool.specs.Files.{tidied_proof, AsksVeri, IsVeri, TidiesProof}
-use Rattle.pb_tool.specs.Given.{ShowsGiven, TidiesGiven}
+use Rattle.pb_tool.specs.meaning.Files.{tidied_proof, AsksVeri, IsVeri, TidiesProof}
+use Rattle.pb_tool.specs.contract.Given.{ShowsGiven, TidiesGiven}
 use Rattle.pb_opb.specs.Canonical.{event_bytes}
 use Rattle.pb_proof.specs.Canonical.{statement_bytes}
 use Rattle.pb_proof.specs.Gather.{MayKeep}
 use Rattle.pb_proof.specs.Proofs.{IsProofOf}
-use Rattle.pb_tool.specs.Show.{Shows}
-use Rattle.pb_tool.specs.Tidy.{AsksOpb, IsFile, IsOpb, IsRefused, Tidies}
-use Rattle.pb_tool.specs.Tidy.IsRefused.{InRest}
+use Rattle.pb_tool.specs.contract.Show.{Shows}
+use Rattle.pb_tool.specs.meaning.Tidy.{AsksOpb, IsFile, IsOpb, IsRefused, Tidies}
+use Rattle.pb_tool.specs.meaning.Tidy.IsRefused.{InRest}
 use Rattle.pb_tool.specs.declared.fault.ToolFault.{ToolFault}
 use Rattle.pb_tool.specs.declared.fault.ToolFault.TheVariants.{Text}
 use Rattle.pb_tool.specs.declared.fault.Input.TheVariants.{File}

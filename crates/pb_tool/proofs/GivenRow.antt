@@ -14,7 +14,7 @@ use Rattle.pb_text.specs.declared.Place.{Place}
 use Rattle.pb_text.specs.declared.Spanned.{Spanned}
 use Rattle.pb_text.specs.declared.Stop.{Stop}
 use Rattle.pb_text.proofs.PullsInARow.{row}
-use Rattle.pb_tool.specs.Show.{shown, shown_line, EndsAt, InText, Shows}
+use Rattle.pb_tool.specs.contract.Show.{shown, shown_line, EndsAt, InText, Shows}
 use Rattle.pb_tool.specs.declared.fault.ToolFault.{ToolFault}
 use Rattle.pb_tool.specs.declared.fault.ToolFault.TheVariants.{Text, Write}
 use Rattle.pb_tool.specs.declared.fault.Input.TheVariants.{File}

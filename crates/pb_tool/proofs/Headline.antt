@@ -15,9 +15,9 @@ use Rattle.pb_text.specs.declared.Limits.{Limits}
 use Rattle.pb_replay.specs.Laws.{VerdictsMean}
 use Rattle.pb_replay.specs.declared.verdict.Verdict.{Verdict}
 use Rattle.pb_replay.specs.declared.verdict.Verdict.TheVariants.{Unsat}
-use Rattle.pb_tool.specs.Given.{ChecksGiven}
-use Rattle.pb_tool.specs.Headline.{TrueOf, UnsatIsTrue, UnsatOf, VerdictsAreTrue}
-use Rattle.pb_tool.specs.Verified.{ChecksFiles}
+use Rattle.pb_tool.specs.contract.Given.{ChecksGiven}
+use Rattle.pb_tool.specs.meaning.Headline.{TrueOf, UnsatIsTrue, UnsatOf, VerdictsAreTrue}
+use Rattle.pb_tool.specs.meaning.Verified.{ChecksFiles}
 
 module _ (values : StatementValues) (limit top : ℕ) where
   abbrev IsSpelled : Item Statement → Type 0

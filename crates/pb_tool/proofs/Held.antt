@@ -21,8 +21,8 @@ use Rattle.pb_replay.specs.Problem.{Problem}
 use Rattle.pb_replay.specs.Replay.{State}
 use Rattle.pb_replay.specs.Kept.{Replaying}
 use Rattle.pb_replay.specs.declared.fault.Fault.{Fault}
-use Rattle.pb_tool.specs.Checker.{ProofFeeder, Stands, TextsAreRead}
-use Rattle.pb_tool.specs.Pieces.{EndsStatement, HoldsOpen}
+use Rattle.pb_tool.specs.contract.Checker.{ProofFeeder, Stands, TextsAreRead}
+use Rattle.pb_tool.specs.contract.Pieces.{EndsStatement, HoldsOpen}
 use Rattle.pb_tool.specs.declared.commands.check.checker.CheckFault.{CheckFault}
 use Rattle.pb_tool.proofs.Checked.{running_at, told as so_far}
 use Rattle.pb_tool.proofs.Fronts.{no_front}

@@ -10,9 +10,9 @@ use Rattle.pb_opb.specs.Values.{IsValueOf}
 use Rattle.pb_opb.specs.declared.OpbEvent.{OpbEvent}
 use Rattle.pb_opb.specs.declared.OpbEvent.TheVariants.{Header, Comment, Objective, Constraint}
 use Rattle.pb_opb.proofs.Counted.{IsEntry, IsCounted, counted}
-use Rattle.pb_tool.specs.Gathered.{TidiesEach}
-use Rattle.pb_tool.specs.InstanceText.{line, line_if, with, asks, text_of, IsTextOf}
-use Rattle.pb_tool.specs.Tidy.{tidied, AsksOpb, IsOpb, Tidies}
+use Rattle.pb_tool.specs.engine.Gathered.{TidiesEach}
+use Rattle.pb_tool.specs.engine.InstanceText.{line, line_if, with, asks, text_of, IsTextOf}
+use Rattle.pb_tool.specs.meaning.Tidy.{tidied, AsksOpb, IsOpb, Tidies}
 use Rattle.pb_tool.specs.declared.fault.ToolFault.{ToolFault}
 use Rattle.pb_tool.specs.declared.commands.tidy.instance_text.InstanceText.{InstanceText}
 use Rattle.pb_tool.proofs.Ordered.{line_more, value_of, is_value, text_behind}

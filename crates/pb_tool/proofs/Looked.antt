@@ -5,8 +5,8 @@ use Rattle.pb_text.specs.declared.Place.{Place}
 use Rattle.pb_replay.specs.Problem.{Problem}
 use Rattle.pb_replay.specs.Replay.{State}
 use Rattle.pb_replay.specs.declared.fault.Fault.{Fault}
-use Rattle.pb_tool.specs.Runs.{IsNoReplay, IsToldAs, Replays}
-use Rattle.pb_tool.specs.Seen.{SawNoInstance, SawNoProof}
+use Rattle.pb_tool.specs.contract.Runs.{IsNoReplay, IsToldAs, Replays}
+use Rattle.pb_tool.specs.contract.Seen.{SawNoInstance, SawNoProof}
 use Rattle.pb_tool.specs.declared.fault.ToolFault.{ToolFault}
 use Rattle.pb_tool.specs.declared.fault.ToolFault.TheVariants.{Text, Open, Overflow, Memory, Write, Step}
 use Rattle.pb_tool.specs.declared.fault.Input.TheVariants.{File, Instance as of_instance, Proof as of_proof}

@@ -22,13 +22,13 @@ use Rattle.pb_normal.specs.Constraints.{AreFormsOf, constraint_names, sides_in}
 use Rattle.pb_normal.specs.Names.{with_names}
 use Rattle.pb_normal.specs.Written.{linear_of, names_of}
 use Rattle.pb_replay.specs.Problem.{names_in, objective_of}
-use Rattle.pb_tool.specs.Faults.{faults_told}
-use Rattle.pb_tool.specs.Gathered.{IsGathered, IsNotGathered}
-use Rattle.pb_tool.specs.InstanceText.{line, line_if}
-use Rattle.pb_tool.specs.Normalised.{IsNormalised, SomePasses}
-use Rattle.pb_tool.specs.NormalText.{AreLines, IsInOrder, IsNoted, as_statement, names_at, names_on, noted}
-use Rattle.pb_tool.specs.Tidy.{AsksOpb, IsAsked, IsDenied, IsNoNormalFile, IsNormalFile, IsOpb, IsOpbFile, IsNoOpbFile, WritesText, is_bare, tidied}
-use Rattle.pb_tool.specs.Seen.{SawFile}
+use Rattle.pb_tool.specs.contract.Faults.{faults_told}
+use Rattle.pb_tool.specs.engine.Gathered.{IsGathered, IsNotGathered}
+use Rattle.pb_tool.specs.engine.InstanceText.{line, line_if}
+use Rattle.pb_tool.specs.contract.Normalised.{IsNormalised, SomePasses}
+use Rattle.pb_tool.specs.engine.NormalText.{AreLines, IsInOrder, IsNoted, as_statement, names_at, names_on, noted}
+use Rattle.pb_tool.specs.meaning.Tidy.{AsksOpb, IsAsked, IsDenied, IsNoNormalFile, IsNormalFile, IsOpb, IsOpbFile, IsNoOpbFile, WritesText, is_bare, tidied}
+use Rattle.pb_tool.specs.contract.Seen.{SawFile}
 use Rattle.pb_tool.specs.declared.fault.ToolFault.{ToolFault}
 use Rattle.pb_tool.specs.declared.fault.ToolFault.TheVariants.{Text, Open, Overflow, Memory, Write, Step}
 use Rattle.pb_tool.specs.declared.fault.Input.TheVariants.{File, Instance as of_instance, Proof as of_proof}

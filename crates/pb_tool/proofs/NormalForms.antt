@@ -15,9 +15,9 @@ use Rattle.pb_normal.proofs.Appearing.{front, named, distinct, in_turn, written_
 use Rattle.pb_normal.proofs.Loaded.{are_named, forms_more, forms_then}
 use Rattle.pb_text.proofs.Lists.{take_read}
 use Rattle.pb_normal.proofs.WrittenForms.{HasNames-append}
-use Rattle.pb_tool.specs.InstanceText.{line}
-use Rattle.pb_tool.specs.Normalised.{SomePasses}
-use Rattle.pb_tool.specs.NormalText.{AreLines, form_lines}
+use Rattle.pb_tool.specs.engine.InstanceText.{line}
+use Rattle.pb_tool.specs.contract.Normalised.{SomePasses}
+use Rattle.pb_tool.specs.engine.NormalText.{AreLines, form_lines}
 use Rattle.pb_tool.specs.declared.commands.tidy.form_lines.FormLines.{FormLines}
 
 -- the names of some terms, and of one more

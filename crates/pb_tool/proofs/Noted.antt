@@ -7,7 +7,7 @@ use Rattle.pb_opb.specs.Values.{last_or, variables_in, objectives_in, constraint
 use Rattle.pb_opb.specs.declared.OpbEvent.{OpbEvent}
 use Rattle.pb_opb.specs.declared.OpbEvent.TheVariants.{Header, Comment, Objective, Constraint}
 use Rattle.pb_normal.specs.Written.{names_of}
-use Rattle.pb_tool.specs.NormalText.{AreMade, IsNoted, as_statement, names_at, names_on}
+use Rattle.pb_tool.specs.engine.NormalText.{AreMade, IsNoted, as_statement, names_at, names_on}
 use Rattle.pb_tool.specs.declared.commands.tidy.normal_text.Forms.{Forms}
 
 last_more : {A : Type 0} (x y : A) (xs : List A) → last_or x (xs ++ y ∷ []) ≡ y

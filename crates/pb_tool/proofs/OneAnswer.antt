@@ -24,13 +24,13 @@ use Rattle.pb_replay.specs.declared.fault.Fault.{Fault}
 use Rattle.pb_replay.specs.declared.fault.Fault.TheVariants.{Memory as no_memory, Overflow as over}
 use Rattle.pb_replay.specs.declared.verdict.Verdict.{Verdict}
 use Rattle.pb_opb.proofs.OneValue.{same_value}
-use Rattle.pb_tool.specs.Decided.{AnswersExactly, AreVerified, IsDecided, IsOfText, IsSame, OneAnswer}
-use Rattle.pb_tool.specs.Files.{IsProofFile, IsVeri}
-use Rattle.pb_tool.specs.Show.{IsSpelling}
-use Rattle.pb_tool.specs.Single.{AllSingle}
-use Rattle.pb_tool.specs.Tidy.{IsFile, IsOpb, IsOpbFile, IsNoOpbFile}
-use Rattle.pb_tool.specs.Tidy.IsRefused.{InText, InRest}
-use Rattle.pb_tool.specs.Verified.{ChecksFiles, IsRefusedStep, IsRefusedText, IsVerified, InProof, BehindProof}
+use Rattle.pb_tool.specs.meaning.Decided.{AnswersExactly, AreVerified, IsDecided, IsOfText, IsSame, OneAnswer}
+use Rattle.pb_tool.specs.meaning.Files.{IsProofFile, IsVeri}
+use Rattle.pb_tool.specs.contract.Show.{IsSpelling}
+use Rattle.pb_tool.specs.engine.Single.{AllSingle}
+use Rattle.pb_tool.specs.meaning.Tidy.{IsFile, IsOpb, IsOpbFile, IsNoOpbFile}
+use Rattle.pb_tool.specs.meaning.Tidy.IsRefused.{InText, InRest}
+use Rattle.pb_tool.specs.meaning.Verified.{ChecksFiles, IsRefusedStep, IsRefusedText, IsVerified, InProof, BehindProof}
 use Rattle.pb_tool.specs.declared.fault.ToolFault.{ToolFault}
 use Rattle.pb_tool.specs.declared.fault.ToolFault.TheVariants.{Text, Open, Overflow, Memory, Write, Step}
 use Rattle.pb_tool.specs.declared.fault.Input.TheVariants.{File, Instance as of_instance, Proof as of_proof}

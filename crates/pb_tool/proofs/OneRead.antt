@@ -11,7 +11,7 @@ use Rattle.pb_text.specs.declared.Why.{Why}
 use Rattle.pb_text.specs.declared.Why.TheVariants.{Byte, TooLarge, Ended, TooLong, Read, Memory}
 use Rattle.pb_text.proofs.Languages.{bytes-append, bytes-plain}
 use Rattle.pb_text.proofs.Short.{place_after-offset}
-use Rattle.pb_tool.specs.Decided.{IsOfText}
+use Rattle.pb_tool.specs.meaning.Decided.{IsOfText}
 use Rattle.pb_tool.proofs.Fronts.{begins_with, behind_front, one_front, same_behind}
 
 -- ---- spans within prefixes

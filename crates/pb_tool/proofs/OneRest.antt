@@ -7,7 +7,7 @@ use Rattle.pb_text.specs.declared.Place.{Place}
 use Rattle.pb_text.specs.declared.Why.{Why}
 use Rattle.pb_text.specs.declared.Why.TheVariants.{Byte, TooLarge, Ended, TooLong, Read, Memory}
 use Rattle.pb_text.proofs.Blanks.{blank_passes, passes_at}
-use Rattle.pb_tool.specs.Decided.{IsOfText}
+use Rattle.pb_tool.specs.meaning.Decided.{IsOfText}
 use Rattle.pb_tool.proofs.Fronts.{behind_front, one_front, same_behind, some_left}
 
 -- a byte within a blank text passes

@@ -14,8 +14,8 @@ use Rattle.pb_opb.specs.declared.Comment as comment
 use Rattle.pb_opb.specs.declared.OpbEvent.{OpbEvent}
 use Rattle.pb_opb.specs.declared.OpbEvent.TheVariants.{Header, Comment, Objective, Constraint}
 use Rattle.pb_opb.proofs.Counted.{IsEntry, IsCounted}
-use Rattle.pb_tool.specs.InstanceText.{line}
-use Rattle.pb_tool.specs.Tidy.{is_bare, tidied}
+use Rattle.pb_tool.specs.engine.InstanceText.{line}
+use Rattle.pb_tool.specs.meaning.Tidy.{is_bare, tidied}
 use Rattle.pb_tool.proofs.Feeds.{tidied_bare, tidied_more}
 
 -- the objectives and the constraints

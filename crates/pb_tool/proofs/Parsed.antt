@@ -7,7 +7,7 @@ use Rattle.clap.specs.declared.error.ErrorKind.TheVariants.{OutOfMemory}
 use Rattle.pb_tool.specs.declared.words.Job.{Job}
 use Rattle.pb_tool.specs.declared.words.fault.WordsFault.{WordsFault}
 use Rattle.pb_tool.specs.declared.words.fault.WordsFault.TheVariants.{Words, Memory}
-use Rattle.pb_tool.specs.Words.{AsksFor, ExplainsWords, IsEntryFault, pb_command}
+use Rattle.pb_tool.specs.contract.Words.{AsksFor, ExplainsWords, IsEntryFault, pb_command}
 
 pub right_words : (a : App) (words : List Text) → a ≡ pb_command → (is_simple_and_free a ≡ true → fault_of a words ≡ []) → fault_of pb_command words ≡ []
 right_words a words app right = subst (λ (x : App). fault_of x words ≡ []) app (right (ap is_simple_and_free app))

@@ -12,9 +12,9 @@ use Rattle.pb_proof.specs.Proofs.{IsStep, statements_of, IsProofOf}
 use Rattle.pb_proof.specs.declared.Proof.{Proof}
 use Rattle.pb_proof.specs.declared.Statement.{Statement}
 use Rattle.pb_proof.specs.declared.Statement.TheVariants.{Header, F, Pol, Rup, Soli, Solx, Delete, Output, Conclude, End}
-use Rattle.pb_tool.specs.Files.{tidied_proof, AsksVeri, IsVeri, TidiesProof}
-use Rattle.pb_tool.specs.Gathered.{TidiesEach}
-use Rattle.pb_tool.specs.ProofText.{line, with, text_of, IsTextOf}
+use Rattle.pb_tool.specs.meaning.Files.{tidied_proof, AsksVeri, IsVeri, TidiesProof}
+use Rattle.pb_tool.specs.engine.Gathered.{TidiesEach}
+use Rattle.pb_tool.specs.engine.ProofText.{line, with, text_of, IsTextOf}
 use Rattle.pb_tool.specs.declared.fault.ToolFault.{ToolFault}
 use Rattle.pb_tool.specs.declared.commands.tidy.proof_text.ProofText.{ProofText}
 use Rattle.pb_tool.proofs.TextFile.{tidies_value}

@@ -9,8 +9,8 @@ use Rattle.pb_text.specs.declared.Spanned.{Spanned}
 use Rattle.pb_text.specs.declared.Stop.{Stop}
 use Rattle.pb_text.specs.declared.Why.{Why}
 use Rattle.pb_text.proofs.Short.{place_after-offset}
-use Rattle.pb_tool.specs.Decided.{IsOfText}
-use Rattle.pb_tool.specs.Show.{IsSpelling}
+use Rattle.pb_tool.specs.meaning.Decided.{IsOfText}
+use Rattle.pb_tool.specs.contract.Show.{IsSpelling}
 use Rattle.pb_tool.proofs.Fronts.{same_behind}
 use Rattle.pb_tool.proofs.OneRead.{NoneGoesOn, OneSpelling, not_both, one_spelled, one_stop}
 use Rattle.pb_tool.proofs.OneRest.{not_stray, one_stray}

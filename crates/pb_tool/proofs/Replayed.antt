@@ -26,14 +26,14 @@ use Rattle.pb_replay.specs.Statements.{Outcome, Accepts, MayWantAt}
 use Rattle.pb_replay.specs.declared.fault.Fault.{Fault}
 use Rattle.pb_replay.specs.declared.fault.Fault.TheVariants as fault
 use Rattle.pb_replay.specs.declared.verdict.Verdict.{Verdict}
-use Rattle.pb_tool.specs.Checker.{IsAt, StepsFrom}
+use Rattle.pb_tool.specs.contract.Checker.{IsAt, StepsFrom}
 use Rattle.pb_text.specs.Whole.{events_at}
-use Rattle.pb_tool.specs.Checks.{KeepsNames, Refuses, Takes}
+use Rattle.pb_tool.specs.contract.Checks.{KeepsNames, Refuses, Takes}
 use Rattle.pb_replay.specs.Kept.{StandsFor}
-use Rattle.pb_tool.specs.Files.{AsksVeri, IsVeri}
-use Rattle.pb_tool.specs.Runs.{Runs, faults_of_text}
-use Rattle.pb_tool.specs.Seen.{SawText}
-use Rattle.pb_tool.specs.Verified.{IsAccepted}
+use Rattle.pb_tool.specs.meaning.Files.{AsksVeri, IsVeri}
+use Rattle.pb_tool.specs.contract.Runs.{Runs, faults_of_text}
+use Rattle.pb_tool.specs.contract.Seen.{SawText}
+use Rattle.pb_tool.specs.meaning.Verified.{IsAccepted}
 use Rattle.pb_tool.specs.declared.commands.check.checker.CheckFault.{CheckFault}
 use Rattle.pb_tool.specs.declared.commands.check.checker.CheckFault.TheVariants as check
 use Rattle.pb_text.proofs.Unkept.{asking_to}

@@ -16,7 +16,7 @@ use Rattle.pb_text.specs.Writing.{Wrote}
 use Rattle.pb_text.proofs.PullsInARow.{took_join}
 use Rattle.pb_text.proofs.Short.{place_after-offset}
 use Rattle.pb_text.proofs.Unkept.{asking_to}
-use Rattle.pb_tool.specs.Show.{shown_line, shown, EndsAt, IsSpelling, IsRefusedAfter, InText, InRest, Shows}
+use Rattle.pb_tool.specs.contract.Show.{shown_line, shown, EndsAt, IsSpelling, IsRefusedAfter, InText, InRest, Shows}
 use Rattle.pb_tool.specs.declared.fault.ToolFault.{ToolFault}
 use Rattle.pb_tool.specs.declared.fault.ToolFault.TheVariants.{Text, Open, Overflow, Memory, Write, Step}
 use Rattle.pb_tool.specs.declared.fault.Input.TheVariants.{File, Instance, Proof}

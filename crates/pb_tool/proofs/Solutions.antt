@@ -16,7 +16,7 @@ use Rattle.pb_normal.specs.Names.{AreDistinct, HasNames, with_names}
 use Rattle.pb_normal.specs.Written.{names_of, linear_of, HoldsWritten, IsFormOf, IsSideOf, SameAsForm, SameAsForms}
 use Rattle.pb_normal.proofs.Appearing.{names_split}
 use Rattle.pb_replay.specs.Problem.{Solves, names_in, objective_of}
-use Rattle.pb_tool.specs.Normalised.{AreLoaded, IsNormalised}
+use Rattle.pb_tool.specs.contract.Normalised.{AreLoaded, IsNormalised}
 
 -- each constraint holds
 abbrev AllHold : (List ℕ → Bool) → List Linear → Type 0

@@ -13,9 +13,9 @@ use Rattle.pb_text.specs.declared.Why.TheVariants.{Byte, TooLarge, Ended, TooLon
 use Rattle.pb_text.proofs.Short.{place_after-offset}
 use Rattle.pb_opb.specs.Canonical.{instance_bytes}
 use Rattle.pb_opb.specs.declared.Instance.{Instance}
-use Rattle.pb_tool.specs.Stays.{IsOutside}
-use Rattle.pb_tool.specs.Tidy.{ends_in_feed, tidied, IsFile, IsRefused}
-use Rattle.pb_tool.specs.Tidy.IsRefused.{InText, InRest}
+use Rattle.pb_tool.specs.contract.Stays.{IsOutside}
+use Rattle.pb_tool.specs.meaning.Tidy.{ends_in_feed, tidied, IsFile, IsRefused}
+use Rattle.pb_tool.specs.meaning.Tidy.IsRefused.{InText, InRest}
 use Rattle.pb_tool.proofs.Fronts.{Compared, behind_front, same_behind, some_left, two_fronts}
 use Rattle.pb_tool.proofs.OneRead.{NoneGoesOn, one_spelt}
 

@@ -6,8 +6,8 @@ use Rattle.pb_text.specs.declared.Spanned.{Spanned}
 use Rattle.pb_text.specs.declared.Stop.{Stop}
 use Rattle.pb_text.proofs.Formats as formats
 use Rattle.pb_text.proofs.Unkept.{stops_in}
-use Rattle.pb_tool.specs.Tidy.{IsFile, IsRefused, TidiesAs}
-use Rattle.pb_tool.specs.Tidy.IsRefused.{InText, InRest}
+use Rattle.pb_tool.specs.meaning.Tidy.{IsFile, IsRefused, TidiesAs}
+use Rattle.pb_tool.specs.meaning.Tidy.IsRefused.{InText, InRest}
 use Rattle.pb_tool.specs.declared.fault.ToolFault.{ToolFault}
 use Rattle.pb_tool.proofs.Restated.{written_so}
 

@@ -16,9 +16,9 @@ use Rattle.pb_proof.specs.Proofs.{IsProofOf}
 use Rattle.pb_proof.specs.Reading.{ReadsProof}
 use Rattle.pb_proof.specs.ValueLaws.{ProofValues}
 use Rattle.pb_proof.specs.declared.Proof.{Proof}
-use Rattle.pb_tool.specs.Files.{tidied_proof, IsProofFile, IsVeri, TidiesFile}
-use Rattle.pb_tool.specs.Stays.{HasNoFault, IsOutside, IsProofWithin, IsTakenForInstance, IsTakenForProof, IsWithin, ProofHasNoFault, ProofStaysAsIs, StaysAsIs, WroteAgain}
-use Rattle.pb_tool.specs.Tidy.{tidied, IsFile, IsOpb, IsOpbFile, IsRefused, TidiesAs}
+use Rattle.pb_tool.specs.meaning.Files.{tidied_proof, IsProofFile, IsVeri, TidiesFile}
+use Rattle.pb_tool.specs.contract.Stays.{HasNoFault, IsOutside, IsProofWithin, IsTakenForInstance, IsTakenForProof, IsWithin, ProofHasNoFault, ProofStaysAsIs, StaysAsIs, WroteAgain}
+use Rattle.pb_tool.specs.meaning.Tidy.{tidied, IsFile, IsOpb, IsOpbFile, IsRefused, TidiesAs}
 use Rattle.pb_tool.specs.declared.fault.ToolFault.{ToolFault}
 use Rattle.pb_tool.specs.declared.fault.ToolFault.TheVariants.{Text, Open, Overflow, Memory, Write, Step}
 use Rattle.pb_tool.specs.declared.fault.Input.TheVariants.{File, Instance as of_instance, Proof as of_proof}

@@ -19,12 +19,12 @@ use Rattle.pb_replay.specs.Statements.{Outcome}
 use Rattle.pb_replay.specs.declared.fault.Fault.{Fault}
 use Rattle.pb_replay.specs.declared.fault.Fault.TheVariants.{Memory as no_memory, NotTotal}
 use Rattle.pb_replay.specs.declared.verdict.Verdict.{Verdict}
-use Rattle.pb_tool.specs.Checker.{IsAt, StepsFrom}
-use Rattle.pb_tool.specs.Checks.{KeepsNames, Takes}
-use Rattle.pb_tool.specs.Files.{IsVeri}
-use Rattle.pb_tool.specs.Runs.{IsNoReplay, IsReplayOf, IsToldAs}
-use Rattle.pb_tool.specs.Verified.{IsTold}
-use Rattle.pb_tool.specs.Watched.{Call, Accepted, Rejected, GotEach, IsShown, IsShownUpTo, IsShownWhole, IsWatched, ShowsEach, ShowsProof, ShowsRun}
+use Rattle.pb_tool.specs.contract.Checker.{IsAt, StepsFrom}
+use Rattle.pb_tool.specs.contract.Checks.{KeepsNames, Takes}
+use Rattle.pb_tool.specs.meaning.Files.{IsVeri}
+use Rattle.pb_tool.specs.contract.Runs.{IsNoReplay, IsReplayOf, IsToldAs}
+use Rattle.pb_tool.specs.meaning.Verified.{IsTold}
+use Rattle.pb_tool.specs.contract.Watched.{Call, Accepted, Rejected, GotEach, IsShown, IsShownUpTo, IsShownWhole, IsWatched, ShowsEach, ShowsProof, ShowsRun}
 use Rattle.pb_tool.specs.declared.commands.check.checker.CheckFault.{CheckFault}
 use Rattle.pb_tool.specs.declared.commands.check.checker.CheckFault.TheVariants as check
 use Rattle.pb_tool.specs.declared.fault.ToolFault.{ToolFault}

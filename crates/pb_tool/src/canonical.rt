@@ -4,7 +4,7 @@ ghost use Rattle.std.specs.Prelude.{ℕ, List};
 ghost use Rattle.pb_text.specs.Writing.{Writes};
 ghost use Rattle.pb_opb.specs.Canonical.{event_bytes};
 ghost use Rattle.pb_proof.specs.Canonical.{statement_bytes};
-ghost use Rattle.pb_tool.specs.Show.{line_of};
+ghost use Rattle.pb_tool.specs.contract.Show.{line_of};
 
 use pb_opb::{OpbEvent, write_event};
 use pb_proof::{Statement, write_statement};

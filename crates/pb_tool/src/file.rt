@@ -7,10 +7,10 @@ ghost use Rattle.pb_text.specs.NothingRead.{ReadsNothing, first_fault};
 ghost use Rattle.pb_text.specs.Pulling.{OfGiven, faults_after};
 ghost use Rattle.pb_text.specs.Stopping.{IsShown};
 ghost use Rattle.pb_text.specs.Writing.{one_more};
-ghost use Rattle.pb_tool.specs.Files.{IsVeri};
-ghost use Rattle.pb_tool.specs.Gathered.{IsGathered, IsNotGathered};
-ghost use Rattle.pb_tool.specs.Opening.{IsReadAs};
-ghost use Rattle.pb_tool.specs.Tidy.{IsNoOpbFile, IsOpb, IsOpbFile};
+ghost use Rattle.pb_tool.specs.meaning.Files.{IsVeri};
+ghost use Rattle.pb_tool.specs.engine.Gathered.{IsGathered, IsNotGathered};
+ghost use Rattle.pb_tool.specs.engine.Opening.{IsReadAs};
+ghost use Rattle.pb_tool.specs.meaning.Tidy.{IsNoOpbFile, IsOpb, IsOpbFile};
 ghost use Rattle.pb_tool.specs.declared.fault.Input.TheVariants.{File};
 
 use crate::fault::{Input, ToolFault, refused};

@@ -3,9 +3,9 @@
 ghost use Rattle.std.specs.Prelude.{◌≡◌, ◌↔◌, ℕ, Bool, List};
 ghost use Rattle.pb_opb.specs.declared.Instance.{Instance};
 ghost use Rattle.pb_replay.specs.Problem.{Solves};
-ghost use Rattle.pb_tool.specs.Normalised.{IsNormalised};
-ghost use Rattle.pb_tool.specs.Stays.{HasNoFault, IsTakenForInstance, StaysAsIs, TidiesAgain};
-ghost use Rattle.pb_tool.specs.Stays.{IsTakenForProof, ProofHasNoFault, ProofStaysAsIs};
+ghost use Rattle.pb_tool.specs.contract.Normalised.{IsNormalised};
+ghost use Rattle.pb_tool.specs.contract.Stays.{HasNoFault, IsTakenForInstance, StaysAsIs, TidiesAgain};
+ghost use Rattle.pb_tool.specs.contract.Stays.{IsTakenForProof, ProofHasNoFault, ProofStaysAsIs};
 
 use pb_text::Sink;
 

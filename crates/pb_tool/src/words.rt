@@ -7,9 +7,9 @@ ghost use Rattle.std.specs.Str.Parse.{digits_value, without_leading_plus};
 ghost use Rattle.clap.specs.Words.{IsUnsignedIn, fault_of, first_of, found_of, rows_of};
 ghost use Rattle.clap.specs.Words.{subcommand_of};
 ghost use Rattle.clap.specs.Walk.{texts};
-ghost use Rattle.pb_tool.specs.Words.{AreFilesOf, AreInRange, AreNumbersOf, AsksFor, ExplainsWords};
-ghost use Rattle.pb_tool.specs.Words.{HasRanges, IsEntryFault, IsFlag, IsFlagFault, IsInstanceFault};
-ghost use Rattle.pb_tool.specs.Words.{IsNumberFault, IsReader, IsSwitch, pb_command};
+ghost use Rattle.pb_tool.specs.contract.Words.{AreFilesOf, AreInRange, AreNumbersOf, AsksFor, ExplainsWords};
+ghost use Rattle.pb_tool.specs.contract.Words.{HasRanges, IsEntryFault, IsFlag, IsFlagFault, IsInstanceFault};
+ghost use Rattle.pb_tool.specs.contract.Words.{IsNumberFault, IsReader, IsSwitch, pb_command};
 
 mod fault;
 mod options;

@@ -12,7 +12,7 @@ use Rattle.pb_normal.specs.Form.{Form}
 use Rattle.pb_replay.specs.Problem.{Problem}
 use Rattle.pb_replay.specs.Replay.{State, first_state}
 use Rattle.pb_replay.specs.Statements.{Outcome}
-use Rattle.pb_tool.specs.Watched.{Call, Accepted, Rejected, GotEach, ShowsEach}
+use Rattle.pb_tool.specs.contract.Watched.{Call, Accepted, Rejected, GotEach, ShowsEach}
 use Rattle.pb_tool.specs.declared.ToolFault.{ToolFault}
 use Rattle.pb_trace.specs.Laws.{IsEmptyAt, TracesEachLine, lines_of}
 use Rattle.pb_trace.specs.Traced.{ShowsLine, Traces, TracesCall, Tracing, extended, line_bytes, stored_after}

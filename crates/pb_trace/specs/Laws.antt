@@ -10,7 +10,7 @@ use Rattle.pb_normal.specs.Form.{Form}
 use Rattle.pb_replay.specs.Kept.{Replaying, StandsFor, StepsAs}
 use Rattle.pb_replay.specs.Problem.{Problem}
 use Rattle.pb_replay.specs.Replay.{State, first_state}
-use Rattle.pb_tool.specs.Watched.{Call, Accepted, Rejected, GotEach, ShowsEach}
+use Rattle.pb_tool.specs.contract.Watched.{Call, Accepted, Rejected, GotEach, ShowsEach}
 use Rattle.pb_trace.specs.Traced.{Tracing, TracesCall, extended, line_bytes, stored_after}
 
 -- before `f` there is no constraint

@@ -13,7 +13,7 @@ use Rattle.pb_proof.specs.declared.Statement.TheVariants.{Header, F, Pol, Rup, S
 use Rattle.pb_normal.specs.Form.{Form}
 use Rattle.pb_replay.specs.Kept.{Replaying}
 use Rattle.pb_replay.specs.Replay.{place}
-use Rattle.pb_tool.specs.Watched.{Call, Accepted, Rejected}
+use Rattle.pb_tool.specs.contract.Watched.{Call, Accepted, Rejected}
 use Rattle.pb_tool.specs.declared.Input.TheVariants.{Proof}
 use Rattle.pb_tool.specs.declared.ToolFault.{ToolFault}
 use Rattle.pb_tool.specs.declared.ToolFault.TheVariants.{Memory as NoMemory, Write as NotWritten}

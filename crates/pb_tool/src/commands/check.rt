@@ -2,12 +2,12 @@
 
 ghost use Rattle.std.specs.Prelude.{◌≡◌, ◌<◌, ◌^◌, Err, Result, unwrap_or, IfOk, IfSome};
 ghost use Rattle.pb_text.specs.Pulling.{OfGiven};
-ghost use Rattle.pb_tool.specs.Given.{ChecksGiven};
-ghost use Rattle.pb_tool.specs.Headline.{TrueOf, UnsatOf};
-ghost use Rattle.pb_tool.specs.Runs.{faults_of_instance, faults_of_proof};
-ghost use Rattle.pb_tool.specs.Seen.{SawInstance, SawProof};
-ghost use Rattle.pb_tool.specs.Verified.{ChecksFiles};
-ghost use Rattle.pb_tool.specs.Watched.{IsWatched, IsWatchedGiven};
+ghost use Rattle.pb_tool.specs.contract.Given.{ChecksGiven};
+ghost use Rattle.pb_tool.specs.meaning.Headline.{TrueOf, UnsatOf};
+ghost use Rattle.pb_tool.specs.contract.Runs.{faults_of_instance, faults_of_proof};
+ghost use Rattle.pb_tool.specs.contract.Seen.{SawInstance, SawProof};
+ghost use Rattle.pb_tool.specs.meaning.Verified.{ChecksFiles};
+ghost use Rattle.pb_tool.specs.contract.Watched.{IsWatched, IsWatchedGiven};
 
 pub(crate) mod checker;
 mod instance;

@@ -7,12 +7,12 @@ ghost use Rattle.pb_text.specs.Pulling.{OfGiven};
 ghost use Rattle.pb_text.specs.Writing.{Writes};
 ghost use Rattle.pb_opb.specs.Canonical.{event_bytes};
 ghost use Rattle.pb_proof.specs.Canonical.{statement_bytes};
-ghost use Rattle.pb_tool.specs.Faults.{faults_told};
-ghost use Rattle.pb_tool.specs.Files.{AsksVeri, IsVeri, ShowsFile};
-ghost use Rattle.pb_tool.specs.Given.{ShowsGiven};
-ghost use Rattle.pb_tool.specs.Seen.{SawStatements};
-ghost use Rattle.pb_tool.specs.Show.{shown_line, EndsAt, Shows};
-ghost use Rattle.pb_tool.specs.Tidy.{AsksOpb, IsOpb};
+ghost use Rattle.pb_tool.specs.contract.Faults.{faults_told};
+ghost use Rattle.pb_tool.specs.meaning.Files.{AsksVeri, IsVeri, ShowsFile};
+ghost use Rattle.pb_tool.specs.contract.Given.{ShowsGiven};
+ghost use Rattle.pb_tool.specs.contract.Seen.{SawStatements};
+ghost use Rattle.pb_tool.specs.contract.Show.{shown_line, EndsAt, Shows};
+ghost use Rattle.pb_tool.specs.meaning.Tidy.{AsksOpb, IsOpb};
 
 use crate::canonical::{Canonical, write_line};
 use crate::fault::{Input, ToolFault, refused};

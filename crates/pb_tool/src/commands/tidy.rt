@@ -3,12 +3,12 @@
 ghost use Rattle.std.specs.Prelude.{◌≡◌, ◌<◌, ◌^◌, false, true, unwrap_or, IfSome};
 ghost use Rattle.pb_text.specs.Automaton.{Accepts, MayAsk};
 ghost use Rattle.pb_text.specs.Pulling.{OfGiven};
-ghost use Rattle.pb_tool.specs.Faults.{faults_told};
-ghost use Rattle.pb_tool.specs.Files.{TidiesFile, TidiesProof};
-ghost use Rattle.pb_tool.specs.Gathered.{TidiesEach};
-ghost use Rattle.pb_tool.specs.Given.{TidiesGiven};
-ghost use Rattle.pb_tool.specs.Seen.{SawFile};
-ghost use Rattle.pb_tool.specs.Tidy.{Tidies};
+ghost use Rattle.pb_tool.specs.contract.Faults.{faults_told};
+ghost use Rattle.pb_tool.specs.meaning.Files.{TidiesFile, TidiesProof};
+ghost use Rattle.pb_tool.specs.engine.Gathered.{TidiesEach};
+ghost use Rattle.pb_tool.specs.contract.Given.{TidiesGiven};
+ghost use Rattle.pb_tool.specs.contract.Seen.{SawFile};
+ghost use Rattle.pb_tool.specs.meaning.Tidy.{Tidies};
 
 mod form_lines;
 mod instance_text;

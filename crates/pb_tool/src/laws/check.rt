@@ -1,10 +1,10 @@
 //! Laws of checks. These functions do nothing: the laws are what they ensure.
 
-ghost use Rattle.pb_tool.specs.Fields.{KeepsItsParts};
-ghost use Rattle.pb_tool.specs.Decided.{AnswersExactly, OneAnswer};
-ghost use Rattle.pb_tool.specs.Headline.{UnsatIsExact, UnsatIsTrue, VerdictsAreTrue};
-ghost use Rattle.pb_tool.specs.Pieces.{AnyCutting};
-ghost use Rattle.pb_tool.specs.Single.{AllSingle};
+ghost use Rattle.pb_tool.specs.contract.Fields.{KeepsItsParts};
+ghost use Rattle.pb_tool.specs.meaning.Decided.{AnswersExactly, OneAnswer};
+ghost use Rattle.pb_tool.specs.meaning.Headline.{UnsatIsExact, UnsatIsTrue, VerdictsAreTrue};
+ghost use Rattle.pb_tool.specs.contract.Pieces.{AnyCutting};
+ghost use Rattle.pb_tool.specs.engine.Single.{AllSingle};
 
 use crate::commands::check::checker::texts_are_read;
 use pb_proof::laws::values::{one_value, proofs_are_values};

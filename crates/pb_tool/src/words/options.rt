@@ -3,10 +3,10 @@
 ghost use Rattle.std.specs.Prelude.{◌≡◌, IfErr, IfOk, false};
 ghost use Rattle.clap.specs.Words.{app_of, kind_of, rule_of};
 ghost use Rattle.clap.specs.declared.builder.Command.TheViews.{out-Command as fields_of};
-ghost use Rattle.pb_tool.specs.Words.{check_command, checker_command, flag_rule, instance_rule};
-ghost use Rattle.pb_tool.specs.Words.{pb_command, pb_program, reader_command, show_command};
-ghost use Rattle.pb_tool.specs.Words.{switch_rule, tidy_command, trace_command, value_rule};
-ghost use Rattle.pb_tool.specs.Words.{with_numbers as with_number_rules};
+ghost use Rattle.pb_tool.specs.contract.Words.{check_command, checker_command, flag_rule, instance_rule};
+ghost use Rattle.pb_tool.specs.contract.Words.{pb_command, pb_program, reader_command, show_command};
+ghost use Rattle.pb_tool.specs.contract.Words.{switch_rule, tidy_command, trace_command, value_rule};
+ghost use Rattle.pb_tool.specs.contract.Words.{with_numbers as with_number_rules};
 
 use clap::error::ErrorKind;
 use clap::{Arg, ArgAction, Command};

@@ -5,7 +5,7 @@ use Rattle.std.proofs.lemmas.List.{append-nil, take_all, take_more}
 use Rattle.pb_text.specs.Reading.{byte_limit}
 use Rattle.pb_replay.specs.declared.verdict.Verdict.{Verdict}
 use Rattle.pb_replay.specs.declared.verdict.Verdict.TheVariants.{Unsat}
-use Rattle.pb_tool.specs.Pieces.{ChecksAt, IsOpen, place_in}
+use Rattle.pb_tool.specs.contract.Pieces.{ChecksAt, IsOpen, place_in}
 use Rattle.pb_tool.specs.declared.commands.check.checker.CheckFault.{CheckFault}
 use Rattle.pb_examples.specs.Fed.{Verifies}
 use Rattle.pb_examples.proofs.Sound.{true_of}

@@ -3,8 +3,8 @@ use Rattle.std.specs.List.{flat_map}
 use Rattle.pb_text.specs.Reading.{byte_limit}
 use Rattle.pb_replay.specs.Replay.{State}
 use Rattle.pb_replay.specs.declared.fault.Fault.{Fault}
-use Rattle.pb_tool.specs.Checker.{IsAt}
-use Rattle.pb_tool.specs.Pieces.{ChecksAt, fault_of}
+use Rattle.pb_tool.specs.contract.Checker.{IsAt}
+use Rattle.pb_tool.specs.contract.Pieces.{ChecksAt, fault_of}
 use Rattle.pb_examples.proofs.fed.is_refuted_in_pieces.Given as goal
 
 -- The checker was fed the pieces so far, and has no fault.

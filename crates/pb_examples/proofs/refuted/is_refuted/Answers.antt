@@ -6,10 +6,10 @@ use Rattle.pb_text.specs.declared.Limits.{Limits}
 use Rattle.pb_text.specs.declared.over.Over.{Over}
 use Rattle.pb_replay.specs.declared.verdict.Verdict.{Verdict}
 use Rattle.pb_replay.specs.declared.verdict.Verdict.TheVariants.{Unsat}
-use Rattle.pb_tool.specs.Decided.{AreVerified}
-use Rattle.pb_tool.specs.Headline.{AreWidest, IsUnsatText, UnsatIsExact, UnsatOf}
-use Rattle.pb_tool.specs.Tidy.{IsOpbFile}
-use Rattle.pb_tool.specs.Verified.{ChecksFiles}
+use Rattle.pb_tool.specs.meaning.Decided.{AreVerified}
+use Rattle.pb_tool.specs.meaning.Headline.{AreWidest, IsUnsatText, UnsatIsExact, UnsatOf}
+use Rattle.pb_tool.specs.meaning.Tidy.{IsOpbFile}
+use Rattle.pb_tool.specs.meaning.Verified.{ChecksFiles}
 use Rattle.pb_tool.specs.declared.fault.ToolFault.{ToolFault}
 use Rattle.pb_examples.proofs.refuted.is_refuted.Goals as goal
 use Rattle.pb_examples.proofs.refuted.is_refuted.Goals.{in-Unsat, in_default}

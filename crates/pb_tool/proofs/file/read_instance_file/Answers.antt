@@ -3,8 +3,8 @@ use Rattle.pb_text.specs.Pulling.{faults_with}
 use Rattle.pb_text.specs.Limits.{largest, top_of}
 use Rattle.pb_text.specs.Whole.{IsRead}
 use Rattle.pb_opb.specs.Reading.{ReadsInstance}
-use Rattle.pb_tool.specs.Tidy.{IsOpb}
-use Rattle.pb_tool.specs.Tidy.IsRefused.{InText, InRest}
+use Rattle.pb_tool.specs.meaning.Tidy.{IsOpb}
+use Rattle.pb_tool.specs.meaning.Tidy.IsRefused.{InText, InRest}
 use Rattle.pb_opb.specs.Values.{IsValueOf}
 use Rattle.pb_tool.proofs.Given.{file_behind, given_file, given_stray, used_of}
 use Rattle.pb_tool.proofs.file.read_instance_file.Goals as goal

@@ -6,8 +6,8 @@ ghost use Rattle.pb_proof.specs.Values.{IsStatementValue};
 ghost use Rattle.pb_replay.specs.Replay.{State};
 ghost use Rattle.pb_replay.specs.declared.fault.Fault.{Fault as AFault};
 ghost use Rattle.pb_replay.specs.Meaning.{IsFront};
-ghost use Rattle.pb_tool.specs.Checker.{IsAt, StepsFrom, TextsAreRead};
-ghost use Rattle.pb_tool.specs.Faults.{check_fault_text};
+ghost use Rattle.pb_tool.specs.contract.Checker.{IsAt, StepsFrom, TextsAreRead};
+ghost use Rattle.pb_tool.specs.contract.Faults.{check_fault_text};
 
 use pb_proof::laws::values::reads_are_of_proofs;
 use pb_proof::laws::{no_front, proofs_are_exact};
@@ -62,7 +62,7 @@ pub struct Checker {
 }
 
 impl Model for Checker {
-    ghost use Rattle.pb_tool.specs.Checker.{Checking, IsSomewhere};
+    ghost use Rattle.pb_tool.specs.contract.Checker.{Checking, IsSomewhere};
 
     ghost Value = { Checking };
 
@@ -80,8 +80,8 @@ impl Checker {
     ghost use Rattle.pb_text.specs.Blank.{IsInReach};
     ghost use Rattle.pb_text.specs.declared.Limits.{Limits};
     ghost use Rattle.pb_replay.specs.Problem.{Problem};
-    ghost use Rattle.pb_tool.specs.Checks.{Ends};
-    ghost use Rattle.pb_tool.specs.Pieces.{ChecksAt, ChecksOnce, EndsStatement, HoldsOpen, IsOpen, IsUnread, WantsMemory, bytes_gone, fault_in, fault_of, is_whole, place_in};
+    ghost use Rattle.pb_tool.specs.contract.Checks.{Ends};
+    ghost use Rattle.pb_tool.specs.contract.Pieces.{ChecksAt, ChecksOnce, EndsStatement, HoldsOpen, IsOpen, IsUnread, WantsMemory, bytes_gone, fault_in, fault_of, is_whole, place_in};
     ghost use Rattle.pb_tool.specs.declared.commands.check.checker.CheckFault.{CheckFault as ACheckFault};
 
     /// A checker of a proof for the replay, in whatever state the replay is. It stops at a statement that has not ended

@@ -2,8 +2,8 @@
 
 ghost use Rattle.std.specs.Prelude.{◌≡◌, ◌<◌, Err, Result, IfErr, IfOk};
 ghost use Rattle.pb_text.specs.Pulling.{OfGiven};
-ghost use Rattle.pb_tool.specs.Runs.{IsNoReplay, IsReplayOf, faults_of_instance};
-ghost use Rattle.pb_tool.specs.Seen.{SawInstance};
+ghost use Rattle.pb_tool.specs.contract.Runs.{IsNoReplay, IsReplayOf, faults_of_instance};
+ghost use Rattle.pb_tool.specs.contract.Seen.{SawInstance};
 
 use crate::fault::{Input, ToolFault, refused};
 use crate::file::read_instance_file;

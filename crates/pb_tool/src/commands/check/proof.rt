@@ -9,11 +9,11 @@ ghost use Rattle.pb_replay.specs.Replay.{State};
 ghost use Rattle.pb_replay.specs.Kept.{StandsFor};
 ghost use Rattle.pb_replay.specs.Meaning.{IsFront};
 ghost use Rattle.pb_replay.specs.declared.fault.Fault.{Fault as AFault};
-ghost use Rattle.pb_tool.specs.Checker.{IsAt, StepsFrom};
-ghost use Rattle.pb_tool.specs.Runs.{IsToldAs, Replays, Runs, faults_of_proof, faults_of_text};
-ghost use Rattle.pb_tool.specs.Seen.{SawProof, SawText};
-ghost use Rattle.pb_tool.specs.Verified.{IsTold};
-ghost use Rattle.pb_tool.specs.Watched.{ShowsProof, ShowsRun, call_for};
+ghost use Rattle.pb_tool.specs.contract.Checker.{IsAt, StepsFrom};
+ghost use Rattle.pb_tool.specs.contract.Runs.{IsToldAs, Replays, Runs, faults_of_proof, faults_of_text};
+ghost use Rattle.pb_tool.specs.contract.Seen.{SawProof, SawText};
+ghost use Rattle.pb_tool.specs.meaning.Verified.{IsTold};
+ghost use Rattle.pb_tool.specs.contract.Watched.{ShowsProof, ShowsRun, call_for};
 
 use crate::commands::check::checker::{CheckFault, step_by};
 use crate::commands::check::watch::Watch;

@@ -3,7 +3,7 @@
 ghost use Rattle.std.specs.Prelude.{◌≡◌};
 ghost use Rattle.pb_text.specs.Writing.{Writes};
 ghost use Rattle.pb_proof.specs.Canonical.{bound_bytes};
-ghost use Rattle.pb_tool.specs.Verified.{verdict_line};
+ghost use Rattle.pb_tool.specs.meaning.Verified.{verdict_line};
 
 use crate::fault::write_parts;
 use itoa::Buffer;

@@ -1,7 +1,7 @@
 //! What sees the statements of a check while it runs.
 
 ghost use Rattle.std.specs.Prelude.{◌≡◌};
-ghost use Rattle.pb_tool.specs.Watched.{Accepted, Call, Rejected};
+ghost use Rattle.pb_tool.specs.contract.Watched.{Accepted, Call, Rejected};
 
 use crate::commands::check::checker::CheckFault;
 use pb_proof::Statement;

@@ -7,8 +7,8 @@ ghost use Rattle.pb_normal.specs.Form.{Form};
 ghost use Rattle.pb_normal.specs.Names.{with_names};
 ghost use Rattle.pb_normal.specs.Written.{linear_of, names_of};
 ghost use Rattle.pb_opb.specs.declared.OpbEvent.TheVariants.{Constraint};
-ghost use Rattle.pb_tool.specs.InstanceText.{line};
-ghost use Rattle.pb_tool.specs.NormalText.{form_lines};
+ghost use Rattle.pb_tool.specs.engine.InstanceText.{line};
+ghost use Rattle.pb_tool.specs.engine.NormalText.{form_lines};
 
 use crate::canonical::write_line;
 use crate::commands::tidy::page::Page;

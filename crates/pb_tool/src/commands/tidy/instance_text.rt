@@ -2,7 +2,7 @@
 
 ghost use Rattle.std.specs.Prelude.{◌≡◌, ◌++◌, None, OnErr, OnOk};
 ghost use Rattle.pb_text.specs.Writing.{Writes};
-ghost use Rattle.pb_tool.specs.InstanceText.{line, line_if, text_of};
+ghost use Rattle.pb_tool.specs.engine.InstanceText.{line, line_if, text_of};
 
 use crate::canonical::{Canonical, write_line};
 use crate::commands::tidy::page::Page;
@@ -87,7 +87,7 @@ impl Canonical for InstanceText {
 }
 
 impl Gather for InstanceText {
-    ghost use Rattle.pb_tool.specs.InstanceText.{asks, with};
+    ghost use Rattle.pb_tool.specs.engine.InstanceText.{asks, with};
 
     type Event = OpbEvent;
 

@@ -7,9 +7,9 @@ ghost use Rattle.pb_sums.specs.declared.Linear.{Linear as Written};
 ghost use Rattle.pb_normal.specs.Written.{names_of};
 ghost use Rattle.pb_opb.specs.declared.Instance.{Instance};
 ghost use Rattle.pb_opb.specs.declared.OpbEvent.TheVariants.{Header};
-ghost use Rattle.pb_tool.specs.InstanceText.{line, line_if};
-ghost use Rattle.pb_tool.specs.NormalText.{AreMade, IsInOrder};
-ghost use Rattle.pb_tool.specs.Tidy.{IsAsked, IsDenied, WritesText, tidied};
+ghost use Rattle.pb_tool.specs.engine.InstanceText.{line, line_if};
+ghost use Rattle.pb_tool.specs.engine.NormalText.{AreMade, IsInOrder};
+ghost use Rattle.pb_tool.specs.meaning.Tidy.{IsAsked, IsDenied, WritesText, tidied};
 
 use crate::canonical::write_line;
 use crate::commands::tidy::form_lines::FormLines;
@@ -89,7 +89,7 @@ impl Model for NormalText {
     ghost use Rattle.std.specs.Prelude.{List};
     ghost use Rattle.pb_text.specs.declared.Limits.{Limits};
     ghost use Rattle.pb_opb.specs.declared.OpbEvent.{OpbEvent};
-    ghost use Rattle.pb_tool.specs.NormalText.{IsNoted};
+    ghost use Rattle.pb_tool.specs.engine.NormalText.{IsNoted};
 
     ghost Value = { Limits × List OpbEvent };
 
@@ -155,7 +155,7 @@ fn write_normal<W: Sink>(
 }
 
 impl Gather for NormalText {
-    ghost use Rattle.pb_tool.specs.NormalText.{noted};
+    ghost use Rattle.pb_tool.specs.engine.NormalText.{noted};
 
     type Event = OpbEvent;
 

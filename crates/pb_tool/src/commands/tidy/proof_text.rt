@@ -2,7 +2,7 @@
 
 ghost use Rattle.std.specs.Prelude.{◌≡◌, ◌++◌, OnErr, OnOk};
 ghost use Rattle.pb_text.specs.Writing.{Writes};
-ghost use Rattle.pb_tool.specs.ProofText.{back_of, front_of, line, text_of};
+ghost use Rattle.pb_tool.specs.engine.ProofText.{back_of, front_of, line, text_of};
 
 use crate::canonical::{Canonical, write_line};
 use crate::commands::tidy::page::Page;
@@ -78,7 +78,7 @@ impl Canonical for ProofText {
 
 impl Gather for ProofText {
     ghost use Rattle.pb_proof.specs.Gather.{asks};
-    ghost use Rattle.pb_tool.specs.ProofText.{with};
+    ghost use Rattle.pb_tool.specs.engine.ProofText.{with};
 
     type Event = Statement;
 

@@ -3,7 +3,7 @@ use Rattle.pb_text.specs.Feeding.{place_of}
 use Rattle.pb_text.specs.PullsInARow.{HasPulled}
 use Rattle.pb_text.specs.Writing.{Wrote}
 use Rattle.pb_text.specs.declared.Spanned.{Spanned}
-use Rattle.pb_tool.specs.Show.{shown}
+use Rattle.pb_tool.specs.contract.Show.{shown}
 use Rattle.pb_tool.proofs.GivenRow.{HasGiven}
 use Rattle.pb_tool.proofs.commands.show.show_each.Given as goal
 

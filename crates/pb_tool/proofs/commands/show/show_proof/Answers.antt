@@ -2,7 +2,7 @@ use Rattle.std.proofs.Common.{Some, ◌++◌}
 use Rattle.pb_text.specs.Automaton.{Accepts, MayAsk}
 use Rattle.pb_proof.specs.Machine.State.{proofs}
 use Rattle.pb_proof.specs.Canonical.{statement_bytes}
-use Rattle.pb_tool.specs.Files.{AsksVeri, IsVeri}
+use Rattle.pb_tool.specs.meaning.Files.{AsksVeri, IsVeri}
 use Rattle.pb_tool.proofs.Shown.{shows_to}
 use Rattle.pb_tool.proofs.commands.show.show_proof.Goals as goal
 

@@ -1,7 +1,7 @@
 use Rattle.std.proofs.Common.{Ok, Err, sym, subst}
 use Rattle.pb_text.specs.Blank.{ReadsBlank}
-use Rattle.pb_tool.specs.Runs.{Replays}
-use Rattle.pb_tool.specs.Verified.{InProof, BehindProof}
+use Rattle.pb_tool.specs.contract.Runs.{Replays}
+use Rattle.pb_tool.specs.meaning.Verified.{InProof, BehindProof}
 use Rattle.pb_tool.specs.declared.fault.ToolFault.{ToolFault}
 use Rattle.pb_tool.proofs.Accepted.{step_told, whole_file}
 use Rattle.pb_tool.proofs.CheckGiven.{given_behind, given_text, given_told, given_whole}

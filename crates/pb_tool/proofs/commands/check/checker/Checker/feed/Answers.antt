@@ -1,7 +1,7 @@
 use Rattle.std.proofs.Common.{◌++◌, ◌-◌, ℕ, List, length, take, drop, subst, sym, ap, ◌∙◌, arith}
 use Rattle.std.proofs.lemmas.List.{length-drop}
-use Rattle.pb_tool.specs.Pieces.{ChecksAt, WantsMemory, fault_of}
-use Rattle.pb_tool.specs.Checker.{Checking}
+use Rattle.pb_tool.specs.contract.Pieces.{ChecksAt, WantsMemory, fault_of}
+use Rattle.pb_tool.specs.contract.Checker.{Checking}
 use Rattle.pb_text.proofs.Spans.{all_rest}
 use Rattle.pb_tool.proofs.Checked as checked
 use Rattle.pb_tool.proofs.commands.check.checker.Checker.feed.Goals as goal

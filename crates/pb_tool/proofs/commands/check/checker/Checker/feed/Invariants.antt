@@ -4,7 +4,7 @@ use Rattle.pb_replay.specs.Meaning.{IsFront}
 use Rattle.pb_replay.specs.Replay.{State}
 use Rattle.pb_replay.specs.declared.fault.Fault.{Fault}
 use Rattle.pb_text.specs.declared.Limits.{Limits}
-use Rattle.pb_tool.specs.Pieces.{ChecksAt, fault_of, place_in}
+use Rattle.pb_tool.specs.contract.Pieces.{ChecksAt, fault_of, place_in}
 use Rattle.pb_tool.proofs.commands.check.checker.Checker.feed.Given as goal
 
 -- the checker was fed all that was consumed of the piece

@@ -1,5 +1,5 @@
 use Rattle.pb_opb.specs.Values.{constraints_in}
-use Rattle.pb_tool.specs.NormalText.{names_on}
+use Rattle.pb_tool.specs.engine.NormalText.{names_on}
 use Rattle.pb_tool.proofs.Noted.{noted_comment, noted_constraint, noted_header, noted_objective}
 use Rattle.pb_tool.proofs.commands.tidy.normal_text.NormalTextGather.add.Goals as goal
 

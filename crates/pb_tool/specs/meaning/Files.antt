@@ -11,8 +11,8 @@ use Rattle.pb_proof.specs.Proofs.{IsProof, IsProofOf}
 use Rattle.pb_proof.specs.Reading.{AsksInProof, ReadsProof}
 use Rattle.pb_proof.specs.declared.Proof.{Proof}
 use Rattle.pb_proof.specs.declared.Statement.{Statement}
-use Rattle.pb_tool.specs.Show.{Shows}
-use Rattle.pb_tool.specs.Tidy.{AsksOpb, IsFile, IsOpb, IsRefused, Tidies, TidiesAs}
+use Rattle.pb_tool.specs.contract.Show.{Shows}
+use Rattle.pb_tool.specs.meaning.Tidy.{AsksOpb, IsFile, IsOpb, IsRefused, Tidies, TidiesAs}
 use Rattle.pb_tool.specs.declared.fault.ToolFault.{ToolFault}
 
 -- the first byte of the text is `p`

@@ -16,8 +16,8 @@ use Rattle.pb_proof.specs.declared.Statement.{Statement}
 use Rattle.pb_replay.specs.Problem.{Problem}
 use Rattle.pb_replay.specs.Replay.{State}
 use Rattle.pb_replay.specs.declared.fault.Fault.{Fault}
-use Rattle.pb_tool.specs.Checker.{Checking, Stands}
-use Rattle.pb_tool.specs.Checks.{Checks}
+use Rattle.pb_tool.specs.contract.Checker.{Checking, Stands}
+use Rattle.pb_tool.specs.contract.Checks.{Checks}
 use Rattle.pb_tool.specs.declared.commands.check.checker.Went.{Went}
 use Rattle.pb_tool.specs.declared.commands.check.checker.CheckFault.{CheckFault}
 use Rattle.pb_tool.specs.declared.commands.check.checker.CheckFault.TheVariants.{Text, Step}

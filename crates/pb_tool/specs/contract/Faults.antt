@@ -11,7 +11,7 @@ use Rattle.pb_tool.specs.declared.fault.Input.{Input}
 use Rattle.pb_tool.specs.declared.fault.Input.TheVariants.{File, Instance, Proof}
 use Rattle.pb_tool.specs.declared.fault.ToolFault.{ToolFault}
 use Rattle.pb_tool.specs.declared.fault.ToolFault.TheVariants as fault
-use Rattle.pb_tool.specs.Refusals.{refusal_text, refusal_status}
+use Rattle.pb_tool.specs.contract.Refusals.{refusal_text, refusal_status}
 
 -- the name of the input in a fault line
 abbrev pub prefix_of : Input → List ℕ

@@ -22,8 +22,8 @@ use Rattle.pb_replay.specs.declared.fault.Fault.TheVariants.{Memory as no_memory
 use Rattle.pb_replay.specs.declared.verdict.Verdict.{Verdict}
 use Rattle.pb_replay.specs.declared.verdict.Verdict.TheVariants as verdict
 use Rattle.pb_text.specs.Whole.{events_at}
-use Rattle.pb_tool.specs.Files.{AsksVeri, IsVeri, IsProofFile}
-use Rattle.pb_tool.specs.Tidy.{IsOpbFile, IsNoOpbFile}
+use Rattle.pb_tool.specs.meaning.Files.{AsksVeri, IsVeri, IsProofFile}
+use Rattle.pb_tool.specs.meaning.Tidy.{IsOpbFile, IsNoOpbFile}
 use Rattle.pb_tool.specs.declared.fault.ToolFault.{ToolFault}
 use Rattle.pb_tool.specs.declared.fault.ToolFault.TheVariants.{Text, Open, Overflow, Memory, Write, Step}
 use Rattle.pb_tool.specs.declared.fault.Input.TheVariants.{File, Instance as of_instance, Proof as of_proof}

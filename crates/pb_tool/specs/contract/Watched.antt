@@ -16,9 +16,9 @@ use Rattle.pb_replay.specs.Statements.{Outcome}
 use Rattle.pb_replay.specs.declared.fault.Fault.{Fault}
 use Rattle.pb_replay.specs.declared.fault.Fault.TheVariants.{Memory as no_memory, NotTotal}
 use Rattle.pb_replay.specs.declared.verdict.Verdict.{Verdict}
-use Rattle.pb_tool.specs.Checks.{KeepsNames}
-use Rattle.pb_tool.specs.Files.{IsVeri}
-use Rattle.pb_tool.specs.Tidy.{IsOpbFile}
+use Rattle.pb_tool.specs.contract.Checks.{KeepsNames}
+use Rattle.pb_tool.specs.meaning.Files.{IsVeri}
+use Rattle.pb_tool.specs.meaning.Tidy.{IsOpbFile}
 use Rattle.pb_tool.specs.declared.commands.check.checker.CheckFault.{CheckFault}
 use Rattle.pb_tool.specs.declared.commands.check.checker.CheckFault.TheVariants as check
 use Rattle.pb_tool.specs.declared.fault.ToolFault.{ToolFault}

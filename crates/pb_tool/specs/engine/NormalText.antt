@@ -14,8 +14,8 @@ use Rattle.pb_normal.specs.Form.{Form}
 use Rattle.pb_normal.specs.Names.{HasNames, with_names}
 use Rattle.pb_normal.specs.Written.{linear_of, names_of}
 use Rattle.pb_replay.specs.Problem.{objective_of}
-use Rattle.pb_tool.specs.InstanceText.{line}
-use Rattle.pb_tool.specs.Normalised.{SomePasses}
+use Rattle.pb_tool.specs.engine.InstanceText.{line}
+use Rattle.pb_tool.specs.contract.Normalised.{SomePasses}
 use Rattle.pb_tool.specs.declared.commands.tidy.form_lines.FormLines.{FormLines}
 use Rattle.pb_tool.specs.declared.commands.tidy.normal_text.Forms.{Forms}
 use Rattle.pb_tool.specs.declared.commands.tidy.normal_text.Standing.{Standing}

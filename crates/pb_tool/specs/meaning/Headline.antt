@@ -9,10 +9,10 @@ use Rattle.pb_replay.specs.Problem.{Solves}
 use Rattle.pb_replay.specs.Meaning.{MeansWritten}
 use Rattle.pb_replay.specs.declared.verdict.Verdict.{Verdict}
 use Rattle.pb_replay.specs.declared.verdict.Verdict.TheVariants.{Unsat}
-use Rattle.pb_tool.specs.Decided.{AreVerified, IsDecided}
-use Rattle.pb_tool.specs.Files.{IsProofFile}
-use Rattle.pb_tool.specs.Tidy.{IsOpbFile}
-use Rattle.pb_tool.specs.Verified.{ChecksFiles, IsVerified}
+use Rattle.pb_tool.specs.meaning.Decided.{AreVerified, IsDecided}
+use Rattle.pb_tool.specs.meaning.Files.{IsProofFile}
+use Rattle.pb_tool.specs.meaning.Tidy.{IsOpbFile}
+use Rattle.pb_tool.specs.meaning.Verified.{ChecksFiles, IsVerified}
 use Rattle.pb_tool.specs.declared.fault.ToolFault.{ToolFault}
 
 -- What a proof that was read shows of an instance is true of the instance as it is written.

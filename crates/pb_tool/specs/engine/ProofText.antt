@@ -5,8 +5,8 @@ use Rattle.pb_proof.specs.Proofs.{IsProofOf}
 use Rattle.pb_proof.specs.declared.proof.Proof.{Proof}
 use Rattle.pb_proof.specs.declared.statement.Statement.{Statement}
 use Rattle.pb_proof.specs.declared.statement.Statement.TheVariants.{Header, F, Output, Conclude, End}
-use Rattle.pb_tool.specs.Files.{tidied_proof}
-use Rattle.pb_tool.specs.Show.{line_of}
+use Rattle.pb_tool.specs.meaning.Files.{tidied_proof}
+use Rattle.pb_tool.specs.contract.Show.{line_of}
 use Rattle.pb_tool.specs.declared.commands.tidy.proof_text.ProofText.{ProofText}
 
 -- the line of a statement

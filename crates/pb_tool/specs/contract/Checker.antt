@@ -15,7 +15,7 @@ use Rattle.pb_replay.specs.Kept.{Replaying}
 use Rattle.pb_replay.specs.Kept.{StandsFor}
 use Rattle.pb_replay.specs.declared.fault.Fault.{Fault}
 use Rattle.pb_text.specs.Whole.{events_at}
-use Rattle.pb_tool.specs.Checks.{Checks, IsRefusedAt, KeepsNamesOf, Leads, Takes, Refuses}
+use Rattle.pb_tool.specs.contract.Checks.{Checks, IsRefusedAt, KeepsNamesOf, Leads, Takes, Refuses}
 use Rattle.pb_tool.specs.declared.commands.check.checker.CheckFault.{CheckFault}
 use Rattle.pb_tool.specs.declared.commands.check.checker.CheckFault.TheVariants.{Text, Step}
 

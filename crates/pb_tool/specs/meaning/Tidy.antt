@@ -18,7 +18,7 @@ use Rattle.pb_opb.specs.Reading.{AsksInInstance, ReadsInstance}
 use Rattle.pb_opb.specs.Values.{IsValueOf}
 use Rattle.pb_opb.specs.declared.Instance.{Instance}
 use Rattle.pb_opb.specs.declared.OpbEvent.{OpbEvent}
-use Rattle.pb_tool.specs.Normalised.{IsNormalised, Overflows}
+use Rattle.pb_tool.specs.contract.Normalised.{IsNormalised, Overflows}
 use Rattle.pb_tool.specs.declared.fault.ToolFault.{ToolFault}
 use Rattle.pb_tool.specs.declared.fault.ToolFault.TheVariants.{Text, Overflow, Memory, Write}
 use Rattle.pb_tool.specs.declared.fault.Input.TheVariants.{File}

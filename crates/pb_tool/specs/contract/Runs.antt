@@ -17,10 +17,10 @@ use Rattle.pb_replay.specs.declared.fault.Fault.{Fault}
 use Rattle.pb_replay.specs.declared.fault.Fault.TheVariants.{Memory as no_memory, Overflow as over, NotTotal}
 use Rattle.pb_replay.specs.declared.verdict.Verdict.{Verdict}
 use Rattle.pb_replay.specs.Kept.{StandsFor}
-use Rattle.pb_tool.specs.Checks.{KeepsNames}
-use Rattle.pb_tool.specs.Files.{AsksVeri, IsProofFile}
-use Rattle.pb_tool.specs.Tidy.{IsOpbFile, IsNoOpbFile}
-use Rattle.pb_tool.specs.Verified.{ComesTo, IsAccepted, IsRefusedStep, IsRefusedText, IsTold}
+use Rattle.pb_tool.specs.contract.Checks.{KeepsNames}
+use Rattle.pb_tool.specs.meaning.Files.{AsksVeri, IsProofFile}
+use Rattle.pb_tool.specs.meaning.Tidy.{IsOpbFile, IsNoOpbFile}
+use Rattle.pb_tool.specs.meaning.Verified.{ComesTo, IsAccepted, IsRefusedStep, IsRefusedText, IsTold}
 use Rattle.pb_tool.specs.declared.commands.check.checker.CheckFault.{CheckFault}
 use Rattle.pb_tool.specs.declared.commands.check.checker.CheckFault.TheVariants as check
 use Rattle.pb_tool.specs.declared.fault.ToolFault.{ToolFault}

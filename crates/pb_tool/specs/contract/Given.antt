@@ -5,11 +5,11 @@ use Rattle.pb_text.specs.Pulling.{OfGiven}
 use Rattle.pb_text.specs.declared.Limits.{Limits}
 use Rattle.pb_opb.specs.Canonical.{event_bytes}
 use Rattle.pb_proof.specs.Canonical.{statement_bytes}
-use Rattle.pb_tool.specs.Files.{AsksVeri, IsVeri, TidiesProof}
-use Rattle.pb_tool.specs.Show.{Shows}
+use Rattle.pb_tool.specs.meaning.Files.{AsksVeri, IsVeri, TidiesProof}
+use Rattle.pb_tool.specs.contract.Show.{Shows}
 use Rattle.pb_replay.specs.declared.verdict.Verdict.{Verdict}
-use Rattle.pb_tool.specs.Tidy.{AsksOpb, IsOpb, Tidies}
-use Rattle.pb_tool.specs.Verified.{ChecksFiles}
+use Rattle.pb_tool.specs.meaning.Tidy.{AsksOpb, IsOpb, Tidies}
+use Rattle.pb_tool.specs.meaning.Verified.{ChecksFiles}
 use Rattle.pb_tool.specs.declared.fault.ToolFault.{ToolFault}
 
 module _ (limits : Limits) (longest : ℕ) {W : Type 0} (contents : W → Option (List ℕ)) (faults : W → ℕ) where

@@ -1,0 +1,7 @@
+-- What private functions ensure.
+pub mod Gathered
+pub mod InstanceText
+pub mod NormalText
+pub mod Opening
+pub mod ProofText
+pub mod Single
