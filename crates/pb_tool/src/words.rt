@@ -77,7 +77,7 @@ pub fn read_words(alloc: Global, words: &[&str]) -> Result<Job, WordsFault>
 }
 
 /// What a subcommand with these entries asks for.
-#[tactic(auto, using(crate::proofs::Entries::wrong_number, crate::proofs::Entries::lacks_instance))]
+#[tactic(auto, using(crate::proofs::lemmas::words::Entries::wrong_number, crate::proofs::lemmas::words::Entries::lacks_instance))]
 fn job_of(alloc: Global, name: &str, given: &ArgMatches<'_>) -> Result<Job, WordsFault>
     requires { IsReader name.now }
     ensures ok { IfOk result (AsksFor (Some (name.now, rows_of (found_of given.now)))) }

@@ -1,5 +1,5 @@
 use Rattle.std.proofs.Common.{rules, []}
-use Rattle.pb_tool.proofs.Sequence.{broke_at}
+use Rattle.pb_tool.proofs.lemmas.tidy.WrittenInTurn.{broke_at}
 use Rattle.pb_tool.proofs.fault.write_parts.Goals as goal
 
 pub returns-in_err-write_bytes : goal.returns-in_err-write_bytes

@@ -3,7 +3,7 @@ use Rattle.pb_text.specs.Automaton.{Accepts, MayAsk}
 use Rattle.pb_text.specs.Pulling.{faults_with}
 use Rattle.pb_text.specs.Whole.{IsWhole, ReadsWhole}
 use Rattle.pb_tool.specs.meaning.Tidy.IsRefused.{InText, InRest}
-use Rattle.pb_tool.proofs.Given.{file_behind, given_file, given_stray, used_of}
+use Rattle.pb_tool.proofs.lemmas.file.GivenBytes.{file_behind, given_file, given_stray, used_of}
 use Rattle.pb_tool.proofs.file.read_file.Goals as goal
 
 pub returns-in-Ok-rest_is_blank-clause-file : goal.returns-in-Ok-rest_is_blank-clause-file

@@ -6,7 +6,7 @@ use Rattle.pb_opb.specs.Reading.{ReadsInstance}
 use Rattle.pb_tool.specs.meaning.Tidy.{IsOpb}
 use Rattle.pb_tool.specs.meaning.Tidy.IsRefused.{InText, InRest}
 use Rattle.pb_opb.specs.Values.{IsValueOf}
-use Rattle.pb_tool.proofs.Given.{file_behind, given_file, given_stray, used_of}
+use Rattle.pb_tool.proofs.lemmas.file.GivenBytes.{file_behind, given_file, given_stray, used_of}
 use Rattle.pb_tool.proofs.file.read_instance_file.Goals as goal
 
 pub returns-in-Ok-rest_is_blank-clause-file : goal.returns-in-Ok-rest_is_blank-clause-file

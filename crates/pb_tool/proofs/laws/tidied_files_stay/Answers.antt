@@ -1,4 +1,4 @@
-use Rattle.pb_tool.proofs.TidiedAgain.{tidied_again}
+use Rattle.pb_tool.proofs.lemmas.tidy.TidiedAgain.{tidied_again}
 use Rattle.pb_tool.proofs.laws.tidied_files_stay.Goals as goal
 
 pub returns : goal.returns

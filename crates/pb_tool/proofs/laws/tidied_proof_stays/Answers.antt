@@ -4,7 +4,7 @@ use Rattle.pb_proof.specs.Canonical.{proof_bytes}
 use Rattle.pb_proof.specs.Proofs.{IsProofOf}
 use Rattle.pb_tool.specs.meaning.Files.{tidied_proof, IsVeri}
 use Rattle.pb_text.proofs.Numbers.{largest_small}
-use Rattle.pb_tool.proofs.Stays.{faultless, read_alone}
+use Rattle.pb_tool.proofs.lemmas.tidy.ReadBack.{faultless, read_alone}
 use Rattle.pb_tool.proofs.laws.tidied_proof_stays.Goals as goal
 
 pub returns-clause-taken : goal.returns-clause-taken

@@ -5,7 +5,7 @@ use Rattle.pb_opb.specs.Values.{IsValueOf}
 use Rattle.pb_opb.specs.declared.Instance.{Instance}
 use Rattle.pb_tool.specs.meaning.Tidy.{tidied, IsOpb}
 use Rattle.pb_text.proofs.Numbers.{largest_small}
-use Rattle.pb_tool.proofs.Stays.{faultless, read_alone, written}
+use Rattle.pb_tool.proofs.lemmas.tidy.ReadBack.{faultless, read_alone, written}
 use Rattle.pb_tool.proofs.laws.tidied_text_stays.Goals as goal
 
 -- an instance begins with a star

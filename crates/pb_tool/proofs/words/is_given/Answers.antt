@@ -1,7 +1,7 @@
 use Rattle.std.proofs.Common.{◌∙◌}
 use Rattle.clap.specs.Words.{found_of}
 use Rattle.clap.proofs.WalkLemmas.{first_value-rows}
-use Rattle.pb_tool.proofs.Entries.{switched, not_switched}
+use Rattle.pb_tool.proofs.lemmas.words.Entries.{switched, not_switched}
 use Rattle.pb_tool.proofs.words.is_given.Goals as goal
 
 pub returns-in-Some : goal.returns-in-Some

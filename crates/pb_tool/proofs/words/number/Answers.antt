@@ -1,7 +1,7 @@
 use Rattle.std.proofs.Common.{◌∙◌}
 use Rattle.clap.specs.Words.{found_of}
 use Rattle.clap.proofs.WalkLemmas.{first_value-rows}
-use Rattle.pb_tool.proofs.Entries.{absent, given, outside}
+use Rattle.pb_tool.proofs.lemmas.words.Entries.{absent, given, outside}
 use Rattle.pb_tool.proofs.words.number.Goals as goal
 
 pub returns-in_default-clause-ok : goal.returns-in_default-clause-ok

@@ -1,7 +1,7 @@
 use Rattle.clap.specs.Walk.{texts}
 use Rattle.clap.specs.Words.{found_of, rows_of}
-use Rattle.pb_tool.proofs.Named.{reader_named}
-use Rattle.pb_tool.proofs.Parsed.{always_ok, asked_by_entry, explained_by_clap, explained_by_entry, explained_by_memory, named_entry, right_words}
+use Rattle.pb_tool.proofs.lemmas.words.NoHelp.{reader_named}
+use Rattle.pb_tool.proofs.lemmas.words.Parsed.{always_ok, asked_by_entry, explained_by_clap, explained_by_entry, explained_by_memory, named_entry, right_words}
 use Rattle.pb_tool.proofs.words.read_words.Goals as goal
 
 pub job_of-requires : goal.job_of-requires

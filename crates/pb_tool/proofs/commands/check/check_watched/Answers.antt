@@ -1,10 +1,10 @@
 use Rattle.std.proofs.Common.{◌≡◌, ◌^◌, [], ◌++◌, Some, refl, sym, append-nil, unwrap_or}
 use Rattle.pb_replay.specs.Replay.{first_state}
 use Rattle.pb_replay.specs.declared.verdict.Verdict.TheVariants.{Unsat}
-use Rattle.pb_tool.proofs.Accepted as accepted
-use Rattle.pb_tool.proofs.Looked.{opening_unseen, replay_unseen}
-use Rattle.pb_tool.proofs.Headline as headline
-use Rattle.pb_tool.proofs.Watched.{watched_none, watched_ok, watched_refused, watched_unwritten}
+use Rattle.pb_tool.proofs.lemmas.check.TwoSources as accepted
+use Rattle.pb_tool.proofs.lemmas.check.Peeked.{opening_unseen, replay_unseen}
+use Rattle.pb_tool.proofs.lemmas.check.Headline as headline
+use Rattle.pb_tool.proofs.lemmas.check.WatchCalls.{watched_none, watched_ok, watched_refused, watched_unwritten}
 use Rattle.pb_tool.proofs.commands.check.check_watched.Goals as goal
 
 pub returns-in-Err-clause-checks : goal.returns-in-Err-clause-checks

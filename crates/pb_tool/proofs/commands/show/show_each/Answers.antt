@@ -6,8 +6,8 @@ use Rattle.pb_text.proofs.Parts.{part_wrote}
 use Rattle.pb_text.proofs.Writing.{writes_nothing}
 use Rattle.pb_text.specs.Pulling.{OfGiven}
 use Rattle.pb_tool.specs.contract.Show.{EndsAt, InText}
-use Rattle.pb_tool.proofs.GivenRow.{given_broken, given_next, given_refused, given_row, given_shown, given_so_far}
-use Rattle.pb_tool.proofs.Shown.{fewer, first_pull, shown_more, shows_end, so_far_within}
+use Rattle.pb_tool.proofs.lemmas.show.GivenStatements.{given_broken, given_next, given_refused, given_row, given_shown, given_so_far}
+use Rattle.pb_tool.proofs.lemmas.show.ShownStatements.{fewer, first_pull, shown_more, shows_end, so_far_within}
 use Rattle.pb_tool.proofs.commands.show.show_each.Goals as goal
 
 pub loop-read-init : goal.loop-read-init

@@ -3,7 +3,7 @@ use Rattle.pb_text.specs.Automaton.{Accepts, MayAsk}
 use Rattle.pb_opb.specs.State.{opb}
 use Rattle.pb_opb.specs.Canonical.{event_bytes}
 use Rattle.pb_tool.specs.meaning.Tidy.{AsksOpb, IsOpb}
-use Rattle.pb_tool.proofs.Shown.{shows_to}
+use Rattle.pb_tool.proofs.lemmas.show.ShownStatements.{shows_to}
 use Rattle.pb_tool.proofs.commands.show.show_instance.Goals as goal
 
 pub returns-clause-shows : goal.returns-clause-shows

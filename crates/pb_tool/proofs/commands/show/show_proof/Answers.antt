@@ -3,7 +3,7 @@ use Rattle.pb_text.specs.Automaton.{Accepts, MayAsk}
 use Rattle.pb_proof.specs.Machine.State.{proofs}
 use Rattle.pb_proof.specs.Canonical.{statement_bytes}
 use Rattle.pb_tool.specs.meaning.Files.{AsksVeri, IsVeri}
-use Rattle.pb_tool.proofs.Shown.{shows_to}
+use Rattle.pb_tool.proofs.lemmas.show.ShownStatements.{shows_to}
 use Rattle.pb_tool.proofs.commands.show.show_proof.Goals as goal
 
 pub returns-clause-shows : goal.returns-clause-shows

@@ -1,7 +1,7 @@
 use Rattle.std.proofs.Common.{Some, ◌++◌, ◌∙◌, refl}
 use Rattle.pb_text.specs.Automaton.{Accepts, MayAsk}
 use Rattle.pb_opb.specs.State.{opb}
-use Rattle.pb_tool.proofs.NormalFile.{told_faults, told_file, told_on, unnoted}
+use Rattle.pb_tool.proofs.lemmas.tidy.NormalFile.{told_faults, told_file, told_on, unnoted}
 use Rattle.pb_tool.proofs.commands.tidy.tidy_normal.Goals as goal
 
 pub returns-in-Err-clause-tidies : goal.returns-in-Err-clause-tidies

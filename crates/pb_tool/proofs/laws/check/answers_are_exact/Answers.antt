@@ -1,4 +1,4 @@
-use Rattle.pb_tool.proofs.OneAnswer as answer
+use Rattle.pb_tool.proofs.lemmas.check.OneAnswer as answer
 use Rattle.pb_tool.proofs.laws.check.answers_are_exact.Goals as goal
 
 pub returns : goal.returns

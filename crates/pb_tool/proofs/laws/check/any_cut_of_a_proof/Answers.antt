@@ -1,4 +1,4 @@
-use Rattle.pb_tool.proofs.Checked as checked
+use Rattle.pb_tool.proofs.lemmas.check.CheckerSteps as checked
 use Rattle.pb_tool.proofs.laws.check.any_cut_of_a_proof.Goals as goal
 
 pub returns : goal.returns

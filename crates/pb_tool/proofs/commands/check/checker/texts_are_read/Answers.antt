@@ -1,4 +1,4 @@
-use Rattle.pb_tool.proofs.Checked.{texts_read}
+use Rattle.pb_tool.proofs.lemmas.check.CheckerSteps.{texts_read}
 use Rattle.pb_tool.proofs.commands.check.checker.texts_are_read.Goals as goal
 
 pub returns : goal.returns

@@ -3,10 +3,10 @@ use Rattle.pb_text.specs.Blank.{ReadsBlank}
 use Rattle.pb_tool.specs.contract.Runs.{Replays}
 use Rattle.pb_tool.specs.meaning.Verified.{InProof, BehindProof}
 use Rattle.pb_tool.specs.declared.fault.ToolFault.{ToolFault}
-use Rattle.pb_tool.proofs.Accepted.{step_told, whole_file}
-use Rattle.pb_tool.proofs.CheckGiven.{given_behind, given_text, given_told, given_whole}
-use Rattle.pb_tool.proofs.Looked.{told_unseen}
-use Rattle.pb_tool.proofs.Watched.{given_proof_behind, given_proof_ended, given_proof_rejected, given_proof_stopped, proof_behind, proof_ended, proof_rejected, proof_stopped}
+use Rattle.pb_tool.proofs.lemmas.check.TwoSources.{step_told, whole_file}
+use Rattle.pb_tool.proofs.lemmas.check.GivenProof.{given_behind, given_text, given_told, given_whole}
+use Rattle.pb_tool.proofs.lemmas.check.Peeked.{told_unseen}
+use Rattle.pb_tool.proofs.lemmas.check.WatchCalls.{given_proof_behind, given_proof_ended, given_proof_rejected, given_proof_stopped, proof_behind, proof_ended, proof_rejected, proof_stopped}
 use Rattle.pb_tool.proofs.commands.check.proof.replayed.Goals as goal
 
 pub returns-in-Err-Text-clause-replayed : goal.returns-in-Err-Text-clause-replayed

@@ -2,11 +2,11 @@ use Rattle.std.proofs.Common.{ℕ, ◌^◌, ◌≤◌, [], ◌∷◌, ◌++◌, 
 use Rattle.pb_text.specs.Pulling.{faults_with}
 use Rattle.pb_text.specs.declared.Place.{Place}
 use Rattle.pb_text.specs.Feeding.{place_of}
-use Rattle.pb_tool.proofs.CheckGiven.{given_ended, given_step, given_stopped, moved}
-use Rattle.pb_tool.proofs.GivenRow.{given_next, given_row, given_so_far}
-use Rattle.pb_tool.proofs.Replayed as replayed
-use Rattle.pb_tool.proofs.Shown.{fewer, first_pull, so_far_within}
-use Rattle.pb_tool.proofs.Watched.{shown_ended, shown_ended_given, shown_first, shown_next, shown_rejected, shown_rejected_given, shown_stopped, shown_stopped_given}
+use Rattle.pb_tool.proofs.lemmas.check.GivenProof.{given_ended, given_step, given_stopped, moved}
+use Rattle.pb_tool.proofs.lemmas.show.GivenStatements.{given_next, given_row, given_so_far}
+use Rattle.pb_tool.proofs.lemmas.check.ReplayRuns as replayed
+use Rattle.pb_tool.proofs.lemmas.show.ShownStatements.{fewer, first_pull, so_far_within}
+use Rattle.pb_tool.proofs.lemmas.check.WatchCalls.{shown_ended, shown_ended_given, shown_first, shown_next, shown_rejected, shown_rejected_given, shown_stopped, shown_stopped_given}
 use Rattle.pb_tool.proofs.commands.check.proof.run.Goals as goal
 
 pub loop-read-init : goal.loop-read-init

@@ -9,8 +9,8 @@ use Rattle.pb_replay.specs.Replay.{State}
 use Rattle.pb_replay.specs.Statements.{Accepts}
 use Rattle.pb_text.specs.Whole.{events_at}
 use Rattle.pb_replay.specs.Kept.{StandsFor}
-use Rattle.pb_tool.proofs.GivenRow.{HasGiven}
-use Rattle.pb_tool.proofs.Watched.{HasShown}
+use Rattle.pb_tool.proofs.lemmas.show.GivenStatements.{HasGiven}
+use Rattle.pb_tool.proofs.lemmas.check.WatchCalls.{HasShown}
 use Rattle.pb_tool.proofs.commands.check.proof.run.Given as goal
 
 -- The statements so far were accepted and shown, and the source has not failed. This holds for the bytes that are known of the

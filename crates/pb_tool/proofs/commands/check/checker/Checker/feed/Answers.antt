@@ -3,7 +3,7 @@ use Rattle.std.proofs.lemmas.List.{length-drop}
 use Rattle.pb_tool.specs.contract.Pieces.{ChecksAt, WantsMemory, fault_of}
 use Rattle.pb_tool.specs.contract.Checker.{Checking}
 use Rattle.pb_text.proofs.Spans.{all_rest}
-use Rattle.pb_tool.proofs.Checked as checked
+use Rattle.pb_tool.proofs.lemmas.check.CheckerSteps as checked
 use Rattle.pb_tool.proofs.commands.check.checker.Checker.feed.Goals as goal
 
 pub returns-in-Some-clause-checks : goal.returns-in-Some-clause-checks

@@ -1,5 +1,5 @@
 use Rattle.std.proofs.Common.{rules, sym, ◌∙◌}
-use Rattle.pb_tool.proofs.Checked as checked
+use Rattle.pb_tool.proofs.lemmas.check.CheckerSteps as checked
 use Rattle.pb_tool.proofs.commands.check.checker.Checker.finish.Goals as goal
 
 pub unreachable-requires : goal.unreachable-requires

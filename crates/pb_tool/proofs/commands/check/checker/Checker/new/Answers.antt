@@ -1,5 +1,5 @@
 use Rattle.std.proofs.Common.{[], refl}
-use Rattle.pb_tool.proofs.Checked.{leads_none, somewhere}
+use Rattle.pb_tool.proofs.lemmas.check.CheckerSteps.{leads_none, somewhere}
 use Rattle.pb_tool.proofs.commands.check.checker.Checker.new.Goals as goal
 
 pub invariant_of-result : goal.invariant_of-result

@@ -1,5 +1,5 @@
 use Rattle.pb_normal.specs.Written.{names_of}
-use Rattle.pb_tool.proofs.NormalForms.{lines_named}
+use Rattle.pb_tool.proofs.lemmas.tidy.FormLines.{lines_named}
 use Rattle.pb_tool.proofs.commands.tidy.normal_text.Forms.number.Goals as goal
 
 pub returns-in-Ok-clause-made : goal.returns-in-Ok-clause-made

@@ -20,7 +20,7 @@ use Rattle.pb_tool.specs.contract.Show.{shown_line, shown, EndsAt, IsSpelling, I
 use Rattle.pb_tool.specs.declared.fault.ToolFault.{ToolFault}
 use Rattle.pb_tool.specs.declared.fault.ToolFault.TheVariants.{Text, Open, Overflow, Memory, Write, Step}
 use Rattle.pb_tool.specs.declared.fault.Input.TheVariants.{File, Instance, Proof}
-use Rattle.pb_tool.proofs.OneRead.{so_far_reached}
+use Rattle.pb_tool.proofs.lemmas.check.OneRead.{so_far_reached}
 
 -- a text and the blank rest after it are no longer than an input may be
 pub rest_within : (used rest : List ℕ) (place : Place) → place ≡ place_after used → place.offset + length rest ≤ byte_limit → length (used ++ rest) ≤ byte_limit

@@ -24,8 +24,8 @@ use Rattle.pb_replay.specs.declared.fault.Fault.{Fault}
 use Rattle.pb_tool.specs.contract.Checker.{ProofFeeder, Stands, TextsAreRead}
 use Rattle.pb_tool.specs.contract.Pieces.{EndsStatement, HoldsOpen}
 use Rattle.pb_tool.specs.declared.commands.check.checker.CheckFault.{CheckFault}
-use Rattle.pb_tool.proofs.Checked.{running_at, told as so_far}
-use Rattle.pb_tool.proofs.Fronts.{no_front}
+use Rattle.pb_tool.proofs.lemmas.check.CheckerSteps.{running_at, told as so_far}
+use Rattle.pb_tool.proofs.lemmas.check.Prefixes.{no_front}
 
 -- ---- after whole statements none is unfinished
 length_plain : (gap : List ℕ) → length (plain gap) ≡ length gap

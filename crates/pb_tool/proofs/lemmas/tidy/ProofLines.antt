@@ -17,7 +17,7 @@ use Rattle.pb_tool.specs.engine.Gathered.{TidiesEach}
 use Rattle.pb_tool.specs.engine.ProofText.{line, with, text_of, IsTextOf}
 use Rattle.pb_tool.specs.declared.fault.ToolFault.{ToolFault}
 use Rattle.pb_tool.specs.declared.commands.tidy.proof_text.ProofText.{ProofText}
-use Rattle.pb_tool.proofs.TextFile.{tidies_value}
+use Rattle.pb_tool.proofs.lemmas.tidy.GatheredText.{tidies_value}
 
 -- lines, each with its line feed
 ended : (s : Statement) (rest : List Statement) → lines (s ∷ rest) ++ 10 ∷ [] ≡ flat_map line (s ∷ rest)

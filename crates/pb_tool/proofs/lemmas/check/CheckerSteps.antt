@@ -43,7 +43,7 @@ use Rattle.pb_tool.specs.contract.Checks.{Checks, IsReplayed, KeepsNames, KeepsN
 use Rattle.pb_tool.specs.contract.Pieces.{AnyCutting, bytes_to, ChecksAt, ChecksOnce, IsOpen, IsUnread, Feeds, WantsMemory, joined, fault_of, is_whole, place_in}
 use Rattle.pb_tool.specs.declared.commands.check.checker.CheckFault.{CheckFault}
 use Rattle.pb_tool.specs.declared.commands.check.checker.CheckFault.TheVariants.{Text, Step}
-use Rattle.pb_tool.proofs.Fronts.{no_front}
+use Rattle.pb_tool.proofs.lemmas.check.Prefixes.{no_front}
 
 abbrev pub failed : CheckFault → Result Unit CheckFault
 failed x = Err x

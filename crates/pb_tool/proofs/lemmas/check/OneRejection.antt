@@ -11,9 +11,9 @@ use Rattle.pb_text.specs.declared.Why.{Why}
 use Rattle.pb_text.proofs.Short.{place_after-offset}
 use Rattle.pb_tool.specs.meaning.Decided.{IsOfText}
 use Rattle.pb_tool.specs.contract.Show.{IsSpelling}
-use Rattle.pb_tool.proofs.Fronts.{same_behind}
-use Rattle.pb_tool.proofs.OneRead.{NoneGoesOn, OneSpelling, not_both, one_spelled, one_stop}
-use Rattle.pb_tool.proofs.OneRest.{not_stray, one_stray}
+use Rattle.pb_tool.proofs.lemmas.check.Prefixes.{same_behind}
+use Rattle.pb_tool.proofs.lemmas.check.OneRead.{NoneGoesOn, OneSpelling, not_both, one_spelled, one_stop}
+use Rattle.pb_tool.proofs.lemmas.check.OneRest.{not_stray, one_stray}
 
 -- all of an input was used
 pub all_taken : (input used : List ℕ) → input ≡ used ++ [] → input ≡ used

@@ -30,8 +30,8 @@ use Rattle.pb_tool.specs.declared.commands.check.checker.CheckFault.TheVariants 
 use Rattle.pb_tool.specs.declared.fault.ToolFault.{ToolFault}
 use Rattle.pb_tool.specs.declared.fault.ToolFault.TheVariants.{Text, Open, Overflow, Memory, Write, Step}
 use Rattle.pb_tool.specs.declared.fault.Input.TheVariants.{File, Instance as of_instance, Proof as of_proof}
-use Rattle.pb_tool.proofs.Checked.{spelled_events}
-use Rattle.pb_tool.proofs.Given.{file_behind}
+use Rattle.pb_tool.proofs.lemmas.check.CheckerSteps.{spelled_events}
+use Rattle.pb_tool.proofs.lemmas.file.GivenBytes.{file_behind}
 
 -- the name is among those from before the statement
 names_front : (names all more : List (List ℕ)) (n : ℕ) → all ≡ names ++ more → n < length names → get_or all n [] ≡ get_or names n []

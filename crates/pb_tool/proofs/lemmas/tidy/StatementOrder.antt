@@ -16,7 +16,7 @@ use Rattle.pb_opb.specs.declared.OpbEvent.TheVariants.{Header, Comment, Objectiv
 use Rattle.pb_opb.proofs.Counted.{IsEntry, IsCounted}
 use Rattle.pb_tool.specs.engine.InstanceText.{line}
 use Rattle.pb_tool.specs.meaning.Tidy.{is_bare, tidied}
-use Rattle.pb_tool.proofs.Feeds.{tidied_bare, tidied_more}
+use Rattle.pb_tool.proofs.lemmas.tidy.LastByte.{tidied_bare, tidied_more}
 
 -- the objectives and the constraints
 abbrev pub mains_in : List OpbEvent → List OpbEvent

@@ -30,10 +30,10 @@ use Rattle.pb_tool.specs.declared.commands.check.checker.CheckFault.TheVariants 
 use Rattle.pb_tool.specs.declared.fault.ToolFault.{ToolFault}
 use Rattle.pb_tool.specs.declared.fault.ToolFault.TheVariants.{Text, Open, Overflow, Memory, Write, Step}
 use Rattle.pb_tool.specs.declared.fault.Input.TheVariants.{File, Instance as of_instance, Proof as of_proof}
-use Rattle.pb_tool.proofs.Checked.{TellsOld, failed}
-use Rattle.pb_tool.proofs.GivenRow.{all_of}
-use Rattle.pb_tool.proofs.Replayed.{MayTake, Taken, to_proof}
-use Rattle.pb_tool.proofs.Shown.{all_to, so_far_to}
+use Rattle.pb_tool.proofs.lemmas.check.CheckerSteps.{TellsOld, failed}
+use Rattle.pb_tool.proofs.lemmas.show.GivenStatements.{all_of}
+use Rattle.pb_tool.proofs.lemmas.check.ReplayRuns.{MayTake, Taken, to_proof}
+use Rattle.pb_tool.proofs.lemmas.show.ShownStatements.{all_to, so_far_to}
 
 -- the result of a step, from any state of the replay
 abbrev Answers : Replaying → Spanned Statement → Result Unit CheckFault → Replaying → Type 0

@@ -29,11 +29,11 @@ use Rattle.pb_tool.specs.declared.commands.check.checker.CheckFault.TheVariants 
 use Rattle.pb_tool.specs.declared.fault.ToolFault.{ToolFault}
 use Rattle.pb_tool.specs.declared.fault.ToolFault.TheVariants.{Text}
 use Rattle.pb_tool.specs.declared.fault.Input.TheVariants.{Proof as of_proof}
-use Rattle.pb_tool.proofs.Accepted.{step_told, whole_file}
+use Rattle.pb_tool.proofs.lemmas.check.TwoSources.{step_told, whole_file}
 use Rattle.pb_text.proofs.Wholes.{given_both}
-use Rattle.pb_tool.proofs.GivenRow.{all_of}
-use Rattle.pb_tool.proofs.Checked.{TellsOld}
-use Rattle.pb_tool.proofs.Replayed as replayed
+use Rattle.pb_tool.proofs.lemmas.show.GivenStatements.{all_of}
+use Rattle.pb_tool.proofs.lemmas.check.CheckerSteps.{TellsOld}
+use Rattle.pb_tool.proofs.lemmas.check.ReplayRuns as replayed
 
 module _ (limits : Limits) (longest : ℕ) (v : Problem) (first : State) where
   -- the accepted statements of a proof, with another rest

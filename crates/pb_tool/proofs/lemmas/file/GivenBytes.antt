@@ -23,8 +23,8 @@ use Rattle.pb_tool.specs.meaning.Tidy.IsRefused.{InRest}
 use Rattle.pb_tool.specs.declared.fault.ToolFault.{ToolFault}
 use Rattle.pb_tool.specs.declared.fault.ToolFault.TheVariants.{Text}
 use Rattle.pb_tool.specs.declared.fault.Input.TheVariants.{File}
-use Rattle.pb_tool.proofs.Chosen.{shows_nothing, tidies_nothing}
-use Rattle.pb_tool.proofs.Shown.{rest_within}
+use Rattle.pb_tool.proofs.lemmas.file.ChosenFormat.{shows_nothing, tidies_nothing}
+use Rattle.pb_tool.proofs.lemmas.show.ShownStatements.{rest_within}
 
 -- the used bytes are the given ones, if all that was left after them was seen
 pub given_used : (given left used seen : List ℕ) → Took (Some (given ++ left)) used seen (Some left) → given ≡ used

@@ -28,8 +28,8 @@ use Rattle.pb_tool.specs.declared.fault.ToolFault.{ToolFault}
 use Rattle.pb_tool.specs.declared.fault.ToolFault.TheVariants.{Text, Open, Overflow, Memory, Write, Step}
 use Rattle.pb_tool.specs.declared.fault.Input.TheVariants.{File}
 use Rattle.pb_tool.specs.declared.fault.Input.TheVariants as input
-use Rattle.pb_tool.proofs.Restated.{written_so}
-use Rattle.pb_tool.proofs.Shown.{took_none}
+use Rattle.pb_tool.proofs.lemmas.file.OtherReading.{written_so}
+use Rattle.pb_tool.proofs.lemmas.show.ShownStatements.{took_none}
 
 -- the limit on a statement, given or not, is not 0
 pub some_of : (longest : Option ℕ) (n : ℕ) → n ≡ unwrap_or longest (2 ^ 40) → IfSome longest (λ m. 0 < m) → 0 < n

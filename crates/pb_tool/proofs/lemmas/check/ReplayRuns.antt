@@ -37,8 +37,8 @@ use Rattle.pb_tool.specs.meaning.Verified.{IsAccepted}
 use Rattle.pb_tool.specs.declared.commands.check.checker.CheckFault.{CheckFault}
 use Rattle.pb_tool.specs.declared.commands.check.checker.CheckFault.TheVariants as check
 use Rattle.pb_text.proofs.Unkept.{asking_to}
-use Rattle.pb_tool.proofs.Checked.{TellsOld, accepts_more, failed, last_is_value, proofs_read, shown_at, there}
-use Rattle.pb_tool.proofs.Shown.{all_to, so_far_to}
+use Rattle.pb_tool.proofs.lemmas.check.CheckerSteps.{TellsOld, accepts_more, failed, last_is_value, proofs_read, shown_at, there}
+use Rattle.pb_tool.proofs.lemmas.show.ShownStatements.{all_to, so_far_to}
 
 -- the result of a step, from any state of the replay
 abbrev Answers : Replaying → Spanned Statement → Result Unit CheckFault → Replaying → Type 0

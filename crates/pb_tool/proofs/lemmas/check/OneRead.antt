@@ -12,7 +12,7 @@ use Rattle.pb_text.specs.declared.Why.TheVariants.{Byte, TooLarge, Ended, TooLon
 use Rattle.pb_text.proofs.Languages.{bytes-append, bytes-plain}
 use Rattle.pb_text.proofs.Short.{place_after-offset}
 use Rattle.pb_tool.specs.meaning.Decided.{IsOfText}
-use Rattle.pb_tool.proofs.Fronts.{begins_with, behind_front, one_front, same_behind}
+use Rattle.pb_tool.proofs.lemmas.check.Prefixes.{begins_with, behind_front, one_front, same_behind}
 
 -- ---- spans within prefixes
 

@@ -9,7 +9,7 @@ use Rattle.pb_text.proofs.Unkept.{stops_in}
 use Rattle.pb_tool.specs.meaning.Tidy.{IsFile, IsRefused, TidiesAs}
 use Rattle.pb_tool.specs.meaning.Tidy.IsRefused.{InText, InRest}
 use Rattle.pb_tool.specs.declared.fault.ToolFault.{ToolFault}
-use Rattle.pb_tool.proofs.Restated.{written_so}
+use Rattle.pb_tool.proofs.lemmas.file.OtherReading.{written_so}
 
 module _ {E T V : Type 0} (accepted format : List (Item E) → Type 0) (same : (items : List (Item E)) → accepted items ↔ format items) (longest : ℕ) (with : T → E → T) (empty : T)
     (IsValue : List E → V → Type 0) (Has : T → V → Type 0) (has_value : (items : List (Item E)) → format items → (v : V) × IsValue (events_of items) v × Has (gathered with empty (events_of items)) v) where

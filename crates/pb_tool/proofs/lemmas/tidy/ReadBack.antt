@@ -16,8 +16,8 @@ use Rattle.pb_opb.specs.declared.Instance.{Instance}
 use Rattle.pb_tool.specs.contract.Stays.{IsOutside}
 use Rattle.pb_tool.specs.meaning.Tidy.{ends_in_feed, tidied, IsFile, IsRefused}
 use Rattle.pb_tool.specs.meaning.Tidy.IsRefused.{InText, InRest}
-use Rattle.pb_tool.proofs.Fronts.{Compared, behind_front, same_behind, some_left, two_fronts}
-use Rattle.pb_tool.proofs.OneRead.{NoneGoesOn, one_spelt}
+use Rattle.pb_tool.proofs.lemmas.check.Prefixes.{Compared, behind_front, same_behind, some_left, two_fronts}
+use Rattle.pb_tool.proofs.lemmas.check.OneRead.{NoneGoesOn, one_spelt}
 
 -- nothing, or a line feed
 abbrev IsFeed : List ℕ → Type 0

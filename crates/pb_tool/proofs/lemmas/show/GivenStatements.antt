@@ -19,7 +19,7 @@ use Rattle.pb_tool.specs.declared.fault.ToolFault.{ToolFault}
 use Rattle.pb_tool.specs.declared.fault.ToolFault.TheVariants.{Text, Write}
 use Rattle.pb_tool.specs.declared.fault.Input.TheVariants.{File}
 use Rattle.pb_text.proofs.Wholes.{given_both}
-use Rattle.pb_tool.proofs.Shown.{shows_end}
+use Rattle.pb_tool.proofs.lemmas.show.ShownStatements.{shows_end}
 
 -- The feeder began with this machine and has not stopped. It was fed what the calls have given since a history.
 abbrev pub HasGiven : {M E : Type 0} {g : Ghosts M E} → ℕ → M → List ℕ → List (Spanned E) → Feeder M E g → List ℕ → Type 0

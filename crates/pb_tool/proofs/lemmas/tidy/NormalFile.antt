@@ -34,9 +34,9 @@ use Rattle.pb_tool.specs.declared.fault.ToolFault.TheVariants.{Text, Open, Overf
 use Rattle.pb_tool.specs.declared.fault.Input.TheVariants.{File, Instance as of_instance, Proof as of_proof}
 use Rattle.pb_tool.specs.declared.commands.tidy.normal_text.Forms.{Forms}
 use Rattle.pb_tool.specs.declared.commands.tidy.normal_text.Standing.TheVariants.{Kept}
-use Rattle.pb_tool.proofs.Feeds.{tidied_bare}
-use Rattle.pb_tool.proofs.Ordered.{Follows, follows, headed, is_value, mains_in, value_of}
-use Rattle.pb_tool.proofs.TextFile.{file_as, refused_as}
+use Rattle.pb_tool.proofs.lemmas.tidy.LastByte.{tidied_bare}
+use Rattle.pb_tool.proofs.lemmas.tidy.StatementOrder.{Follows, follows, headed, is_value, mains_in, value_of}
+use Rattle.pb_tool.proofs.lemmas.tidy.GatheredText.{file_as, refused_as}
 
 -- ---- what is written without comments
 

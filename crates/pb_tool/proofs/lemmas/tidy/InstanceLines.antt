@@ -15,8 +15,8 @@ use Rattle.pb_tool.specs.engine.InstanceText.{line, line_if, with, asks, text_of
 use Rattle.pb_tool.specs.meaning.Tidy.{tidied, AsksOpb, IsOpb, Tidies}
 use Rattle.pb_tool.specs.declared.fault.ToolFault.{ToolFault}
 use Rattle.pb_tool.specs.declared.commands.tidy.instance_text.InstanceText.{InstanceText}
-use Rattle.pb_tool.proofs.Ordered.{line_more, value_of, is_value, text_behind}
-use Rattle.pb_tool.proofs.TextFile.{tidies_value}
+use Rattle.pb_tool.proofs.lemmas.tidy.StatementOrder.{line_more, value_of, is_value, text_behind}
+use Rattle.pb_tool.proofs.lemmas.tidy.GatheredText.{tidies_value}
 
 -- ---- the text so far, and one more statement
 

@@ -34,11 +34,11 @@ use Rattle.pb_tool.specs.meaning.Verified.{ChecksFiles, IsRefusedStep, IsRefused
 use Rattle.pb_tool.specs.declared.fault.ToolFault.{ToolFault}
 use Rattle.pb_tool.specs.declared.fault.ToolFault.TheVariants.{Text, Open, Overflow, Memory, Write, Step}
 use Rattle.pb_tool.specs.declared.fault.Input.TheVariants.{File, Instance as of_instance, Proof as of_proof}
-use Rattle.pb_tool.proofs.Accepting.{Passed, no_step, one_state, one_step}
+use Rattle.pb_tool.proofs.lemmas.check.OneOutcome.{Passed, no_step, one_state, one_step}
 use Rattle.pb_text.proofs.Results.{ok_or_err, same_ok}
-use Rattle.pb_tool.proofs.Checked.{spelled_events}
-use Rattle.pb_tool.proofs.OneRead.{OneSpelling, NoneGoesOn, marks_begin, one_spelled, reached_before, so_far_before, so_far_reached, spelling_reached, way_reached}
-use Rattle.pb_tool.proofs.Refusing.{Refusal, AtStop, all_taken, at_rest, no_refusal, one_refusal}
+use Rattle.pb_tool.proofs.lemmas.check.CheckerSteps.{spelled_events}
+use Rattle.pb_tool.proofs.lemmas.check.OneRead.{OneSpelling, NoneGoesOn, marks_begin, one_spelled, reached_before, so_far_before, so_far_reached, spelling_reached, way_reached}
+use Rattle.pb_tool.proofs.lemmas.check.OneRejection.{Refusal, AtStop, all_taken, at_rest, no_refusal, one_refusal}
 
 -- ---- an input, in one way of reading
 

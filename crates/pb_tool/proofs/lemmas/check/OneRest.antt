@@ -8,7 +8,7 @@ use Rattle.pb_text.specs.declared.Why.{Why}
 use Rattle.pb_text.specs.declared.Why.TheVariants.{Byte, TooLarge, Ended, TooLong, Read, Memory}
 use Rattle.pb_text.proofs.Blanks.{blank_passes, passes_at}
 use Rattle.pb_tool.specs.meaning.Decided.{IsOfText}
-use Rattle.pb_tool.proofs.Fronts.{behind_front, one_front, same_behind, some_left}
+use Rattle.pb_tool.proofs.lemmas.check.Prefixes.{behind_front, one_front, same_behind, some_left}
 
 -- a byte within a blank text passes
 passes_in : (text used more : List ℕ) (b : ℕ) → IsBlank text → text ≡ used ++ b ∷ more → IsTrue (passes used b)

@@ -16,8 +16,8 @@ use Rattle.pb_replay.specs.declared.fault.Fault.TheVariants.{Memory, Overflow, F
 use Rattle.pb_text.specs.Whole.{events_at}
 use Rattle.pb_tool.specs.meaning.Files.{IsVeri}
 use Rattle.pb_tool.specs.meaning.Verified.{ComesTo, IsRefusedStep, IsTold}
-use Rattle.pb_tool.proofs.Fronts.{Compared, two_fronts}
-use Rattle.pb_tool.proofs.OneRead.{Begins, marks_begin, so_far_reached}
+use Rattle.pb_tool.proofs.lemmas.check.Prefixes.{Compared, two_fronts}
+use Rattle.pb_tool.proofs.lemmas.check.OneRead.{Begins, marks_begin, so_far_reached}
 
 -- ---- lists that continue others
 

@@ -1,0 +1,5 @@
+pub mod check
+pub mod show
+pub mod file
+pub mod tidy
+pub mod words

@@ -1,0 +1,4 @@
+-- Lemmas of `pb show`.
+pub mod GivenStatements
+pub mod ShownStatements
+pub mod StatementLine

@@ -1,0 +1,4 @@
+-- Lemmas of the arguments.
+pub mod Entries
+pub mod NoHelp
+pub mod Parsed
