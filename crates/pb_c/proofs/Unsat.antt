@@ -13,7 +13,7 @@ use Rattle.pb_replay.specs.declared.verdict.Verdict.TheVariants.{NoClaim, Unsat,
 use Rattle.pb_tool.specs.contract.Faults.{exit_status, stop_status}
 use Rattle.pb_tool.specs.contract.Refusals.{refusal_status}
 use Rattle.pb_tool.specs.meaning.Headline.{IsUnsatisfiable, VerdictsAreTrue}
-use Rattle.pb_tool.specs.meaning.Tidy.{IsOpbFile}
+use Rattle.pb_tool.specs.meaning.Tidy.{IsInstanceFile}
 use Rattle.pb_tool.specs.meaning.Verified.{ChecksFiles, verdict_line}
 use Rattle.pb_tool.specs.declared.fault.ToolFault.{ToolFault}
 use Rattle.pb_tool.specs.declared.fault.ToolFault.TheVariants.{Text, Open, Overflow, Memory, Write, Step}
@@ -62,7 +62,7 @@ module _ (law : VerdictsAreTrue) (limits : Limits) (longest : ℕ) where
   -- with status 0, the text is the line of a verdict that holds for the instance
   of_answer : (i : List ℕ) (p : Option (List ℕ)) (text old new : List ℕ) (status whole : ℕ) (page : Page) (answer : Result Verdict ToolFault) (i' p' : Option (List ℕ))
       → ChecksFiles limits longest written faults (Some i) p empty answer i' p' page → IsTextOf answer page.text text → status ≡ status_of answer → Puts text old new whole → status ≡ 0
-      → (after : Option (List ℕ)) × (v : Instance) × IsOpbFile limits longest (Some i) after v × (w : Verdict) × Puts (verdict_line w) old new whole × MeansWritten v w
+      → (after : Option (List ℕ)) × (v : Instance) × IsInstanceFile limits longest (Some i) after v × (w : Verdict) × Puts (verdict_line w) old new whole × MeansWritten v w
   of_answer i p text old new status whole page (Ok w) i' p' (v, file, q, proof, verified, wrote) line ended put zero = (
     i',
     v,

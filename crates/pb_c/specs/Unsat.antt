@@ -5,7 +5,7 @@ use Rattle.pb_opb.specs.declared.Instance.{Instance}
 use Rattle.pb_replay.specs.Meaning.{MeansWritten}
 use Rattle.pb_replay.specs.declared.verdict.Verdict.{Verdict}
 use Rattle.pb_tool.specs.meaning.Headline.{IsUnsatisfiable}
-use Rattle.pb_tool.specs.meaning.Tidy.{IsOpbFile}
+use Rattle.pb_tool.specs.meaning.Tidy.{IsInstanceFile}
 use Rattle.pb_tool.specs.meaning.Verified.{verdict_line}
 use Rattle.pb_c.specs.Options.{IsAsked}
 use Rattle.pb_c.specs.Telling.{Puts}
@@ -16,7 +16,7 @@ use Rattle.pb_c.specs.declared.options.Options.{Options}
 abbrev pub ShowsTruth : Options → List ℕ → List ℕ → ℕ → List ℕ → ℕ → Type 0
 ShowsTruth o i old status new whole = status ≡ 0 →
     (limits : Limits) × (longest : Option ℕ) × IsAsked o longest limits
-    × (after : Option (List ℕ)) × (v : Instance) × IsOpbFile limits (unwrap_or longest (2 ^ 40)) (Some i) after v
+    × (after : Option (List ℕ)) × (v : Instance) × IsInstanceFile limits (unwrap_or longest (2 ^ 40)) (Some i) after v
     × (w : Verdict) × Puts (verdict_line w) old new whole × MeansWritten v w
 
 -- Suppose the status is 0, and the room has the whole line `verified UNSAT`. Then the first text is an instance under
@@ -24,4 +24,4 @@ ShowsTruth o i old status new whole = status ≡ 0 →
 abbrev pub ShowsUnsat : Options → List ℕ → ℕ → List ℕ → ℕ → Type 0
 ShowsUnsat o i status new whole = status ≡ 0 → whole ≡ 15 → take 15 new ≡ codes "verified UNSAT\n" →
     (limits : Limits) × (longest : Option ℕ) × IsAsked o longest limits
-    × (after : Option (List ℕ)) × (v : Instance) × IsOpbFile limits (unwrap_or longest (2 ^ 40)) (Some i) after v × IsUnsatisfiable v
+    × (after : Option (List ℕ)) × (v : Instance) × IsInstanceFile limits (unwrap_or longest (2 ^ 40)) (Some i) after v × IsUnsatisfiable v

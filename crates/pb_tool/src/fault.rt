@@ -76,7 +76,7 @@ pub fn status(fault: &ToolFault) -> u8
 }
 
 /// The fault of an input whose text was rejected.
-pub(crate) fn refused(input: Input, stop: Stop) -> ToolFault
+pub(crate) fn text_fault(input: Input, stop: Stop) -> ToolFault
     ensures { result ≡ ToolFault.Text input stop }
 {
     ToolFault::Text { stop, input }

@@ -7,13 +7,13 @@ ghost use Rattle.pb_text.specs.NothingRead.{ReadsNothing, first_fault};
 ghost use Rattle.pb_text.specs.Pulling.{OfGiven, faults_after};
 ghost use Rattle.pb_text.specs.Stopping.{IsShown};
 ghost use Rattle.pb_text.specs.Writing.{one_more};
-ghost use Rattle.pb_tool.specs.meaning.Files.{IsVeri};
+ghost use Rattle.pb_tool.specs.meaning.Files.{IsProofText};
 ghost use Rattle.pb_tool.specs.engine.Gathered.{IsGathered, IsNotGathered};
 ghost use Rattle.pb_tool.specs.engine.Opening.{IsReadAs};
-ghost use Rattle.pb_tool.specs.meaning.Tidy.{IsNoOpbFile, IsOpb, IsOpbFile};
+ghost use Rattle.pb_tool.specs.meaning.Tidy.{IsNoInstanceFile, IsInstanceText, IsInstanceFile};
 ghost use Rattle.pb_tool.specs.declared.fault.Input.TheVariants.{File};
 
-use crate::fault::{Input, ToolFault, refused};
+use crate::fault::{Input, ToolFault, text_fault};
 use pb_opb::{Instance, OpbMachine, read_instance_within};
 use pb_proof::ProofMachine;
 use pb_text::{Failed, Gather, Limits, Machine, Source, Stop, read_whole, rest_is_blank, unread};
@@ -44,12 +44,12 @@ pub(crate) fn format_of<S: Source>(input: &mut S) -> Result<Format, Failed>
 /// The fault of a file whose first byte could not be read. Neither machine was given a byte.
 pub(crate) fn unread_file(alloc: Global, limits: Limits) -> ToolFault
     ensures fault { result ≡ ToolFault.Text File first_fault }
-    ensures instance { (longest : ℕ) → 0 < longest → ReadsNothing (IsOpb limits) longest }
-    ensures proof { (longest : ℕ) → 0 < longest → ReadsNothing (IsVeri limits) longest }
+    ensures instance { (longest : ℕ) → 0 < longest → ReadsNothing (IsInstanceText limits) longest }
+    ensures proof { (longest : ℕ) → 0 < longest → ReadsNothing (IsProofText limits) longest }
 {
     let stop = unread(&OpbMachine::new(alloc, limits));
     let _ = unread(&ProofMachine::new(alloc, limits));
-    refused(Input::File, stop)
+    text_fault(Input::File, stop)
 }
 
 /// Reads a text with a machine and gathers its statements, beginning with `empty`. Only white space and comments may
@@ -88,10 +88,10 @@ pub(crate) fn read_instance_file<S: Source>(
     limits: Limits,
 ) -> Result<Instance, Stop>
     requires { 0 < longest }
-    ensures file { IfOk result (IsOpbFile limits longest (S.left input.old) (S.left input.new)) }
-    ensures refused { IfErr result (IsNoOpbFile limits longest (S.left input.old) (S.left input.new)) }
-    ensures given { IfOk result (λ v. OfGiven (λ left rest. IsOpbFile limits longest left rest v) (S.history input.old) (S.history input.new)) }
-    ensures refused_given { IfErr result (λ s. OfGiven (λ left rest. IsNoOpbFile limits longest left rest s) (S.history input.old) (S.history input.new)) }
+    ensures file { IfOk result (IsInstanceFile limits longest (S.left input.old) (S.left input.new)) }
+    ensures refused { IfErr result (IsNoInstanceFile limits longest (S.left input.old) (S.left input.new)) }
+    ensures given { IfOk result (λ v. OfGiven (λ left rest. IsInstanceFile limits longest left rest v) (S.history input.old) (S.history input.new)) }
+    ensures refused_given { IfErr result (λ s. OfGiven (λ left rest. IsNoInstanceFile limits longest left rest s) (S.history input.old) (S.history input.new)) }
     ensures ended { OnOk result (S.ended input.new ≡ true) }
     ensures shown { IfErr result (λ s. IsShown (S.shown input.new) (S.ended input.new) s.why) }
     ensures faults { S.faults input.new ≡ faults_after None result (S.faults input.old) }

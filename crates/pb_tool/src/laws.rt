@@ -4,8 +4,8 @@ ghost use Rattle.std.specs.Prelude.{◌≡◌, ◌↔◌, ℕ, Bool, List};
 ghost use Rattle.pb_opb.specs.declared.Instance.{Instance};
 ghost use Rattle.pb_replay.specs.Problem.{Solves};
 ghost use Rattle.pb_tool.specs.contract.Normalised.{IsNormalised};
-ghost use Rattle.pb_tool.specs.contract.Stays.{HasNoFault, IsTakenForInstance, StaysAsIs, TidiesAgain};
-ghost use Rattle.pb_tool.specs.contract.Stays.{IsTakenForProof, ProofHasNoFault, ProofStaysAsIs};
+ghost use Rattle.pb_tool.specs.contract.Stays.{HasNoFault, IsReadAsInstance, StaysAsIs, TidiesAgain};
+ghost use Rattle.pb_tool.specs.contract.Stays.{IsReadAsProof, ProofHasNoFault, ProofStaysAsIs};
 
 use pb_text::Sink;
 
@@ -30,7 +30,7 @@ pub fn one_normal_form()
 /// that instance alone, so it writes the same. With no limit on statements, `tidy` rejects the text only if the source
 /// fails, memory runs out, or the text has over `2^40` bytes.
 pub fn tidied_text_stays()
-    ensures taken { IsTakenForInstance }
+    ensures taken { IsReadAsInstance }
     ensures same { StaysAsIs }
     ensures faultless { HasNoFault }
 {
@@ -41,7 +41,7 @@ pub fn tidied_text_stays()
 
 /// The same for a proof: `tidy` leaves the text that it wrote as it is.
 pub fn tidied_proof_stays()
-    ensures taken { IsTakenForProof }
+    ensures taken { IsReadAsProof }
     ensures same { ProofStaysAsIs }
     ensures faultless { ProofHasNoFault }
 {

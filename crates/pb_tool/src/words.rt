@@ -131,7 +131,7 @@ fn numbers_of(
     ensures err { IfErr result (IsNumberFault (rows_of (found_of given.now))) }
 {
     let longest = longest_of(alloc, name, given)?;
-    let bits = number(alloc, name, given, "bits", 31, 127)?;
+    let bits = flag_number(alloc, name, given, "bits", 31, 127)?;
     Ok((longest, bits.unwrap_or(127) as u32))
 }
 
@@ -142,7 +142,7 @@ fn longest_of(alloc: Global, name: &str, given: &ArgMatches<'_>) -> Result<Optio
     ensures err { IfErr result
         (IsFlagFault 1 (2 ^ 40) (first_of (codes "longest") (rows_of (found_of given.now)))) }
 {
-    number(alloc, name, given, "longest", 1, MOST_BYTES)
+    flag_number(alloc, name, given, "longest", 1, MOST_BYTES)
 }
 
 /// The names of the instance and, if one is given, of the proof, for the subcommand with this name.
@@ -193,7 +193,7 @@ fn is_given(given: &ArgMatches<'_>, flag: &str) -> bool
 }
 
 /// The number of a flag of the subcommand with this name, if the flag is given.
-fn number(
+fn flag_number(
     alloc: Global,
     name: &str,
     given: &ArgMatches<'_>,

@@ -51,11 +51,11 @@ exit_status fault.Write = 3
 exit_status (fault.Step place e name) = refusal_status e
 
 -- how often a source has failed after a command with this result: once more for a read fault, and else as often as before
-abbrev pub faults_told : Result Unit ToolFault → ℕ → ℕ
-faults_told (Ok u) n = n
-faults_told (Err (fault.Text input stop)) n = faults_with stop.why n
-faults_told (Err (fault.Open input)) n = n
-faults_told (Err (fault.Overflow input)) n = n
-faults_told (Err (fault.Memory input)) n = n
-faults_told (Err fault.Write) n = n
-faults_told (Err (fault.Step place e name)) n = n
+abbrev pub faults_reported : Result Unit ToolFault → ℕ → ℕ
+faults_reported (Ok u) n = n
+faults_reported (Err (fault.Text input stop)) n = faults_with stop.why n
+faults_reported (Err (fault.Open input)) n = n
+faults_reported (Err (fault.Overflow input)) n = n
+faults_reported (Err (fault.Memory input)) n = n
+faults_reported (Err fault.Write) n = n
+faults_reported (Err (fault.Step place e name)) n = n

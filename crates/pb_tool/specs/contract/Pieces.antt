@@ -90,11 +90,11 @@ IsUnread (Text s) = s.why ≢ Read
 IsUnread (Step begins e) = Unit {0}
 
 -- If memory ran out for the text, the byte of the input at that position may allocate.
-abbrev pub WantsMemory : Limits → List ℕ → CheckFault → Type 0
-WantsMemory limits input (Text s) = s.why ≡ Memory →
+abbrev pub AllocatesAt : Limits → List ℕ → CheckFault → Type 0
+AllocatesAt limits input (Text s) = s.why ≡ Memory →
     (used : List ℕ) × (b : ℕ) × (more : List ℕ) × (input ≡ used ++ b ∷ more) × (s.place ≡ place_after used)
     × MayAsk proofs (begin (largest limits) (top_of limits)) used b
-WantsMemory limits input (Step begins e) = Unit {0}
+AllocatesAt limits input (Step begins e) = Unit {0}
 
 -- the bytes of the piece that were consumed: if a statement ended, those through its last byte
 abbrev pub bytes_to : Bool → ℕ → List ℕ → List ℕ

@@ -18,9 +18,9 @@ use Rattle.pb_replay.specs.declared.fault.Fault.TheVariants.{Memory as no_memory
 use Rattle.pb_replay.specs.declared.verdict.Verdict.{Verdict}
 use Rattle.pb_replay.specs.Kept.{StandsFor}
 use Rattle.pb_tool.specs.contract.Checks.{KeepsNames}
-use Rattle.pb_tool.specs.meaning.Files.{AsksVeri, IsProofFile}
-use Rattle.pb_tool.specs.meaning.Tidy.{IsOpbFile, IsNoOpbFile}
-use Rattle.pb_tool.specs.meaning.Verified.{ComesTo, IsAccepted, IsRefusedStep, IsRefusedText, IsTold}
+use Rattle.pb_tool.specs.meaning.Files.{AsksInProofText, IsProofFile}
+use Rattle.pb_tool.specs.meaning.Tidy.{IsInstanceFile, IsNoInstanceFile}
+use Rattle.pb_tool.specs.meaning.Verified.{ComesTo, IsAccepted, IsRefusedStep, IsRefusedText, IsReported}
 use Rattle.pb_tool.specs.declared.commands.check.checker.CheckFault.{CheckFault}
 use Rattle.pb_tool.specs.declared.commands.check.checker.CheckFault.TheVariants as check
 use Rattle.pb_tool.specs.declared.fault.ToolFault.{ToolFault}
@@ -41,15 +41,15 @@ faults_of_text (Err (check.Text s)) n = faults_with s.why n
 faults_of_text _ n = n
 
 -- the fault of the tool: with that name, or out of memory for a copy of that name
-abbrev pub IsToldAs : List (List ℕ) → Place → Fault → ToolFault → Type 0
-IsToldAs names place e (Step at f name) = (at ≡ place) × (((f ≡ no_memory) × ((n : ℕ) × (e ≡ NotTotal n))) ⊎ ((f ≡ e) × IsTold names e (string_bytes name)))
-IsToldAs names place e _ = ⊥
+abbrev pub IsReportedAs : List (List ℕ) → Place → Fault → ToolFault → Type 0
+IsReportedAs names place e (Step at f name) = (at ≡ place) × (((f ≡ no_memory) × ((n : ℕ) × (e ≡ NotTotal n))) ⊎ ((f ≡ e) × IsReported names e (string_bytes name)))
+IsReportedAs names place e _ = ⊥
 
 module _ (limits : Limits) (longest : ℕ) where
   -- The replay is that of the instance that the source had.
   pub record IsReplayOf (before after : Option (List ℕ)) (r : Replaying) : Type 0 where
     pub instance : Instance
-    pub file : IsOpbFile limits longest before after instance
+    pub file : IsInstanceFile limits longest before after instance
     pub opened : Opened (largest limits) instance (Ok r.problem)
     pub limited : r.limits ≡ limits
     pub first : StandsFor r (first_state r.problem)
@@ -57,9 +57,9 @@ module _ (limits : Limits) (longest : ℕ) where
 
   -- why there is none
   abbrev pub IsNoReplay : Option (List ℕ) → Option (List ℕ) → ToolFault → Type 0
-  IsNoReplay before after (Text of_instance s) = IsNoOpbFile limits longest before after s
-  IsNoReplay before after (Overflow of_instance) = (v : Instance) × IsOpbFile limits longest before after v × Opened (largest limits) v (Err over)
-  IsNoReplay before after (Memory of_instance) = (v : Instance) × IsOpbFile limits longest before after v × FitsAll (largest limits) v
+  IsNoReplay before after (Text of_instance s) = IsNoInstanceFile limits longest before after s
+  IsNoReplay before after (Overflow of_instance) = (v : Instance) × IsInstanceFile limits longest before after v × Opened (largest limits) v (Err over)
+  IsNoReplay before after (Memory of_instance) = (v : Instance) × IsInstanceFile limits longest before after v × FitsAll (largest limits) v
   IsNoReplay before after _ = ⊥
 
   module _ (v : Problem) (first : State) (before : Option (List ℕ)) where
@@ -67,7 +67,7 @@ module _ (limits : Limits) (longest : ℕ) where
     abbrev pub Runs : Result (Verdict × Place) CheckFault → Option (List ℕ) → Replaying → Type 0
     Runs (Ok r) after new = (t : State) × IsAccepted limits longest v first before after r.1 true None t × (t.concluded ≡ Some r.0)
     Runs (Err (check.Text s)) after new =
-        (t : State) × (a : IsAccepted limits longest v first before after s.place false (Some s) t) × IsAsking (AsksVeri limits) a.took.used a.took.seen s.why
+        (t : State) × (a : IsAccepted limits longest v first before after s.place false (Some s) t) × IsAsking (AsksInProofText limits) a.took.used a.took.seen s.why
     Runs (Err (check.Step begins e)) after new =
         (st : Statement) × (state : State) × ComesTo limits longest v first before after begins st state
         × (((e ≡ no_memory) × MayWantAt (largest limits) (top_of limits) v state.next st)

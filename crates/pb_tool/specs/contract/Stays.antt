@@ -11,7 +11,7 @@ use Rattle.pb_opb.specs.declared.Instance.{Instance}
 use Rattle.pb_proof.specs.Values.{IsProofValue}
 use Rattle.pb_proof.specs.declared.Proof.{Proof}
 use Rattle.pb_tool.specs.meaning.Files.{tidied_proof, BeginsWithP, IsProofFile, IsNoProofFile, TidiesFile}
-use Rattle.pb_tool.specs.meaning.Tidy.{tidied, IsOpbFile, IsNoOpbFile}
+use Rattle.pb_tool.specs.meaning.Tidy.{tidied, IsInstanceFile, IsNoInstanceFile}
 use Rattle.pb_tool.specs.declared.fault.ToolFault.{ToolFault}
 use Rattle.pb_tool.specs.declared.fault.ToolFault.TheVariants.{Text, Write}
 use Rattle.pb_tool.specs.declared.fault.Input.TheVariants.{File}
@@ -43,14 +43,14 @@ abbrev pub IsWithin : Limits → Instance → Type 0
 IsWithin limits v = IsInstanceValue (largest limits) (top_of limits) v
 
 abbrev pub StaysAsIs : Type 0
-StaysAsIs = ReadsAsItself IsWithin tidied IsOpbFile
+StaysAsIs = ReadsAsItself IsWithin tidied IsInstanceFile
 
 -- Its text is treated as an instance.
-abbrev pub IsTakenForInstance : Type 0
-IsTakenForInstance = (v : Instance) → ¬ BeginsWithP (tidied v)
+abbrev pub IsReadAsInstance : Type 0
+IsReadAsInstance = (v : Instance) → ¬ BeginsWithP (tidied v)
 
 abbrev pub HasNoFault : Type 0
-HasNoFault = IsFaultless IsWithin tidied IsNoOpbFile
+HasNoFault = IsFaultless IsWithin tidied IsNoInstanceFile
 
 -- For a proof.
 
@@ -62,8 +62,8 @@ abbrev pub ProofStaysAsIs : Type 0
 ProofStaysAsIs = ReadsAsItself IsProofWithin tidied_proof IsProofFile
 
 -- Its text is treated as a proof.
-abbrev pub IsTakenForProof : Type 0
-IsTakenForProof = (v : Proof) → BeginsWithP (tidied_proof v)
+abbrev pub IsReadAsProof : Type 0
+IsReadAsProof = (v : Proof) → BeginsWithP (tidied_proof v)
 
 abbrev pub ProofHasNoFault : Type 0
 ProofHasNoFault = IsFaultless IsProofWithin tidied_proof IsNoProofFile

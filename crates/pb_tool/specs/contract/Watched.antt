@@ -17,8 +17,8 @@ use Rattle.pb_replay.specs.declared.fault.Fault.{Fault}
 use Rattle.pb_replay.specs.declared.fault.Fault.TheVariants.{Memory as no_memory, NotTotal}
 use Rattle.pb_replay.specs.declared.verdict.Verdict.{Verdict}
 use Rattle.pb_tool.specs.contract.Checks.{KeepsNames}
-use Rattle.pb_tool.specs.meaning.Files.{IsVeri}
-use Rattle.pb_tool.specs.meaning.Tidy.{IsOpbFile}
+use Rattle.pb_tool.specs.meaning.Files.{IsProofText}
+use Rattle.pb_tool.specs.meaning.Tidy.{IsInstanceFile}
 use Rattle.pb_tool.specs.declared.commands.check.checker.CheckFault.{CheckFault}
 use Rattle.pb_tool.specs.declared.commands.check.checker.CheckFault.TheVariants as check
 use Rattle.pb_tool.specs.declared.fault.ToolFault.{ToolFault}
@@ -57,7 +57,7 @@ module _ (limits : Limits) (longest : ℕ) {V : Type 0} (got : V → Call → V 
     -- The text of a proof was read this far in a source. The watch got a call for each statement in it, and no other call.
     pub record IsShown (after : Option (List ℕ)) (place : Place) (done : Bool) (stop : Option Stop) (new : V) : Type 0 where
       pub marks : List (Spanned Statement)
-      pub took : TookAll (IsVeri limits) longest before after marks place done stop
+      pub took : TookAll (IsProofText limits) longest before after marks place done stop
       pub calls : List Call
       pub last : State
       pub shows : ShowsEach limits v first marks calls last
@@ -68,7 +68,7 @@ module _ (limits : Limits) (longest : ℕ) {V : Type 0} (got : V → Call → V 
     pub record IsShownUpTo (after : Option (List ℕ)) (begins : Place) (e : Fault) (new : V) : Type 0 where
       pub marks : List (Spanned Statement)
       pub rejected : Spanned Statement
-      pub took : TookSoFar (IsVeri limits) longest before after (marks ++ rejected ∷ []) rejected.past
+      pub took : TookSoFar (IsProofText limits) longest before after (marks ++ rejected ∷ []) rejected.past
       pub begins_is : begins ≡ rejected.first
       pub calls : List Call
       pub last : State
@@ -103,7 +103,7 @@ module _ (limits : Limits) (longest : ℕ) {V : Type 0} (got : V → Call → V 
   IsWatched i p old (Err (Overflow of_instance)) i' p' new = new ≡ old
   IsWatched i p old (Err (Memory of_instance)) i' p' new = new ≡ old
   IsWatched i p old result i' p' new =
-      (v : Instance) × IsOpbFile limits longest i i' v × (problem : Problem) × Opened (largest limits) v (Ok problem)
+      (v : Instance) × IsInstanceFile limits longest i i' v × (problem : Problem) × Opened (largest limits) v (Ok problem)
       × ShowsProof problem (first_state problem) p old result p' new
 
   -- the same for the bytes that the calls of the sources gave

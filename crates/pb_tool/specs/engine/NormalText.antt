@@ -19,7 +19,7 @@ use Rattle.pb_tool.specs.contract.Normalised.{SomePasses}
 use Rattle.pb_tool.specs.declared.commands.tidy.form_lines.FormLines.{FormLines}
 use Rattle.pb_tool.specs.declared.commands.tidy.normal_text.Forms.{Forms}
 use Rattle.pb_tool.specs.declared.commands.tidy.normal_text.Standing.{Standing}
-use Rattle.pb_tool.specs.declared.commands.tidy.normal_text.Standing.TheVariants.{Kept, Lost, Overflows}
+use Rattle.pb_tool.specs.declared.commands.tidy.normal_text.Standing.TheVariants.{Stored, Lost, Overflows}
 
 -- the lines of forms, written out with the names
 abbrev pub form_lines : List (List ℕ) → List Form → List ℕ
@@ -46,7 +46,7 @@ pub record AreLines (named : List (List ℕ)) (cs : List Linear) (t : FormLines)
 
 -- what was made of constraints: their forms; or a constraint exceeds the limit; or none does and memory ran out
 abbrev pub Made : Standing → Limits → List (List ℕ) → List Linear → FormLines → Type 0
-Made Kept limits named cs lines = AreLines named cs lines × ¬ SomePasses (largest limits) cs
+Made Stored limits named cs lines = AreLines named cs lines × ¬ SomePasses (largest limits) cs
 Made Lost limits named cs lines = ¬ SomePasses (largest limits) cs
 Made Overflows limits named cs lines = SomePasses (largest limits) cs
 

@@ -23,15 +23,15 @@ with t End = t
 with t step = record t { steps = record t.steps { text = t.steps.text ++ line step } }
 
 -- the lines before the steps, and those after them
-abbrev pub front_of : ProofText → List ℕ
-front_of t = line Header ++ line (F t.count)
+abbrev pub before_steps : ProofText → List ℕ
+before_steps t = line Header ++ line (F t.count)
 
-abbrev pub back_of : ProofText → List ℕ
-back_of t = line Output ++ (line t.conclusion ++ line End)
+abbrev pub after_steps : ProofText → List ℕ
+after_steps t = line Output ++ (line t.conclusion ++ line End)
 
 -- the text of the statements
 abbrev pub text_of : ProofText → List ℕ
-text_of t = front_of t ++ (t.steps.text ++ back_of t)
+text_of t = before_steps t ++ (t.steps.text ++ after_steps t)
 
 -- the text is what is written for the proof of these statements
 abbrev pub IsTextOf : List Statement → ProofText → Type 0

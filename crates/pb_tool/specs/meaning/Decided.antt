@@ -9,7 +9,7 @@ use Rattle.pb_proof.specs.declared.Proof.{Proof}
 use Rattle.pb_replay.specs.declared.fault.Fault.TheVariants.{Memory as no_memory}
 use Rattle.pb_replay.specs.declared.verdict.Verdict.{Verdict}
 use Rattle.pb_tool.specs.meaning.Files.{IsProofFile}
-use Rattle.pb_tool.specs.meaning.Tidy.{IsOpbFile}
+use Rattle.pb_tool.specs.meaning.Tidy.{IsInstanceFile}
 use Rattle.pb_tool.specs.meaning.Verified.{ChecksFiles, IsVerified}
 use Rattle.pb_tool.specs.declared.fault.ToolFault.{ToolFault}
 use Rattle.pb_tool.specs.declared.fault.ToolFault.TheVariants.{Text, Open, Overflow, Memory, Write, Step}
@@ -48,7 +48,7 @@ module _ (limits : Limits) (longest : ℕ) where
   -- statements of the proof with the verdict.
   pub record AreVerified (i p : List ℕ) (w : Verdict) : Type 0 where
     pub instance : Instance
-    pub first : IsOpbFile limits longest (Some i) (Some []) instance
+    pub first : IsInstanceFile limits longest (Some i) (Some []) instance
     pub proof : Proof
     pub second : IsProofFile limits longest (Some p) (Some []) proof
     pub verified : IsVerified limits instance proof w

@@ -12,7 +12,7 @@ use Rattle.pb_proof.specs.Reading.{AsksInProof, ReadsProof}
 use Rattle.pb_proof.specs.declared.Proof.{Proof}
 use Rattle.pb_proof.specs.declared.Statement.{Statement}
 use Rattle.pb_tool.specs.contract.Show.{Shows}
-use Rattle.pb_tool.specs.meaning.Tidy.{AsksOpb, IsFile, IsOpb, IsRefused, Tidies, TidiesAs}
+use Rattle.pb_tool.specs.meaning.Tidy.{AsksInInstanceText, IsFile, IsInstanceText, IsRefused, Tidies, TidiesAs}
 use Rattle.pb_tool.specs.declared.fault.ToolFault.{ToolFault}
 
 -- the first byte of the text is `p`
@@ -28,12 +28,12 @@ abbrev pub MayBeInstance : Option (List ℕ) → Type 0
 MayBeInstance source = IfSome source (λ text. ¬ BeginsWithP text)
 
 -- the proofs under the limits
-abbrev pub IsVeri : Limits → List (Item Statement) → Type 0
-IsVeri limits = IsProof (largest limits) (top_of limits)
+abbrev pub IsProofText : Limits → List (Item Statement) → Type 0
+IsProofText limits = IsProof (largest limits) (top_of limits)
 
 -- the bytes that may allocate in one
-abbrev pub AsksVeri : Limits → List ℕ → ℕ → Type 0
-AsksVeri limits = AsksInProof (largest limits) (top_of limits)
+abbrev pub AsksInProofText : Limits → List ℕ → ℕ → Type 0
+AsksInProofText limits = AsksInProof (largest limits) (top_of limits)
 
 -- what is written for a proof
 abbrev pub tidied_proof : Proof → List ℕ
@@ -42,7 +42,7 @@ tidied_proof v = proof_bytes v ++ 10 ∷ []
 module _ (limits : Limits) (longest : ℕ) where
   -- the input was a proof and a blank rest
   abbrev pub IsProofFile : Option (List ℕ) → Option (List ℕ) → Proof → Type 0
-  IsProofFile = IsFile (IsRead (IsVeri limits) longest IsProofOf)
+  IsProofFile = IsFile (IsRead (IsProofText limits) longest IsProofOf)
 
   abbrev pub IsNoProofFile : Option (List ℕ) → Option (List ℕ) → Stop → Type 0
   IsNoProofFile = IsRefused (ReadsProof (largest limits) (top_of limits) longest)
@@ -50,7 +50,7 @@ module _ (limits : Limits) (longest : ℕ) where
   module _ {W : Type 0} (contents : W → Option (List ℕ)) (faults : W → ℕ) where
     -- What was read of the source as a proof, and what was written. Nothing is written before the whole input was accepted.
     abbrev pub TidiesProof : Option (List ℕ) → W → Result Unit ToolFault → Option (List ℕ) → W → Type 0
-    TidiesProof = TidiesAs (IsRead (IsVeri limits) longest IsProofOf) (ReadsProof (largest limits) (top_of limits) longest) tidied_proof contents faults
+    TidiesProof = TidiesAs (IsRead (IsProofText limits) longest IsProofOf) (ReadsProof (largest limits) (top_of limits) longest) tidied_proof contents faults
 
     -- With `normal` the source is read as an instance, whatever its text begins with.
     abbrev pub TidiesFile : Bool → Option (List ℕ) → W → Result Unit ToolFault → Option (List ℕ) → W → Type 0
@@ -61,5 +61,5 @@ module _ (limits : Limits) (longest : ℕ) where
 
     abbrev pub ShowsFile : Option (List ℕ) → W → Result Unit ToolFault → Option (List ℕ) → W → Type 0
     ShowsFile before old result after new =
-        (MayBeProof before × Shows (IsVeri limits) longest (AsksVeri limits) statement_bytes contents faults before old result after new)
-        ⊎ (MayBeInstance before × Shows (IsOpb limits) longest (AsksOpb limits) event_bytes contents faults before old result after new)
+        (MayBeProof before × Shows (IsProofText limits) longest (AsksInProofText limits) statement_bytes contents faults before old result after new)
+        ⊎ (MayBeInstance before × Shows (IsInstanceText limits) longest (AsksInInstanceText limits) event_bytes contents faults before old result after new)

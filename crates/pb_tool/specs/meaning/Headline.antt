@@ -11,7 +11,7 @@ use Rattle.pb_replay.specs.declared.verdict.Verdict.{Verdict}
 use Rattle.pb_replay.specs.declared.verdict.Verdict.TheVariants.{Unsat}
 use Rattle.pb_tool.specs.meaning.Decided.{AreVerified, IsDecided}
 use Rattle.pb_tool.specs.meaning.Files.{IsProofFile}
-use Rattle.pb_tool.specs.meaning.Tidy.{IsOpbFile}
+use Rattle.pb_tool.specs.meaning.Tidy.{IsInstanceFile}
 use Rattle.pb_tool.specs.meaning.Verified.{ChecksFiles, IsVerified}
 use Rattle.pb_tool.specs.declared.fault.ToolFault.{ToolFault}
 
@@ -28,11 +28,11 @@ module _ (limits : Limits) (longest : ℕ) where
   -- What `verified UNSAT` says of a source with these bytes before and those after. There is an instance whose text was
   -- read, and no assignment solves it.
   abbrev pub UnsatOf : Option (List ℕ) → Option (List ℕ) → Type 0
-  UnsatOf before after = (v : Instance) × IsOpbFile limits longest before after v × IsUnsatisfiable v
+  UnsatOf before after = (v : Instance) × IsInstanceFile limits longest before after v × IsUnsatisfiable v
 
   -- The same for any verdict: there is an instance whose text was read, and the verdict is true of it.
   abbrev pub TrueOf : Verdict → Option (List ℕ) → Option (List ℕ) → Type 0
-  TrueOf w before after = (v : Instance) × IsOpbFile limits longest before after v × MeansWritten v w
+  TrueOf w before after = (v : Instance) × IsInstanceFile limits longest before after v × MeansWritten v w
 
 -- the widest limits: 127 bits, and `2^63 - 1`
 abbrev pub AreWidest : Limits → Type 0

@@ -44,12 +44,12 @@ is_bare None (c ∷ constraints) = false
 is_bare (Some terms) constraints = false
 
 -- the instances under the limits
-abbrev pub IsOpb : Limits → List (Item OpbEvent) → Type 0
-IsOpb limits = IsInstance (largest limits) (top_of limits)
+abbrev pub IsInstanceText : Limits → List (Item OpbEvent) → Type 0
+IsInstanceText limits = IsInstance (largest limits) (top_of limits)
 
 -- the bytes that may allocate in one
-abbrev pub AsksOpb : Limits → List ℕ → ℕ → Type 0
-AsksOpb limits = AsksInInstance (largest limits) (top_of limits)
+abbrev pub AsksInInstanceText : Limits → List ℕ → ℕ → Type 0
+AsksInInstanceText limits = AsksInInstance (largest limits) (top_of limits)
 
 -- what is written with `normal`: the normal form of v, if no constraint exceeds the limit
 abbrev pub IsAsked : ℕ → Instance → Instance → Type 0
@@ -98,22 +98,22 @@ module _ {V : Type 0} (IsReadOf : List ℕ → Spanned V → Type 0) (Reads : Op
 
 module _ (limits : Limits) (longest : ℕ) where
   -- the input was an instance and a blank rest
-  abbrev pub IsOpbFile : Option (List ℕ) → Option (List ℕ) → Instance → Type 0
-  IsOpbFile = IsFile (IsRead (IsOpb limits) longest IsValueOf)
+  abbrev pub IsInstanceFile : Option (List ℕ) → Option (List ℕ) → Instance → Type 0
+  IsInstanceFile = IsFile (IsRead (IsInstanceText limits) longest IsValueOf)
 
-  abbrev pub IsNoOpbFile : Option (List ℕ) → Option (List ℕ) → Stop → Type 0
-  IsNoOpbFile = IsRefused (ReadsInstance (largest limits) (top_of limits) longest)
+  abbrev pub IsNoInstanceFile : Option (List ℕ) → Option (List ℕ) → Stop → Type 0
+  IsNoInstanceFile = IsRefused (ReadsInstance (largest limits) (top_of limits) longest)
 
   -- with `normal`: the normal form of the instance that the input was, or why there is none
   abbrev pub IsNormalFile : Option (List ℕ) → Option (List ℕ) → Instance → Type 0
-  IsNormalFile before after w = (v : Instance) × IsOpbFile before after v × IsAsked (largest limits) v w
+  IsNormalFile before after w = (v : Instance) × IsInstanceFile before after v × IsAsked (largest limits) v w
 
   abbrev pub IsNoNormalFile : Option (List ℕ) → Option (List ℕ) → ToolFault → Type 0
-  IsNoNormalFile before after (Text File s) = IsNoOpbFile before after s
-  IsNoNormalFile before after e = (v : Instance) × IsOpbFile before after v × IsDenied (largest limits) v e
+  IsNoNormalFile before after (Text File s) = IsNoInstanceFile before after s
+  IsNoNormalFile before after e = (v : Instance) × IsInstanceFile before after v × IsDenied (largest limits) v e
 
   -- What was read of the source, and what was written. Nothing is written before the whole input was accepted and, with
   -- `normal`, every constraint was normalised.
   abbrev pub Tidies : Bool → {W : Type 0} → (W → Option (List ℕ)) → (W → ℕ) → Option (List ℕ) → W → Result Unit ToolFault → Option (List ℕ) → W → Type 0
-  Tidies false contents faults before old result after new = TidiesAs (IsRead (IsOpb limits) longest IsValueOf) (ReadsInstance (largest limits) (top_of limits) longest) tidied contents faults before old result after new
+  Tidies false contents faults before old result after new = TidiesAs (IsRead (IsInstanceText limits) longest IsValueOf) (ReadsInstance (largest limits) (top_of limits) longest) tidied contents faults before old result after new
   Tidies true contents faults before old result after new = WritesText (IsNormalFile before after) (IsNoNormalFile before after) tidied contents faults old result new

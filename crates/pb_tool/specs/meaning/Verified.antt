@@ -22,8 +22,8 @@ use Rattle.pb_replay.specs.declared.fault.Fault.TheVariants.{Memory as no_memory
 use Rattle.pb_replay.specs.declared.verdict.Verdict.{Verdict}
 use Rattle.pb_replay.specs.declared.verdict.Verdict.TheVariants as verdict
 use Rattle.pb_text.specs.Whole.{events_at}
-use Rattle.pb_tool.specs.meaning.Files.{AsksVeri, IsVeri, IsProofFile}
-use Rattle.pb_tool.specs.meaning.Tidy.{IsOpbFile, IsNoOpbFile}
+use Rattle.pb_tool.specs.meaning.Files.{AsksInProofText, IsProofText, IsProofFile}
+use Rattle.pb_tool.specs.meaning.Tidy.{IsInstanceFile, IsNoInstanceFile}
 use Rattle.pb_tool.specs.declared.fault.ToolFault.{ToolFault}
 use Rattle.pb_tool.specs.declared.fault.ToolFault.TheVariants.{Text, Open, Overflow, Memory, Write, Step}
 use Rattle.pb_tool.specs.declared.fault.Input.TheVariants.{File, Instance as of_instance, Proof as of_proof}
@@ -36,9 +36,9 @@ verdict_line verdict.Sat = codes "verified SAT\n"
 verdict_line (verdict.Bounds lower upper) = codes "verified BOUNDS " ++ (bound_bytes lower ++ (32 ∷ (bound_bytes upper ++ (10 ∷ []))))
 
 -- the name, among these, that a fault gives by its number
-abbrev pub IsTold : List (List ℕ) → Fault → List ℕ → Type 0
-IsTold names (NotTotal n) name = name ≡ get_or names n []
-IsTold names _ name = name ≡ []
+abbrev pub IsReported : List (List ℕ) → Fault → List ℕ → Type 0
+IsReported names (NotTotal n) name = name ≡ get_or names n []
+IsReported names _ name = name ≡ []
 
 module _ (limits : Limits) where
   -- The instance opens, and the statements of the proof are accepted with this verdict.
@@ -53,7 +53,7 @@ module _ (limits : Limits) where
     -- The text of a proof was read this far in a source, and its statements lead from the first state to the last.
     pub record IsAccepted (after : Option (List ℕ)) (place : Place) (done : Bool) (stop : Option Stop) (last : State) : Type 0 where
       pub marks : List (Spanned Statement)
-      pub took : TookAll (IsVeri limits) longest before after marks place done stop
+      pub took : TookAll (IsProofText limits) longest before after marks place done stop
       pub accepted : Accepts (largest limits) (top_of limits) v first (events_at marks) last
 
     -- All statements before this one, which begins at the position, were accepted and lead to the state. Nothing after
@@ -61,7 +61,7 @@ module _ (limits : Limits) where
     pub record ComesTo (after : Option (List ℕ)) (begins : Place) (st : Statement) (state : State) : Type 0 where
       pub marks : List (Spanned Statement)
       pub last : Spanned Statement
-      pub took : TookSoFar (IsVeri limits) longest before after (marks ++ last ∷ []) last.past
+      pub took : TookSoFar (IsProofText limits) longest before after (marks ++ last ∷ []) last.past
       pub begins_is : begins ≡ last.first
       pub statement : last.event ≡ st
       pub accepted : Accepts (largest limits) (top_of limits) v first (events_at marks) state
@@ -72,34 +72,34 @@ module _ (limits : Limits) where
     IsRefusedStep after begins e name =
         (st : Statement) × (state : State) × ComesTo after begins st state
         × (((e ≡ no_memory) × MayWantAt (largest limits) (top_of limits) v state.next st)
-        ⊎ (Outcome (largest limits) (top_of limits) v state st (Err e) × IsTold state.names e name))
+        ⊎ (Outcome (largest limits) (top_of limits) v state st (Err e) × IsReported state.names e name))
 
     -- The text is rejected, and every statement before that position was accepted. The stop is in the proof, or in the
     -- rest after it. In the proof, memory runs out only at a byte that may allocate.
     pub data IsRefusedText (after : Option (List ℕ)) (s : Stop) : Type 0 where
-      InProof : (last : State) (a : IsAccepted after s.place false (Some s) last) → IsAsking (AsksVeri limits) a.took.used a.took.seen s.why → IsRefusedText after s
-      BehindProof : (mid : Option (List ℕ)) (place : Place) (last : State) (w : Verdict) → IsAccepted mid place true None last → last.concluded ≡ Some w → ReadsBlank place mid (Err s) after → IsRefusedText after s
+      InProof : (last : State) (a : IsAccepted after s.place false (Some s) last) → IsAsking (AsksInProofText limits) a.took.used a.took.seen s.why → IsRefusedText after s
+      AfterProof : (mid : Option (List ℕ)) (place : Place) (last : State) (w : Verdict) → IsAccepted mid place true None last → last.concluded ≡ Some w → ReadsBlank place mid (Err s) after → IsRefusedText after s
 
   module _ (longest : ℕ) {W : Type 0} (contents : W → Option (List ℕ)) (faults : W → ℕ) where
     -- What was read of the two sources, one after the other, and what was written. Nothing is written before both were
     -- accepted. Each case says which tests were passed before the fault.
     abbrev pub ChecksFiles : Option (List ℕ) → Option (List ℕ) → W → Result Verdict ToolFault → Option (List ℕ) → Option (List ℕ) → W → Type 0
     ChecksFiles i p old (Ok w) i' p' new =
-        (v : Instance) × IsOpbFile limits longest i i' v × (q : Proof) × IsProofFile limits longest p p' q
+        (v : Instance) × IsInstanceFile limits longest i i' v × (q : Proof) × IsProofFile limits longest p p' q
         × IsVerified v q w × Wrote contents faults old (verdict_line w) new
-    ChecksFiles i p old (Err (Text of_instance s)) i' p' new = IsNoOpbFile limits longest i i' s × (p' ≡ p) × (new ≡ old)
+    ChecksFiles i p old (Err (Text of_instance s)) i' p' new = IsNoInstanceFile limits longest i i' s × (p' ≡ p) × (new ≡ old)
     ChecksFiles i p old (Err (Overflow of_instance)) i' p' new =
-        (v : Instance) × IsOpbFile limits longest i i' v × Opened (largest limits) v (Err over) × (p' ≡ p) × (new ≡ old)
+        (v : Instance) × IsInstanceFile limits longest i i' v × Opened (largest limits) v (Err over) × (p' ≡ p) × (new ≡ old)
     ChecksFiles i p old (Err (Memory of_instance)) i' p' new =
-        (v : Instance) × IsOpbFile limits longest i i' v × FitsAll (largest limits) v × (p' ≡ p) × (new ≡ old)
+        (v : Instance) × IsInstanceFile limits longest i i' v × FitsAll (largest limits) v × (p' ≡ p) × (new ≡ old)
     ChecksFiles i p old (Err (Step place e name)) i' p' new =
-        (v : Instance) × IsOpbFile limits longest i i' v × (problem : Problem) × Opened (largest limits) v (Ok problem)
+        (v : Instance) × IsInstanceFile limits longest i i' v × (problem : Problem) × Opened (largest limits) v (Ok problem)
         × IsRefusedStep longest problem (first_state problem) p p' place e (string_bytes name) × (new ≡ old)
     ChecksFiles i p old (Err (Text of_proof s)) i' p' new =
-        (v : Instance) × IsOpbFile limits longest i i' v × (problem : Problem) × Opened (largest limits) v (Ok problem)
+        (v : Instance) × IsInstanceFile limits longest i i' v × (problem : Problem) × Opened (largest limits) v (Ok problem)
         × IsRefusedText longest problem (first_state problem) p p' s × (new ≡ old)
     ChecksFiles i p old (Err Write) i' p' new =
-        (v : Instance) × IsOpbFile limits longest i i' v × (q : Proof) × IsProofFile limits longest p p' q
+        (v : Instance) × IsInstanceFile limits longest i i' v × (q : Proof) × IsProofFile limits longest p p' q
         × (w : Verdict) × IsVerified v q w × Broke contents faults old (verdict_line w) new
     ChecksFiles i p old (Err (Text File s)) i' p' new = ⊥
     ChecksFiles i p old (Err (Overflow File)) i' p' new = ⊥

@@ -15,8 +15,8 @@ mod proof;
 mod verdict;
 pub(crate) mod watch;
 
-use crate::commands::check::instance::opened;
-use crate::commands::check::proof::replayed;
+use crate::commands::check::instance::replay_of_instance;
+use crate::commands::check::proof::check_proof;
 use crate::commands::check::verdict::write_verdict;
 use crate::commands::check::watch::{Unwatched, Watch};
 use crate::fault::ToolFault;
@@ -147,11 +147,11 @@ pub fn check_watched<I: Source, P: Source, W: Sink, V: Watch>(
 {
     verified_is_true();
     let longest = longest.unwrap_or(BYTE_LIMIT);
-    let replay = match opened(alloc, keys, instance, longest, limits) {
+    let replay = match replay_of_instance(alloc, keys, instance, longest, limits) {
         Ok(replay) => replay,
         Err(fault) => return Err(fault),
     };
-    let verdict = match replayed(alloc, replay, proof, watch, longest) {
+    let verdict = match check_proof(alloc, replay, proof, watch, longest) {
         Ok(verdict) => verdict,
         Err(fault) => return Err(fault),
     };

@@ -7,15 +7,15 @@ ghost use Rattle.pb_text.specs.Pulling.{OfGiven};
 ghost use Rattle.pb_text.specs.Writing.{Writes};
 ghost use Rattle.pb_opb.specs.Canonical.{event_bytes};
 ghost use Rattle.pb_proof.specs.Canonical.{statement_bytes};
-ghost use Rattle.pb_tool.specs.contract.Faults.{faults_told};
-ghost use Rattle.pb_tool.specs.meaning.Files.{AsksVeri, IsVeri, ShowsFile};
+ghost use Rattle.pb_tool.specs.contract.Faults.{faults_reported};
+ghost use Rattle.pb_tool.specs.meaning.Files.{AsksInProofText, IsProofText, ShowsFile};
 ghost use Rattle.pb_tool.specs.contract.Given.{ShowsGiven};
 ghost use Rattle.pb_tool.specs.contract.Seen.{SawStatements};
 ghost use Rattle.pb_tool.specs.contract.Show.{shown_line, EndsAt, Shows};
-ghost use Rattle.pb_tool.specs.meaning.Tidy.{AsksOpb, IsOpb};
+ghost use Rattle.pb_tool.specs.meaning.Tidy.{AsksInInstanceText, IsInstanceText};
 
 use crate::canonical::{Canonical, write_line};
-use crate::fault::{Input, ToolFault, refused};
+use crate::fault::{Input, ToolFault, text_fault};
 use crate::file::{Format, format_of, unread_file};
 use pb_opb::OpbMachine;
 use pb_proof::ProofMachine;
@@ -45,7 +45,7 @@ pub fn show<S: Source, W: Sink>(
     // A rejected byte is the one that the source has shown. The text ends only if the source has shown its end.
     ensures seen { SawStatements (S.shown input.new) (S.ended input.new) result }
     // `Read` comes only if the source failed.
-    ensures faults { S.faults input.new ≡ faults_told result (S.faults input.old) }
+    ensures faults { S.faults input.new ≡ faults_reported result (S.faults input.old) }
 {
     let longest = longest.unwrap_or(BYTE_LIMIT);
     match format_of(input) {
@@ -64,10 +64,10 @@ fn show_proof<S: Source, W: Sink>(
     limits: Limits,
 ) -> Result<(), ToolFault>
     requires { 0 < longest }
-    ensures shows { Shows (IsVeri limits) longest (AsksVeri limits) statement_bytes W.contents W.faults (S.left input.old) out.old result (S.left input.new) out.new }
-    ensures given { OfGiven (λ left rest. Shows (IsVeri limits) longest (AsksVeri limits) statement_bytes W.contents W.faults left out.old result rest out.new) (S.history input.old) (S.history input.new) }
+    ensures shows { Shows (IsProofText limits) longest (AsksInProofText limits) statement_bytes W.contents W.faults (S.left input.old) out.old result (S.left input.new) out.new }
+    ensures given { OfGiven (λ left rest. Shows (IsProofText limits) longest (AsksInProofText limits) statement_bytes W.contents W.faults left out.old result rest out.new) (S.history input.old) (S.history input.new) }
     ensures seen { SawStatements (S.shown input.new) (S.ended input.new) result }
-    ensures faults { S.faults input.new ≡ faults_told result (S.faults input.old) }
+    ensures faults { S.faults input.new ≡ faults_reported result (S.faults input.old) }
 {
     show_each(ProofMachine::new(alloc, limits), longest, input, out)
 }
@@ -81,10 +81,10 @@ fn show_instance<S: Source, W: Sink>(
     limits: Limits,
 ) -> Result<(), ToolFault>
     requires { 0 < longest }
-    ensures shows { Shows (IsOpb limits) longest (AsksOpb limits) event_bytes W.contents W.faults (S.left input.old) out.old result (S.left input.new) out.new }
-    ensures given { OfGiven (λ left rest. Shows (IsOpb limits) longest (AsksOpb limits) event_bytes W.contents W.faults left out.old result rest out.new) (S.history input.old) (S.history input.new) }
+    ensures shows { Shows (IsInstanceText limits) longest (AsksInInstanceText limits) event_bytes W.contents W.faults (S.left input.old) out.old result (S.left input.new) out.new }
+    ensures given { OfGiven (λ left rest. Shows (IsInstanceText limits) longest (AsksInInstanceText limits) event_bytes W.contents W.faults left out.old result rest out.new) (S.history input.old) (S.history input.new) }
     ensures seen { SawStatements (S.shown input.new) (S.ended input.new) result }
-    ensures faults { S.faults input.new ≡ faults_told result (S.faults input.old) }
+    ensures faults { S.faults input.new ≡ faults_reported result (S.faults input.old) }
 {
     show_each(OpbMachine::new(alloc, limits), longest, input, out)
 }
@@ -101,45 +101,45 @@ fn show_each<S: Source, W: Sink, E: Canonical + Drop, M: Machine<Event = E> + Dr
     ensures shows { Shows (Accepts M.automaton machine) longest (MayAsk M.automaton machine) E.text W.contents W.faults (S.left input.old) out.old result (S.left input.new) out.new }
     ensures given { OfGiven (λ left rest. Shows (Accepts M.automaton machine) longest (MayAsk M.automaton machine) E.text W.contents W.faults left out.old result rest out.new) (S.history input.old) (S.history input.new) }
     ensures seen { SawStatements (S.shown input.new) (S.ended input.new) result }
-    ensures faults { S.faults input.new ≡ faults_told result (S.faults input.old) }
+    ensures faults { S.faults input.new ≡ faults_reported result (S.faults input.old) }
 {
     let mut feeder = Feeder::within(machine, longest);
     loop {
         match pull(input, &mut feeder) {
-            Ok(Some(read)) => match show_one(read, out) {
+            Ok(Some(read)) => match show_statement(read, out) {
                 Ok(()) => {}
                 Err(Failed) => return Err(ToolFault::Write),
             },
             Ok(None) => break,
-            Err(stop) => return Err(refused(Input::File, stop)),
+            Err(stop) => return Err(text_fault(Input::File, stop)),
         }
     }
-    end_of(input, feeder.place())
+    read_blank_rest(input, feeder.place())
 }
 
 /// Reads the rest of an input, which may have only white space and comments.
-fn end_of<S: Source>(input: &mut S, place: Place) -> Result<(), ToolFault>
+fn read_blank_rest<S: Source>(input: &mut S, place: Place) -> Result<(), ToolFault>
     requires { IsInReach place }
     ensures ends { EndsAt place (S.left input.old) result (S.left input.new) }
     ensures given { OfGiven (λ left rest. EndsAt place left result rest) (S.history input.old) (S.history input.new) }
     ensures seen { SawStatements (S.shown input.new) (S.ended input.new) result }
-    ensures faults { S.faults input.new ≡ faults_told result (S.faults input.old) }
+    ensures faults { S.faults input.new ≡ faults_reported result (S.faults input.old) }
 {
     match rest_is_blank(input, place) {
         Ok(()) => Ok(()),
-        Err(stop) => Err(refused(Input::File, stop)),
+        Err(stop) => Err(text_fault(Input::File, stop)),
     }
 }
 
 /// Writes the line of a statement, and drops the statement.
-fn show_one<W: Sink, E: Canonical + Drop>(read: Spanned<E>, out: &mut W) -> Result<(), Failed>
+fn show_statement<W: Sink, E: Canonical + Drop>(read: Spanned<E>, out: &mut W) -> Result<(), Failed>
     ensures { Writes W.contents W.faults out.old (shown_line E.text read) result out.new }
 {
-    write_shown(&read, out)
+    write_spanned(&read, out)
 }
 
 /// Writes the line of a statement.
-fn write_shown<W: Sink, E: Canonical>(read: &Spanned<E>, out: &mut W) -> Result<(), Failed>
+fn write_spanned<W: Sink, E: Canonical>(read: &Spanned<E>, out: &mut W) -> Result<(), Failed>
     ensures { Writes W.contents W.faults out.old (shown_line E.text read.now) result out.new }
 {
     write_place(read.first, out)?;

@@ -3,7 +3,7 @@
 ghost use Rattle.std.specs.Prelude.{◌≡◌, ◌<◌, ◌^◌, false, true, unwrap_or, IfSome};
 ghost use Rattle.pb_text.specs.Automaton.{Accepts, MayAsk};
 ghost use Rattle.pb_text.specs.Pulling.{OfGiven};
-ghost use Rattle.pb_tool.specs.contract.Faults.{faults_told};
+ghost use Rattle.pb_tool.specs.contract.Faults.{faults_reported};
 ghost use Rattle.pb_tool.specs.meaning.Files.{TidiesFile, TidiesProof};
 ghost use Rattle.pb_tool.specs.engine.Gathered.{TidiesEach};
 ghost use Rattle.pb_tool.specs.contract.Given.{TidiesGiven};
@@ -21,7 +21,7 @@ use crate::canonical::Canonical;
 use crate::commands::tidy::instance_text::InstanceText;
 use crate::commands::tidy::normal_text::NormalText;
 use crate::commands::tidy::proof_text::ProofText;
-use crate::fault::{Input, ToolFault, refused};
+use crate::fault::{Input, ToolFault, text_fault};
 use crate::file::{Format, format_of, read_file, unread_file};
 use pb_normal::HashKeys;
 use pb_opb::OpbMachine;
@@ -55,7 +55,7 @@ pub fn tidy<S: Source, W: Sink>(
     // A rejected byte is the one that the source has shown. The text ends only if the source has shown its end.
     ensures seen { SawFile (S.shown input.new) (S.ended input.new) result }
     // `Read` comes only if the source failed.
-    ensures faults { S.faults input.new ≡ faults_told result (S.faults input.old) }
+    ensures faults { S.faults input.new ≡ faults_reported result (S.faults input.old) }
 {
     tidy_with_hasher(alloc, HashKeys::Fixed, input, normal, out, longest, limits)
 }
@@ -77,7 +77,7 @@ pub fn tidy_with_hasher<S: Source, W: Sink>(
     // A rejected byte is the one that the source has shown. The text ends only if the source has shown its end.
     ensures seen { SawFile (S.shown input.new) (S.ended input.new) result }
     // `Read` comes only if the source failed.
-    ensures faults { S.faults input.new ≡ faults_told result (S.faults input.old) }
+    ensures faults { S.faults input.new ≡ faults_reported result (S.faults input.old) }
 {
     let longest = longest.unwrap_or(BYTE_LIMIT);
     if normal {
@@ -102,7 +102,7 @@ fn tidy_proof<S: Source, W: Sink>(
     ensures tidies { TidiesProof limits longest W.contents W.faults (S.left input.old) out.old result (S.left input.new) out.new }
     ensures given { OfGiven (λ left rest. TidiesProof limits longest W.contents W.faults left out.old result rest out.new) (S.history input.old) (S.history input.new) }
     ensures seen { SawFile (S.shown input.new) (S.ended input.new) result }
-    ensures faults { S.faults input.new ≡ faults_told result (S.faults input.old) }
+    ensures faults { S.faults input.new ≡ faults_reported result (S.faults input.old) }
 {
     tidy_each(
         ProofMachine::new(alloc, limits),
@@ -125,7 +125,7 @@ fn tidy_instance<S: Source, W: Sink>(
     ensures tidies { Tidies limits longest false W.contents W.faults (S.left input.old) out.old result (S.left input.new) out.new }
     ensures given { OfGiven (λ left rest. Tidies limits longest false W.contents W.faults left out.old result rest out.new) (S.history input.old) (S.history input.new) }
     ensures seen { SawFile (S.shown input.new) (S.ended input.new) result }
-    ensures faults { S.faults input.new ≡ faults_told result (S.faults input.old) }
+    ensures faults { S.faults input.new ≡ faults_reported result (S.faults input.old) }
 {
     tidy_each(
         OpbMachine::new(alloc, limits),
@@ -150,11 +150,11 @@ fn tidy_each<S: Source, W: Sink, M: Machine + Drop, G: Gather<Event = M::Event> 
     ensures tidies { TidiesEach (Accepts M.automaton machine) longest G.with empty (MayAsk M.automaton machine) G.asks G.text W.contents W.faults (S.left input.old) out.old result (S.left input.new) out.new }
     ensures given { OfGiven (λ left rest. TidiesEach (Accepts M.automaton machine) longest G.with empty (MayAsk M.automaton machine) G.asks G.text W.contents W.faults left out.old result rest out.new) (S.history input.old) (S.history input.new) }
     ensures seen { SawFile (S.shown input.new) (S.ended input.new) result }
-    ensures faults { S.faults input.new ≡ faults_told result (S.faults input.old) }
+    ensures faults { S.faults input.new ≡ faults_reported result (S.faults input.old) }
 {
     let text = match read_file(input, machine, longest, empty) {
         Ok(text) => text,
-        Err(stop) => return Err(refused(Input::File, stop)),
+        Err(stop) => return Err(text_fault(Input::File, stop)),
     };
     match text.write_text(out) {
         Ok(()) => Ok(()),
@@ -176,13 +176,13 @@ fn tidy_normal<S: Source, W: Sink>(
     ensures tidies { Tidies limits longest true W.contents W.faults (S.left input.old) out.old result (S.left input.new) out.new }
     ensures given { OfGiven (λ left rest. Tidies limits longest true W.contents W.faults left out.old result rest out.new) (S.history input.old) (S.history input.new) }
     ensures seen { SawFile (S.shown input.new) (S.ended input.new) result }
-    ensures faults { S.faults input.new ≡ faults_told result (S.faults input.old) }
+    ensures faults { S.faults input.new ≡ faults_reported result (S.faults input.old) }
 {
     let machine = OpbMachine::new(alloc, limits);
     let empty = NormalText::new(alloc, keys, limits);
     let text = match read_file(input, machine, longest, empty) {
         Ok(text) => text,
-        Err(refusal) => return Err(refused(Input::File, refusal)),
+        Err(refusal) => return Err(text_fault(Input::File, refusal)),
     };
     text.write(alloc, out)
 }

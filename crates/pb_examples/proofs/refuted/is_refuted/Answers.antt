@@ -8,7 +8,7 @@ use Rattle.pb_replay.specs.declared.verdict.Verdict.{Verdict}
 use Rattle.pb_replay.specs.declared.verdict.Verdict.TheVariants.{Unsat}
 use Rattle.pb_tool.specs.meaning.Decided.{AreVerified}
 use Rattle.pb_tool.specs.meaning.Headline.{AreWidest, IsUnsatText, UnsatIsExact, UnsatOf}
-use Rattle.pb_tool.specs.meaning.Tidy.{IsOpbFile}
+use Rattle.pb_tool.specs.meaning.Tidy.{IsInstanceFile}
 use Rattle.pb_tool.specs.meaning.Verified.{ChecksFiles}
 use Rattle.pb_tool.specs.declared.fault.ToolFault.{ToolFault}
 use Rattle.pb_examples.proofs.refuted.is_refuted.Goals as goal
@@ -17,7 +17,7 @@ use Rattle.pb_examples.proofs.refuted.is_refuted.Goals.{in-Unsat, in_default}
 -- A source that tells its text has told all of it.
 unsat_text : (limits : Limits) → AreWidest limits → (text : List ℕ) (after : Option (List ℕ)) → UnsatOf limits byte_limit (Some text) after → IsUnsatText text
 unsat_text limits widest text after (v, file, none) =
-    (limits, widest, (v, subst (λ (x : Option (List ℕ)). IsOpbFile limits byte_limit (Some text) x v) file.took.1 file, none))
+    (limits, widest, (v, subst (λ (x : Option (List ℕ)). IsInstanceFile limits byte_limit (Some text) x v) file.took.1 file, none))
 
 pub returns-clause-unsat : goal.returns-clause-unsat
 returns-clause-unsat c e =

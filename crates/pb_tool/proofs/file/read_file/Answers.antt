@@ -3,13 +3,13 @@ use Rattle.pb_text.specs.Automaton.{Accepts, MayAsk}
 use Rattle.pb_text.specs.Pulling.{faults_with}
 use Rattle.pb_text.specs.Whole.{IsWhole, ReadsWhole}
 use Rattle.pb_tool.specs.meaning.Tidy.IsRefused.{InText, InRest}
-use Rattle.pb_tool.proofs.lemmas.file.GivenBytes.{file_behind, given_file, given_stray, used_of}
+use Rattle.pb_tool.proofs.lemmas.file.GivenBytes.{file_then_blank, given_file, given_stray, used_of}
 use Rattle.pb_tool.proofs.file.read_file.Goals as goal
 
 pub returns-in-Ok-rest_is_blank-clause-file : goal.returns-in-Ok-rest_is_blank-clause-file
 returns-in-Ok-rest_is_blank-clause-file g c =
     let (used, seen, took, read) = c.in-Ok.ensures.reads in
-    file_behind (IsWhole (Accepts g.M.Machine.automaton c.args.machine) c.args.longest g.G.Gather.with c.args.empty) c.in-Ok.read _ _ _ used seen took read read.past c.in-Ok-rest_is_blank.ensures.blank
+    file_then_blank (IsWhole (Accepts g.M.Machine.automaton c.args.machine) c.args.longest g.G.Gather.with c.args.empty) c.in-Ok.read _ _ _ used seen took read read.past c.in-Ok-rest_is_blank.ensures.blank
 
 pub returns-in-Err-rest_is_blank-clause-refused : goal.returns-in-Err-rest_is_blank-clause-refused
 returns-in-Err-rest_is_blank-clause-refused g c =

@@ -2,7 +2,7 @@ use Rattle.std.proofs.Common.{[], ◌∷◌, ◌∙◌, inr, refl, sym}
 use Rattle.pb_text.specs.Limits.{largest, top_of}
 use Rattle.pb_proof.specs.Canonical.{proof_bytes}
 use Rattle.pb_proof.specs.Proofs.{IsProofOf}
-use Rattle.pb_tool.specs.meaning.Files.{tidied_proof, IsVeri}
+use Rattle.pb_tool.specs.meaning.Files.{tidied_proof, IsProofText}
 use Rattle.pb_text.proofs.Numbers.{largest_small}
 use Rattle.pb_tool.proofs.lemmas.tidy.ReadBack.{faultless, read_alone}
 use Rattle.pb_tool.proofs.laws.tidied_proof_stays.Goals as goal
@@ -14,9 +14,9 @@ pub returns-clause-same : goal.returns-clause-same
 returns-clause-same c limits longest v w after rules file =
     let (own, spells, bytes, value) = c.canonical_proof_spells.ensures (largest limits) (top_of limits) v (largest_small limits) limits.most_top rules in
     sym file.value ∙ c.written_proof_reads_back.ensures (largest limits) (top_of limits) longest v file.read (largest_small limits) limits.most_top rules
-    (read_alone (IsVeri limits) (proof_bytes v) own spells bytes (c.no_front.ensures (largest limits) (top_of limits)) IsProofOf (tidied_proof v) (10 ∷ []) refl (inr refl) after longest w file)
+    (read_alone (IsProofText limits) (proof_bytes v) own spells bytes (c.no_front.ensures (largest limits) (top_of limits)) IsProofOf (tidied_proof v) (10 ∷ []) refl (inr refl) after longest w file)
 
 pub returns-clause-faultless : goal.returns-clause-faultless
 returns-clause-faultless c limits v s after rules refused =
     let (own, spells, bytes, value) = c.canonical_proof_spells.ensures (largest limits) (top_of limits) v (largest_small limits) limits.most_top rules in
-    faultless (IsVeri limits) (proof_bytes v) own spells bytes (c.no_front.ensures (largest limits) (top_of limits)) IsProofOf (tidied_proof v) (10 ∷ []) refl (inr refl) after _ _ s refused
+    faultless (IsProofText limits) (proof_bytes v) own spells bytes (c.no_front.ensures (largest limits) (top_of limits)) IsProofOf (tidied_proof v) (10 ∷ []) refl (inr refl) after _ _ s refused

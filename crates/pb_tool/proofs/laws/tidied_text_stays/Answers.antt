@@ -3,7 +3,7 @@ use Rattle.pb_text.specs.Limits.{largest, top_of}
 use Rattle.pb_opb.specs.Canonical.{instance_bytes}
 use Rattle.pb_opb.specs.Values.{IsValueOf}
 use Rattle.pb_opb.specs.declared.Instance.{Instance}
-use Rattle.pb_tool.specs.meaning.Tidy.{tidied, IsOpb}
+use Rattle.pb_tool.specs.meaning.Tidy.{tidied, IsInstanceText}
 use Rattle.pb_text.proofs.Numbers.{largest_small}
 use Rattle.pb_tool.proofs.lemmas.tidy.ReadBack.{faultless, read_alone, written}
 use Rattle.pb_tool.proofs.laws.tidied_text_stays.Goals as goal
@@ -29,10 +29,10 @@ returns-clause-same c limits longest v w after rules file =
     let (own, spells, bytes, value) = c.canonical_instance_spells.ensures (largest limits) (top_of limits) v (largest_small limits) limits.most_top rules in
     let (rest, is, feed) = written v in
     sym file.value ∙ c.written_instance_reads_back.ensures (largest limits) (top_of limits) longest v file.read (largest_small limits) limits.most_top rules
-    (read_alone (IsOpb limits) (instance_bytes v) own spells bytes (c.no_front.ensures (largest limits) (top_of limits)) IsValueOf (tidied v) rest is feed after longest w file)
+    (read_alone (IsInstanceText limits) (instance_bytes v) own spells bytes (c.no_front.ensures (largest limits) (top_of limits)) IsValueOf (tidied v) rest is feed after longest w file)
 
 pub returns-clause-faultless : goal.returns-clause-faultless
 returns-clause-faultless c limits v s after rules refused =
     let (own, spells, bytes, value) = c.canonical_instance_spells.ensures (largest limits) (top_of limits) v (largest_small limits) limits.most_top rules in
     let (rest, is, feed) = written v in
-    faultless (IsOpb limits) (instance_bytes v) own spells bytes (c.no_front.ensures (largest limits) (top_of limits)) IsValueOf (tidied v) rest is feed after _ _ s refused
+    faultless (IsInstanceText limits) (instance_bytes v) own spells bytes (c.no_front.ensures (largest limits) (top_of limits)) IsValueOf (tidied v) rest is feed after _ _ s refused

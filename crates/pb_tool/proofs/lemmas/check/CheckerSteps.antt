@@ -40,7 +40,7 @@ use Rattle.std.specs.Prelude.{IsSome, not, is_some}
 use Rattle.pb_text.proofs.Wholes.{marks_events}
 use Rattle.pb_tool.specs.contract.Checker.{Checking, ProofFeeder, IsAt, IsRunning, Stands, StepsFrom, TextsAreRead}
 use Rattle.pb_tool.specs.contract.Checks.{Checks, IsReplayed, KeepsNames, KeepsNamesOf, Leads, Takes, Refuses}
-use Rattle.pb_tool.specs.contract.Pieces.{AnyCutting, bytes_to, ChecksAt, ChecksOnce, IsOpen, IsUnread, Feeds, WantsMemory, joined, fault_of, is_whole, place_in}
+use Rattle.pb_tool.specs.contract.Pieces.{AnyCutting, bytes_to, ChecksAt, ChecksOnce, IsOpen, IsUnread, Feeds, AllocatesAt, joined, fault_of, is_whole, place_in}
 use Rattle.pb_tool.specs.declared.commands.check.checker.CheckFault.{CheckFault}
 use Rattle.pb_tool.specs.declared.commands.check.checker.CheckFault.TheVariants.{Text, Step}
 use Rattle.pb_tool.proofs.lemmas.check.Prefixes.{no_front}
@@ -53,11 +53,11 @@ abbrev pub TellsOld : Replaying → CheckFault → Type 0
 TellsOld old x = (at : Place) (n : ℕ) → failed x ≡ failed (Step at (NotTotal n)) → n < length old.names
 
 -- a prefix of a prefix of a list of names is a prefix of it
-pub front_on : (a b c : List (List ℕ)) → IsFront a b → IsFront b c → IsFront a c
-front_on a b c (m, e) (n, f) = (m ++ n, f ∙ (ap (λ (x : List (List ℕ)). x ++ n) e ∙ append_assoc a m n))
+pub prefix_on : (a b c : List (List ℕ)) → IsFront a b → IsFront b c → IsFront a c
+prefix_on a b c (m, e) (n, f) = (m ++ n, f ∙ (ap (λ (x : List (List ℕ)). x ++ n) e ∙ append_assoc a m n))
 
-pub front_all : (a : List (List ℕ)) → IsFront a a
-front_all a = ([], sym (append-nil a))
+pub prefix_all : (a : List (List ℕ)) → IsFront a a
+prefix_all a = ([], sym (append-nil a))
 
 -- ---- one statement more
 module _ (limit top : ℕ) (v : Problem) where
@@ -180,10 +180,10 @@ module _ (read : TextsAreRead) (limits : Limits) (longest : ℕ) (v : Problem) (
   running_text = now.running
 
   -- ---- the end of the text
-  abbrev IsTold : (used : List ℕ) → Bool → Type 0
-  IsTold used done = Reads (IsProof (largest limits) (top_of limits)) longest input used now.marks (place_of f) done None
+  abbrev IsReported : (used : List ℕ) → Bool → Type 0
+  IsReported used done = Reads (IsProof (largest limits) (top_of limits)) longest input used now.marks (place_of f) done None
 
-  pub told : (used : List ℕ) × IsTold used (is_complete f)
+  pub told : (used : List ℕ) × IsReported used (is_complete f)
   told = text_read read limits longest input now.marks f None now.stands now.running
 
   pub replayed : IsReplayed limits longest v first input (place_of f) (is_complete f) None now.now
@@ -194,7 +194,7 @@ module _ (read : TextsAreRead) (limits : Limits) (longest : ℕ) (v : Problem) (
 
   pub cut_text : is_complete f ≡ false → Checks limits longest v first input (place_of f) false (Some (Text (record { place = place_of f; why = reason.Ended })))
   cut_text done =
-      let reads = subst (λ (b : Bool). IsTold told.0 b) done told.1 in (
+      let reads = subst (λ (b : Bool). IsReported told.0 b) done told.1 in (
         now.now,
         record {
           used = told.0;
@@ -251,7 +251,7 @@ module _ (read : TextsAreRead) (limits : Limits) (longest : ℕ) (v : Problem) (
         )
 
     -- the byte at which memory ran out is one that may allocate
-    pub wanted : (s : Stop) → FeedsOnce f piece (Err s) n → halt_of n ≡ Some s → WantsMemory limits (input ++ piece) (Text s)
+    pub wanted : (s : Stop) → FeedsOnce f piece (Err s) n → halt_of n ≡ Some s → AllocatesAt limits (input ++ piece) (Text s)
     wanted s feeds halts memory =
         let k = (stands_stopped s feeds).1 in
         let waits : Waits proofs n.machine (end_of longest n.first) k.letters k.left n.place (Some s) = subst (λ (x : Option Stop). Waits proofs n.machine (end_of longest n.first) k.letters k.left n.place x) halts k.waits in
@@ -321,8 +321,8 @@ module _ (read : TextsAreRead) (limits : Limits) (longest : ℕ) (v : Problem) (
       pub unread_step : (t : Replaying) (x : CheckFault) → Refusing t x → IsUnread x
       unread_step t x steps = let (why, is, refuses) = steps now.now now.at in subst IsUnread (sym is) tt
 
-      pub wanted_step : (t : Replaying) (x : CheckFault) → Refusing t x → WantsMemory limits (input ++ piece) x
-      wanted_step t x steps = let (why, is, refuses) = steps now.now now.at in subst (WantsMemory limits (input ++ piece)) (sym is) tt
+      pub wanted_step : (t : Replaying) (x : CheckFault) → Refusing t x → AllocatesAt limits (input ++ piece) x
+      wanted_step t x steps = let (why, is, refuses) = steps now.now now.at in subst (AllocatesAt limits (input ++ piece)) (sym is) tt
 
 -- ---- input after a fault
 module _ (limit top longest : ℕ) (used left piece : List ℕ) where

@@ -21,15 +21,15 @@ use Rattle.pb_replay.specs.declared.fault.Fault.{Fault}
 use Rattle.pb_replay.specs.declared.verdict.Verdict.{Verdict}
 use Rattle.pb_tool.specs.contract.Checker.{IsAt, StepsFrom}
 use Rattle.pb_text.specs.Whole.{events_at}
-use Rattle.pb_tool.specs.meaning.Files.{AsksVeri, IsVeri}
-use Rattle.pb_tool.specs.contract.Runs.{IsToldAs, Replays, Runs}
-use Rattle.pb_tool.specs.meaning.Verified.{BehindProof, InProof, IsAccepted, IsRefusedText}
+use Rattle.pb_tool.specs.meaning.Files.{AsksInProofText, IsProofText}
+use Rattle.pb_tool.specs.contract.Runs.{IsReportedAs, Replays, Runs}
+use Rattle.pb_tool.specs.meaning.Verified.{AfterProof, InProof, IsAccepted, IsRefusedText}
 use Rattle.pb_tool.specs.declared.commands.check.checker.CheckFault.{CheckFault}
 use Rattle.pb_tool.specs.declared.commands.check.checker.CheckFault.TheVariants as check
 use Rattle.pb_tool.specs.declared.fault.ToolFault.{ToolFault}
 use Rattle.pb_tool.specs.declared.fault.ToolFault.TheVariants.{Text}
 use Rattle.pb_tool.specs.declared.fault.Input.TheVariants.{Proof as of_proof}
-use Rattle.pb_tool.proofs.lemmas.check.TwoSources.{step_told, whole_file}
+use Rattle.pb_tool.proofs.lemmas.check.TwoSources.{step_report, whole_file}
 use Rattle.pb_text.proofs.Wholes.{given_both}
 use Rattle.pb_tool.proofs.lemmas.show.GivenStatements.{all_of}
 use Rattle.pb_tool.proofs.lemmas.check.CheckerSteps.{TellsOld}
@@ -38,7 +38,7 @@ use Rattle.pb_tool.proofs.lemmas.check.ReplayRuns as replayed
 module _ (limits : Limits) (longest : ℕ) (v : Problem) (first : State) where
   -- the accepted statements of a proof, with another rest
   accepted_of : (used seen other : List ℕ) (place : Place) (last : State) → IsAccepted limits longest v first (Some (used ++ seen)) (Some seen) place true None last → IsAccepted limits longest v first (Some (used ++ other)) (Some other) place true None last
-  accepted_of used seen other place last a = record { marks = a.marks; took = all_of (IsVeri limits) longest used seen other a.marks place a.took; accepted = a.accepted }
+  accepted_of used seen other place last a = record { marks = a.marks; took = all_of (IsProofText limits) longest used seen other a.marks place a.took; accepted = a.accepted }
 
   -- all that was accepted, with its last position given by an equal one
   pub moved : (left rest : Option (List ℕ)) (place at : Place) (w : Verdict) → place ≡ at → (t : State) × IsAccepted limits longest v first left rest place true None t × (t.concluded ≡ Some w) → (t : State) × IsAccepted limits longest v first left rest at true None t × (t.concluded ≡ Some w)
@@ -63,11 +63,11 @@ module _ (limits : Limits) (longest : ℕ) (v : Problem) (first : State) where
       more,
       given_both before mid after used rest e f,
       subst (λ (x : List ℕ). IsRefusedText limits longest v first (Some x) (Some more) s) (sym (append_assoc used rest more))
-          (BehindProof (Some (rest ++ more)) ended.1 last ended.0 (accepted_of used seen (rest ++ more) ended.1 last a) claimed blank),
+          (AfterProof (Some (rest ++ more)) ended.1 last ended.0 (accepted_of used seen (rest ++ more) ended.1 last a) claimed blank),
     )
 
-    pub given_behind : (s : Stop) (f : ToolFault) → f ≡ Text of_proof s → OfGiven (λ left rest. Runs limits longest v first left (Ok ended) rest new) before mid → OfGiven (λ left rest. ReadsBlank ended.1 left (Err s) rest) mid after → OfGiven (λ left rest. Replays limits longest v first left (Err f) rest) before after
-    given_behind s f is runs rest = subst (λ (x : ToolFault). OfGiven (λ left end. Replays limits longest v first left (Err x) end) before after) (sym is) (behind s runs rest)
+    pub given_rest : (s : Stop) (f : ToolFault) → f ≡ Text of_proof s → OfGiven (λ left rest. Runs limits longest v first left (Ok ended) rest new) before mid → OfGiven (λ left rest. ReadsBlank ended.1 left (Err s) rest) mid after → OfGiven (λ left rest. Replays limits longest v first left (Err f) rest) before after
+    given_rest s f is runs rest = subst (λ (x : ToolFault). OfGiven (λ left end. Replays limits longest v first left (Err x) end) before after) (sym is) (behind s runs rest)
 
   module _ (before after : List ℕ) (new : Replaying) (f : ToolFault) where
     -- a text that stopped
@@ -75,14 +75,14 @@ module _ (limits : Limits) (longest : ℕ) (v : Problem) (first : State) where
     given_text s is (given, seen, e, (last, accepted, asking)) = (given, seen, e, subst (λ (x : ToolFault). Replays limits longest v first (Some (given ++ seen)) (Err x) (Some seen)) (sym is) (InProof last accepted asking))
 
     -- a rejected statement, with the name that the fault gives
-    pub given_told : UnvaluedMayWant → (place : Place) (e : Fault) → IsToldAs new.names place e f → OfGiven (λ left rest. Runs limits longest v first left (Err (check.Step place e)) rest new) before after → OfGiven (λ left rest. Replays limits longest v first left (Err f) rest) before after
-    given_told law place e told (given, seen, is, runs) = (given, seen, is, step_told limits longest v first (Some (given ++ seen)) law (Some seen) new place e f runs told)
+    pub given_report : UnvaluedMayWant → (place : Place) (e : Fault) → IsReportedAs new.names place e f → OfGiven (λ left rest. Runs limits longest v first left (Err (check.Step place e)) rest new) before after → OfGiven (λ left rest. Replays limits longest v first left (Err f) rest) before after
+    given_report law place e told (given, seen, is, runs) = (given, seen, is, step_report limits longest v first (Some (given ++ seen)) law (Some seen) new place e f runs told)
 
 -- ---- a run through the statements
 
 module _ (exact : ReadsProofs) (limits : Limits) (longest : ℕ) (before after : List ℕ) (v : Problem) (first : State) (r : Replaying) (marks : List (Spanned Statement))
     (led : (t : State) × StandsFor r t × Accepts (largest limits) (top_of limits) v first (events_at marks) t) (new : Replaying) where
-  pub given_stopped : ((used : List ℕ) (b : ℕ) → replayed.MayTake limits used b → AsksVeri limits used b) → (s : Stop)
+  pub given_stopped : ((used : List ℕ) (b : ℕ) → replayed.MayTake limits used b → AsksInProofText limits used b) → (s : Stop)
       → OfGiven (λ left rest. (all : TookAll (replayed.Taken limits) longest left rest marks s.place false (Some s)) × IsAsking (replayed.MayTake limits) all.used all.seen s.why) before after → OfGiven (λ left rest. Runs limits longest v first left (Err (check.Text s)) rest new) before after
   given_stopped asks s (given, seen, e, all) = (given, seen, e, replayed.stopped exact limits longest (Some (given ++ seen)) (Some seen) v first r marks led asks s all)
 

@@ -25,12 +25,12 @@ use Rattle.pb_replay.specs.declared.fault.Fault.TheVariants.{Memory as no_memory
 use Rattle.pb_replay.specs.declared.verdict.Verdict.{Verdict}
 use Rattle.pb_opb.proofs.OneValue.{same_value}
 use Rattle.pb_tool.specs.meaning.Decided.{AnswersExactly, AreVerified, IsDecided, IsOfText, IsSame, OneAnswer}
-use Rattle.pb_tool.specs.meaning.Files.{IsProofFile, IsVeri}
+use Rattle.pb_tool.specs.meaning.Files.{IsProofFile, IsProofText}
 use Rattle.pb_tool.specs.contract.Show.{IsSpelling}
 use Rattle.pb_tool.specs.engine.Single.{AllSingle}
-use Rattle.pb_tool.specs.meaning.Tidy.{IsFile, IsOpb, IsOpbFile, IsNoOpbFile}
+use Rattle.pb_tool.specs.meaning.Tidy.{IsFile, IsInstanceText, IsInstanceFile, IsNoInstanceFile}
 use Rattle.pb_tool.specs.meaning.Tidy.IsRefused.{InText, InRest}
-use Rattle.pb_tool.specs.meaning.Verified.{ChecksFiles, IsRefusedStep, IsRefusedText, IsVerified, InProof, BehindProof}
+use Rattle.pb_tool.specs.meaning.Verified.{ChecksFiles, IsRefusedStep, IsRefusedText, IsVerified, InProof, AfterProof}
 use Rattle.pb_tool.specs.declared.fault.ToolFault.{ToolFault}
 use Rattle.pb_tool.specs.declared.fault.ToolFault.TheVariants.{Text, Open, Overflow, Memory, Write, Step}
 use Rattle.pb_tool.specs.declared.fault.Input.TheVariants.{File, Instance as of_instance, Proof as of_proof}
@@ -64,88 +64,88 @@ module _ {V E : Type 0} (format : List (Item E) → Type 0) (IsValue : List E �
 -- ---- the proof
 
 module _ (laws : AllSingle) (limits : Limits) (longest : ℕ) (p : List ℕ) where
-  one_veri : OneSpelling (IsVeri limits)
-  one_veri items items' h k e = laws.one_proof (largest limits) (top_of limits) items items' h k e
+  one_proof_text : OneSpelling (IsProofText limits)
+  one_proof_text items items' h k e = laws.one_proof (largest limits) (top_of limits) items items' h k e
 
-  front_veri : NoneGoesOn (IsVeri limits)
-  front_veri items items' more h k e = laws.proof_front (largest limits) (top_of limits) items items' more h k e
+  prefix_of_proof : NoneGoesOn (IsProofText limits)
+  prefix_of_proof items items' more h k e = laws.proof_front (largest limits) (top_of limits) items items' more h k e
 
-  fixed_veri : HasFixedMarks (IsVeri limits)
+  fixed_veri : HasFixedMarks (IsProofText limits)
   fixed_veri = laws.fixed (largest limits) (top_of limits)
 
   one_proof : (p' p'' : Option (List ℕ)) (q r : Proof) → IsProofFile limits longest (Some p) p' q → IsProofFile limits longest (Some p) p'' r → q ≡ r
-  one_proof = one_file (IsVeri limits) IsProofOf longest p one_veri front_veri laws.value
+  one_proof = one_file (IsProofText limits) IsProofOf longest p one_proof_text prefix_of_proof laws.value
 
   module _ (v : Problem) (first : State) where
-    proof_refusal : (p' : Option (List ℕ)) (s : Stop) → IsRefusedText limits longest v first (Some p) p' s → Refusal (IsVeri limits) longest p s
+    proof_refusal : (p' : Option (List ℕ)) (s : Stop) → IsRefusedText limits longest v first (Some p) p' s → Refusal (IsProofText limits) longest p s
     proof_refusal p' s (InProof last a w) = let r = a.took.reads in AtStop a.took.used r.left a.marks (a.took.took.0 ∙ r.input_is) r.answer.0 r.place_is r.answer.2
-    proof_refusal p' s (BehindProof mid place last w a claimed rest) =
-        at_rest (IsVeri limits) longest p a.took.used a.took.seen mid p' a.marks place s a.took.took a.took.reads.answer.0 a.took.reads.place_is rest
+    proof_refusal p' s (AfterProof mid place last w a claimed rest) =
+        at_rest (IsProofText limits) longest p a.took.used a.took.seen mid p' a.marks place s a.took.took a.took.reads.answer.0 a.took.reads.place_is rest
 
     abbrev HasPassed : Type 0
     HasPassed = Passed laws.outcomes limits v fixed_veri longest first p
 
     -- the statements of a text of the format, accepted
-    spelled_passed : (used left : List ℕ) (marks : List (Spanned Statement)) (last : State) → p ≡ used ++ left → IsSpelled (IsVeri limits) longest used marks → Accepts (largest limits) (top_of limits) v first (events_at marks) last → HasPassed
+    spelled_passed : (used left : List ℕ) (marks : List (Spanned Statement)) (last : State) → p ≡ used ++ left → IsSpelled (IsProofText limits) longest used marks → Accepts (largest limits) (top_of limits) v first (events_at marks) last → HasPassed
     spelled_passed used left marks last is s accepted = record {
       marks = marks;
       last = last;
       accepted = accepted;
       begins = λ own more others place done e r.
-          let (m, beyond) = so_far_before (IsVeri limits) longest one_veri front_veri own more used left others marks own place done (sym e ∙ is) r s in
-          marks_begin (IsVeri limits) longest fixed_veri own used m others marks beyond (so_far_reached (IsVeri limits) longest own own others place done r) (spelling_reached (IsVeri limits) longest used marks s);
+          let (m, beyond) = so_far_before (IsProofText limits) longest one_proof_text prefix_of_proof own more used left others marks own place done (sym e ∙ is) r s in
+          marks_begin (IsProofText limits) longest fixed_veri own used m others marks beyond (so_far_reached (IsProofText limits) longest own own others place done r) (spelling_reached (IsProofText limits) longest used marks s);
     }
 
     -- those of a text that is rejected
     refused_passed : (p' : Option (List ℕ)) (s : Stop) → IsRefusedText limits longest v first (Some p) p' s → IsOfText s.why → HasPassed
-    refused_passed p' s (BehindProof mid place last w a claimed rest) d = spelled_passed a.took.used a.took.seen a.marks last a.took.took.0 a.took.reads.answer.0 a.accepted
+    refused_passed p' s (AfterProof mid place last w a claimed rest) d = spelled_passed a.took.used a.took.seen a.marks last a.took.took.0 a.took.reads.answer.0 a.accepted
     refused_passed p' s (InProof last a w) d =
         let t = a.took.reads in record {
           marks = a.marks;
           last = last;
           accepted = a.accepted;
           begins = λ own more others place done e r.
-              let reached = so_far_reached (IsVeri limits) longest own own others place done r in
-              let (m, beyond) = reached_before (IsVeri limits) longest a.took.used t.left own more others (sym t.input_is ∙ (sym a.took.took.0 ∙ e)) reached s.why d t.answer.2 in
-              marks_begin (IsVeri limits) longest fixed_veri own a.took.used m others a.marks beyond reached (way_reached (IsVeri limits) longest a.took.used a.marks t.answer.0);
+              let reached = so_far_reached (IsProofText limits) longest own own others place done r in
+              let (m, beyond) = reached_before (IsProofText limits) longest a.took.used t.left own more others (sym t.input_is ∙ (sym a.took.took.0 ∙ e)) reached s.why d t.answer.2 in
+              marks_begin (IsProofText limits) longest fixed_veri own a.took.used m others a.marks beyond reached (way_reached (IsProofText limits) longest a.took.used a.marks t.answer.0);
         }
 
     -- those of a whole proof
     proof_passed : (p' : Option (List ℕ)) (q : Proof) (last : State) → IsProofFile limits longest (Some p) p' q → Accepts (largest limits) (top_of limits) v first (statements_of q) last → HasPassed
     proof_passed p' q last f accepted =
         let s = f.spelled.spelled in
-        let same = spelled_events (IsVeri limits) longest f.used f.spelled.marks s ∙ (f.spelled.value ∙ ap (λ (x : Proof). statements_of x) f.value) in
+        let same = spelled_events (IsProofText limits) longest f.used f.spelled.marks s ∙ (f.spelled.value ∙ ap (λ (x : Proof). statements_of x) f.value) in
         spelled_passed f.used f.rest f.spelled.marks last (all_taken p (f.used ++ f.rest) f.took.0) s (subst (λ (x : List Statement). Accepts (largest limits) (top_of limits) v first x last) (sym same) accepted)
 
 -- ---- the instance
 
 module _ (laws : AllSingle) (limits : Limits) (longest : ℕ) (i : List ℕ) where
-  one_opb : OneSpelling (IsOpb limits)
-  one_opb items items' h k e = laws.one_instance (largest limits) (top_of limits) items items' h k e
+  one_instance_text : OneSpelling (IsInstanceText limits)
+  one_instance_text items items' h k e = laws.one_instance (largest limits) (top_of limits) items items' h k e
 
-  front_opb : NoneGoesOn (IsOpb limits)
-  front_opb items items' more h k e = laws.instance_front (largest limits) (top_of limits) items items' more h k e
+  prefix_of_instance : NoneGoesOn (IsInstanceText limits)
+  prefix_of_instance items items' more h k e = laws.instance_front (largest limits) (top_of limits) items items' more h k e
 
-  one_instance : (i' i'' : Option (List ℕ)) (v w : Instance) → IsOpbFile limits longest (Some i) i' v → IsOpbFile limits longest (Some i) i'' w → v ≡ w
-  one_instance = one_file (IsOpb limits) IsValueOf longest i one_opb front_opb same_value
+  one_instance : (i' i'' : Option (List ℕ)) (v w : Instance) → IsInstanceFile limits longest (Some i) i' v → IsInstanceFile limits longest (Some i) i'' w → v ≡ w
+  one_instance = one_file (IsInstanceText limits) IsValueOf longest i one_instance_text prefix_of_instance same_value
 
-  instance_refusal : (i' : Option (List ℕ)) (s : Stop) → IsNoOpbFile limits longest (Some i) i' s → IsOfText s.why → Refusal (IsOpb limits) longest i s
+  instance_refusal : (i' : Option (List ℕ)) (s : Stop) → IsNoInstanceFile limits longest (Some i) i' s → IsOfText s.why → Refusal (IsInstanceText limits) longest i s
   instance_refusal i' s (InText (used, seen, took, Reading marks r w)) d = AtStop used r.left marks (took.0 ∙ r.input_is) r.answer.0 r.place_is r.answer.2
   instance_refusal i' s (InText (used, seen, took, Keeping marks last done r k is)) d = absurd (subst (λ (x : Stop). IsOfText x.why) is d)
-  instance_refusal i' s (InRest m mid (used, seen, took, read) rest) d = at_rest (IsOpb limits) longest i used seen mid i' read.marks m.past s took read.spelled read.past rest
+  instance_refusal i' s (InRest m mid (used, seen, took, read) rest) d = at_rest (IsInstanceText limits) longest i used seen mid i' read.marks m.past s took read.spelled read.past rest
 
-  no_instance : (i' i'' : Option (List ℕ)) (v : Instance) (s : Stop) → IsOpbFile limits longest (Some i) i' v → IsNoOpbFile limits longest (Some i) i'' s → IsOfText s.why → ⊥
-  no_instance i' i'' v s f r d = no_refusal (IsOpb limits) longest one_opb front_opb i s i' f.spelled.marks (whole_of (IsOpb limits) IsValueOf longest i i' v f) (instance_refusal i'' s r d) d
+  no_instance : (i' i'' : Option (List ℕ)) (v : Instance) (s : Stop) → IsInstanceFile limits longest (Some i) i' v → IsNoInstanceFile limits longest (Some i) i'' s → IsOfText s.why → ⊥
+  no_instance i' i'' v s f r d = no_refusal (IsInstanceText limits) longest one_instance_text prefix_of_instance i s i' f.spelled.marks (whole_of (IsInstanceText limits) IsValueOf longest i i' v f) (instance_refusal i'' s r d) d
 
-  one_stop_of_instance : (i' i'' : Option (List ℕ)) (s t : Stop) → IsNoOpbFile limits longest (Some i) i' s → IsOfText s.why → IsNoOpbFile limits longest (Some i) i'' t → IsOfText t.why → t ≡ s
-  one_stop_of_instance i' i'' s t h d k d' = sym (one_refusal (IsOpb limits) longest one_opb front_opb i s t (instance_refusal i' s h d) (instance_refusal i'' t k d') d d')
+  one_stop_of_instance : (i' i'' : Option (List ℕ)) (s t : Stop) → IsNoInstanceFile limits longest (Some i) i' s → IsOfText s.why → IsNoInstanceFile limits longest (Some i) i'' t → IsOfText t.why → t ≡ s
+  one_stop_of_instance i' i'' s t h d k d' = sym (one_refusal (IsInstanceText limits) longest one_instance_text prefix_of_instance i s t (instance_refusal i' s h d) (instance_refusal i'' t k d') d d')
 
   -- the problem that the first bytes give
-  problems : (i' i'' : Option (List ℕ)) (v w : Instance) (a b : Problem) → IsOpbFile limits longest (Some i) i' v → Opened (largest limits) v (Ok a) → IsOpbFile limits longest (Some i) i'' w → Opened (largest limits) w (Ok b) → a ≡ b
+  problems : (i' i'' : Option (List ℕ)) (v w : Instance) (a b : Problem) → IsInstanceFile limits longest (Some i) i' v → Opened (largest limits) v (Ok a) → IsInstanceFile limits longest (Some i) i'' w → Opened (largest limits) w (Ok b) → a ≡ b
   problems i' i'' v w a b f h g k =
       same_ok (laws.openings (largest limits) w (Ok a) (Ok b) (subst (λ (x : Instance). Opened (largest limits) x (Ok a)) (one_instance i' i'' v w f g) h) k)
 
-  opens : (i' i'' : Option (List ℕ)) (v w : Instance) (a : Problem) → IsOpbFile limits longest (Some i) i' v → Opened (largest limits) v (Ok a) → IsOpbFile limits longest (Some i) i'' w → Opened (largest limits) w (Err over) → ⊥
+  opens : (i' i'' : Option (List ℕ)) (v w : Instance) (a : Problem) → IsInstanceFile limits longest (Some i) i' v → Opened (largest limits) v (Ok a) → IsInstanceFile limits longest (Some i) i'' w → Opened (largest limits) w (Err over) → ⊥
   opens i' i'' v w a f h g k = ok_or_err (laws.openings (largest limits) w (Ok a) (Err over) (subst (λ (x : Instance). Opened (largest limits) x (Ok a)) (one_instance i' i'' v w f g) h) k)
 
   -- ---- both
@@ -159,7 +159,7 @@ module _ (laws : AllSingle) (limits : Limits) (longest : ℕ) (i : List ℕ) whe
       Answers result old i' p' new = ChecksFiles limits longest contents faults (Some i) (Some p) old result i' p' new
 
       -- what is verified is the result
-      settled : (i1 p1 : Option (List ℕ)) (v : Instance) (q : Proof) (w : Verdict) → IsOpbFile limits longest (Some i) i1 v → IsProofFile limits longest (Some p) p1 q → IsVerified limits v q w
+      settled : (i1 p1 : Option (List ℕ)) (v : Instance) (q : Proof) (w : Verdict) → IsInstanceFile limits longest (Some i) i1 v → IsProofFile limits longest (Some p) p1 q → IsVerified limits v q w
           → (result : Result Verdict ToolFault) (old new : W) (i' p' : Option (List ℕ)) → Answers result old i' p' new → IsDecided result → result ≡ Ok w
       settled i1 p1 v q w f g h (Ok x) old new i' p' (v', f', q', g', h', wrote) d =
           let problem : h'.problem ≡ h.problem = problems i' i1 v' v h'.problem h.problem f' h'.opened f h.opened in
@@ -175,8 +175,8 @@ module _ (laws : AllSingle) (limits : Limits) (longest : ℕ) (i : List ℕ) whe
           let went : Went problem = subst Went same (proof_passed laws limits longest p h.problem (first_state h.problem) p1 q h.last g h.accepted) in
           absurd (no_step laws.outcomes limits problem (fixed_veri laws limits longest p) longest (first_state problem) p p' place e (string_bytes name) went r d)
       settled i1 p1 v q w f g h (Err (Text of_proof s)) old new i' p' (v', f', problem, opened, r, x) d =
-          absurd (no_refusal (IsVeri limits) longest (one_veri laws limits longest p) (front_veri laws limits longest p) p s p1 g.spelled.marks
-          (whole_of (IsVeri limits) IsProofOf longest p p1 q g) (proof_refusal laws limits longest p problem (first_state problem) p' s r) d)
+          absurd (no_refusal (IsProofText limits) longest (one_proof_text laws limits longest p) (prefix_of_proof laws limits longest p) p s p1 g.spelled.marks
+          (whole_of (IsProofText limits) IsProofOf longest p p1 q g) (proof_refusal laws limits longest p problem (first_state problem) p' s r) d)
       settled i1 p1 v q w f g h (Err (Text File s)) old new i' p' a d = absurd a
       settled i1 p1 v q w f g h (Err (Overflow File)) old new i' p' a d = absurd a
       settled i1 p1 v q w f g h (Err (Overflow of_proof)) old new i' p' a d = absurd a
@@ -185,7 +185,7 @@ module _ (laws : AllSingle) (limits : Limits) (longest : ℕ) (i : List ℕ) whe
       settled i1 p1 v q w f g h (Err Write) old new i' p' a d = absurd d
 
       verified_by : (w : Verdict) (old new : W) (i' p' : Option (List ℕ)) → Answers (Ok w) old i' p' new → AreVerified limits longest i p w
-      verified_by w old new i' p' (v, f, q, g, h, wrote) = record { instance = v; first = taken (IsOpb limits) IsValueOf longest i i' v f; proof = q; second = taken (IsVeri limits) IsProofOf longest p p' q g; verified = h }
+      verified_by w old new i' p' (v, f, q, g, h, wrote) = record { instance = v; first = taken (IsInstanceText limits) IsValueOf longest i i' v f; proof = q; second = taken (IsProofText limits) IsProofOf longest p p' q g; verified = h }
 
       exactly : (i' p' : Option (List ℕ)) (old new : W) (result : Result Verdict ToolFault) (w : Verdict) → Answers result old i' p' new → IsDecided result → (result ≡ Ok w) ↔ AreVerified limits longest i p w
       exactly i' p' old new result w a d = (
@@ -198,11 +198,11 @@ module _ (laws : AllSingle) (limits : Limits) (longest : ℕ) (i : List ℕ) whe
       -- what a result that the bytes decide says of them
       data Shown (result : Result Verdict ToolFault) : Type 0 where
         Accepted : (w : Verdict) → result ≡ Ok w → AreVerified limits longest i p w → Shown result
-        NoInstance : (s : Stop) (i' : Option (List ℕ)) → result ≡ Err (Text of_instance s) → IsNoOpbFile limits longest (Some i) i' s → IsOfText s.why → Shown result
-        TooLarge : (v : Instance) (i' : Option (List ℕ)) → result ≡ Err (Overflow of_instance) → IsOpbFile limits longest (Some i) i' v → Opened (largest limits) v (Err over) → Shown result
-        NoStep : (v : Instance) (i' : Option (List ℕ)) (problem : Problem) (place : Place) (e : Fault) (name : String Global) (p' : Option (List ℕ)) → result ≡ Err (Step place e name) → IsOpbFile limits longest (Some i) i' v → Opened (largest limits) v (Ok problem)
+        NoInstance : (s : Stop) (i' : Option (List ℕ)) → result ≡ Err (Text of_instance s) → IsNoInstanceFile limits longest (Some i) i' s → IsOfText s.why → Shown result
+        TooLarge : (v : Instance) (i' : Option (List ℕ)) → result ≡ Err (Overflow of_instance) → IsInstanceFile limits longest (Some i) i' v → Opened (largest limits) v (Err over) → Shown result
+        NoStep : (v : Instance) (i' : Option (List ℕ)) (problem : Problem) (place : Place) (e : Fault) (name : String Global) (p' : Option (List ℕ)) → result ≡ Err (Step place e name) → IsInstanceFile limits longest (Some i) i' v → Opened (largest limits) v (Ok problem)
             → IsRefusedStep limits longest problem (first_state problem) (Some p) p' place e (string_bytes name) → e ≢ no_memory → Shown result
-        NoText : (v : Instance) (i' : Option (List ℕ)) (problem : Problem) (s : Stop) (p' : Option (List ℕ)) → result ≡ Err (Text of_proof s) → IsOpbFile limits longest (Some i) i' v → Opened (largest limits) v (Ok problem)
+        NoText : (v : Instance) (i' : Option (List ℕ)) (problem : Problem) (s : Stop) (p' : Option (List ℕ)) → result ≡ Err (Text of_proof s) → IsInstanceFile limits longest (Some i) i' v → Opened (largest limits) v (Ok problem)
             → IsRefusedText limits longest problem (first_state problem) (Some p) p' s → IsOfText s.why → Shown result
 
       shown : (result : Result Verdict ToolFault) (old new : W) (i' p' : Option (List ℕ)) → Answers result old i' p' new → IsDecided result → Shown result
@@ -222,15 +222,15 @@ module _ (laws : AllSingle) (limits : Limits) (longest : ℕ) (i : List ℕ) whe
       to_same one other a b e f h = subst (λ (x : Result Verdict ToolFault). IsSame x other) (sym e) (subst (λ (y : Result Verdict ToolFault). IsSame a y) (sym f) h)
 
       -- an accepted statement is not rejected, and two rejected statements are the same
-      text_or_step : (v w : Instance) (i' i'' : Option (List ℕ)) (a b : Problem) (s : Stop) (place : Place) (e : Fault) (name : String Global) (p' p'' : Option (List ℕ)) → IsOpbFile limits longest (Some i) i' v → Opened (largest limits) v (Ok a)
-          → IsRefusedText limits longest a (first_state a) (Some p) p' s → IsOfText s.why → IsOpbFile limits longest (Some i) i'' w → Opened (largest limits) w (Ok b) → IsRefusedStep limits longest b (first_state b) (Some p) p'' place e (string_bytes name) → e ≢ no_memory → ⊥
+      text_or_step : (v w : Instance) (i' i'' : Option (List ℕ)) (a b : Problem) (s : Stop) (place : Place) (e : Fault) (name : String Global) (p' p'' : Option (List ℕ)) → IsInstanceFile limits longest (Some i) i' v → Opened (largest limits) v (Ok a)
+          → IsRefusedText limits longest a (first_state a) (Some p) p' s → IsOfText s.why → IsInstanceFile limits longest (Some i) i'' w → Opened (largest limits) w (Ok b) → IsRefusedStep limits longest b (first_state b) (Some p) p'' place e (string_bytes name) → e ≢ no_memory → ⊥
       text_or_step v w i' i'' a b s place e name p' p'' f h r d g k x m =
           let same : a ≡ b = problems i' i'' v w a b f h g k in
           let went : Went b = subst Went same (refused_passed laws limits longest p a (first_state a) p' s r d) in
           no_step laws.outcomes limits b (fixed_veri laws limits longest p) longest (first_state b) p p'' place e (string_bytes name) went x m
 
-      two_steps : (v w : Instance) (i' i'' : Option (List ℕ)) (a b : Problem) (place place' : Place) (e e' : Fault) (name name' : String Global) (p' p'' : Option (List ℕ)) → IsOpbFile limits longest (Some i) i' v → Opened (largest limits) v (Ok a)
-          → IsRefusedStep limits longest a (first_state a) (Some p) p' place e (string_bytes name) → e ≢ no_memory → IsOpbFile limits longest (Some i) i'' w → Opened (largest limits) w (Ok b)
+      two_steps : (v w : Instance) (i' i'' : Option (List ℕ)) (a b : Problem) (place place' : Place) (e e' : Fault) (name name' : String Global) (p' p'' : Option (List ℕ)) → IsInstanceFile limits longest (Some i) i' v → Opened (largest limits) v (Ok a)
+          → IsRefusedStep limits longest a (first_state a) (Some p) p' place e (string_bytes name) → e ≢ no_memory → IsInstanceFile limits longest (Some i) i'' w → Opened (largest limits) w (Ok b)
           → IsRefusedStep limits longest b (first_state b) (Some p) p'' place' e' (string_bytes name') → e' ≢ no_memory → IsSame (Err (Step place e name)) (Err (Step place' e' name'))
       two_steps v w i' i'' a b place place' e e' name name' p' p'' f h r d g k r' d' =
           let same : b ≡ a = problems i'' i' w v b a g k f h in
@@ -241,7 +241,7 @@ module _ (laws : AllSingle) (limits : Limits) (longest : ℕ) (i : List ℕ) whe
 
       two_texts : (v w : Instance) (i' i'' : Option (List ℕ)) (a b : Problem) (s t : Stop) (p' p'' : Option (List ℕ)) → IsRefusedText limits longest a (first_state a) (Some p) p' s → IsOfText s.why → IsRefusedText limits longest b (first_state b) (Some p) p'' t → IsOfText t.why → t ≡ s
       two_texts v w i' i'' a b s t p' p'' r d r' d' =
-          one_refusal (IsVeri limits) longest (one_veri laws limits longest p) (front_veri laws limits longest p) p t s
+          one_refusal (IsProofText limits) longest (one_proof_text laws limits longest p) (prefix_of_proof laws limits longest p) p t s
           (proof_refusal laws limits longest p b (first_state b) p'' t r') (proof_refusal laws limits longest p a (first_state a) p' s r) d' d
 
       same_refusals : (one other : Result Verdict ToolFault) → ((w : Verdict) → other ≡ Ok w → AreVerified limits longest i p w → one ≡ Ok w) → ((w : Verdict) → one ≡ Ok w → AreVerified limits longest i p w → other ≡ Ok w) → Shown one → Shown other → IsSame one other

@@ -14,9 +14,9 @@ use Rattle.pb_replay.specs.Statements.{Outcome, Accepts}
 use Rattle.pb_replay.specs.declared.fault.Fault.{Fault}
 use Rattle.pb_replay.specs.declared.fault.Fault.TheVariants.{Memory, Overflow, FormulaCount, NoSuchId, NotImplied, Conflict, NotTotal, Violates, NoObjective, NotContradiction, SolutionLogged, NoSolution, NotBound, IdsSpent, Order}
 use Rattle.pb_text.specs.Whole.{events_at}
-use Rattle.pb_tool.specs.meaning.Files.{IsVeri}
-use Rattle.pb_tool.specs.meaning.Verified.{ComesTo, IsRefusedStep, IsTold}
-use Rattle.pb_tool.proofs.lemmas.check.Prefixes.{Compared, two_fronts}
+use Rattle.pb_tool.specs.meaning.Files.{IsProofText}
+use Rattle.pb_tool.specs.meaning.Verified.{ComesTo, IsRefusedStep, IsReported}
+use Rattle.pb_tool.proofs.lemmas.check.Prefixes.{Compared, two_prefixes}
 use Rattle.pb_tool.proofs.lemmas.check.OneRead.{Begins, marks_begin, so_far_reached}
 
 -- ---- lists that continue others
@@ -42,7 +42,7 @@ ends_at (z ∷ xs) (w ∷ ys) x y more e =
 
 -- ---- the name that a fault gives
 
-one_name : (names : List (List ℕ)) (e : Fault) (a b : List ℕ) → IsTold names e a → IsTold names e b → a ≡ b
+one_name : (names : List (List ℕ)) (e : Fault) (a b : List ℕ) → IsReported names e a → IsReported names e b → a ≡ b
 one_name names Memory a b told told' = told ∙ sym told'
 one_name names Overflow a b told told' = told ∙ sym told'
 one_name names (FormulaCount n) a b told told' = told ∙ sym told'
@@ -79,13 +79,13 @@ module _ (single : OutcomesAreSingle) (limits : Limits) (v : Problem) where
   clash (n ∷ marks) m more s t u e (a, o, h) (b, o', k) x =
       clash marks m more b t u e (subst (λ (y : State). Leads y (events_at ((marks ++ m ∷ []) ++ more)) t) (one_next s n.event a b o o') h) k x
 
-  module _ (fixed : HasFixedMarks (IsVeri limits)) (longest : ℕ) (first : State) (input : List ℕ) where
+  module _ (fixed : HasFixedMarks (IsProofText limits)) (longest : ℕ) (first : State) (input : List ℕ) where
     -- Accepted statements of the text. Each list of statements that is read so far begins them.
     pub record Passed : Type 0 where
       pub marks : List (Spanned Statement)
       pub last : State
       pub accepted : Leads first (events_at marks) last
-      pub begins : (used left : List ℕ) (others : List (Spanned Statement)) (place : Place) (done : Bool) → input ≡ used ++ left → Reads (IsVeri limits) longest used used others place done None → Begins others marks
+      pub begins : (used left : List ℕ) (others : List (Spanned Statement)) (place : Place) (done : Bool) → input ≡ used ++ left → Reads (IsProofText limits) longest used used others place done None → Begins others marks
 
     pub no_step : (after : Option (List ℕ)) (begins : Place) (e : Fault) (name : List ℕ) → Passed → IsRefusedStep limits longest v first (Some input) after begins e name → e ≢ Memory → ⊥
     no_step after begins e name p (st, state, comes, inl h) d = d h.0
@@ -102,7 +102,7 @@ module _ (single : OutcomesAreSingle) (limits : Limits) (v : Problem) where
       state : State
       comes : ComesTo limits longest v first (Some input) after begins statement state
       out : Does state comes.last.event (Err e)
-      named : IsTold state.names e name
+      named : IsReported state.names e name
 
     refused : (after : Option (List ℕ)) (begins : Place) (e : Fault) (name : List ℕ) → IsRefusedStep limits longest v first (Some input) after begins e name → e ≢ Memory → Refused after e name begins
     refused after begins e name (st, state, comes, inl h) d = absurd (d h.0)
@@ -116,8 +116,8 @@ module _ (single : OutcomesAreSingle) (limits : Limits) (v : Problem) where
           let t = r.comes.took in
           let t' = r'.comes.took in
           let (more, is) =
-          marks_begin (IsVeri limits) longest fixed t.used t'.used m (r.comes.marks ++ r.comes.last ∷ []) (r'.comes.marks ++ r'.comes.last ∷ []) p
-          (so_far_reached (IsVeri limits) longest t.used t.used (r.comes.marks ++ r.comes.last ∷ []) r.comes.last.past t.done t.reads) (so_far_reached (IsVeri limits) longest t'.used t'.used (r'.comes.marks ++ r'.comes.last ∷ []) r'.comes.last.past t'.done t'.reads) in
+          marks_begin (IsProofText limits) longest fixed t.used t'.used m (r.comes.marks ++ r.comes.last ∷ []) (r'.comes.marks ++ r'.comes.last ∷ []) p
+          (so_far_reached (IsProofText limits) longest t.used t.used (r.comes.marks ++ r.comes.last ∷ []) r.comes.last.past t.done t.reads) (so_far_reached (IsProofText limits) longest t'.used t'.used (r'.comes.marks ++ r'.comes.last ∷ []) r'.comes.last.past t'.done t'.reads) in
           by (ends_at r.comes.marks r'.comes.marks r.comes.last r'.comes.last more is)
         where
           by : ((r'.comes.marks ≡ r.comes.marks) × (r'.comes.last ≡ r.comes.last)) ⊎ ((others : List (Spanned Statement)) × (r'.comes.marks ≡ (r.comes.marks ++ r.comes.last ∷ []) ++ others))
@@ -133,11 +133,11 @@ module _ (single : OutcomesAreSingle) (limits : Limits) (v : Problem) where
           let fault : e' ≡ e = same_err (single (largest limits) (top_of limits) v r.state r.comes.last.event (Err e') (Err e) out r.out) in (
             r'.comes.begins_is ∙ (ap (λ (x : Spanned Statement). x.first) last ∙ sym r.comes.begins_is),
             fault,
-            one_name r.state.names e name name' r.named (subst (λ (x : Fault). IsTold r.state.names x name') fault (subst (λ (x : State). IsTold x.names e' name') state r'.named)),
+            one_name r.state.names e name name' r.named (subst (λ (x : Fault). IsReported r.state.names x name') fault (subst (λ (x : State). IsReported x.names e' name') state r'.named)),
           )
 
     one_refused : (after after' : Option (List ℕ)) (e e' : Fault) (name name' : List ℕ) (begins begins' : Place) (r : Refused after e name begins) (r' : Refused after' e' name' begins') → (begins' ≡ begins) × (e' ≡ e) × (name ≡ name')
-    one_refused after after' e e' name name' begins begins' r r' = by (two_fronts r.comes.took.used r.comes.took.seen r'.comes.took.used r'.comes.took.seen (sym r.comes.took.took.0 ∙ r'.comes.took.took.0))
+    one_refused after after' e e' name name' begins begins' r r' = by (two_prefixes r.comes.took.used r.comes.took.seen r'.comes.took.used r'.comes.took.seen (sym r.comes.took.took.0 ∙ r'.comes.took.took.0))
       where
         by : Compared r.comes.took.used r'.comes.took.used → (begins' ≡ begins) × (e' ≡ e) × (name ≡ name')
         by (inl (m, p)) = let (marks, last) = same_mark after after' e e' name name' begins begins' r r' m p in alike after after' e e' name name' begins begins' r r' marks last

@@ -12,7 +12,7 @@ use Rattle.pb_text.specs.declared.Why.TheVariants.{Byte, TooLarge, Ended, TooLon
 use Rattle.pb_text.proofs.Languages.{bytes-append, bytes-plain}
 use Rattle.pb_text.proofs.Short.{place_after-offset}
 use Rattle.pb_tool.specs.meaning.Decided.{IsOfText}
-use Rattle.pb_tool.proofs.lemmas.check.Prefixes.{begins_with, behind_front, one_front, same_behind}
+use Rattle.pb_tool.proofs.lemmas.check.Prefixes.{begins_with, after_prefix, one_prefix, same_rest}
 
 -- ---- spans within prefixes
 
@@ -95,7 +95,7 @@ module _ {E : Type 0} (format : List (Item E) → Type 0) (front : NoneGoesOn fo
       absurd cc
 
   pub one_spelt : (used left used' left' : List ℕ) (items items' : List (Item E)) → used ++ left ≡ used' ++ left' → format items → format items' → bytes_of items ≡ used → bytes_of items' ≡ used' → used ≡ used'
-  one_spelt used left used' left' items items' e h h' are are' = one_front used left used' left' e (no_longer used used' items items' h h' are are') (no_longer used' used items' items h' h are' are)
+  one_spelt used left used' left' items items' e h h' are are' = one_prefix used left used' left' e (no_longer used used' items items' h h' are are') (no_longer used' used items' items h' h are' are)
 
 module _ {E : Type 0} (format : List (Item E) → Type 0) (longest : ℕ) where
   -- a prefix of a text of the format with its spans, with no limit exceeded
@@ -127,7 +127,7 @@ module _ {E : Type 0} (format : List (Item E) → Type 0) (longest : ℕ) where
   -- ---- nothing is read after a stop
   module _ (used left used' left' : List ℕ) (marks' : List (Spanned E)) (input_is : used ++ left ≡ used' ++ left') (r : Reached used' marks') where
     next : (x : ℕ) (m : List ℕ) → used' ≡ used ++ x ∷ m → left ≡ x ∷ (m ++ left')
-    next x m p = behind_front used left used' left' input_is (x ∷ m) p
+    next x m p = after_prefix used left used' left' input_is (x ∷ m) p
 
     goes_on : (m : List ℕ) → used' ≡ used ++ m → bytes_of r.items ≡ used ++ (m ++ r.more)
     goes_on m p = r.begins ∙ (ap (λ (y : List ℕ). y ++ r.more) p ∙ append_assoc used m r.more)
@@ -198,8 +198,8 @@ module _ {E : Type 0} (format : List (Item E) → Type 0) (longest : ℕ) where
       → IsUnderWay format longest used' marks' → IsOfText why' → Explains format longest used' left' why' → (used ≡ used') × (why ≡ why')
   one_stop used left used' left' marks marks' why why' e u d x u' d' x' =
       let same : used ≡ used' =
-      one_front used left used' left' e (no_further used left used' left' marks' e (way_reached used' marks' u') why d x) (no_further used' left' used left marks (sym e) (way_reached used marks u) why' d' x') in
-      let rest : left ≡ left' = same_behind used left used' left' e same in
+      one_prefix used left used' left' e (no_further used left used' left' marks' e (way_reached used' marks' u') why d x) (no_further used' left' used left marks (sym e) (way_reached used marks u) why' d' x') in
+      let rest : left ≡ left' = same_rest used left used' left' e same in
       (same, one_why used left why why' d d' x (subst (λ (y : List ℕ). Explains format longest used y why') (sym rest) (subst (λ (y : List ℕ). Explains format longest y left' why') (sym same) x')))
 
   -- ---- a text of the format is not rejected

@@ -11,7 +11,7 @@ use Rattle.pb_text.specs.declared.Why.{Why}
 use Rattle.pb_text.proofs.Short.{place_after-offset}
 use Rattle.pb_tool.specs.meaning.Decided.{IsOfText}
 use Rattle.pb_tool.specs.contract.Show.{IsSpelling}
-use Rattle.pb_tool.proofs.lemmas.check.Prefixes.{same_behind}
+use Rattle.pb_tool.proofs.lemmas.check.Prefixes.{same_rest}
 use Rattle.pb_tool.proofs.lemmas.check.OneRead.{NoneGoesOn, OneSpelling, not_both, one_spelled, one_stop}
 use Rattle.pb_tool.proofs.lemmas.check.OneRest.{not_stray, one_stray}
 
@@ -46,7 +46,7 @@ module _ {E : Type 0} (format : List (Item E) → Type 0) (longest : ℕ) where
     no_refusal s after marks' w (AtRest used left marks is spelled rest more e blank place x) d =
         let both : used ++ left ≡ w.used ++ w.rest = sym is ∙ all_taken input (w.used ++ w.rest) w.took.0 in
         let same : used ≡ w.used = (one_spelled format longest one front used left w.used w.rest marks marks' both spelled w.spelled).0 in
-        let behind : w.rest ≡ rest ++ more = sym (same_behind used left w.used w.rest both same) ∙ e in
+        let behind : w.rest ≡ rest ++ more = sym (same_rest used left w.used w.rest both same) ∙ e in
         not_stray (place_after used) rest more s.why (subst IsBlank behind w.blank)
         (omega (arith, place_after-offset used, ap (λ (y : List ℕ). length y) same, ap (λ (y : List ℕ). length y) behind, w.within, length-append w.used w.rest)) d x
 
@@ -59,7 +59,7 @@ module _ {E : Type 0} (format : List (Item E) → Type 0) (longest : ℕ) where
     one_refusal s t (AtRest used left marks is spelled rest more e blank place x) (AtRest used' left' marks' is' spelled' rest' more' e' blank' place' x') d d' =
         let both : used ++ left ≡ used' ++ left' = sym is ∙ is' in
         let same : used ≡ used' = (one_spelled format longest one front used left used' left' marks marks' both spelled spelled').0 in
-        let behind : left ≡ left' = same_behind used left used' left' both same in
+        let behind : left ≡ left' = same_rest used left used' left' both same in
         let (rests, why) =
         one_stray (place_after used) rest more rest' more' s.why t.why (sym e ∙ (behind ∙ e')) blank blank' d d' x (subst (λ (y : List ℕ). IsStray (place_after y) rest' more' t.why) (sym same) x') in
         same_stop s t (place ∙ (ap (λ (y : List ℕ). place_from (place_after y) rest) same ∙ (ap (λ (y : List ℕ). place_from (place_after used') y) rests ∙ sym place'))) why

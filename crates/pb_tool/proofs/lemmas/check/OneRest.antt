@@ -8,7 +8,7 @@ use Rattle.pb_text.specs.declared.Why.{Why}
 use Rattle.pb_text.specs.declared.Why.TheVariants.{Byte, TooLarge, Ended, TooLong, Read, Memory}
 use Rattle.pb_text.proofs.Blanks.{blank_passes, passes_at}
 use Rattle.pb_tool.specs.meaning.Decided.{IsOfText}
-use Rattle.pb_tool.proofs.lemmas.check.Prefixes.{behind_front, one_front, same_behind, some_left}
+use Rattle.pb_tool.proofs.lemmas.check.Prefixes.{after_prefix, one_prefix, same_rest, some_left}
 
 -- a byte within a blank text passes
 passes_in : (text used more : List ℕ) (b : ℕ) → IsBlank text → text ≡ used ++ b ∷ more → IsTrue (passes used b)
@@ -28,7 +28,7 @@ module _ (place : Place) where
   -- no blank text continues after a stray byte
   no_more : (used left used' left' : List ℕ) (why : Why) → used ++ left ≡ used' ++ left' → IsBlank used' → place.offset + length used' ≤ byte_limit → IsOfText why → IsStray place used left why → (x : ℕ) (m : List ℕ) → used' ≡ used ++ x ∷ m → ⊥
   no_more used left used' left' (Byte b) e blank within d (more, is, bad, room) x m p =
-      let k : b ∷ more ≡ x ∷ (m ++ left') = sym is ∙ behind_front used left used' left' e (x ∷ m) p in
+      let k : b ∷ more ≡ x ∷ (m ++ left') = sym is ∙ after_prefix used left used' left' e (x ∷ m) p in
       let same : x ≡ b = cc in
       both_ways (passes used b) bad (passes_in used' used m b blank (p ∙ ap (λ (y : ℕ). used ++ y ∷ m) same))
   no_more used left used' left' TooLong e blank within d (some, full) x m p = omega (arith, within, full, ap (λ (y : List ℕ). length y) p, length-append used (x ∷ m))
@@ -70,6 +70,6 @@ module _ (place : Place) where
   pub one_stray : (used left used' left' : List ℕ) (why why' : Why) → used ++ left ≡ used' ++ left' → IsBlank used → IsBlank used' → IsOfText why → IsOfText why' → IsStray place used left why → IsStray place used' left' why' → (used ≡ used') × (why ≡ why')
   one_stray used left used' left' why why' e blank blank' d d' h h' =
       let same : used ≡ used' =
-      one_front used left used' left' e (no_more used left used' left' why e blank' (within_by used' left' why' d' h') d h) (no_more used' left' used left why' (sym e) blank (within_by used left why d h) d' h') in
-      let rest : left ≡ left' = same_behind used left used' left' e same in
+      one_prefix used left used' left' e (no_more used left used' left' why e blank' (within_by used' left' why' d' h') d h) (no_more used' left' used left why' (sym e) blank (within_by used left why d h) d' h') in
+      let rest : left ≡ left' = same_rest used left used' left' e same in
       (same, one_why used left why why' d d' h (subst (λ (y : List ℕ). IsStray place used y why') (sym rest) (subst (λ (y : List ℕ). IsStray place y left' why') (sym same) h')))

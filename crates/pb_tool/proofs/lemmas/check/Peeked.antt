@@ -5,7 +5,7 @@ use Rattle.pb_text.specs.declared.Place.{Place}
 use Rattle.pb_replay.specs.Problem.{Problem}
 use Rattle.pb_replay.specs.Replay.{State}
 use Rattle.pb_replay.specs.declared.fault.Fault.{Fault}
-use Rattle.pb_tool.specs.contract.Runs.{IsNoReplay, IsToldAs, Replays}
+use Rattle.pb_tool.specs.contract.Runs.{IsNoReplay, IsReportedAs, Replays}
 use Rattle.pb_tool.specs.contract.Seen.{SawNoInstance, SawNoProof}
 use Rattle.pb_tool.specs.declared.fault.ToolFault.{ToolFault}
 use Rattle.pb_tool.specs.declared.fault.ToolFault.TheVariants.{Text, Open, Overflow, Memory, Write, Step}
@@ -36,10 +36,10 @@ module _ (shown : Option ℕ) (ended : Bool) where
     replay_unseen end v first (Step place e name) h = end
 
   -- a rejected statement is not a text that stopped the reader
-  pub told_unseen : (names : List (List ℕ)) (place : Place) (e : Fault) (f : ToolFault) → IsToldAs names place e f → SawNoProof shown ended f
-  told_unseen names place e (Step at x name) h = tt
-  told_unseen names place e (Text i s) h = absurd h
-  told_unseen names place e (Open i) h = absurd h
-  told_unseen names place e (Overflow i) h = absurd h
-  told_unseen names place e (Memory i) h = absurd h
-  told_unseen names place e Write h = absurd h
+  pub report_unseen : (names : List (List ℕ)) (place : Place) (e : Fault) (f : ToolFault) → IsReportedAs names place e f → SawNoProof shown ended f
+  report_unseen names place e (Step at x name) h = tt
+  report_unseen names place e (Text i s) h = absurd h
+  report_unseen names place e (Open i) h = absurd h
+  report_unseen names place e (Overflow i) h = absurd h
+  report_unseen names place e (Memory i) h = absurd h
+  report_unseen names place e Write h = absurd h

@@ -30,7 +30,7 @@ use Rattle.pb_tool.specs.contract.Checker.{IsAt, StepsFrom}
 use Rattle.pb_text.specs.Whole.{events_at}
 use Rattle.pb_tool.specs.contract.Checks.{KeepsNames, Refuses, Takes}
 use Rattle.pb_replay.specs.Kept.{StandsFor}
-use Rattle.pb_tool.specs.meaning.Files.{AsksVeri, IsVeri}
+use Rattle.pb_tool.specs.meaning.Files.{AsksInProofText, IsProofText}
 use Rattle.pb_tool.specs.contract.Runs.{Runs, faults_of_text}
 use Rattle.pb_tool.specs.contract.Seen.{SawText}
 use Rattle.pb_tool.specs.meaning.Verified.{IsAccepted}
@@ -81,7 +81,7 @@ module _ (exact : ReadsProofs) (limits : Limits) (longest : ℕ) where
   abbrev IsRead : List ℕ → List ℕ → List (Spanned Statement) → Place → Bool → Option Stop → Type 0
   IsRead = Reads (Taken limits) longest
 
-  pub to_proof : (input used : List ℕ) (marks : List (Spanned Statement)) (place : Place) (done : Bool) (stop : Option Stop) → IsRead input used marks place done stop → Reads (IsVeri limits) longest input used marks place done stop
+  pub to_proof : (input used : List ℕ) (marks : List (Spanned Statement)) (place : Place) (done : Bool) (stop : Option Stop) → IsRead input used marks place done stop → Reads (IsProofText limits) longest input used marks place done stop
   to_proof = proofs_read exact (largest limits) (top_of limits) longest
 
   module _ (before after : Option (List ℕ)) where
@@ -91,11 +91,11 @@ module _ (exact : ReadsProofs) (limits : Limits) (longest : ℕ) where
     abbrev HasSoFar : List (Spanned Statement) → Place → Type 0
     HasSoFar = TookSoFar (Taken limits) longest before after
 
-    abbrev read_all : (marks : List (Spanned Statement)) (place : Place) (done : Bool) (stop : Option Stop) → HasAll marks place done stop → TookAll (IsVeri limits) longest before after marks place done stop
-    read_all = all_to (Taken limits) (IsVeri limits) longest to_proof before after
+    abbrev read_all : (marks : List (Spanned Statement)) (place : Place) (done : Bool) (stop : Option Stop) → HasAll marks place done stop → TookAll (IsProofText limits) longest before after marks place done stop
+    read_all = all_to (Taken limits) (IsProofText limits) longest to_proof before after
 
-    read_so_far : (marks : List (Spanned Statement)) (place : Place) → HasSoFar marks place → TookSoFar (IsVeri limits) longest before after marks place
-    read_so_far = so_far_to (Taken limits) (IsVeri limits) longest to_proof before after
+    read_so_far : (marks : List (Spanned Statement)) (place : Place) → HasSoFar marks place → TookSoFar (IsProofText limits) longest before after marks place
+    read_so_far = so_far_to (Taken limits) (IsProofText limits) longest to_proof before after
 
     pub value_pulled : ReadStatements → (current : Limits) → current ≡ limits → (marks : List (Spanned Statement)) (m : Spanned Statement) (place : Place) → HasSoFar (marks ++ m ∷ []) place → IsStatementValue (largest current) (top_of current) m.event
     value_pulled values current same marks m place t =
@@ -106,9 +106,9 @@ module _ (exact : ReadsProofs) (limits : Limits) (longest : ℕ) where
       abbrev pub accepted : (place : Place) (done : Bool) (stop : Option Stop) → HasAll marks place done stop → IsAccepted limits longest v first before after place done stop led.0
       accepted place done stop all = record { marks = marks; took = read_all marks place done stop all; accepted = led.2 }
 
-      pub stopped : ((used : List ℕ) (b : ℕ) → MayTake limits used b → AsksVeri limits used b) → (s : Stop) → (all : HasAll marks s.place false (Some s)) × IsAsking (MayTake limits) all.used all.seen s.why
-          → (t : State) × (a : IsAccepted limits longest v first before after s.place false (Some s) t) × IsAsking (AsksVeri limits) a.took.used a.took.seen s.why
-      stopped asks s (all, asking) = (led.0, accepted s.place false (Some s) all, asking_to (MayTake limits) (AsksVeri limits) all.used all.seen (asks all.used) s.why asking)
+      pub stopped : ((used : List ℕ) (b : ℕ) → MayTake limits used b → AsksInProofText limits used b) → (s : Stop) → (all : HasAll marks s.place false (Some s)) × IsAsking (MayTake limits) all.used all.seen s.why
+          → (t : State) × (a : IsAccepted limits longest v first before after s.place false (Some s) t) × IsAsking (AsksInProofText limits) a.took.used a.took.seen s.why
+      stopped asks s (all, asking) = (led.0, accepted s.place false (Some s) all, asking_to (MayTake limits) (AsksInProofText limits) all.used all.seen (asks all.used) s.why asking)
 
       module _ (none : r.fault ≡ None) where
         pub ended : (place : Place) (w : Verdict) → HasAll marks place true None → Some w ≡ verdict_in r → (t : State) × IsAccepted limits longest v first before after place true None t × (t.concluded ≡ Some w)

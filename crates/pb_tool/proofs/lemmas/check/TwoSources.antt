@@ -22,37 +22,37 @@ use Rattle.pb_replay.specs.declared.fault.Fault.{Fault}
 use Rattle.pb_replay.specs.declared.fault.Fault.TheVariants.{Memory as no_memory, NotTotal}
 use Rattle.pb_replay.specs.declared.fault.Fault.TheVariants as why
 use Rattle.pb_replay.specs.declared.verdict.Verdict.{Verdict}
-use Rattle.pb_tool.specs.meaning.Files.{IsVeri}
+use Rattle.pb_tool.specs.meaning.Files.{IsProofText}
 use Rattle.pb_tool.specs.contract.Checks.{KeepsNames}
-use Rattle.pb_tool.specs.contract.Runs.{IsNoReplay, IsReplayOf, IsToldAs, Replays, Runs, faults_of_instance}
-use Rattle.pb_tool.specs.meaning.Verified.{ChecksFiles, IsAccepted, IsTold, IsVerified, verdict_line}
+use Rattle.pb_tool.specs.contract.Runs.{IsNoReplay, IsReplayOf, IsReportedAs, Replays, Runs, faults_of_instance}
+use Rattle.pb_tool.specs.meaning.Verified.{ChecksFiles, IsAccepted, IsReported, IsVerified, verdict_line}
 use Rattle.pb_tool.specs.declared.commands.check.checker.CheckFault.TheVariants as check
 use Rattle.pb_tool.specs.declared.fault.ToolFault.{ToolFault}
 use Rattle.pb_tool.specs.declared.fault.ToolFault.TheVariants.{Text, Open, Overflow, Memory, Write, Step}
 use Rattle.pb_tool.specs.declared.fault.Input.TheVariants.{File, Instance as of_instance, Proof as of_proof}
 use Rattle.pb_tool.proofs.lemmas.check.CheckerSteps.{spelled_events}
-use Rattle.pb_tool.proofs.lemmas.file.GivenBytes.{file_behind}
+use Rattle.pb_tool.proofs.lemmas.file.GivenBytes.{file_then_blank}
 
 -- the name is among those from before the statement
-names_front : (names all more : List (List ℕ)) (n : ℕ) → all ≡ names ++ more → n < length names → get_or all n [] ≡ get_or names n []
-names_front names all more n is lt = ap (λ (x : List (List ℕ)). get_or x n []) is ∙ get_or_append_left names more [] n lt
+names_prefix : (names all more : List (List ℕ)) (n : ℕ) → all ≡ names ++ more → n < length names → get_or all n [] ≡ get_or names n []
+names_prefix names all more n is lt = ap (λ (x : List (List ℕ)). get_or x n []) is ∙ get_or_append_left names more [] n lt
 
-told_before : (names all : List (List ℕ)) (e : Fault) (name : List ℕ) → KeepsNames names all e → IsTold all e name → IsTold names e name
-told_before names all why.Memory name kept h = h
-told_before names all why.Overflow name kept h = h
-told_before names all (why.FormulaCount n) name kept h = h
-told_before names all (why.NoSuchId n) name kept h = h
-told_before names all why.NotImplied name kept h = h
-told_before names all why.Conflict name kept h = h
-told_before names all (why.NotTotal n) name ((more, is), old) h = h ∙ names_front names all more n is (old n refl)
-told_before names all (why.Violates n) name kept h = h
-told_before names all why.NoObjective name kept h = h
-told_before names all why.NotContradiction name kept h = h
-told_before names all why.SolutionLogged name kept h = h
-told_before names all why.NoSolution name kept h = h
-told_before names all why.NotBound name kept h = h
-told_before names all why.IdsSpent name kept h = h
-told_before names all why.Order name kept h = h
+reported_before : (names all : List (List ℕ)) (e : Fault) (name : List ℕ) → KeepsNames names all e → IsReported all e name → IsReported names e name
+reported_before names all why.Memory name kept h = h
+reported_before names all why.Overflow name kept h = h
+reported_before names all (why.FormulaCount n) name kept h = h
+reported_before names all (why.NoSuchId n) name kept h = h
+reported_before names all why.NotImplied name kept h = h
+reported_before names all why.Conflict name kept h = h
+reported_before names all (why.NotTotal n) name ((more, is), old) h = h ∙ names_prefix names all more n is (old n refl)
+reported_before names all (why.Violates n) name kept h = h
+reported_before names all why.NoObjective name kept h = h
+reported_before names all why.NotContradiction name kept h = h
+reported_before names all why.SolutionLogged name kept h = h
+reported_before names all why.NoSolution name kept h = h
+reported_before names all why.NotBound name kept h = h
+reported_before names all why.IdsSpent name kept h = h
+reported_before names all why.Order name kept h = h
 
 module _ (limits : Limits) (longest : ℕ) (v : Problem) (first : State) (before : Option (List ℕ)) where
   -- a whole proof, and a blank rest
@@ -61,10 +61,10 @@ module _ (limits : Limits) (longest : ℕ) (v : Problem) (first : State) (before
       let s = a.took.reads.answer.0 in
       let (q, spells) = s.spelled in
       let used = a.took.used in
-      let same = spelled_events (IsVeri limits) longest used a.marks s ∙ spells.1 in
+      let same = spelled_events (IsProofText limits) longest used a.marks s ∙ spells.1 in
       let read : Spanned Proof = record { event = q; first = place_after []; past = place_after used } in (
         q,
-        file_behind (IsRead (IsVeri limits) longest IsProofOf) read before mid after used a.took.seen a.took.took (record { marks = a.marks; spelled = s; value = spells.1; first = refl; past = refl }) refl
+        file_then_blank (IsRead (IsProofText limits) longest IsProofOf) read before mid after used a.took.seen a.took.took (record { marks = a.marks; spelled = s; value = spells.1; first = refl; past = refl }) refl
             (subst (λ (p : Place). ReadsBlank p mid (Ok tt) after) a.took.reads.place_is blank),
         t,
         subst (λ (x : List Statement). Accepts (largest limits) (top_of limits) v first x t) same a.accepted,
@@ -72,27 +72,27 @@ module _ (limits : Limits) (longest : ℕ) (v : Problem) (first : State) (before
       )
 
   -- a rejected statement, with the name that the fault gives
-  pub step_told : UnvaluedMayWant → (after : Option (List ℕ)) (new : Replaying) (place : Place) (e : Fault) (f : ToolFault) → Runs limits longest v first before (Err (check.Step place e)) after new → IsToldAs new.names place e f → Replays limits longest v first before (Err f) after
-  step_told law after new place e (Step at x name) (st, state, comes, why) (is, told) = (
+  pub step_report : UnvaluedMayWant → (after : Option (List ℕ)) (new : Replaying) (place : Place) (e : Fault) (f : ToolFault) → Runs limits longest v first before (Err (check.Step place e)) after new → IsReportedAs new.names place e f → Replays limits longest v first before (Err f) after
+  step_report law after new place e (Step at x name) (st, state, comes, why) (is, told) = (
     st,
     state,
     record { marks = comes.marks; last = comes.last; took = comes.took; begins_is = is ∙ comes.begins_is; statement = comes.statement; accepted = comes.accepted },
     reason told why,
   )
     where
-      reason : ((x ≡ no_memory) × ((n : ℕ) × (e ≡ NotTotal n))) ⊎ ((x ≡ e) × IsTold new.names e (string_bytes name))
+      reason : ((x ≡ no_memory) × ((n : ℕ) × (e ≡ NotTotal n))) ⊎ ((x ≡ e) × IsReported new.names e (string_bytes name))
           → ((e ≡ no_memory) × MayWantAt (largest limits) (top_of limits) v state.next st) ⊎ (Outcome (largest limits) (top_of limits) v state st (Err e) × KeepsNames state.names new.names e)
-          → ((x ≡ no_memory) × MayWantAt (largest limits) (top_of limits) v state.next st) ⊎ (Outcome (largest limits) (top_of limits) v state st (Err x) × IsTold state.names x (string_bytes name))
+          → ((x ≡ no_memory) × MayWantAt (largest limits) (top_of limits) v state.next st) ⊎ (Outcome (largest limits) (top_of limits) v state st (Err x) × IsReported state.names x (string_bytes name))
       reason (inl (h, told)) (inl m) = inl (h, m.1)
       reason (inl (h, (n, is))) (inr (out, kept)) = inl (h, law (largest limits) (top_of limits) v state st n (subst (λ (y : Fault). Outcome (largest limits) (top_of limits) v state st (Err y)) is out))
       reason (inr (same, h)) (inl m) = inl (same ∙ m.0, m.1)
       reason (inr (same, h)) (inr (out, kept)) =
-          inr (subst (λ (y : Fault). Outcome (largest limits) (top_of limits) v state st (Err y) × IsTold state.names y (string_bytes name)) (sym same) (out, told_before state.names new.names e (string_bytes name) kept h))
-  step_told law after new place e (Text i s) h told = absurd told
-  step_told law after new place e (Open i) h told = absurd told
-  step_told law after new place e (Overflow i) h told = absurd told
-  step_told law after new place e (Memory i) h told = absurd told
-  step_told law after new place e Write h told = absurd told
+          inr (subst (λ (y : Fault). Outcome (largest limits) (top_of limits) v state st (Err y) × IsReported state.names y (string_bytes name)) (sym same) (out, reported_before state.names new.names e (string_bytes name) kept h))
+  step_report law after new place e (Text i s) h told = absurd told
+  step_report law after new place e (Open i) h told = absurd told
+  step_report law after new place e (Overflow i) h told = absurd told
+  step_report law after new place e (Memory i) h told = absurd told
+  step_report law after new place e Write h told = absurd told
 
 module _ (limits : Limits) (longest n : ℕ) (is : longest ≡ n) {W : Type 0} (contents : W → Option (List ℕ)) (faults : W → ℕ) (i i' p p' : Option (List ℕ)) (old new : W) where
   abbrev Checks : Result Verdict ToolFault → Type 0

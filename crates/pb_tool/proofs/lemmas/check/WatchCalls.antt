@@ -21,9 +21,9 @@ use Rattle.pb_replay.specs.declared.fault.Fault.TheVariants.{Memory as no_memory
 use Rattle.pb_replay.specs.declared.verdict.Verdict.{Verdict}
 use Rattle.pb_tool.specs.contract.Checker.{IsAt, StepsFrom}
 use Rattle.pb_tool.specs.contract.Checks.{KeepsNames, Takes}
-use Rattle.pb_tool.specs.meaning.Files.{IsVeri}
-use Rattle.pb_tool.specs.contract.Runs.{IsNoReplay, IsReplayOf, IsToldAs}
-use Rattle.pb_tool.specs.meaning.Verified.{IsTold}
+use Rattle.pb_tool.specs.meaning.Files.{IsProofText}
+use Rattle.pb_tool.specs.contract.Runs.{IsNoReplay, IsReplayOf, IsReportedAs}
+use Rattle.pb_tool.specs.meaning.Verified.{IsReported}
 use Rattle.pb_tool.specs.contract.Watched.{Call, Accepted, Rejected, GotEach, IsShown, IsShownUpTo, IsShownWhole, IsWatched, ShowsEach, ShowsProof, ShowsRun}
 use Rattle.pb_tool.specs.declared.commands.check.checker.CheckFault.{CheckFault}
 use Rattle.pb_tool.specs.declared.commands.check.checker.CheckFault.TheVariants as check
@@ -89,7 +89,7 @@ module _ {V : Type 0} (got : V → Call → V → Type 0) (old : V) (began : Rep
           subst (λ (y : CheckFault). ShowsRun began.limits longest got began.problem first before old (Err y) rest after) (sym is) (record {
             marks = marks;
             rejected = m;
-            took = so_far_to (Taken began.limits) (IsVeri began.limits) longest (to_proof exact began.limits longest) before rest (marks ++ m ∷ []) m.past t;
+            took = so_far_to (Taken began.limits) (IsProofText began.limits) longest (to_proof exact began.limits longest) before rest (marks ++ m ∷ []) m.past t;
             begins_is = refl;
             calls = h.0;
             last = last;
@@ -111,7 +111,7 @@ module _ {V : Type 0} (got : V → Call → V → Type 0) (old : V) (began : Rep
         let (last, stands, shows) = h.2 first at in
         record {
           marks = marks;
-          took = all_to (Taken began.limits) (IsVeri began.limits) longest (to_proof exact began.limits longest) before rest marks place done stop t;
+          took = all_to (Taken began.limits) (IsProofText began.limits) longest (to_proof exact began.limits longest) before rest marks place done stop t;
           calls = h.0;
           last = last;
           shows = shows;
@@ -149,11 +149,11 @@ module _ (limits : Limits) (longest : ℕ) {V : Type 0} (got : V → Call → V 
   proof_stopped before after s f is h = subst (λ (x : ToolFault). Whole (Err x) before after) (sym is) (inl h)
 
   -- a rejected statement
-  pub proof_rejected : (before after : Option (List ℕ)) (names : List (List ℕ)) (place : Place) (e : Fault) (f : ToolFault) → IsToldAs names place e f → Run (Err (check.Step place e)) before after → Whole (Err f) before after
+  pub proof_rejected : (before after : Option (List ℕ)) (names : List (List ℕ)) (place : Place) (e : Fault) (f : ToolFault) → IsReportedAs names place e f → Run (Err (check.Step place e)) before after → Whole (Err f) before after
   proof_rejected before after names place e (Step at x name) (same, why) h =
       (e, by why, subst (λ (p : Place). IsShownUpTo limits longest got v first before old after p e new) (sym same) h)
     where
-      by : ((x ≡ no_memory) × ((n : ℕ) × (e ≡ NotTotal n))) ⊎ ((x ≡ e) × IsTold names e (string_bytes name)) → (x ≡ e) ⊎ ((x ≡ no_memory) × (n : ℕ) × (e ≡ NotTotal n))
+      by : ((x ≡ no_memory) × ((n : ℕ) × (e ≡ NotTotal n))) ⊎ ((x ≡ e) × IsReported names e (string_bytes name)) → (x ≡ e) ⊎ ((x ≡ no_memory) × (n : ℕ) × (e ≡ NotTotal n))
       by (inl (k, (n, told))) = inr (k, n, told)
       by (inr (k, told)) = inl k
   proof_rejected before after names place e (Text i s) told h = absurd told
@@ -166,8 +166,8 @@ module _ (limits : Limits) (longest : ℕ) {V : Type 0} (got : V → Call → V 
   pub proof_ended : (before mid after : Option (List ℕ)) (ended : Verdict × Place) → Run (Ok ended) before mid → Whole (Ok ended.0) before after
   proof_ended before mid after ended h = (mid, ended.1, h)
 
-  pub proof_behind : (before mid after : Option (List ℕ)) (ended : Verdict × Place) (s : Stop) (f : ToolFault) → f ≡ Text of_proof s → Run (Ok ended) before mid → Whole (Err f) before after
-  proof_behind before mid after ended s f is h = subst (λ (x : ToolFault). Whole (Err x) before after) (sym is) (inr (mid, ended.1, h))
+  pub proof_rest : (before mid after : Option (List ℕ)) (ended : Verdict × Place) (s : Stop) (f : ToolFault) → f ≡ Text of_proof s → Run (Ok ended) before mid → Whole (Err f) before after
+  proof_rest before mid after ended s f is h = subst (λ (x : ToolFault). Whole (Err x) before after) (sym is) (inr (mid, ended.1, h))
 
 -- ---- the same for the bytes that the calls of the source gave
 
@@ -181,13 +181,13 @@ module _ (limits : Limits) (longest : ℕ) {V : Type 0} (got : V → Call → V 
   pub given_proof_stopped : (before after : List ℕ) (s : Stop) (f : ToolFault) → f ≡ Text of_proof s → RunGiven (Err (check.Text s)) before after → WholeGiven (Err f) before after
   given_proof_stopped before after s f is (given, seen, e, h) = (given, seen, e, proof_stopped limits longest got v first old new (Some (given ++ seen)) (Some seen) s f is h)
 
-  pub given_proof_rejected : (before after : List ℕ) (names : List (List ℕ)) (place : Place) (e : Fault) (f : ToolFault) → IsToldAs names place e f → RunGiven (Err (check.Step place e)) before after → WholeGiven (Err f) before after
+  pub given_proof_rejected : (before after : List ℕ) (names : List (List ℕ)) (place : Place) (e : Fault) (f : ToolFault) → IsReportedAs names place e f → RunGiven (Err (check.Step place e)) before after → WholeGiven (Err f) before after
   given_proof_rejected before after names place e f told (given, seen, is, h) = (given, seen, is, proof_rejected limits longest got v first old new (Some (given ++ seen)) (Some seen) names place e f told h)
 
   -- the whole proof, with another rest
   whole_of : (used seen other : List ℕ) (place : Place) → IsShown limits longest got v first (Some (used ++ seen)) old (Some seen) place true None new → IsShown limits longest got v first (Some (used ++ other)) old (Some other) place true None new
   whole_of used seen other place h =
-      record { marks = h.marks; took = all_of (IsVeri limits) longest used seen other h.marks place h.took; calls = h.calls; last = h.last; shows = h.shows; got_are = h.got_are }
+      record { marks = h.marks; took = all_of (IsProofText limits) longest used seen other h.marks place h.took; calls = h.calls; last = h.last; shows = h.shows; got_are = h.got_are }
 
   -- with all bytes that follow it
   whole_with : (used seen rest end : List ℕ) (place : Place) → IsShown limits longest got v first (Some (used ++ seen)) old (Some seen) place true None new → IsShownWhole limits longest got v first (Some ((used ++ rest) ++ end)) old new
@@ -203,8 +203,8 @@ module _ (limits : Limits) (longest : ℕ) {V : Type 0} (got : V → Call → V 
       whole_with runs.0 runs.1 more.0 more.1 ended.1 runs.3,
     )
 
-    pub given_proof_behind : (s : Stop) (f : ToolFault) → f ≡ Text of_proof s → WholeGiven (Err f) before after
-    given_proof_behind s f is = (
+    pub given_proof_rest : (s : Stop) (f : ToolFault) → f ≡ Text of_proof s → WholeGiven (Err f) before after
+    given_proof_rest s f is = (
       runs.0 ++ more.0,
       more.1,
       given_both before mid after runs.0 more.0 runs.2 more.2,

@@ -20,9 +20,9 @@ use Rattle.pb_opb.specs.Values.{IsValueOf}
 use Rattle.pb_proof.specs.Canonical.{statement_bytes}
 use Rattle.pb_proof.specs.Gather as veri_keeping
 use Rattle.pb_proof.specs.Proofs.{IsProof, IsProofOf}
-use Rattle.pb_tool.specs.meaning.Files.{tidied_proof, MayBeProof, MayBeInstance, AsksVeri, IsVeri, ShowsFile, TidiesFile, TidiesProof}
+use Rattle.pb_tool.specs.meaning.Files.{tidied_proof, MayBeProof, MayBeInstance, AsksInProofText, IsProofText, ShowsFile, TidiesFile, TidiesProof}
 use Rattle.pb_tool.specs.contract.Show.{IsSpelling, IsRefusedAfter, InText, InRest, Shows}
-use Rattle.pb_tool.specs.meaning.Tidy.{tidied, AsksOpb, IsFile, IsOpb, IsRefused, Tidies, TidiesAs}
+use Rattle.pb_tool.specs.meaning.Tidy.{tidied, AsksInInstanceText, IsFile, IsInstanceText, IsRefused, Tidies, TidiesAs}
 use Rattle.pb_tool.specs.meaning.Tidy.IsRefused.{InText as in_text, InRest as in_rest}
 use Rattle.pb_tool.specs.declared.fault.ToolFault.{ToolFault}
 use Rattle.pb_tool.specs.declared.fault.ToolFault.TheVariants.{Text, Open, Overflow, Memory, Write, Step}
@@ -123,30 +123,30 @@ may_be (Some (b ∷ text)) = by_byte b text (eqb_tells b 112)
 
 module _ (limits : Limits) (longest n : ℕ) (is : longest ≡ n) {W : Type 0} (contents : W → Option (List ℕ)) (faults : W → ℕ) (before mid : Option (List ℕ)) (k : Keeps before mid) (old : W) where
   module _ (result : Result Unit ToolFault) (after : Option (List ℕ)) (new : W) where
-    pub shows_proof : MayBeProof before → Shows (IsVeri limits) longest (AsksVeri limits) statement_bytes contents faults mid old result after new → ShowsFile limits n contents faults before old result after new
+    pub shows_proof : MayBeProof before → Shows (IsProofText limits) longest (AsksInProofText limits) statement_bytes contents faults mid old result after new → ShowsFile limits n contents faults before old result after new
     shows_proof may s =
-        subst (λ (m : ℕ). ShowsFile limits m contents faults before old result after new) is (inl (may, shows_before (IsVeri limits) longest before mid k (AsksVeri limits) statement_bytes contents faults old result after new s))
+        subst (λ (m : ℕ). ShowsFile limits m contents faults before old result after new) is (inl (may, shows_before (IsProofText limits) longest before mid k (AsksInProofText limits) statement_bytes contents faults old result after new s))
 
-    pub shows_instance : MayBeInstance before → Shows (IsOpb limits) longest (AsksOpb limits) event_bytes contents faults mid old result after new → ShowsFile limits n contents faults before old result after new
+    pub shows_instance : MayBeInstance before → Shows (IsInstanceText limits) longest (AsksInInstanceText limits) event_bytes contents faults mid old result after new → ShowsFile limits n contents faults before old result after new
     shows_instance may s =
-        subst (λ (m : ℕ). ShowsFile limits m contents faults before old result after new) is (inr (may, shows_before (IsOpb limits) longest before mid k (AsksOpb limits) event_bytes contents faults old result after new s))
+        subst (λ (m : ℕ). ShowsFile limits m contents faults before old result after new) is (inr (may, shows_before (IsInstanceText limits) longest before mid k (AsksInInstanceText limits) event_bytes contents faults old result after new s))
 
     pub tidies_proof : MayBeProof before → TidiesProof limits longest contents faults mid old result after new → TidiesFile limits n contents faults false before old result after new
     tidies_proof may t =
-        subst (λ (m : ℕ). TidiesFile limits m contents faults false before old result after new) is (inl (may, tidies_before before mid k (IsVeri limits) longest (AsksVeri limits) veri_keeping.MayKeep IsProofOf tidied_proof contents faults old result after new t))
+        subst (λ (m : ℕ). TidiesFile limits m contents faults false before old result after new) is (inl (may, tidies_before before mid k (IsProofText limits) longest (AsksInProofText limits) veri_keeping.MayKeep IsProofOf tidied_proof contents faults old result after new t))
 
     pub tidies_instance : MayBeInstance before → Tidies limits longest false contents faults mid old result after new → TidiesFile limits n contents faults false before old result after new
     tidies_instance may t =
-        subst (λ (m : ℕ). TidiesFile limits m contents faults false before old result after new) is (inr (may, tidies_before before mid k (IsOpb limits) longest (AsksOpb limits) opb_keeping.MayKeep IsValueOf tidied contents faults old result after new t))
+        subst (λ (m : ℕ). TidiesFile limits m contents faults false before old result after new) is (inr (may, tidies_before before mid k (IsInstanceText limits) longest (AsksInInstanceText limits) opb_keeping.MayKeep IsValueOf tidied contents faults old result after new t))
 
-  module _ (some : 0 < longest) (instance : (m : ℕ) → 0 < m → ReadsNothing (IsOpb limits) m) (proof : (m : ℕ) → 0 < m → ReadsNothing (IsVeri limits) m) (f : ToolFault) (fault : f ≡ Text File first_fault) where
+  module _ (some : 0 < longest) (instance : (m : ℕ) → 0 < m → ReadsNothing (IsInstanceText limits) m) (proof : (m : ℕ) → 0 < m → ReadsNothing (IsProofText limits) m) (f : ToolFault) (fault : f ≡ Text File first_fault) where
     shows_either : MayBeProof before ⊎ MayBeInstance before → ShowsFile limits longest contents faults before old (Err (Text File first_fault)) mid old
-    shows_either (inl may) = inl (may, shows_nothing (IsVeri limits) longest before mid k (AsksVeri limits) statement_bytes contents faults (proof longest some) old)
-    shows_either (inr may) = inr (may, shows_nothing (IsOpb limits) longest before mid k (AsksOpb limits) event_bytes contents faults (instance longest some) old)
+    shows_either (inl may) = inl (may, shows_nothing (IsProofText limits) longest before mid k (AsksInProofText limits) statement_bytes contents faults (proof longest some) old)
+    shows_either (inr may) = inr (may, shows_nothing (IsInstanceText limits) longest before mid k (AsksInInstanceText limits) event_bytes contents faults (instance longest some) old)
 
     tidies_either : MayBeProof before ⊎ MayBeInstance before → TidiesFile limits longest contents faults false before old (Err (Text File first_fault)) mid old
-    tidies_either (inl may) = inl (may, tidies_nothing before mid k (IsVeri limits) longest (AsksVeri limits) veri_keeping.MayKeep IsProofOf tidied_proof contents faults (proof longest some) old)
-    tidies_either (inr may) = inr (may, tidies_nothing before mid k (IsOpb limits) longest (AsksOpb limits) opb_keeping.MayKeep IsValueOf tidied contents faults (instance longest some) old)
+    tidies_either (inl may) = inl (may, tidies_nothing before mid k (IsProofText limits) longest (AsksInProofText limits) veri_keeping.MayKeep IsProofOf tidied_proof contents faults (proof longest some) old)
+    tidies_either (inr may) = inr (may, tidies_nothing before mid k (IsInstanceText limits) longest (AsksInInstanceText limits) opb_keeping.MayKeep IsValueOf tidied contents faults (instance longest some) old)
 
     pub shows_unread : ShowsFile limits n contents faults before old (Err f) mid old
     shows_unread =

@@ -11,14 +11,14 @@ use Rattle.pb_text.specs.declared.Spanned.{Spanned}
 use Rattle.pb_text.specs.declared.Stop.{Stop}
 use Rattle.pb_text.proofs.PullsInARow.{took_join}
 use Rattle.pb_text.proofs.Wholes.{given_both}
-use Rattle.pb_tool.specs.meaning.Files.{tidied_proof, AsksVeri, IsVeri, TidiesProof}
+use Rattle.pb_tool.specs.meaning.Files.{tidied_proof, AsksInProofText, IsProofText, TidiesProof}
 use Rattle.pb_tool.specs.contract.Given.{ShowsGiven, TidiesGiven}
 use Rattle.pb_opb.specs.Canonical.{event_bytes}
 use Rattle.pb_proof.specs.Canonical.{statement_bytes}
 use Rattle.pb_proof.specs.Gather.{MayKeep}
 use Rattle.pb_proof.specs.Proofs.{IsProofOf}
 use Rattle.pb_tool.specs.contract.Show.{Shows}
-use Rattle.pb_tool.specs.meaning.Tidy.{AsksOpb, IsFile, IsOpb, IsRefused, Tidies}
+use Rattle.pb_tool.specs.meaning.Tidy.{AsksInInstanceText, IsFile, IsInstanceText, IsRefused, Tidies}
 use Rattle.pb_tool.specs.meaning.Tidy.IsRefused.{InRest}
 use Rattle.pb_tool.specs.declared.fault.ToolFault.{ToolFault}
 use Rattle.pb_tool.specs.declared.fault.ToolFault.TheVariants.{Text}
@@ -38,9 +38,9 @@ pub used_of : (Holds : List ℕ → Type 0) (given left more : List ℕ) → (us
 used_of Holds given left more (used, seen, took, h) = (given, more, (refl, refl), subst Holds (sym (given_used given left used seen took)) h)
 
 -- a text of the format and then a blank rest
-pub file_behind : {V : Type 0} (IsReadOf : List ℕ → Spanned V → Type 0) (read : Spanned V) (before mid after : Option (List ℕ)) (used seen : List ℕ) → Took before used seen mid → IsReadOf used read → read.past ≡ place_after used
+pub file_then_blank : {V : Type 0} (IsReadOf : List ℕ → Spanned V → Type 0) (read : Spanned V) (before mid after : Option (List ℕ)) (used seen : List ℕ) → Took before used seen mid → IsReadOf used read → read.past ≡ place_after used
     → ReadsBlank read.past mid (Ok tt) after → IsFile IsReadOf before after read.event
-file_behind IsReadOf read before mid after used seen took is past (rest, more, blank, bound) = record {
+file_then_blank IsReadOf read before mid after used seen took is past (rest, more, blank, bound) = record {
   used = used;
   rest = rest;
   took = took_join before mid after used rest seen [] took more;
@@ -98,28 +98,28 @@ module _ (limits : Limits) (longest n : ℕ) (is : longest ≡ n) {W : Type 0} (
     shows_either : ShowsGiven limits longest contents faults mid old result after new → ShowsGiven limits n contents faults before old result after new
     shows_either t = subst (λ (m : ℕ). ShowsGiven limits m contents faults before old result after new) is (subst (λ (h : List ℕ). ShowsGiven limits longest contents faults h old result after new) k t)
 
-    pub given_shown_proof : OfGiven (λ left rest. Shows (IsVeri limits) longest (AsksVeri limits) statement_bytes contents faults left old result rest new) mid after → ShowsGiven limits n contents faults before old result after new
+    pub given_shown_proof : OfGiven (λ left rest. Shows (IsProofText limits) longest (AsksInProofText limits) statement_bytes contents faults left old result rest new) mid after → ShowsGiven limits n contents faults before old result after new
     given_shown_proof t = shows_either (inl t)
 
-    pub given_shown_instance : OfGiven (λ left rest. Shows (IsOpb limits) longest (AsksOpb limits) event_bytes contents faults left old result rest new) mid after → ShowsGiven limits n contents faults before old result after new
+    pub given_shown_instance : OfGiven (λ left rest. Shows (IsInstanceText limits) longest (AsksInInstanceText limits) event_bytes contents faults left old result rest new) mid after → ShowsGiven limits n contents faults before old result after new
     given_shown_instance t = shows_either (inr t)
 
   -- nothing, if the source failed at its first byte
-  pub given_unshown : 0 < longest → ((m : ℕ) → 0 < m → ReadsNothing (IsVeri limits) m) → (f : ToolFault) → f ≡ Text File first_fault → ShowsGiven limits n contents faults before old (Err f) mid old
+  pub given_unshown : 0 < longest → ((m : ℕ) → 0 < m → ReadsNothing (IsProofText limits) m) → (f : ToolFault) → f ≡ Text File first_fault → ShowsGiven limits n contents faults before old (Err f) mid old
   given_unshown some reads f fault =
       given_shown_proof (Err f) mid old (
         [],
         [],
         sym (append-nil mid),
-        subst (λ (x : ToolFault). Shows (IsVeri limits) longest (AsksVeri limits) statement_bytes contents faults (Some []) old (Err x) (Some []) old) (sym fault)
-            (shows_nothing (IsVeri limits) longest (Some []) (Some []) refl (AsksVeri limits) statement_bytes contents faults (reads longest some) old),
+        subst (λ (x : ToolFault). Shows (IsProofText limits) longest (AsksInProofText limits) statement_bytes contents faults (Some []) old (Err x) (Some []) old) (sym fault)
+            (shows_nothing (IsProofText limits) longest (Some []) (Some []) refl (AsksInProofText limits) statement_bytes contents faults (reads longest some) old),
       )
 
-  pub given_unread : 0 < longest → ((m : ℕ) → 0 < m → ReadsNothing (IsVeri limits) m) → (f : ToolFault) → f ≡ Text File first_fault → TidiesGiven limits n contents faults false before old (Err f) mid old
+  pub given_unread : 0 < longest → ((m : ℕ) → 0 < m → ReadsNothing (IsProofText limits) m) → (f : ToolFault) → f ≡ Text File first_fault → TidiesGiven limits n contents faults false before old (Err f) mid old
   given_unread some reads f fault =
       given_proof (Err f) mid old (
         [],
         [],
         sym (append-nil mid),
-        subst (λ (x : ToolFault). TidiesProof limits longest contents faults (Some []) old (Err x) (Some []) old) (sym fault) (tidies_nothing (Some []) (Some []) refl (IsVeri limits) longest (AsksVeri limits) MayKeep IsProofOf tidied_proof contents faults (reads longest some) old),
+        subst (λ (x : ToolFault). TidiesProof limits longest contents faults (Some []) old (Err x) (Some []) old) (sym fault) (tidies_nothing (Some []) (Some []) refl (IsProofText limits) longest (AsksInProofText limits) MayKeep IsProofOf tidied_proof contents faults (reads longest some) old),
       )

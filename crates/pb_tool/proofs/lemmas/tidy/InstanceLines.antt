@@ -12,10 +12,10 @@ use Rattle.pb_opb.specs.declared.OpbEvent.TheVariants.{Header, Comment, Objectiv
 use Rattle.pb_opb.proofs.Counted.{IsEntry, IsCounted, counted}
 use Rattle.pb_tool.specs.engine.Gathered.{TidiesEach}
 use Rattle.pb_tool.specs.engine.InstanceText.{line, line_if, with, asks, text_of, IsTextOf}
-use Rattle.pb_tool.specs.meaning.Tidy.{tidied, AsksOpb, IsOpb, Tidies}
+use Rattle.pb_tool.specs.meaning.Tidy.{tidied, AsksInInstanceText, IsInstanceText, Tidies}
 use Rattle.pb_tool.specs.declared.fault.ToolFault.{ToolFault}
 use Rattle.pb_tool.specs.declared.commands.tidy.instance_text.InstanceText.{InstanceText}
-use Rattle.pb_tool.proofs.lemmas.tidy.StatementOrder.{line_more, value_of, is_value, text_behind}
+use Rattle.pb_tool.proofs.lemmas.tidy.StatementOrder.{line_more, value_of, is_value, text_added}
 use Rattle.pb_tool.proofs.lemmas.tidy.GatheredText.{tidies_value}
 
 -- ---- the text so far, and one more statement
@@ -64,7 +64,7 @@ module _ (limit top : ℕ) (empty : InstanceText) (no_page : empty.page.text ≡
         value_of n tail (events_of rest),
         is_value n m tail limit rest (counted limit m rest h.3),
         kept_lines limit true m rest (with empty (Header n m tail)) (counted limit m rest h.3) (λ i. no_objective)
-            ∙ (ap (λ (x : List ℕ). gathered line_more x (events_of rest)) alone ∙ text_behind limit top n m tail rest (counted limit m rest h.3)),
+            ∙ (ap (λ (x : List ℕ). gathered line_more x (events_of rest)) alone ∙ text_added limit top n m tail rest (counted limit m rest h.3)),
       )
 
   instance_text : (items : List (Item OpbEvent)) → IsInstance limit top items → IsTextOf (events_of items) (gathered with empty (events_of items))
@@ -80,8 +80,8 @@ may_keep events (Constraint l) h = h
 
 -- ---- what is written for an instance
 
-module _ (limits : Limits) (longest : ℕ) (accepted : List (Item OpbEvent) → Type 0) (same : (items : List (Item OpbEvent)) → accepted items ↔ IsOpb limits items) (empty : InstanceText) (no_page : empty.page.text ≡ []) (no_objective : empty.objective ≡ None) (may_ask : List ℕ → ℕ → Type 0) where
-  pub tidies_text : ((used : List ℕ) (b : ℕ) → may_ask used b → AsksOpb limits used b) → {W : Type 0} (contents : W → Option (List ℕ)) (faults : W → ℕ) (before : Option (List ℕ)) (old : W) (result : Result (Unit {0}) ToolFault) (after : Option (List ℕ)) (new : W)
+module _ (limits : Limits) (longest : ℕ) (accepted : List (Item OpbEvent) → Type 0) (same : (items : List (Item OpbEvent)) → accepted items ↔ IsInstanceText limits items) (empty : InstanceText) (no_page : empty.page.text ≡ []) (no_objective : empty.objective ≡ None) (may_ask : List ℕ → ℕ → Type 0) where
+  pub tidies_text : ((used : List ℕ) (b : ℕ) → may_ask used b → AsksInInstanceText limits used b) → {W : Type 0} (contents : W → Option (List ℕ)) (faults : W → ℕ) (before : Option (List ℕ)) (old : W) (result : Result (Unit {0}) ToolFault) (after : Option (List ℕ)) (new : W)
       → TidiesEach accepted longest with empty may_ask (λ t e. asks e) text_of contents faults before old result after new → Tidies limits longest false contents faults before old result after new
   tidies_text to contents faults before old result after new t =
-      tidies_value accepted (IsOpb limits) same longest with empty text_of IsValueOf tidied (instance_text (largest limits) (top_of limits) empty no_page no_objective) may_ask (AsksOpb limits) to (λ t e. asks e) MayKeep may_keep contents faults before old result after new t
+      tidies_value accepted (IsInstanceText limits) same longest with empty text_of IsValueOf tidied (instance_text (largest limits) (top_of limits) empty no_page no_objective) may_ask (AsksInInstanceText limits) to (λ t e. asks e) MayKeep may_keep contents faults before old result after new t

@@ -39,14 +39,14 @@ abbrev AllEnd : List OpbEvent → Type 0
 AllEnd = AllByRecursion (λ e. EndsWith 59 (event_bytes e))
 
 -- one statement before others
-one_front : (e : OpbEvent) (front : List OpbEvent) (f : OpbEvent) (rest : List OpbEvent) → EndsWith 59 (lines (front ++ f ∷ rest)) → EndsWith 59 (lines (e ∷ (front ++ f ∷ rest)))
-one_front e [] f rest k = ends_longer 59 (event_bytes e) (10 ∷ lines (f ∷ rest)) (ends_more 59 10 (lines (f ∷ rest)) k)
-one_front e (g ∷ front) f rest k = ends_longer 59 (event_bytes e) (10 ∷ lines ((g ∷ front) ++ f ∷ rest)) (ends_more 59 10 (lines ((g ∷ front) ++ f ∷ rest)) k)
+one_prefix : (e : OpbEvent) (front : List OpbEvent) (f : OpbEvent) (rest : List OpbEvent) → EndsWith 59 (lines (front ++ f ∷ rest)) → EndsWith 59 (lines (e ∷ (front ++ f ∷ rest)))
+one_prefix e [] f rest k = ends_longer 59 (event_bytes e) (10 ∷ lines (f ∷ rest)) (ends_more 59 10 (lines (f ∷ rest)) k)
+one_prefix e (g ∷ front) f rest k = ends_longer 59 (event_bytes e) (10 ∷ lines ((g ∷ front) ++ f ∷ rest)) (ends_more 59 10 (lines ((g ∷ front) ++ f ∷ rest)) k)
 
 -- lines end as the last of them does
 lines_end : (first : List OpbEvent) (e : OpbEvent) (rest : List OpbEvent) → EndsWith 59 (lines (e ∷ rest)) → EndsWith 59 (lines (first ++ e ∷ rest))
 lines_end [] e rest h = h
-lines_end (f ∷ first) e rest h = one_front f first e rest (lines_end first e rest h)
+lines_end (f ∷ first) e rest h = one_prefix f first e rest (lines_end first e rest h)
 
 -- a statement and those after it
 after_ends : (n : ℕ) (comments : List comment.Comment) (e : OpbEvent) (events : List OpbEvent) → EndsWith 59 (event_bytes e) → AllEnd events → EndsWith 59 (lines (e ∷ in_order n comments events))
@@ -55,7 +55,7 @@ after_ends n comments e (f ∷ events) h k =
     let later = in_order (n + 1) (drop (due n comments) comments) events in
     let front = comment_events (take (due n comments) comments) in
     let behind : EndsWith 59 (lines (f ∷ later)) = after_ends (n + 1) (drop (due n comments) comments) f events k.0 k.1 in
-    one_front e front f later (lines_end front f later behind)
+    one_prefix e front f later (lines_end front f later behind)
 
 in_order_ends : (n : ℕ) (comments : List comment.Comment) (e : OpbEvent) (events : List OpbEvent) → AllEnd (e ∷ events) → EndsWith 59 (lines (in_order n comments (e ∷ events)))
 in_order_ends n comments e events h =

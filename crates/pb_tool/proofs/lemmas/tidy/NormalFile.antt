@@ -22,18 +22,18 @@ use Rattle.pb_normal.specs.Constraints.{AreFormsOf, constraint_names, sides_in}
 use Rattle.pb_normal.specs.Names.{with_names}
 use Rattle.pb_normal.specs.Written.{linear_of, names_of}
 use Rattle.pb_replay.specs.Problem.{names_in, objective_of}
-use Rattle.pb_tool.specs.contract.Faults.{faults_told}
+use Rattle.pb_tool.specs.contract.Faults.{faults_reported}
 use Rattle.pb_tool.specs.engine.Gathered.{IsGathered, IsNotGathered}
 use Rattle.pb_tool.specs.engine.InstanceText.{line, line_if}
 use Rattle.pb_tool.specs.contract.Normalised.{IsNormalised, SomePasses}
 use Rattle.pb_tool.specs.engine.NormalText.{AreLines, IsInOrder, IsNoted, as_statement, names_at, names_on, noted}
-use Rattle.pb_tool.specs.meaning.Tidy.{AsksOpb, IsAsked, IsDenied, IsNoNormalFile, IsNormalFile, IsOpb, IsOpbFile, IsNoOpbFile, WritesText, is_bare, tidied}
+use Rattle.pb_tool.specs.meaning.Tidy.{AsksInInstanceText, IsAsked, IsDenied, IsNoNormalFile, IsNormalFile, IsInstanceText, IsInstanceFile, IsNoInstanceFile, WritesText, is_bare, tidied}
 use Rattle.pb_tool.specs.contract.Seen.{SawFile}
 use Rattle.pb_tool.specs.declared.fault.ToolFault.{ToolFault}
 use Rattle.pb_tool.specs.declared.fault.ToolFault.TheVariants.{Text, Open, Overflow, Memory, Write, Step}
 use Rattle.pb_tool.specs.declared.fault.Input.TheVariants.{File, Instance as of_instance, Proof as of_proof}
 use Rattle.pb_tool.specs.declared.commands.tidy.normal_text.Forms.{Forms}
-use Rattle.pb_tool.specs.declared.commands.tidy.normal_text.Standing.TheVariants.{Kept}
+use Rattle.pb_tool.specs.declared.commands.tidy.normal_text.Standing.TheVariants.{Stored}
 use Rattle.pb_tool.proofs.lemmas.tidy.LastByte.{tidied_bare}
 use Rattle.pb_tool.proofs.lemmas.tidy.StatementOrder.{Follows, follows, headed, is_value, mains_in, value_of}
 use Rattle.pb_tool.proofs.lemmas.tidy.GatheredText.{file_as, refused_as}
@@ -65,7 +65,7 @@ plain_text n None (c ∷ cs) = full_text n None (c ∷ cs) (Constraint c) (const
 plain_text n (Some terms) cs = full_text n (Some terms) cs (Objective terms) (constraint_events cs) refl refl
 
 -- what was stored is the normal form of the instance
-module _ (events : List OpbEvent) (n : ℕ) (o : Option OpbEvent) (t : Forms) (h : IsNoted events n o t) (x : Limits × List OpbEvent) (view : (t.limits, events) ≡ x) (kept : t.standing ≡ Kept) (v : Instance) (told : IsInOrder x.1 v) where
+module _ (events : List OpbEvent) (n : ℕ) (o : Option OpbEvent) (t : Forms) (h : IsNoted events n o t) (x : Limits × List OpbEvent) (view : (t.limits, events) ≡ x) (kept : t.standing ≡ Stored) (v : Instance) (told : IsInOrder x.1 v) where
   order : IsInOrder events v
   order = subst (λ (y : Limits × List OpbEvent). IsInOrder y.1 v) (sym view) told
 
@@ -148,36 +148,36 @@ module _ (limits : Limits) where
         ),
       )
 
-  value_there : (items : List (Item OpbEvent)) → IsOpb limits items → (v : Instance) × IsInOrder (events_of items) v
+  value_there : (items : List (Item OpbEvent)) → IsInstanceText limits items → (v : Instance) × IsInOrder (events_of items) v
   value_there [] h = absurd h
   value_there (i ∷ rest) h = value_begun i rest i.event h
 
   abbrev empty : Limits × List OpbEvent
   empty = (limits, [])
 
-  has_value : (items : List (Item OpbEvent)) → IsOpb limits items → (v : Instance) × IsValueOf (events_of items) v × IsNotedOf limits (gathered noted empty (events_of items)) v
+  has_value : (items : List (Item OpbEvent)) → IsInstanceText limits items → (v : Instance) × IsValueOf (events_of items) v × IsNotedOf limits (gathered noted empty (events_of items)) v
   has_value items h =
       let (v, order) = value_there items h in
       (v, order.0, subst (λ (t : Limits × List OpbEvent). IsNotedOf limits t v) (sym (gathered_noted limits [] (events_of items))) (refl, order))
 
   -- ---- the file
 
-  module _ (longest : ℕ) (accepted : List (Item OpbEvent) → Type 0) (same : (items : List (Item OpbEvent)) → accepted items ↔ IsOpb limits items) (before after : Option (List ℕ)) where
-    noted_file : (t : Limits × List OpbEvent) → IsGathered accepted longest noted empty before after t → (v : Instance) × IsOpbFile limits longest before after v × IsNotedOf limits t v
-    noted_file t f = file_as accepted (IsOpb limits) same longest noted empty IsValueOf (IsNotedOf limits) has_value before after t f
+  module _ (longest : ℕ) (accepted : List (Item OpbEvent) → Type 0) (same : (items : List (Item OpbEvent)) → accepted items ↔ IsInstanceText limits items) (before after : Option (List ℕ)) where
+    noted_file : (t : Limits × List OpbEvent) → IsGathered accepted longest noted empty before after t → (v : Instance) × IsInstanceFile limits longest before after v × IsNotedOf limits t v
+    noted_file t f = file_as accepted (IsInstanceText limits) same longest noted empty IsValueOf (IsNotedOf limits) has_value before after t f
 
-    module _ (may_ask : List ℕ → ℕ → Type 0) (to : (used : List ℕ) (b : ℕ) → may_ask used b → AsksOpb limits used b) where
+    module _ (may_ask : List ℕ → ℕ → Type 0) (to : (used : List ℕ) (b : ℕ) → may_ask used b → AsksInInstanceText limits used b) where
       never : (events : List OpbEvent) (e : OpbEvent) → IsTrue false → MayKeep events e
       never events e h = cc
 
-      pub unnoted : (s : Stop) → IsNotGathered accepted longest noted empty may_ask (λ t e. false) before after s → IsNoOpbFile limits longest before after s
-      unnoted s r = refused_as accepted (IsOpb limits) same longest noted empty IsValueOf (IsNotedOf limits) has_value may_ask (AsksOpb limits) to (λ t e. false) MayKeep never before after s r
+      pub unnoted : (s : Stop) → IsNotGathered accepted longest noted empty may_ask (λ t e. false) before after s → IsNoInstanceFile limits longest before after s
+      unnoted s r = refused_as accepted (IsInstanceText limits) same longest noted empty IsValueOf (IsNotedOf limits) has_value may_ask (AsksInInstanceText limits) to (λ t e. false) MayKeep never before after s r
 
     module _ {W : Type 0} (contents : W → Option (List ℕ)) (faults : W → ℕ) (t : Limits × List OpbEvent) (f : IsGathered accepted longest noted empty before after t) (old : W) where
       abbrev Told : Result (Unit {0}) ToolFault → W → Type 0
       Told result new = (v : Instance) → IsInOrder t.1 v → WritesText (IsAsked (largest t.0) v) (IsDenied (largest t.0) v) tidied contents faults old result new
 
-      by_fault : (v : Instance) → IsOpbFile limits longest before after v → (e : ToolFault) → IsDenied (largest limits) v e → IsNoNormalFile limits longest before after e
+      by_fault : (v : Instance) → IsInstanceFile limits longest before after v → (e : ToolFault) → IsDenied (largest limits) v e → IsNoNormalFile limits longest before after e
       by_fault v file (Overflow File) d = (v, file, d)
       by_fault v file (Memory File) d = (v, file, d)
       by_fault v file (Overflow of_instance) d = absurd d
@@ -189,7 +189,7 @@ module _ (limits : Limits) where
       by_fault v file Write d = absurd d
       by_fault v file (Step place fault name) d = absurd d
 
-      by_result : (v : Instance) → IsOpbFile limits longest before after v → (result : Result (Unit {0}) ToolFault) (new : W)
+      by_result : (v : Instance) → IsInstanceFile limits longest before after v → (result : Result (Unit {0}) ToolFault) (new : W)
           → WritesText (IsAsked (largest limits) v) (IsDenied (largest limits) v) tidied contents faults old result new
           → WritesText (IsNormalFile limits longest before after) (IsNoNormalFile limits longest before after) tidied contents faults old result new
       by_result v file (Ok u) new (w, asked, wrote) = (w, (v, file, asked), wrote)
@@ -219,7 +219,7 @@ module _ (limits : Limits) where
       pub told_on : (shown : Option ℕ) (ended : Bool) → ended ≡ true → (result : Result (Unit {0}) ToolFault) (new : W) → Told result new → SawFile shown ended result
       told_on shown ended end result new told = let (v, file, (under, order)) = noted_file t f in by_seen shown ended end v result new (told v order)
 
-      by_count : (v : Instance) (result : Result (Unit {0}) ToolFault) (new : W) (n : ℕ) → WritesText (IsAsked (largest t.0) v) (IsDenied (largest t.0) v) tidied contents faults old result new → n ≡ faults_told result n
+      by_count : (v : Instance) (result : Result (Unit {0}) ToolFault) (new : W) (n : ℕ) → WritesText (IsAsked (largest t.0) v) (IsDenied (largest t.0) v) tidied contents faults old result new → n ≡ faults_reported result n
       by_count v (Ok u) new n h = refl
       by_count v (Err Write) new n h = refl
       by_count v (Err (Text i s)) new n (d, e) = absurd d
@@ -228,5 +228,5 @@ module _ (limits : Limits) where
       by_count v (Err (Memory i)) new n h = refl
       by_count v (Err (Step place fault name)) new n h = refl
 
-      pub told_faults : (result : Result (Unit {0}) ToolFault) (new : W) (n : ℕ) → Told result new → n ≡ faults_told result n
+      pub told_faults : (result : Result (Unit {0}) ToolFault) (new : W) (n : ℕ) → Told result new → n ≡ faults_reported result n
       told_faults result new n told = let (v, file, (under, order)) = noted_file t f in by_count v result new n (told v order)

@@ -12,7 +12,7 @@ use Rattle.pb_proof.specs.Proofs.{IsStep, statements_of, IsProofOf}
 use Rattle.pb_proof.specs.declared.Proof.{Proof}
 use Rattle.pb_proof.specs.declared.Statement.{Statement}
 use Rattle.pb_proof.specs.declared.Statement.TheVariants.{Header, F, Pol, Rup, Soli, Solx, Delete, Output, Conclude, End}
-use Rattle.pb_tool.specs.meaning.Files.{tidied_proof, AsksVeri, IsVeri, TidiesProof}
+use Rattle.pb_tool.specs.meaning.Files.{tidied_proof, AsksInProofText, IsProofText, TidiesProof}
 use Rattle.pb_tool.specs.engine.Gathered.{TidiesEach}
 use Rattle.pb_tool.specs.engine.ProofText.{line, with, text_of, IsTextOf}
 use Rattle.pb_tool.specs.declared.fault.ToolFault.{ToolFault}
@@ -30,23 +30,23 @@ ended s (r ∷ rest) =
 abbrev with_text : ProofText → List ℕ → ProofText
 with_text t text = record t { steps = record t.steps { text = t.steps.text ++ text } }
 
-step_behind : (t : ProofText) (s : Statement) → IsStep s → with t s ≡ with_text t (line s)
-step_behind t Header h = absurd h
-step_behind t (F count) h = absurd h
-step_behind t (Pol ws) h = refl
-step_behind t (Rup c) h = refl
-step_behind t (Soli ls) h = refl
-step_behind t (Solx ls) h = refl
-step_behind t (Delete ids) h = refl
-step_behind t Output h = absurd h
-step_behind t (Conclude c) h = absurd h
-step_behind t End h = absurd h
+step_added : (t : ProofText) (s : Statement) → IsStep s → with t s ≡ with_text t (line s)
+step_added t Header h = absurd h
+step_added t (F count) h = absurd h
+step_added t (Pol ws) h = refl
+step_added t (Rup c) h = refl
+step_added t (Soli ls) h = refl
+step_added t (Solx ls) h = refl
+step_added t (Delete ids) h = refl
+step_added t Output h = absurd h
+step_added t (Conclude c) h = absurd h
+step_added t End h = absurd h
 
-steps_behind : (steps rest : List Statement) (t : ProofText) → All IsStep steps → gathered with t (steps ++ rest) ≡ gathered with (with_text t (flat_map line steps)) rest
-steps_behind [] rest t h = ap (λ (x : List ℕ). gathered with (record t { steps = record t.steps { text = x } }) rest) (sym (append-nil t.steps.text))
-steps_behind (s ∷ steps) rest t h =
-    ap (λ (x : ProofText). gathered with x (steps ++ rest)) (step_behind t s (All-head IsStep s steps h))
-    ∙ (steps_behind steps rest (with_text t (line s)) (All-tail IsStep s steps h)
+steps_added : (steps rest : List Statement) (t : ProofText) → All IsStep steps → gathered with t (steps ++ rest) ≡ gathered with (with_text t (flat_map line steps)) rest
+steps_added [] rest t h = ap (λ (x : List ℕ). gathered with (record t { steps = record t.steps { text = x } }) rest) (sym (append-nil t.steps.text))
+steps_added (s ∷ steps) rest t h =
+    ap (λ (x : ProofText). gathered with x (steps ++ rest)) (step_added t s (All-head IsStep s steps h))
+    ∙ (steps_added steps rest (with_text t (line s)) (All-tail IsStep s steps h)
     ∙ ap (λ (x : List ℕ). gathered with (record t { steps = record t.steps { text = x } }) rest) (append_assoc t.steps.text (line s) (flat_map line steps)))
 
 proof_text : (empty : ProofText) → empty.steps.text ≡ [] → (v : Proof) → All IsStep v.steps → text_of (gathered with empty (statements_of v)) ≡ tidied_proof v
@@ -54,7 +54,7 @@ proof_text empty n v h =
     let behind : List Statement = Output ∷ Conclude v.conclusion ∷ End ∷ [] in
     let back : List ℕ = line Output ++ (line (Conclude v.conclusion) ++ line End) in
     let back_is : flat_map line behind ≡ back = ap (λ (x : List ℕ). line Output ++ (line (Conclude v.conclusion) ++ x)) (append-nil (line End)) in
-    ap text_of (steps_behind v.steps behind (record empty { count = v.count }) h)
+    ap text_of (steps_added v.steps behind (record empty { count = v.count }) h)
     ∙ (ap (λ (x : List ℕ). (line Header ++ line (F v.count)) ++ ((x ++ flat_map line v.steps) ++ back)) n
     ∙ (append_assoc (line Header) (line (F v.count)) (flat_map line v.steps ++ back)
     ∙ (ap (λ (x : List ℕ). line Header ++ (line (F v.count) ++ x)) (ap (λ (x : List ℕ). flat_map line v.steps ++ x) (sym back_is) ∙ sym (flat_map-append line v.steps behind))
@@ -62,11 +62,11 @@ proof_text empty n v h =
 
 -- ---- what is written for a proof
 
-module _ (limits : Limits) (longest : ℕ) (accepted : List (Item Statement) → Type 0) (same : (items : List (Item Statement)) → accepted items ↔ IsVeri limits items) (empty : ProofText) (none : empty.steps.text ≡ []) (may_ask : List ℕ → ℕ → Type 0) where
-  has_text : (items : List (Item Statement)) → IsVeri limits items → IsTextOf (events_of items) (gathered with empty (events_of items))
+module _ (limits : Limits) (longest : ℕ) (accepted : List (Item Statement) → Type 0) (same : (items : List (Item Statement)) → accepted items ↔ IsProofText limits items) (empty : ProofText) (none : empty.steps.text ≡ []) (may_ask : List ℕ → ℕ → Type 0) where
+  has_text : (items : List (Item Statement)) → IsProofText limits items → IsTextOf (events_of items) (gathered with empty (events_of items))
   has_text items (v, (steps, are, first, spelled)) = (v, are, ap (λ (x : List Statement). text_of (gathered with empty x)) are ∙ proof_text empty none v steps)
 
-  pub tidies_text : ((used : List ℕ) (b : ℕ) → may_ask used b → AsksVeri limits used b) → {W : Type 0} (contents : W → Option (List ℕ)) (faults : W → ℕ) (before : Option (List ℕ)) (old : W) (result : Result (Unit {0}) ToolFault) (after : Option (List ℕ)) (new : W)
+  pub tidies_text : ((used : List ℕ) (b : ℕ) → may_ask used b → AsksInProofText limits used b) → {W : Type 0} (contents : W → Option (List ℕ)) (faults : W → ℕ) (before : Option (List ℕ)) (old : W) (result : Result (Unit {0}) ToolFault) (after : Option (List ℕ)) (new : W)
       → TidiesEach accepted longest with empty may_ask (λ t s. asks s) text_of contents faults before old result after new → TidiesProof limits longest contents faults before old result after new
   tidies_text to contents faults before old result after new t =
-      tidies_value accepted (IsVeri limits) same longest with empty text_of IsProofOf tidied_proof has_text may_ask (AsksVeri limits) to (λ t s. asks s) MayKeep (λ events s h. h) contents faults before old result after new t
+      tidies_value accepted (IsProofText limits) same longest with empty text_of IsProofOf tidied_proof has_text may_ask (AsksInProofText limits) to (λ t s. asks s) MayKeep (λ events s h. h) contents faults before old result after new t

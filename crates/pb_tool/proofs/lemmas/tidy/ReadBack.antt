@@ -16,7 +16,7 @@ use Rattle.pb_opb.specs.declared.Instance.{Instance}
 use Rattle.pb_tool.specs.contract.Stays.{IsOutside}
 use Rattle.pb_tool.specs.meaning.Tidy.{ends_in_feed, tidied, IsFile, IsRefused}
 use Rattle.pb_tool.specs.meaning.Tidy.IsRefused.{InText, InRest}
-use Rattle.pb_tool.proofs.lemmas.check.Prefixes.{Compared, behind_front, same_behind, some_left, two_fronts}
+use Rattle.pb_tool.proofs.lemmas.check.Prefixes.{Compared, after_prefix, same_rest, some_left, two_prefixes}
 use Rattle.pb_tool.proofs.lemmas.check.OneRead.{NoneGoesOn, one_spelt}
 
 -- nothing, or a line feed
@@ -70,14 +70,14 @@ module _ {E : Type 0} (format : List (Item E) → Type 0) (text : List ℕ) (own
 
   -- a text that is unfinished there is a shorter prefix of this text
   shorter : (used left rest : List ℕ) (marks : List (Spanned E)) → IsUnderWay format (2 ^ 40) used marks → used ++ left ≡ text ++ rest → (x : ℕ) × (m : List ℕ) × (text ≡ used ++ x ∷ m)
-  shorter used left rest marks u k = by_length (two_fronts text rest used left (sym k))
+  shorter used left rest marks u k = by_length (two_prefixes text rest used left (sym k))
     where
       by_length : Compared text used → (x : ℕ) × (m : List ℕ) × (text ≡ used ++ x ∷ m)
       by_length (inl (m, p)) = absurd (u.unfinished own spells (m, p ∙ ap (λ (x : List ℕ). x ++ m) (sym bytes)))
       by_length (inr h) = h
 
   next_is : (used left rest m : List ℕ) (x : ℕ) → used ++ left ≡ text ++ rest → text ≡ used ++ x ∷ m → left ≡ x ∷ (m ++ rest)
-  next_is used left rest m x k p = behind_front used left text rest k (x ∷ m) p
+  next_is used left rest m x k p = after_prefix used left text rest k (x ∷ m) p
 
   not_bad : (used more rest : List ℕ) (b : ℕ) (marks : List (Spanned E)) → IsUnderWay format (2 ^ 40) used marks → IsBad format (2 ^ 40) used b → used ++ b ∷ more ≡ text ++ rest → ⊥
   not_bad used more rest b marks u bad k =
@@ -119,7 +119,7 @@ module _ {E : Type 0} (format : List (Item E) → Type 0) (text : List ℕ) (own
       → used ++ seen ≡ text ++ rest → IsFeed rest → mid ≡ Some seen → ReadsBlank past mid (Err s) after → IsOutside (length (used ++ seen)) s.why
   in_rest used seen rest items past mid after s h e at k feed is (more, left, took, blank, place, stray) =
       let same : used ≡ text = same_used used seen rest items h e k in
-      let behind : seen ≡ rest = same_behind used seen text rest k same in
+      let behind : seen ≡ rest = same_rest used seen text rest k same in
       let now : Took (Some seen) more left after = subst (λ (z : Option (List ℕ)). Took z more left after) is took in
       let offset : past.offset ≡ length used = ap (λ (p : Place). p.offset) at ∙ place_after-offset used in
       subst (λ (t : List ℕ). IsOutside (length (used ++ t)) s.why) (sym now.0) (strays used more left rest past s.why feed (sym behind ∙ now.0) offset stray)

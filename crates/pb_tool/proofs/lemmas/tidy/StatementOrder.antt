@@ -147,11 +147,11 @@ module _ (limit top : ℕ) where
   bare_not None l ls = refl
   bare_not (Some t) l ls = refl
 
-  pub text_behind : (n m : ℕ) (tail : List ℕ) (rest : List (Item OpbEvent)) → IsCounted limit true m rest → gathered line_more [] (Header n m tail ∷ events_of rest) ≡ tidied (value_of n tail (events_of rest))
-  text_behind n zero tail [] h = sym (tidied_bare (value_of n tail []) refl)
-  text_behind n zero tail (i ∷ rest) h = absurd h
-  text_behind n (suc m) tail [] h = absurd h
-  text_behind n (suc m) tail (i ∷ rest) h =
+  pub text_added : (n m : ℕ) (tail : List ℕ) (rest : List (Item OpbEvent)) → IsCounted limit true m rest → gathered line_more [] (Header n m tail ∷ events_of rest) ≡ tidied (value_of n tail (events_of rest))
+  text_added n zero tail [] h = sym (tidied_bare (value_of n tail []) refl)
+  text_added n zero tail (i ∷ rest) h = absurd h
+  text_added n (suc m) tail [] h = absurd h
+  text_added n (suc m) tail (i ∷ rest) h =
       let events : List OpbEvent = i.event ∷ events_of rest in
       let r : Follows true (suc m) events = follows limit true (suc m) (i ∷ rest) h in
       let v : Instance = value_of n tail events in

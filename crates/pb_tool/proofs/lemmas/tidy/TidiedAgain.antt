@@ -16,9 +16,9 @@ use Rattle.pb_proof.specs.Proofs.{IsProofOf}
 use Rattle.pb_proof.specs.Reading.{ReadsProof}
 use Rattle.pb_proof.specs.ValueLaws.{ProofValues}
 use Rattle.pb_proof.specs.declared.Proof.{Proof}
-use Rattle.pb_tool.specs.meaning.Files.{tidied_proof, IsProofFile, IsVeri, TidiesFile}
-use Rattle.pb_tool.specs.contract.Stays.{HasNoFault, IsOutside, IsProofWithin, IsTakenForInstance, IsTakenForProof, IsWithin, ProofHasNoFault, ProofStaysAsIs, StaysAsIs, WroteAgain}
-use Rattle.pb_tool.specs.meaning.Tidy.{tidied, IsFile, IsOpb, IsOpbFile, IsRefused, TidiesAs}
+use Rattle.pb_tool.specs.meaning.Files.{tidied_proof, IsProofFile, IsProofText, TidiesFile}
+use Rattle.pb_tool.specs.contract.Stays.{HasNoFault, IsOutside, IsProofWithin, IsReadAsInstance, IsReadAsProof, IsWithin, ProofHasNoFault, ProofStaysAsIs, StaysAsIs, WroteAgain}
+use Rattle.pb_tool.specs.meaning.Tidy.{tidied, IsFile, IsInstanceText, IsInstanceFile, IsRefused, TidiesAs}
 use Rattle.pb_tool.specs.declared.fault.ToolFault.{ToolFault}
 use Rattle.pb_tool.specs.declared.fault.ToolFault.TheVariants.{Text, Open, Overflow, Memory, Write, Step}
 use Rattle.pb_tool.specs.declared.fault.Input.TheVariants.{File, Instance as of_instance, Proof as of_proof}
@@ -48,7 +48,7 @@ again_as IsReadOf Reads text_of contents faults before rest v MayStop same stops
 
 module _ (instances : InstanceValues) (proofs : ProofValues) (limits : Limits) (longest : ℕ) (before after : Option (List ℕ)) where
   -- what was read meets the rules
-  instance_within : (v : Instance) → IsOpbFile limits longest before after v → IsWithin limits v
+  instance_within : (v : Instance) → IsInstanceFile limits longest before after v → IsWithin limits v
   instance_within v f =
       let s = f.spelled.spelled in
       subst (IsWithin limits) f.value (instances (largest limits) (top_of limits) s.items f.read.event s.spelled f.spelled.value).0
@@ -58,7 +58,7 @@ module _ (instances : InstanceValues) (proofs : ProofValues) (limits : Limits) (
       let s = f.spelled.spelled in
       subst (IsProofWithin limits) f.value (proofs (largest limits) (top_of limits) s.items f.read.event s.spelled f.spelled.value)
 
-  module _ (as_instance : IsTakenForInstance) (same : StaysAsIs) (faultless : HasNoFault) (as_proof : IsTakenForProof) (proof_same : ProofStaysAsIs) (proof_faultless : ProofHasNoFault)
+  module _ (as_instance : IsReadAsInstance) (same : StaysAsIs) (faultless : HasNoFault) (as_proof : IsReadAsProof) (proof_same : ProofStaysAsIs) (proof_faultless : ProofHasNoFault)
       {W : Type 0} (contents : W → Option (List ℕ)) (faults : W → ℕ) (again : ℕ) (rest : Option (List ℕ)) (old new : W) (result : Result (Unit {0}) ToolFault) where
     abbrev Again : List ℕ → Type 0
     Again text = TidiesFile limits again contents faults false (Some text) old result rest new → WroteAgain contents faults text (λ why. again ≡ 2 ^ 40 → IsOutside (length text) why) old result new
@@ -66,7 +66,7 @@ module _ (instances : InstanceValues) (proofs : ProofValues) (limits : Limits) (
     of_instance_text : (v : Instance) → IsWithin limits v → Again (tidied v)
     of_instance_text v rules (inl (may, t)) = absurd (as_instance v may)
     of_instance_text v rules (inr (may, t)) =
-        again_as (IsRead (IsOpb limits) again IsValueOf) (ReadsInstance (largest limits) (top_of limits) again) tidied contents faults (Some (tidied v)) rest v (λ why. again ≡ 2 ^ 40 → IsOutside (length (tidied v)) why)
+        again_as (IsRead (IsInstanceText limits) again IsValueOf) (ReadsInstance (largest limits) (top_of limits) again) tidied contents faults (Some (tidied v)) rest v (λ why. again ≡ 2 ^ 40 → IsOutside (length (tidied v)) why)
         (λ w file. same limits again v w rest rules file)
         (λ s refused e. faultless limits v s rest rules (subst (λ (n : ℕ). IsRefused (ReadsInstance (largest limits) (top_of limits) n) (Some (tidied v)) rest s) e refused))
         old result new t
@@ -74,7 +74,7 @@ module _ (instances : InstanceValues) (proofs : ProofValues) (limits : Limits) (
     of_proof_text : (v : Proof) → IsProofWithin limits v → Again (tidied_proof v)
     of_proof_text v rules (inr (may, t)) = absurd (may (as_proof v))
     of_proof_text v rules (inl (may, t)) =
-        again_as (IsRead (IsVeri limits) again IsProofOf) (ReadsProof (largest limits) (top_of limits) again) tidied_proof contents faults (Some (tidied_proof v)) rest v (λ why. again ≡ 2 ^ 40 → IsOutside (length (tidied_proof v)) why)
+        again_as (IsRead (IsProofText limits) again IsProofOf) (ReadsProof (largest limits) (top_of limits) again) tidied_proof contents faults (Some (tidied_proof v)) rest v (λ why. again ≡ 2 ^ 40 → IsOutside (length (tidied_proof v)) why)
         (λ w file. proof_same limits again v w rest rules file)
         (λ s refused e. proof_faultless limits v s rest rules (subst (λ (n : ℕ). IsRefused (ReadsProof (largest limits) (top_of limits) n) (Some (tidied_proof v)) rest s) e refused))
         old result new t

@@ -81,7 +81,7 @@ impl Checker {
     ghost use Rattle.pb_text.specs.declared.Limits.{Limits};
     ghost use Rattle.pb_replay.specs.Problem.{Problem};
     ghost use Rattle.pb_tool.specs.contract.Checks.{Ends};
-    ghost use Rattle.pb_tool.specs.contract.Pieces.{ChecksAt, ChecksOnce, EndsStatement, HoldsOpen, IsOpen, IsUnread, WantsMemory, bytes_gone, fault_in, fault_of, is_whole, place_in};
+    ghost use Rattle.pb_tool.specs.contract.Pieces.{ChecksAt, ChecksOnce, EndsStatement, HoldsOpen, IsOpen, IsUnread, AllocatesAt, bytes_gone, fault_in, fault_of, is_whole, place_in};
     ghost use Rattle.pb_tool.specs.declared.commands.check.checker.CheckFault.{CheckFault as ACheckFault};
 
     /// A checker of a proof for the replay, in whatever state the replay is. It stops at a statement that has not ended
@@ -156,7 +156,7 @@ impl Checker {
         ensures memory { (limits : Limits) (longest : ℕ) (v : Problem) (first : Result State AFault) (input : List ℕ)
             → fault_of self.old ≡ None
             → ChecksAt limits longest v first input self.old
-            → IfErr result (WantsMemory limits (input ++ piece.now)) }
+            → IfErr result (AllocatesAt limits (input ++ piece.now)) }
     {
         if let Some(fault) = self.fault {
             return Err(fault);
@@ -190,7 +190,7 @@ impl Checker {
         ensures unread { IfErr result IsUnread }
         ensures memory { (limits : Limits) (longest : ℕ) (v : Problem) (first : Result State AFault) (input : List ℕ)
             → ChecksAt limits longest v first input self.old
-            → IfErr result (WantsMemory limits (input ++ piece.now)) }
+            → IfErr result (AllocatesAt limits (input ++ piece.now)) }
     {
         texts_are_read();
         reads_are_of_proofs();
@@ -277,12 +277,12 @@ pub(crate) fn step_by(replay: &mut Replay, read: &Spanned<Statement>) -> Result<
 {
     match replay.step(&read.event) {
         Ok(()) => Ok(()),
-        Err(fault) => Err(refused_at(read, fault)),
+        Err(fault) => Err(rejected_at(read, fault)),
     }
 }
 
 /// The fault of a rejected statement, at its first byte.
-fn refused_at(read: &Spanned<Statement>, fault: Fault) -> CheckFault
+fn rejected_at(read: &Spanned<Statement>, fault: Fault) -> CheckFault
     ensures { result ≡ CheckFault.Step read.now.first fault }
 {
     CheckFault::Step(read.first, fault)

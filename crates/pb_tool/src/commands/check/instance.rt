@@ -5,7 +5,7 @@ ghost use Rattle.pb_text.specs.Pulling.{OfGiven};
 ghost use Rattle.pb_tool.specs.contract.Runs.{IsNoReplay, IsReplayOf, faults_of_instance};
 ghost use Rattle.pb_tool.specs.contract.Seen.{SawInstance};
 
-use crate::fault::{Input, ToolFault, refused};
+use crate::fault::{Input, ToolFault, text_fault};
 use crate::file::read_instance_file;
 use pb_normal::HashKeys;
 use pb_replay::{Fault, Replay};
@@ -13,7 +13,7 @@ use pb_text::{Limits, Source};
 use std::alloc::Global;
 
 /// The replay of an instance. Only white space and comments may follow the instance.
-pub(crate) fn opened<S: Source>(
+pub(crate) fn replay_of_instance<S: Source>(
     alloc: Global,
     keys: HashKeys,
     input: &mut S,
@@ -30,7 +30,7 @@ pub(crate) fn opened<S: Source>(
 {
     let instance = match read_instance_file(alloc, input, longest, limits) {
         Ok(instance) => instance,
-        Err(stop) => return Err(refused(Input::Instance, stop)),
+        Err(stop) => return Err(text_fault(Input::Instance, stop)),
     };
     match Replay::with_hasher(alloc, keys, &instance, limits) {
         Ok(replay) => Ok(replay),

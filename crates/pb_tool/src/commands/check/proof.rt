@@ -10,14 +10,14 @@ ghost use Rattle.pb_replay.specs.Kept.{StandsFor};
 ghost use Rattle.pb_replay.specs.Meaning.{IsFront};
 ghost use Rattle.pb_replay.specs.declared.fault.Fault.{Fault as AFault};
 ghost use Rattle.pb_tool.specs.contract.Checker.{IsAt, StepsFrom};
-ghost use Rattle.pb_tool.specs.contract.Runs.{IsToldAs, Replays, Runs, faults_of_proof, faults_of_text};
+ghost use Rattle.pb_tool.specs.contract.Runs.{IsReportedAs, Replays, Runs, faults_of_proof, faults_of_text};
 ghost use Rattle.pb_tool.specs.contract.Seen.{SawProof, SawText};
-ghost use Rattle.pb_tool.specs.meaning.Verified.{IsTold};
+ghost use Rattle.pb_tool.specs.meaning.Verified.{IsReported};
 ghost use Rattle.pb_tool.specs.contract.Watched.{ShowsProof, ShowsRun, call_for};
 
 use crate::commands::check::checker::{CheckFault, step_by};
 use crate::commands::check::watch::Watch;
-use crate::fault::{Input, ToolFault, refused};
+use crate::fault::{Input, ToolFault, text_fault};
 use pb_proof::laws::proofs_are_exact;
 use pb_proof::laws::values::reads_are_of_proofs;
 use pb_proof::{ProofMachine, Statement};
@@ -27,7 +27,7 @@ use pb_text::{Feeder, Place, Source, Spanned, pull, rest_is_blank};
 use std::alloc::{AllocError, Global};
 
 /// What a proof shows. Only white space and comments may follow the proof.
-pub(crate) fn replayed<S: Source, V: Watch>(
+pub(crate) fn check_proof<S: Source, V: Watch>(
     alloc: Global,
     mut replay: Replay,
     input: &mut S,
@@ -47,23 +47,23 @@ pub(crate) fn replayed<S: Source, V: Watch>(
         OfGiven (λ left rest. ShowsProof replay.limits longest V.got replay.problem first left watch.old result rest watch.new) (S.history input.old) (S.history input.new) }
 {
     outcomes_are_single();
-    let (verdict, place) = match run(alloc, &mut replay, input, watch, longest) {
+    let (verdict, place) = match check_statements(alloc, &mut replay, input, watch, longest) {
         Ok(ended) => ended,
-        Err(CheckFault::Text(stop)) => return Err(refused(Input::Proof, stop)),
-        Err(CheckFault::Step(place, fault)) => return Err(refusal(alloc, &replay, place, fault)),
+        Err(CheckFault::Text(stop)) => return Err(text_fault(Input::Proof, stop)),
+        Err(CheckFault::Step(place, fault)) => return Err(rejection(alloc, &replay, place, fault)),
     };
     match rest_is_blank(input, place) {
         Ok(()) => Ok(verdict),
-        Err(stop) => Err(refused(Input::Proof, stop)),
+        Err(stop) => Err(text_fault(Input::Proof, stop)),
     }
 }
 
 /// The fault of a rejected statement, with a copy of the name that it gives by its number. If there is no memory for
 /// the copy, the fault is that memory ran out.
-fn refusal(alloc: Global, replay: &Replay, place: Place, fault: Fault) -> ToolFault
-    ensures { IsToldAs replay.now.names place fault result }
+fn rejection(alloc: Global, replay: &Replay, place: Place, fault: Fault) -> ToolFault
+    ensures { IsReportedAs replay.now.names place fault result }
 {
-    match told_name(alloc, replay, fault) {
+    match reported_name(alloc, replay, fault) {
         Ok(name) => ToolFault::Step { place, fault, name },
         Err(_) => ToolFault::Step {
             place,
@@ -74,8 +74,8 @@ fn refusal(alloc: Global, replay: &Replay, place: Place, fault: Fault) -> ToolFa
 }
 
 /// The name that a fault gives by its number, and an empty one for other faults.
-fn told_name(alloc: Global, replay: &Replay, fault: Fault) -> Result<String, AllocError>
-    ensures told { IfOk result (λ name. IsTold replay.now.names fault (string_bytes name)) }
+fn reported_name(alloc: Global, replay: &Replay, fault: Fault) -> Result<String, AllocError>
+    ensures told { IfOk result (λ name. IsReported replay.now.names fault (string_bytes name)) }
     ensures err { OnErr result ((n : ℕ) × (fault ≡ Fault.NotTotal n)) }
 {
     match fault {
@@ -119,7 +119,7 @@ fn step_watched<V: Watch>(
 
 /// Steps a replay through the statements of a source until the proof ends. Returns what the proof shows, and the
 /// position after it.
-fn run<S: Source, V: Watch>(
+fn check_statements<S: Source, V: Watch>(
     alloc: Global,
     replay: &mut Replay,
     input: &mut S,

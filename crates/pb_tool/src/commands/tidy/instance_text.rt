@@ -41,7 +41,7 @@ impl InstanceText {
         ensures unchanged { OnErr result (self.new ≡ self.old) }
     {
         let mark = self.page.mark();
-        match write_behind(&self.objective, event, &mut self.page) {
+        match write_after(&self.objective, event, &mut self.page) {
             Ok(()) => {
                 self.objective = None;
                 Ok(())
@@ -65,7 +65,7 @@ pub(crate) fn write_line_if<W: Sink>(event: &Option<OpbEvent>, out: &mut W) -> R
 }
 
 /// Writes the line of `before`, if there is one, and then the line of `event`.
-fn write_behind<W: Sink>(
+fn write_after<W: Sink>(
     before: &Option<OpbEvent>,
     event: &OpbEvent,
     out: &mut W,

@@ -27,7 +27,7 @@ use std::marker::Model;
 #[derive(Clone, Copy)]
 enum Standing {
     /// The forms of all constraints are stored.
-    Kept,
+    Stored,
     /// Every constraint fits the limit, but memory ran out for a form or a name.
     Lost,
     /// A constraint exceeds the limit.
@@ -48,7 +48,7 @@ impl Forms {
         ensures limits { self.new.limits ≡ self.old.limits }
         ensures made { (named : List (List ℕ)) (cs : List Written) → AreMade named cs self.old → AreMade (named ++ names_of terms.now) cs self.new }
     {
-        if let Standing::Kept = self.standing {
+        if let Standing::Stored = self.standing {
             match self.lines.number(terms) {
                 Ok(()) => {}
                 Err(AllocError) => self.standing = Standing::Lost,
@@ -66,7 +66,7 @@ impl Forms {
             self.standing = Standing::Overflows;
             return;
         }
-        if let Standing::Kept = self.standing {
+        if let Standing::Stored = self.standing {
             match self.lines.add(constraint, self.limits) {
                 Ok(()) => {}
                 Err(AllocError) => self.standing = Standing::Lost,
@@ -107,7 +107,7 @@ impl NormalText {
     {
         let forms = Forms {
             limits,
-            standing: Standing::Kept,
+            standing: Standing::Stored,
             lines: FormLines::new(alloc, keys),
         };
         NormalText {
@@ -124,7 +124,7 @@ impl NormalText {
             WritesText (IsAsked (largest self.now.0) v) (IsDenied (largest self.now.0) v) tidied W.contents W.faults out.old result out.new }
     {
         match self.forms.standing {
-            Standing::Kept => {}
+            Standing::Stored => {}
             Standing::Lost => return Err(ToolFault::Memory(Input::File)),
             Standing::Overflows => return Err(ToolFault::Overflow(Input::File)),
         }

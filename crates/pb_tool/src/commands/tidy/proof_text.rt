@@ -2,7 +2,7 @@
 
 ghost use Rattle.std.specs.Prelude.{◌≡◌, ◌++◌, OnErr, OnOk};
 ghost use Rattle.pb_text.specs.Writing.{Writes};
-ghost use Rattle.pb_tool.specs.engine.ProofText.{back_of, front_of, line, text_of};
+ghost use Rattle.pb_tool.specs.engine.ProofText.{after_steps, before_steps, line, text_of};
 
 use crate::canonical::{Canonical, write_line};
 use crate::commands::tidy::page::Page;
@@ -34,16 +34,16 @@ impl ProofText {
     }
 
     /// Writes the lines before the steps.
-    fn write_front<W: Sink>(&self, out: &mut W) -> Result<(), Failed>
-        ensures { Writes W.contents W.faults out.old (front_of self.now) result out.new }
+    fn write_before_steps<W: Sink>(&self, out: &mut W) -> Result<(), Failed>
+        ensures { Writes W.contents W.faults out.old (before_steps self.now) result out.new }
     {
         write_line(&Statement::Header, out)?;
         write_line(&Statement::F(self.count), out)
     }
 
     /// Writes the lines after the steps.
-    fn write_back<W: Sink>(&self, out: &mut W) -> Result<(), Failed>
-        ensures { Writes W.contents W.faults out.old (back_of self.now) result out.new }
+    fn write_after_steps<W: Sink>(&self, out: &mut W) -> Result<(), Failed>
+        ensures { Writes W.contents W.faults out.old (after_steps self.now) result out.new }
     {
         write_line(&Statement::Output, out)?;
         write_line(&self.conclusion, out)?;
@@ -70,9 +70,9 @@ impl Canonical for ProofText {
     ghost text = { text_of };
 
     fn write_text<W: Sink>(&self, out: &mut W) -> Result<(), Failed> {
-        self.write_front(out)?;
+        self.write_before_steps(out)?;
         write_bytes(self.steps.as_slice(), out)?;
-        self.write_back(out)
+        self.write_after_steps(out)
     }
 }
 

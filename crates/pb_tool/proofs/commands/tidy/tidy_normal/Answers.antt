@@ -7,12 +7,12 @@ use Rattle.pb_tool.proofs.commands.tidy.tidy_normal.Goals as goal
 pub returns-in-Err-clause-tidies : goal.returns-in-Err-clause-tidies
 returns-in-Err-clause-tidies g c =
     let stopped = rw c.new-empty.ensures at c.in-Err.ensures.refused in
-    rw c.refused.ensures (unnoted c.args.limits c.args.longest (Accepts opb c.new-machine.result) c.new-machine.ensures.accepts _ _ (MayAsk opb c.new-machine.result) c.new-machine.ensures.asks c.in-Err.refusal stopped, refl)
+    rw c.text_fault.ensures (unnoted c.args.limits c.args.longest (Accepts opb c.new-machine.result) c.new-machine.ensures.accepts _ _ (MayAsk opb c.new-machine.result) c.new-machine.ensures.asks c.in-Err.refusal stopped, refl)
 
 pub returns-in-Err-clause-given : goal.returns-in-Err-clause-given
 returns-in-Err-clause-given g c =
     let (given, seen, e, stopped) = rw c.new-empty.ensures at c.in-Err.ensures.refused_given in
-    rw c.refused.ensures (given, seen, e, (unnoted c.args.limits c.args.longest (Accepts opb c.new-machine.result) c.new-machine.ensures.accepts (Some (given ++ seen)) (Some seen) (MayAsk opb c.new-machine.result) c.new-machine.ensures.asks c.in-Err.refusal stopped, refl))
+    rw c.text_fault.ensures (given, seen, e, (unnoted c.args.limits c.args.longest (Accepts opb c.new-machine.result) c.new-machine.ensures.accepts (Some (given ++ seen)) (Some seen) (MayAsk opb c.new-machine.result) c.new-machine.ensures.asks c.in-Err.refusal stopped, refl))
 
 pub returns-clause-tidies : goal.returns-clause-tidies
 returns-clause-tidies g c =

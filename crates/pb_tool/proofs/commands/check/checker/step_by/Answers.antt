@@ -11,4 +11,4 @@ returns-in-Ok-clause-steps c now at =
 pub returns-in-Err-clause-steps : goal.returns-in-Err-clause-steps
 returns-in-Err-clause-steps c now at =
     let err : Fault → Result Unit Fault = λ e. Err e in
-    stepped_err c.args.replay.now c.step.new.self c.args.read.now c.in-Err.fault c.refused_at.result c.refused_at.ensures c.in-Err.ensures.steps (λ none memory. c.in-Err.ensures.memory none (ap err memory)) (λ d spent. same_err (c.in-Err.ensures.again d spent).0) now at
+    stepped_err c.args.replay.now c.step.new.self c.args.read.now c.in-Err.fault c.rejected_at.result c.rejected_at.ensures c.in-Err.ensures.steps (λ none memory. c.in-Err.ensures.memory none (ap err memory)) (λ d spent. same_err (c.in-Err.ensures.again d spent).0) now at

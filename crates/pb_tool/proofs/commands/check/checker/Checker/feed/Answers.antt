@@ -1,6 +1,6 @@
 use Rattle.std.proofs.Common.{◌++◌, ◌-◌, ℕ, List, length, take, drop, subst, sym, ap, ◌∙◌, arith}
 use Rattle.std.proofs.lemmas.List.{length-drop}
-use Rattle.pb_tool.specs.contract.Pieces.{ChecksAt, WantsMemory, fault_of}
+use Rattle.pb_tool.specs.contract.Pieces.{ChecksAt, AllocatesAt, fault_of}
 use Rattle.pb_tool.specs.contract.Checker.{Checking}
 use Rattle.pb_text.proofs.Spans.{all_rest}
 use Rattle.pb_tool.proofs.lemmas.check.CheckerSteps as checked
@@ -24,12 +24,12 @@ returns-then-not-went-clause-checks c =
 pub returns-then-not-went-clause-names : goal.returns-then-not-went-clause-names
 returns-then-not-went-clause-names c =
     let t = rw c.in-Ok.is at c.advance.ensures in
-    checked.front_on _ _ _ c.loop-went.invariant.names t.names
+    checked.prefix_on _ _ _ c.loop-went.invariant.names t.names
 
 pub returns-in-Err-clause-names : goal.returns-in-Err-clause-names
 returns-in-Err-clause-names c =
     let t = rw c.in-Err.is at c.advance.ensures in
-    checked.front_on _ _ _ c.loop-went.invariant.names t.names
+    checked.prefix_on _ _ _ c.loop-went.invariant.names t.names
 
 pub loop-went-preserved : goal.loop-went-preserved
 loop-went-preserved c =
@@ -40,7 +40,7 @@ loop-went-preserved c =
       running = t.fault;
       bound = omega (arith, t.used.1, length-drop i piece, ap (λ (x : List ℕ). length x) (all_rest piece i), c.loop-went.invariant.bound);
       offset = omega (arith, t.used.0, c.loop-went.invariant.offset);
-      names = checked.front_on _ _ _ c.loop-went.invariant.names t.names;
+      names = checked.prefix_on _ _ _ c.loop-went.invariant.names t.names;
       stands = λ limits longest v first input h.
           subst (λ (x : List ℕ). ChecksAt limits longest v first x c.advance.new.self)
           (ap (λ (x : List ℕ). (input ++ take i piece) ++ x) (checked.to_more c.in-Ok.went.more c.in-Ok.went.used (take (length piece - i) (drop i piece)) c.if-not-went.false) ∙ checked.onward_by input piece i c.in-Ok.went.used)
@@ -62,5 +62,5 @@ returns-in-Err-clause-unread c none = let t = rw c.in-Err.is at c.advance.ensure
 pub returns-in-Err-clause-memory : goal.returns-in-Err-clause-memory
 returns-in-Err-clause-memory c limits longest v first input none h =
     let t = rw c.in-Err.is at c.advance.ensures in
-    subst (λ (x : List ℕ). WantsMemory limits x c.in-Err.fault) (checked.to_end input c.args.piece.now c.loop-went.used)
+    subst (λ (x : List ℕ). AllocatesAt limits x c.in-Err.fault) (checked.to_end input c.args.piece.now c.loop-went.used)
     (t.memory limits longest v first (input ++ take c.loop-went.used c.args.piece.now) (c.loop-went.invariant.stands limits longest v first input h))

@@ -9,9 +9,9 @@ returns-then-not-fits-clause-made c = λ named cs made.
 
 pub returns-in-Ok-clause-made : goal.returns-in-Ok-clause-made
 returns-in-Ok-clause-made c = λ named cs made.
-    let kept = rw c.in-Kept.is at made in
+    let kept = rw c.in-Stored.is at made in
     let (added, loaded, text, count) = c.in-Ok.ensures.forms in
-    rw c.in-Kept.is (
+    rw c.in-Stored.is (
       lines_added named cs c.args.constraint.now c.args.self.now.lines c.add.new.self added kept.0 c.in-Ok.ensures.names loaded text count,
       passes_not (largest c.args.self.now.limits) cs c.args.constraint.now kept.1 (c.if-not-fits.ensures.0 refl),
     )

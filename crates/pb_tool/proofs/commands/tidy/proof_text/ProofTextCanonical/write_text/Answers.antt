@@ -2,16 +2,16 @@ use Rattle.std.proofs.Common.{refl}
 use Rattle.pb_text.proofs.Parts.{part_then, part_broke}
 use Rattle.pb_tool.proofs.commands.tidy.proof_text.ProofTextCanonical.write_text.Goals as goal
 
-pub returns-in_err-write_front : goal.returns-in_err-write_front
-returns-in_err-write_front g c =
-    part_broke g.W.Sink.contents g.W.Sink.faults _ _ _ _ _ _ refl c.from_residual.ensures.0 c.in_err-write_front.ensures
+pub returns-in_err-write_before_steps : goal.returns-in_err-write_before_steps
+returns-in_err-write_before_steps g c =
+    part_broke g.W.Sink.contents g.W.Sink.faults _ _ _ _ _ _ refl c.from_residual.ensures.0 c.in_err-write_before_steps.ensures
 
 pub returns-in_err-write_bytes : goal.returns-in_err-write_bytes
 returns-in_err-write_bytes g c =
-    part_then g.W.Sink.contents g.W.Sink.faults _ _ _ _ _ _ _ refl c.in_ok-write_front.ensures
+    part_then g.W.Sink.contents g.W.Sink.faults _ _ _ _ _ _ _ refl c.in_ok-write_before_steps.ensures
     (part_broke g.W.Sink.contents g.W.Sink.faults _ _ _ _ _ _ refl c.from_residual-in_err-write_bytes.ensures.0 (rw c.as_slice.ensures at c.in_err-write_bytes.ensures))
 
 pub returns : goal.returns
 returns g c =
-    part_then g.W.Sink.contents g.W.Sink.faults _ _ _ _ _ _ _ refl c.in_ok-write_front.ensures
-    (part_then g.W.Sink.contents g.W.Sink.faults _ _ _ _ _ _ _ refl (rw c.as_slice.ensures at c.in_ok-write_bytes.ensures) c.write_back.ensures)
+    part_then g.W.Sink.contents g.W.Sink.faults _ _ _ _ _ _ _ refl c.in_ok-write_before_steps.ensures
+    (part_then g.W.Sink.contents g.W.Sink.faults _ _ _ _ _ _ _ refl (rw c.as_slice.ensures at c.in_ok-write_bytes.ensures) c.write_after_steps.ensures)

@@ -2,7 +2,7 @@ use Rattle.std.proofs.Common.{◌∙◌}
 use Rattle.clap.specs.Words.{found_of}
 use Rattle.clap.proofs.WalkLemmas.{first_value-rows}
 use Rattle.pb_tool.proofs.lemmas.words.Entries.{absent, given, outside}
-use Rattle.pb_tool.proofs.words.number.Goals as goal
+use Rattle.pb_tool.proofs.words.flag_number.Goals as goal
 
 pub returns-in_default-clause-ok : goal.returns-in_default-clause-ok
 returns-in_default-clause-ok c = absent c.args.low c.args.high _ (c.in_default.ensures ∙ first_value-rows (found_of c.args.given.now) c.args.flag.now)

@@ -7,7 +7,7 @@ use Rattle.pb_tool.proofs.lemmas.show.GivenStatements.{given_next, given_row, gi
 use Rattle.pb_tool.proofs.lemmas.check.ReplayRuns as replayed
 use Rattle.pb_tool.proofs.lemmas.show.ShownStatements.{fewer, first_pull, so_far_within}
 use Rattle.pb_tool.proofs.lemmas.check.WatchCalls.{shown_ended, shown_ended_given, shown_first, shown_next, shown_rejected, shown_rejected_given, shown_stopped, shown_stopped_given}
-use Rattle.pb_tool.proofs.commands.check.proof.run.Goals as goal
+use Rattle.pb_tool.proofs.commands.check.proof.check_statements.Goals as goal
 
 pub loop-read-init : goal.loop-read-init
 loop-read-init g c = record {

@@ -1,5 +1,5 @@
 use Rattle.std.proofs.Common.{refl}
-use Rattle.pb_tool.proofs.fault.refused.Goals as goal
+use Rattle.pb_tool.proofs.fault.text_fault.Goals as goal
 
 pub returns : goal.returns
 returns c = refl

@@ -1,6 +1,6 @@
 use Rattle.std.proofs.Common.{refl}
 use Rattle.pb_text.proofs.Parts.{part_then, part_broke}
-use Rattle.pb_tool.proofs.commands.tidy.instance_text.write_behind.Goals as goal
+use Rattle.pb_tool.proofs.commands.tidy.instance_text.write_after.Goals as goal
 
 pub returns-in_err-write_line_if : goal.returns-in_err-write_line_if
 returns-in_err-write_line_if g c =

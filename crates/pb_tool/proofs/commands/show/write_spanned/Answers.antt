@@ -1,6 +1,6 @@
 use Rattle.pb_text.proofs.Parts.{part_then, part_broke}
 use Rattle.pb_tool.proofs.lemmas.show.StatementLine.{line_parts}
-use Rattle.pb_tool.proofs.commands.show.write_shown.Goals as goal
+use Rattle.pb_tool.proofs.commands.show.write_spanned.Goals as goal
 
 pub returns-in_err-write_place : goal.returns-in_err-write_place
 returns-in_err-write_place g c =

@@ -11,7 +11,7 @@ use Rattle.pb_text.specs.Whole.{events_at}
 use Rattle.pb_replay.specs.Kept.{StandsFor}
 use Rattle.pb_tool.proofs.lemmas.show.GivenStatements.{HasGiven}
 use Rattle.pb_tool.proofs.lemmas.check.WatchCalls.{HasShown}
-use Rattle.pb_tool.proofs.commands.check.proof.run.Given as goal
+use Rattle.pb_tool.proofs.commands.check.proof.check_statements.Given as goal
 
 -- The statements so far were accepted and shown, and the source has not failed. This holds for the bytes that are known of the
 -- source and for those that its calls have given.

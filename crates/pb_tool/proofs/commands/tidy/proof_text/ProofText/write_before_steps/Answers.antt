@@ -1,6 +1,6 @@
 use Rattle.std.proofs.Common.{refl}
 use Rattle.pb_text.proofs.Parts.{part_then, part_broke}
-use Rattle.pb_tool.proofs.commands.tidy.proof_text.ProofText.write_front.Goals as goal
+use Rattle.pb_tool.proofs.commands.tidy.proof_text.ProofText.write_before_steps.Goals as goal
 
 pub returns-in_err-write_line : goal.returns-in_err-write_line
 returns-in_err-write_line g c =
