@@ -12,6 +12,7 @@ ghost use Rattle.pb_tool.specs.contract.Watched.{IsWatched, IsWatchedGiven};
 pub(crate) mod checker;
 mod instance;
 mod proof;
+mod step;
 mod verdict;
 pub(crate) mod watch;
 

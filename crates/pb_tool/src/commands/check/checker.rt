@@ -1,21 +1,21 @@
 //! Checks a proof whose text comes in pieces of any size.
 
 ghost use Rattle.std.specs.Prelude.{◌≡◌, ◌<◌, ℕ, Err, Result, Some, length};
-ghost use Rattle.pb_text.specs.Limits.{largest, top_of};
-ghost use Rattle.pb_proof.specs.Values.{IsStatementValue};
 ghost use Rattle.pb_replay.specs.Replay.{State};
 ghost use Rattle.pb_replay.specs.declared.fault.Fault.{Fault as AFault};
 ghost use Rattle.pb_replay.specs.Meaning.{IsFront};
-ghost use Rattle.pb_tool.specs.contract.Checker.{IsAt, StepsFrom, TextsAreRead};
+ghost use Rattle.pb_tool.specs.contract.Checker.{IsAt, TextsAreRead};
 ghost use Rattle.pb_tool.specs.contract.Faults.{check_fault_text};
 
+use crate::commands::check::step::step_watched;
+use crate::commands::check::watch::Unwatched;
+use pb_proof::ProofMachine;
 use pb_proof::laws::values::reads_are_of_proofs;
 use pb_proof::laws::{no_front, proofs_are_exact};
-use pb_proof::{ProofMachine, Statement};
 use pb_replay::laws::whole_proofs_conclude;
 use pb_replay::{Fault, Replay, Verdict};
 use pb_text::laws::standing_is_reading;
-use pb_text::{BYTE_LIMIT, Feeder, Place, Spanned, Stop, Why};
+use pb_text::{BYTE_LIMIT, Feeder, Place, Stop, Why};
 use std::alloc::Global;
 use std::error::Error;
 use std::fmt;
@@ -206,7 +206,7 @@ impl Checker {
         let Some(read) = fed.event else {
             return Ok(Went { used, more: false });
         };
-        match step_through(&mut self.replay, read) {
+        match step_watched(&mut self.replay, read, &mut Unwatched) {
             Ok(()) => Ok(Went { used, more: true }),
             Err(fault) => {
                 self.fault = Some(fault);
@@ -250,42 +250,6 @@ impl Checker {
             Err(fault)
         }
     }
-}
-
-/// Steps through a statement that was read, and drops the statement.
-pub(crate) fn step_through(replay: &mut Replay, read: Spanned<Statement>) -> Result<(), CheckFault>
-    requires { IsStatementValue (largest replay.old.limits) (top_of replay.old.limits) read.event }
-    ensures steps { (now : Result State AFault) → IsAt replay.old now
-        → StepsFrom replay.old.limits replay.old.problem now read result replay.new }
-    ensures names { IsFront replay.old.names replay.new.names }
-    ensures unvalued { (at : Place) (n : ℕ) → result ≡ Err (CheckFault.Step at (Fault.NotTotal n)) → n < length replay.old.names }
-    ensures limits { replay.new.limits ≡ replay.old.limits }
-    ensures problem { replay.new.problem ≡ replay.old.problem }
-{
-    step_by(replay, &read)
-}
-
-/// The same for a statement that the caller keeps.
-pub(crate) fn step_by(replay: &mut Replay, read: &Spanned<Statement>) -> Result<(), CheckFault>
-    requires { IsStatementValue (largest replay.old.limits) (top_of replay.old.limits) read.now.event }
-    ensures steps { (now : Result State AFault) → IsAt replay.old now
-        → StepsFrom replay.old.limits replay.old.problem now read.now result replay.new }
-    ensures names { IsFront replay.old.names replay.new.names }
-    ensures unvalued { (at : Place) (n : ℕ) → result ≡ Err (CheckFault.Step at (Fault.NotTotal n)) → n < length replay.old.names }
-    ensures limits { replay.new.limits ≡ replay.old.limits }
-    ensures problem { replay.new.problem ≡ replay.old.problem }
-{
-    match replay.step(&read.event) {
-        Ok(()) => Ok(()),
-        Err(fault) => Err(rejected_at(read, fault)),
-    }
-}
-
-/// The fault of a rejected statement, at its first byte.
-fn rejected_at(read: &Spanned<Statement>, fault: Fault) -> CheckFault
-    ensures { result ≡ CheckFault.Step read.now.first fault }
-{
-    CheckFault::Step(read.first, fault)
 }
 
 /// If `StandsAt` holds of a feeder of proofs and an input, the feeder has read that input (`Reads`).

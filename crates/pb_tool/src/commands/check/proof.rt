@@ -1,29 +1,25 @@
 //! The proof of a check: its statements, one after another, and what is reported of a rejected one.
 
-ghost use Rattle.std.specs.Prelude.{◌≡◌, ◌<◌, Err, None, Result, string_bytes, get_or, [], length, IfErr, IfOk, OnErr, ℕ};
+ghost use Rattle.std.specs.Prelude.{◌≡◌, ◌<◌, Err, None, Result, string_bytes, get_or, [], IfErr, IfOk, OnErr, ℕ};
 ghost use Rattle.pb_text.specs.Blank.{IsInReach};
 ghost use Rattle.pb_text.specs.Pulling.{OfGiven};
-ghost use Rattle.pb_text.specs.Limits.{largest, top_of};
-ghost use Rattle.pb_proof.specs.Values.{IsStatementValue};
 ghost use Rattle.pb_replay.specs.Replay.{State};
 ghost use Rattle.pb_replay.specs.Kept.{StandsFor};
-ghost use Rattle.pb_replay.specs.Meaning.{IsFront};
-ghost use Rattle.pb_replay.specs.declared.fault.Fault.{Fault as AFault};
-ghost use Rattle.pb_tool.specs.contract.Checker.{IsAt, StepsFrom};
 ghost use Rattle.pb_tool.specs.contract.Runs.{IsReportedAs, Replays, Runs, faults_of_proof, faults_of_text};
 ghost use Rattle.pb_tool.specs.contract.Seen.{SawProof, SawText};
 ghost use Rattle.pb_tool.specs.meaning.Verified.{IsReported};
-ghost use Rattle.pb_tool.specs.contract.Watched.{ShowsProof, ShowsRun, call_for};
+ghost use Rattle.pb_tool.specs.contract.Watched.{ShowsProof, ShowsRun};
 
-use crate::commands::check::checker::{CheckFault, step_by};
+use crate::commands::check::checker::CheckFault;
+use crate::commands::check::step::step_watched;
 use crate::commands::check::watch::Watch;
 use crate::fault::{Input, ToolFault, text_fault};
+use pb_proof::ProofMachine;
 use pb_proof::laws::proofs_are_exact;
 use pb_proof::laws::values::reads_are_of_proofs;
-use pb_proof::{ProofMachine, Statement};
 use pb_replay::laws::{outcomes_are_single, whole_proofs_conclude};
 use pb_replay::{Fault, Replay, Verdict};
-use pb_text::{Feeder, Place, Source, Spanned, pull, rest_is_blank};
+use pb_text::{Feeder, Place, Source, pull, rest_is_blank};
 use std::alloc::{AllocError, Global};
 
 /// What a proof shows. Only white space and comments may follow the proof.
@@ -92,29 +88,6 @@ fn copied_name(alloc: Global, replay: &Replay, number: usize) -> Result<String, 
         Some(name) => String::from_str(alloc, name),
         None => Ok(String::new(alloc)),
     }
-}
-
-/// Steps through a statement that was read, shows it to the watch, and drops it.
-fn step_watched<V: Watch>(
-    replay: &mut Replay,
-    read: Spanned<Statement>,
-    watch: &mut V,
-) -> Result<(), CheckFault>
-    requires { IsStatementValue (largest replay.old.limits) (top_of replay.old.limits) read.event }
-    ensures steps { (now : Result State AFault) → IsAt replay.old now
-        → StepsFrom replay.old.limits replay.old.problem now read result replay.new }
-    ensures names { IsFront replay.old.names replay.new.names }
-    ensures unvalued { (at : Place) (n : ℕ) → result ≡ Err (CheckFault.Step at (Fault.NotTotal n)) → n < length replay.old.names }
-    ensures limits { replay.new.limits ≡ replay.old.limits }
-    ensures problem { replay.new.problem ≡ replay.old.problem }
-    ensures shown { V.got watch.old (call_for read replay.new result) watch.new }
-{
-    let done = step_by(replay, &read);
-    match done {
-        Ok(()) => watch.accepted(&read, replay),
-        Err(fault) => watch.rejected(&read, replay, fault),
-    }
-    done
 }
 
 /// Steps a replay through the statements of a source until the proof ends. Returns what the proof shows, and the

@@ -28,37 +28,37 @@ returns-in_default-clause-stands c limits longest v first input h =
     let t = rw c.in-Ok.is at c.feed.ensures in
     checked.quiet c.texts_are_read.ensures limits longest v first input c.self.inside.feeder c.self.inside.replay c.self.inside.fault (rw (← c.self.view_is) at c.requires) (rw (← c.self.view_is) at h) c.args.piece.now c.feed.new.self c.in-Ok.fed (none_of c.in-Ok.fed.event c.in_default.not-Some) t.feeds t.stop
 
-pub step_through-requires : goal.step_through-requires
-step_through-requires c =
+pub step_watched-requires : goal.step_watched-requires
+step_watched-requires c =
     let (limits, longest, v, first, input, h) = c.self.invariant in
     let t = rw c.in-Ok.is at c.feed.ensures in
     rw c.in-Some.is (checked.is_value c.texts_are_read.ensures limits longest v first input c.self.inside.feeder c.self.inside.replay c.self.inside.fault (rw (← c.self.view_is) at c.requires) h c.args.piece.now c.feed.new.self c.in-Ok.fed c.in-Some.read c.in-Some.is t.feeds t.stop c.reads_are_of_proofs.ensures)
 
-pub invariant_of-self-in-Ok-step_through : goal.invariant_of-self-in-Ok-step_through
-invariant_of-self-in-Ok-step_through c =
+pub invariant_of-self-in-Ok-step_watched : goal.invariant_of-self-in-Ok-step_watched
+invariant_of-self-in-Ok-step_watched c =
     let (limits, longest, v, first, input, h) = c.self.invariant in
     let t = rw c.in-Ok.is at c.feed.ensures in
-    let u = rw (c.in-Ok-step_through.is, c.in-Some.is) at c.step_through.ensures in
-    (limits, longest, v, first, _, checked.stepped c.texts_are_read.ensures limits longest v first input c.self.inside.feeder c.self.inside.replay c.self.inside.fault (rw (← c.self.view_is) at c.requires) h c.args.piece.now c.feed.new.self c.in-Ok.fed c.in-Some.read c.in-Some.is t.feeds t.stop c.step_through.new.replay u.steps u.limits u.problem)
+    let u = rw (c.in-Ok-step_watched.is, c.in-Some.is) at c.step_watched.ensures in
+    (limits, longest, v, first, _, checked.stepped c.texts_are_read.ensures limits longest v first input c.self.inside.feeder c.self.inside.replay c.self.inside.fault (rw (← c.self.view_is) at c.requires) h c.args.piece.now c.feed.new.self c.in-Ok.fed c.in-Some.read c.in-Some.is t.feeds t.stop c.step_watched.new.replay u.steps u.limits u.problem)
 
-pub invariant_of-self-in-Err-step_through : goal.invariant_of-self-in-Err-step_through
-invariant_of-self-in-Err-step_through c =
+pub invariant_of-self-in-Err-step_watched : goal.invariant_of-self-in-Err-step_watched
+invariant_of-self-in-Err-step_watched c =
     let (limits, longest, v, first, input, h) = c.self.invariant in
     let t = rw c.in-Ok.is at c.feed.ensures in
-    let u = rw (c.in-Err-step_through.is, c.in-Some.is) at c.step_through.ensures in
-    (limits, longest, v, first, _, checked.refused c.texts_are_read.ensures limits longest v first input c.self.inside.feeder c.self.inside.replay c.self.inside.fault (rw (← c.self.view_is) at c.requires) h c.args.piece.now c.feed.new.self c.in-Ok.fed c.in-Some.read c.in-Some.is t.feeds t.stop c.step_through.new.replay c.in-Err-step_through.fault u.steps u.names u.unvalued)
+    let u = rw (c.in-Err-step_watched.is, c.in-Some.is) at c.step_watched.ensures in
+    (limits, longest, v, first, _, checked.refused c.texts_are_read.ensures limits longest v first input c.self.inside.feeder c.self.inside.replay c.self.inside.fault (rw (← c.self.view_is) at c.requires) h c.args.piece.now c.feed.new.self c.in-Ok.fed c.in-Some.read c.in-Some.is t.feeds t.stop c.step_watched.new.replay c.in-Err-step_watched.fault u.steps u.names u.unvalued)
 
-pub returns-in-Ok-step_through-clause-stands : goal.returns-in-Ok-step_through-clause-stands
-returns-in-Ok-step_through-clause-stands c limits longest v first input h =
+pub returns-in-Ok-step_watched-clause-stands : goal.returns-in-Ok-step_watched-clause-stands
+returns-in-Ok-step_watched-clause-stands c limits longest v first input h =
     let t = rw c.in-Ok.is at c.feed.ensures in
-    let u = rw (c.in-Ok-step_through.is, c.in-Some.is) at c.step_through.ensures in
-    checked.stepped c.texts_are_read.ensures limits longest v first input c.self.inside.feeder c.self.inside.replay c.self.inside.fault (rw (← c.self.view_is) at c.requires) (rw (← c.self.view_is) at h) c.args.piece.now c.feed.new.self c.in-Ok.fed c.in-Some.read c.in-Some.is t.feeds t.stop c.step_through.new.replay u.steps u.limits u.problem
+    let u = rw (c.in-Ok-step_watched.is, c.in-Some.is) at c.step_watched.ensures in
+    checked.stepped c.texts_are_read.ensures limits longest v first input c.self.inside.feeder c.self.inside.replay c.self.inside.fault (rw (← c.self.view_is) at c.requires) (rw (← c.self.view_is) at h) c.args.piece.now c.feed.new.self c.in-Ok.fed c.in-Some.read c.in-Some.is t.feeds t.stop c.step_watched.new.replay u.steps u.limits u.problem
 
-pub returns-in-Err-step_through-clause-stands : goal.returns-in-Err-step_through-clause-stands
-returns-in-Err-step_through-clause-stands c limits longest v first input h =
+pub returns-in-Err-step_watched-clause-stands : goal.returns-in-Err-step_watched-clause-stands
+returns-in-Err-step_watched-clause-stands c limits longest v first input h =
     let t = rw c.in-Ok.is at c.feed.ensures in
-    let u = rw (c.in-Err-step_through.is, c.in-Some.is) at c.step_through.ensures in
-    checked.refused c.texts_are_read.ensures limits longest v first input c.self.inside.feeder c.self.inside.replay c.self.inside.fault (rw (← c.self.view_is) at c.requires) (rw (← c.self.view_is) at h) c.args.piece.now c.feed.new.self c.in-Ok.fed c.in-Some.read c.in-Some.is t.feeds t.stop c.step_through.new.replay c.in-Err-step_through.fault u.steps u.names u.unvalued
+    let u = rw (c.in-Err-step_watched.is, c.in-Some.is) at c.step_watched.ensures in
+    checked.refused c.texts_are_read.ensures limits longest v first input c.self.inside.feeder c.self.inside.replay c.self.inside.fault (rw (← c.self.view_is) at c.requires) (rw (← c.self.view_is) at h) c.args.piece.now c.feed.new.self c.in-Ok.fed c.in-Some.read c.in-Some.is t.feeds t.stop c.step_watched.new.replay c.in-Err-step_watched.fault u.steps u.names u.unvalued
 
 pub returns-in-Err-clause-unread : goal.returns-in-Err-clause-unread
 returns-in-Err-clause-unread c =
@@ -71,18 +71,18 @@ returns-in-Err-clause-memory c limits longest v first input h =
     let t = rw c.in-Err.is at c.feed.ensures in
     checked.wanted c.texts_are_read.ensures limits longest v first input c.self.inside.feeder c.self.inside.replay c.self.inside.fault (rw (← c.self.view_is) at c.requires) (rw (← c.self.view_is) at h) c.args.piece.now c.feed.new.self c.in-Err.stop t.feeds t.stop
 
-pub returns-in-Err-step_through-clause-unread : goal.returns-in-Err-step_through-clause-unread
-returns-in-Err-step_through-clause-unread c =
+pub returns-in-Err-step_watched-clause-unread : goal.returns-in-Err-step_watched-clause-unread
+returns-in-Err-step_watched-clause-unread c =
     let (limits, longest, v, first, input, h) = c.self.invariant in
     let t = rw c.in-Ok.is at c.feed.ensures in
-    let u = rw (c.in-Err-step_through.is, c.in-Some.is) at c.step_through.ensures in
-    checked.unread_step c.texts_are_read.ensures limits longest v first input c.self.inside.feeder c.self.inside.replay c.self.inside.fault (rw (← c.self.view_is) at c.requires) h c.args.piece.now c.feed.new.self c.in-Ok.fed c.in-Some.read c.in-Some.is t.feeds t.stop c.step_through.new.replay c.in-Err-step_through.fault u.steps
+    let u = rw (c.in-Err-step_watched.is, c.in-Some.is) at c.step_watched.ensures in
+    checked.unread_step c.texts_are_read.ensures limits longest v first input c.self.inside.feeder c.self.inside.replay c.self.inside.fault (rw (← c.self.view_is) at c.requires) h c.args.piece.now c.feed.new.self c.in-Ok.fed c.in-Some.read c.in-Some.is t.feeds t.stop c.step_watched.new.replay c.in-Err-step_watched.fault u.steps
 
-pub returns-in-Err-step_through-clause-memory : goal.returns-in-Err-step_through-clause-memory
-returns-in-Err-step_through-clause-memory c limits longest v first input h =
+pub returns-in-Err-step_watched-clause-memory : goal.returns-in-Err-step_watched-clause-memory
+returns-in-Err-step_watched-clause-memory c limits longest v first input h =
     let t = rw c.in-Ok.is at c.feed.ensures in
-    let u = rw (c.in-Err-step_through.is, c.in-Some.is) at c.step_through.ensures in
-    checked.wanted_step c.texts_are_read.ensures limits longest v first input c.self.inside.feeder c.self.inside.replay c.self.inside.fault (rw (← c.self.view_is) at c.requires) (rw (← c.self.view_is) at h) c.args.piece.now c.feed.new.self c.in-Ok.fed c.in-Some.read c.in-Some.is t.feeds t.stop c.step_through.new.replay c.in-Err-step_through.fault u.steps
+    let u = rw (c.in-Err-step_watched.is, c.in-Some.is) at c.step_watched.ensures in
+    checked.wanted_step c.texts_are_read.ensures limits longest v first input c.self.inside.feeder c.self.inside.replay c.self.inside.fault (rw (← c.self.view_is) at c.requires) (rw (← c.self.view_is) at h) c.args.piece.now c.feed.new.self c.in-Ok.fed c.in-Some.read c.in-Some.is t.feeds t.stop c.step_watched.new.replay c.in-Err-step_watched.fault u.steps
 
-pub returns-in-Err-step_through-clause-names : goal.returns-in-Err-step_through-clause-names
-returns-in-Err-step_through-clause-names c = search rules
+pub returns-in-Err-step_watched-clause-names : goal.returns-in-Err-step_watched-clause-names
+returns-in-Err-step_watched-clause-names c = search rules

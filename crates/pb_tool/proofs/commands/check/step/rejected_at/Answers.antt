@@ -1,5 +1,5 @@
 use Rattle.std.proofs.Common.{refl}
-use Rattle.pb_tool.proofs.commands.check.checker.rejected_at.Goals as goal
+use Rattle.pb_tool.proofs.commands.check.step.rejected_at.Goals as goal
 
 pub returns : goal.returns
 returns c = refl

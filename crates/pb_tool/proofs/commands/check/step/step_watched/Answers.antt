@@ -1,5 +1,5 @@
 use Rattle.std.proofs.Common.{rules}
-use Rattle.pb_tool.proofs.commands.check.proof.step_watched.Goals as goal
+use Rattle.pb_tool.proofs.commands.check.step.step_watched.Goals as goal
 
 pub returns-clause-shown : goal.returns-clause-shown
 returns-clause-shown g c = search rules

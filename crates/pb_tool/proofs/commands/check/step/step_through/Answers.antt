@@ -2,7 +2,7 @@ use Rattle.std.proofs.Common.{Result, Err, ap}
 use Rattle.pb_text.proofs.Results.{same_err}
 use Rattle.pb_replay.specs.declared.fault.Fault.{Fault}
 use Rattle.pb_tool.proofs.lemmas.check.CheckerSteps.{stepped_err, stepped_ok}
-use Rattle.pb_tool.proofs.commands.check.checker.step_by.Goals as goal
+use Rattle.pb_tool.proofs.commands.check.step.step_through.Goals as goal
 
 pub returns-in-Ok-clause-steps : goal.returns-in-Ok-clause-steps
 returns-in-Ok-clause-steps c now at =
