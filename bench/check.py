@@ -45,8 +45,8 @@ def instructions_of(words, folder):
 
 def visits_of(rows, files):
     """The statements of a proof, and the visits that their propagation takes, as the program of the rows reports them."""
-    told = subprocess.run([rows, "--looks", *files], capture_output=True, text=True, check=True).stdout
-    return [int(number) for number in re.fullmatch(r"(\d+) statements, (\d+) looks\n", told).groups()]
+    told = subprocess.run([rows, "--visits", *files], capture_output=True, text=True, check=True).stdout
+    return [int(number) for number in re.fullmatch(r"(\d+) statements, (\d+) visits\n", told).groups()]
 
 
 def main():

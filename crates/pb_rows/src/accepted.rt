@@ -17,7 +17,7 @@ pub(crate) fn accepts(verb: Verb, key: &str) -> bool {
         "once" => matches!(verb, Verb::Checker),
         "room" => matches!(verb, Verb::Count),
         "line" | "column" | "offset" => matches!(verb, Verb::Rest),
-        "alone" | "looks-least" | "looks-most" => matches!(verb, Verb::Steps),
+        "alone" | "visits-least" | "visits-most" => matches!(verb, Verb::Steps),
         _ => accepts_failure(verb, key),
     }
 }
@@ -51,7 +51,7 @@ fn has_grammar(verb: Verb) -> bool {
     is_feed(verb)
         || matches!(
             verb,
-            Verb::Read | Verb::Pull | Verb::Fronts | Verb::Zeros | Verb::Judge
+            Verb::Read | Verb::Pull | Verb::Prefixes | Verb::Zeros | Verb::Judge
         )
 }
 
@@ -68,7 +68,7 @@ fn has_longest(verb: Verb) -> bool {
             verb,
             Verb::Read
                 | Verb::Pull
-                | Verb::Fronts
+                | Verb::Prefixes
                 | Verb::Zeros
                 | Verb::Count
                 | Verb::Checker

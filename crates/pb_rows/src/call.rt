@@ -18,7 +18,7 @@ pub enum Verb {
     Stop,
     Read,
     Pull,
-    Fronts,
+    Prefixes,
     Zeros,
     Judge,
     Forms,
@@ -80,11 +80,11 @@ pub struct Call {
     pub is_held: bool,
     pub has_spans: bool,
     /// The position at which a rest begins.
-    pub behind: Place,
+    pub rest_start: Place,
     /// How many statements are counted before memory runs out.
     pub room: u64,
-    pub looks_least: Option<u64>,
-    pub looks_most: u64,
+    pub visits_least: Option<u64>,
+    pub visits_most: u64,
 }
 
 impl Call {
@@ -106,10 +106,10 @@ impl Call {
             is_alone: false,
             is_held: false,
             has_spans: false,
-            behind: Place::START,
+            rest_start: Place::START,
             room: u64::MAX,
-            looks_least: None,
-            looks_most: u64::MAX,
+            visits_least: None,
+            visits_most: u64::MAX,
         }
     }
 
@@ -195,7 +195,7 @@ fn common_verb(word: &str) -> Result<Verb, Broken> {
         "stop" => Ok(Verb::Stop),
         "read" => Ok(Verb::Read),
         "pull" => Ok(Verb::Pull),
-        "fronts" => Ok(Verb::Fronts),
+        "prefixes" => Ok(Verb::Prefixes),
         "zeros" => Ok(Verb::Zeros),
         "judge" => Ok(Verb::Judge),
         "forms" => Ok(Verb::Forms),
@@ -266,12 +266,12 @@ fn set(call: &mut Call, key: &str, value: &str) -> Result<(), Broken> {
         "reader-most" => call.reader_most = number as usize,
         "writer-fails" => call.writer_fails = Some(number),
         "writer-most" => call.writer_most = number as usize,
-        "line" => call.behind.line = number,
-        "column" => call.behind.column = number,
-        "offset" => call.behind.offset = number,
+        "line" => call.rest_start.line = number,
+        "column" => call.rest_start.column = number,
+        "offset" => call.rest_start.offset = number,
         "room" => call.room = number,
-        "looks-least" => call.looks_least = Some(number),
-        "looks-most" => call.looks_most = number,
+        "visits-least" => call.visits_least = Some(number),
+        "visits-most" => call.visits_most = number,
         _ => return Err(Broken::Word),
     }
     Ok(())

@@ -2,7 +2,7 @@
 
 use crate::broken::Broken;
 use crate::call::{Call, Each};
-use crate::command::tell_fault;
+use crate::command::report_fault;
 use crate::feed::Cut;
 use crate::page::{Done, Page, answered, is_same, page};
 use crate::turns::{Calls, Run, reader_of, writer_of};
@@ -20,14 +20,14 @@ use std::str::FromStr;
 const BETWEEN: &[u8] = b"&\n";
 
 /// A piece after a proof, or after its fault.
-const BEHIND: &[u8] = b"nonsense\n";
+const AFTER: &[u8] = b"nonsense\n";
 
 /// The two inputs of a row.
 pub(crate) fn inputs_of(text: &[u8]) -> Result<(&[u8], &[u8]), Broken> {
     for at in 0..text.len() {
-        let (front, rest) = text.split_at(at);
+        let (prefix, rest) = text.split_at(at);
         if let Some(proof) = rest.strip_prefix(BETWEEN) {
-            return Ok((front, proof));
+            return Ok((prefix, proof));
         }
     }
     Err(Broken::Value)
@@ -41,14 +41,14 @@ pub(crate) fn run_check(alloc: Global, call: &Call, text: &[u8]) -> Result<Run, 
     second.fails_at = call.proof_fails;
     let (mut first, mut second) = (Over::new(first), Over::new(second));
     let mut out = Over::new(writer_of(alloc, call));
-    let told = check_both(alloc, call, &mut first, &mut second, &mut out)?;
+    let reported = check_both(alloc, call, &mut first, &mut second, &mut out)?;
     let writer = out.into_inner();
     let calls = match call.each {
         Each::Write => Calls::of_writer(&writer),
         Each::ProofRead => Calls::of_reader(proof, &second.into_inner()),
         _ => Calls::of_reader(instance, &first.into_inner()),
     };
-    Ok(Run::new(writer, told, calls))
+    Ok(Run::new(writer, reported, calls))
 }
 
 /// Checks a proof, and reports `ok` or the line of the fault.
@@ -61,12 +61,12 @@ fn check_both(
 ) -> Result<Page, Broken> {
     let limits = call.limits()?;
     let longest = call.longest();
-    let mut told = page(alloc);
+    let mut reported = page(alloc);
     match check(alloc, instance, proof, out, longest, limits) {
-        Ok(_) => write_bytes(b"ok\n", &mut told)?,
-        Err(fault) => tell_fault(&fault, &mut told)?,
+        Ok(_) => write_bytes(b"ok\n", &mut reported)?,
+        Err(fault) => report_fault(&fault, &mut reported)?,
     }
-    Ok(told)
+    Ok(reported)
 }
 
 /// Feeds a proof to a checker in one piece. Unless the call says `once`, also feeds it in pieces of 1, 2 and 37 bytes,
@@ -114,35 +114,35 @@ fn first_odd(
 
 fn check_cut(alloc: Global, call: &Call, text: &[u8], cut: Cut) -> Result<Done, Broken> {
     let (instance, proof) = inputs_of(text)?;
-    let mut told = page(alloc);
-    match opened(alloc, call, instance)? {
+    let mut reported = page(alloc);
+    match replay_for(alloc, call, instance)? {
         Ok(replay) => {
             let mut checker = Checker::new(alloc, replay, call.longest());
-            tell_checker(alloc, &mut checker, proof, cut, &mut told)?;
+            report_checker(alloc, &mut checker, proof, cut, &mut reported)?;
         }
-        Err(_) => write_bytes(b"no replay\n", &mut told)?,
+        Err(_) => write_bytes(b"no replay\n", &mut reported)?,
     }
-    Ok(answered(alloc, told))
+    Ok(answered(alloc, reported))
 }
 
 /// Feeds a proof to a checker, and reports its result.
-fn tell_checker(
+fn report_checker(
     alloc: Global,
     checker: &mut Checker,
     proof: &[u8],
     cut: Cut,
-    told: &mut Page,
+    reported: &mut Page,
 ) -> Result<(), Broken> {
     let end = feed_to_end(checker, proof, cut);
-    tell_end(alloc, checker, end, told)?;
-    tell_again(checker, end, told)?;
+    report_result(alloc, checker, end, reported)?;
+    report_again(checker, end, reported)?;
     Ok(())
 }
 
 /// Feeds a proof piece by piece up to the first fault, and finishes it if there was none.
 fn feed_to_end(checker: &mut Checker, proof: &[u8], cut: Cut) -> Result<Verdict, CheckFault> {
-    let (front, rest) = proof.split_at(cut.first.min(proof.len()));
-    let _used = checker.feed(front)?;
+    let (prefix, rest) = proof.split_at(cut.first.min(proof.len()));
+    let _used = checker.feed(prefix)?;
     for piece in rest.chunks(cut.size.max(1)) {
         let _used = checker.feed(piece)?;
     }
@@ -151,30 +151,30 @@ fn feed_to_end(checker: &mut Checker, proof: &[u8], cut: Cut) -> Result<Verdict,
 
 /// Makes the calls of a finished checker again. They must return its fault; or use no byte of a piece, and return the
 /// verdict. The position must not change. Reports any difference.
-fn tell_again(
+fn report_again(
     checker: &mut Checker,
     end: Result<Verdict, CheckFault>,
-    told: &mut Page,
+    reported: &mut Page,
 ) -> Result<(), Failed> {
     let place = checker.place();
     let wanted = match end {
         Ok(_) => Ok(0),
         Err(fault) => Err(fault),
     };
-    if checker.feed(BEHIND) != wanted {
-        write_bytes(b"fed again: not the same\n", told)?;
+    if checker.feed(AFTER) != wanted {
+        write_bytes(b"fed again: not the same\n", reported)?;
     }
     if checker.finish() != end {
-        write_bytes(b"finished again: not the same\n", told)?;
+        write_bytes(b"finished again: not the same\n", reported)?;
     }
     if checker.place() != place {
-        write_bytes(b"another place\n", told)?;
+        write_bytes(b"another place\n", reported)?;
     }
     Ok(())
 }
 
 /// A replay over the instance of a row, if it opens.
-pub(crate) fn opened(
+pub(crate) fn replay_for(
     alloc: Global,
     call: &Call,
     instance: &[u8],
@@ -194,20 +194,20 @@ pub(crate) fn replay_of(
     }
 }
 
-fn tell_end(
+fn report_result(
     alloc: Global,
     checker: &Checker,
     end: Result<Verdict, CheckFault>,
-    told: &mut Page,
+    reported: &mut Page,
 ) -> Result<(), Broken> {
     match end {
-        Ok(verdict) => tell_verdict(verdict, told)?,
-        Err(CheckFault::Text(stop)) => tell_fault(
+        Ok(verdict) => report_verdict(verdict, reported)?,
+        Err(CheckFault::Text(stop)) => report_fault(
             &ToolFault::Text {
                 input: Input::Proof,
                 stop,
             },
-            told,
+            reported,
         )?,
         Err(CheckFault::Step(place, fault)) => {
             let name = match fault {
@@ -215,29 +215,29 @@ fn tell_end(
                 _ => "",
             };
             let name = String::from_str(alloc, name)?;
-            tell_fault(&ToolFault::Step { place, fault, name }, told)?;
+            report_fault(&ToolFault::Step { place, fault, name }, reported)?;
         }
     }
     Ok(())
 }
 
 /// Writes the verdict as its line has it.
-pub(crate) fn tell_verdict<S: Sink>(verdict: Verdict, out: &mut S) -> Result<(), Failed> {
+pub(crate) fn report_verdict<S: Sink>(verdict: Verdict, out: &mut S) -> Result<(), Failed> {
     match verdict {
         Verdict::NoClaim => write_bytes(b"verified NONE\n", out),
         Verdict::Unsat => write_bytes(b"verified UNSAT\n", out),
         Verdict::Sat => write_bytes(b"verified SAT\n", out),
         Verdict::Bounds(lower, upper) => {
             write_bytes(b"verified BOUNDS ", out)?;
-            tell_bound(lower, out)?;
+            report_bound(lower, out)?;
             write_bytes(b" ", out)?;
-            tell_bound(upper, out)?;
+            report_bound(upper, out)?;
             write_bytes(b"\n", out)
         }
     }
 }
 
-fn tell_bound<S: Sink>(bound: Bound, out: &mut S) -> Result<(), Failed> {
+fn report_bound<S: Sink>(bound: Bound, out: &mut S) -> Result<(), Failed> {
     match bound {
         Bound::Finite(value) => write_number(value, out),
         Bound::Infinite => write_bytes(b"INF", out),

@@ -18,14 +18,14 @@ pub(crate) fn run_command(alloc: Global, call: &Call, text: &[u8]) -> Result<Run
     let mut input = Over::new(reader);
     let mut out = Over::new(writer_of(alloc, call));
     let answer = run_verb(alloc, call, &mut input, &mut out, limits);
-    let mut told = page(alloc);
-    tell(&answer, &mut told)?;
+    let mut reported = page(alloc);
+    report(&answer, &mut reported)?;
     let (reader, writer) = (input.into_inner(), out.into_inner());
     let calls = match call.each {
         Each::Write => Calls::of_writer(&writer),
         _ => Calls::of_reader(text, &reader),
     };
-    Ok(Run::new(writer, told, calls))
+    Ok(Run::new(writer, reported, calls))
 }
 
 fn run_verb(
@@ -44,14 +44,14 @@ fn run_verb(
 }
 
 /// Writes `ok`, or the line of a fault and its exit status.
-fn tell<S: Sink>(answer: &Result<(), ToolFault>, out: &mut S) -> Result<(), Failed> {
+fn report<S: Sink>(answer: &Result<(), ToolFault>, out: &mut S) -> Result<(), Failed> {
     match answer {
         Ok(()) => write_bytes(b"ok\n", out),
-        Err(fault) => tell_fault(fault, out),
+        Err(fault) => report_fault(fault, out),
     }
 }
 
-pub(crate) fn tell_fault<S: Sink>(fault: &ToolFault, out: &mut S) -> Result<(), Failed> {
+pub(crate) fn report_fault<S: Sink>(fault: &ToolFault, out: &mut S) -> Result<(), Failed> {
     write_fault(fault, out)?;
     write_bytes(b"status ", out)?;
     write_count(status(fault) as u64, out)?;

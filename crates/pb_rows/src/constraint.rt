@@ -2,7 +2,7 @@
 
 use crate::broken::Broken;
 use crate::call::Call;
-use crate::page::{Done, Page, finished, page, tell_count, tell_either};
+use crate::page::{Done, Page, finished, page, report_count, report_either};
 use pb_normal::{Names, Normal, NormalFault, Side};
 use pb_opb::{Instance, read_instance};
 use pb_sums::write_number;
@@ -88,15 +88,15 @@ pub(crate) fn run_forms(
     let Ok(read) = read_instance(alloc, &mut Over::new(text), Limits::full()) else {
         return Err(Broken::Value);
     };
-    let (mut out, mut told) = (page(alloc), page(alloc));
+    let (mut out, mut reported) = (page(alloc), page(alloc));
     let mut forms = Forms {
         alloc,
         instance: &read.event,
         names: Names::new(alloc),
         limits,
     };
-    forms.tell_last(line, &mut out, &mut told)?;
-    Ok(finished(out, told))
+    forms.report_last(line, &mut out, &mut reported)?;
+    Ok(finished(out, reported))
 }
 
 fn word_of(form: &Normal) -> &'static [u8] {
@@ -114,15 +114,20 @@ fn parted(word: &str) -> (&str, &str) {
 
 impl Forms<'_> {
     /// Writes the form that the rules of a line make, or reports that it overflows.
-    fn tell_last(&mut self, line: &str, out: &mut Page, told: &mut Page) -> Result<(), Broken> {
-        match self.last(line, told) {
+    fn report_last(
+        &mut self,
+        line: &str,
+        out: &mut Page,
+        reported: &mut Page,
+    ) -> Result<(), Broken> {
+        match self.last(line, reported) {
             Ok(form) => {
                 write_form(&form, &self.names, out)?;
-                write_bytes(word_of(&form), told)?;
+                write_bytes(word_of(&form), reported)?;
             }
             Err(NoForm::Overflow) => {
-                write_bytes(b"overflow\n", told)?;
-                tell_count(self.names.len() as u64, b" names\n", told)?;
+                write_bytes(b"overflow\n", reported)?;
+                report_count(self.names.len() as u64, b" names\n", reported)?;
             }
             Err(NoForm::Broken(broken)) => return Err(broken),
         }
@@ -130,18 +135,23 @@ impl Forms<'_> {
     }
 
     /// The form that the rules of a line make.
-    fn last(&mut self, line: &str, told: &mut Page) -> Result<Normal, NoForm> {
+    fn last(&mut self, line: &str, reported: &mut Page) -> Result<Normal, NoForm> {
         let mut form = Normal::axiom(self.alloc, 0, false)?;
         for word in line.split_whitespace() {
-            form = self.behind(form, word, told)?;
+            form = self.after_word(form, word, reported)?;
         }
         Ok(form)
     }
 
     /// The form after a word. The word may be a question about the form before it.
-    fn behind(&mut self, form: Normal, word: &str, told: &mut Page) -> Result<Normal, NoForm> {
+    fn after_word(
+        &mut self,
+        form: Normal,
+        word: &str,
+        reported: &mut Page,
+    ) -> Result<Normal, NoForm> {
         let (rule, value) = parted(word);
-        self.answer(&form, rule, value, told)?;
+        self.answer(&form, rule, value, reported)?;
         self.next(form, rule, value)
     }
 
@@ -151,19 +161,19 @@ impl Forms<'_> {
         form: &Normal,
         rule: &str,
         value: &str,
-        told: &mut Page,
+        reported: &mut Page,
     ) -> Result<(), NoForm> {
         match rule {
             "holds" => {
                 let holds = holds_at(self.alloc, form, value)?;
-                tell_either(holds, b"holds\n", b"does not hold\n", told)?;
+                report_either(holds, b"holds\n", b"does not hold\n", reported)?;
             }
             "refutes" => {
                 let other = self.side(value, Side::AtLeast)?;
                 let refutes = form.refutes(&other);
-                tell_either(refutes, b"refutes\n", b"does not refute\n", told)?;
+                report_either(refutes, b"refutes\n", b"does not refute\n", reported)?;
             }
-            "names" => tell_count(self.names.len() as u64, b" names\n", told)?,
+            "names" => report_count(self.names.len() as u64, b" names\n", reported)?,
             _ => {}
         }
         Ok(())

@@ -2,7 +2,7 @@
 
 use crate::broken::Broken;
 use crate::call::Call;
-use crate::page::{Done, answered, page, tell_count, tell_end};
+use crate::page::{Done, answered, page, report_count, report_end};
 use pb_opb::{OpbEvent, OpbMachine};
 use pb_text::{Gather, read_from};
 use std::alloc::{AllocError, Global};
@@ -39,14 +39,14 @@ pub(crate) fn run_count(alloc: Global, call: &Call, text: &[u8]) -> Result<Done,
         room: call.room,
     };
     let (read, left) = read_from(text, machine, call.most(), nothing);
-    let mut told = page(alloc);
+    let mut reported = page(alloc);
     match read {
         Ok(spanned) => {
-            tell_count(spanned.event.statements, b" statements\n", &mut told)?;
-            tell_count(spanned.past.offset, b" bytes\n", &mut told)?;
+            report_count(spanned.event.statements, b" statements\n", &mut reported)?;
+            report_count(spanned.past.offset, b" bytes\n", &mut reported)?;
         }
-        Err(stop) => tell_end(Err(stop), &mut told)?,
+        Err(stop) => report_end(Err(stop), &mut reported)?,
     }
-    tell_count(left.into_inner().len() as u64, b" left\n", &mut told)?;
-    Ok(answered(alloc, told))
+    report_count(left.into_inner().len() as u64, b" left\n", &mut reported)?;
+    Ok(answered(alloc, reported))
 }

@@ -1,7 +1,7 @@
 //! Rows of faults that no input causes.
 
 use crate::broken::Broken;
-use crate::command::tell_fault;
+use crate::command::report_fault;
 use crate::page::{Done, answered, page};
 use pb_text::{Place, Stop, Why};
 use pb_tool::{Input, ToolFault};
@@ -32,9 +32,9 @@ pub(crate) fn run_fault(alloc: Global, line: &str) -> Result<Done, Broken> {
             None => set_input(&mut parts, word)?,
         }
     }
-    let mut told = page(alloc);
-    tell_fault(&fault_of(kind, parts)?, &mut told)?;
-    Ok(answered(alloc, told))
+    let mut reported = page(alloc);
+    report_fault(&fault_of(kind, parts)?, &mut reported)?;
+    Ok(answered(alloc, reported))
 }
 
 fn set_input(parts: &mut Parts, word: &str) -> Result<(), Broken> {

@@ -4,7 +4,7 @@ ghost use Rattle.std.specs.Prelude.{false, ◌≡◌};
 
 use crate::broken::Broken;
 use crate::call::{Call, Grammar, Verb};
-use crate::page::{Done, Page, finished, is_same, page, tell_count, tell_end};
+use crate::page::{Done, Page, finished, is_same, page, report_count, report_end};
 use crate::steps::BEFORE_STEPS;
 use pb_opb::{OpbEvent, OpbMachine, write_event};
 use pb_proof::{ProofMachine, Statement, write_statement};
@@ -100,19 +100,19 @@ pub(crate) fn run_feed(
 fn feed_cut(alloc: Global, call: &Call, text: &[u8], cut: Cut) -> Result<Done, Broken> {
     let mut out = page(alloc);
     let end = feed_all(alloc, call, text, cut, &mut out)?;
-    let mut told = page(alloc);
-    tell(end, call.is_held, &mut told)?;
+    let mut reported = page(alloc);
+    report(end, call.is_held, &mut reported)?;
     match call.verb {
-        Verb::Stop => Ok(finished(page(alloc), told)),
-        _ => Ok(finished(out, told)),
+        Verb::Stop => Ok(finished(page(alloc), reported)),
+        _ => Ok(finished(out, reported)),
     }
 }
 
-fn tell<S: Sink>(end: End, is_held: bool, out: &mut S) -> Result<(), Failed> {
-    tell_end(end.end, out)?;
-    tell_count(end.place.offset, b" bytes\n", out)?;
+fn report<S: Sink>(end: End, is_held: bool, out: &mut S) -> Result<(), Failed> {
+    report_end(end.end, out)?;
+    report_count(end.place.offset, b" bytes\n", out)?;
     if is_held {
-        tell_count(end.held as u64, b" held\n", out)?;
+        report_count(end.held as u64, b" held\n", out)?;
     }
     Ok(())
 }
@@ -160,7 +160,7 @@ fn spaces_of(call: &Call) -> Spaces {
 fn feed_machine<E: Shown + Drop, M: Machine<Event = E> + Drop>(
     machine: M,
     call: &Call,
-    front: &[u8],
+    prefix: &[u8],
     text: &[u8],
     cut: Cut,
     out: &mut Page,
@@ -168,7 +168,7 @@ fn feed_machine<E: Shown + Drop, M: Machine<Event = E> + Drop>(
     requires between { M.automaton.begun machine ≡ false }
 {
     let mut feeder = Feeder::within(machine, call.most());
-    take_front(&mut feeder, front);
+    take_prefix(&mut feeder, prefix);
     let fed = feed_pieces(&mut feeder, text, cut, Shape::of(call), out);
     End {
         end: end_of(&mut feeder, fed, text),
@@ -178,9 +178,9 @@ fn feed_machine<E: Shown + Drop, M: Machine<Event = E> + Drop>(
 }
 
 /// Feeds a prefix, and shows none of its events.
-fn take_front<E: Drop, M: Machine<Event = E>>(feeder: &mut Feeder<M>, front: &[u8]) {
-    let mut rest = front;
-    for _ in 0..front.len() {
+fn take_prefix<E: Drop, M: Machine<Event = E>>(feeder: &mut Feeder<M>, prefix: &[u8]) {
+    let mut rest = prefix;
+    for _ in 0..prefix.len() {
         let Ok(fed) = feeder.feed(rest) else {
             return;
         };
@@ -211,8 +211,8 @@ fn feed_pieces<E: Shown + Drop, M: Machine<Event = E>>(
     shape: Shape,
     out: &mut Page,
 ) -> Result<(), Stop> {
-    let (front, rest) = text.split_at(cut.first.min(text.len()));
-    feed_piece(feeder, front, shape, out)?;
+    let (prefix, rest) = text.split_at(cut.first.min(text.len()));
+    feed_piece(feeder, prefix, shape, out)?;
     for piece in rest.chunks(cut.size.max(1)) {
         feed_piece(feeder, piece, shape, out)?;
     }
@@ -258,7 +258,7 @@ pub(crate) fn show_one<E: Shown, S: Sink>(
 /// Writes the positions of a first byte and of the byte after a last one, each with its offset.
 fn write_span<S: Sink>(first: Place, past: Place, out: &mut S) -> Result<(), Failed> {
     write_place(first, out)?;
-    tell_count(first.offset, b" to ", out)?;
+    report_count(first.offset, b" to ", out)?;
     write_place(past, out)?;
-    tell_count(past.offset, b": ", out)
+    report_count(past.offset, b": ", out)
 }

@@ -2,7 +2,7 @@
 
 use crate::broken::Broken;
 use crate::name::lines_of;
-use crate::page::{Done, Page, answered, page, tell_count, tell_either};
+use crate::page::{Done, Page, answered, page, report_count, report_either};
 use clap::error::ErrorKind;
 use pb_text::write_bytes;
 use pb_tool::{Job, WordsFault, read_words};
@@ -12,25 +12,25 @@ use std::alloc::Global;
 /// the error and the exit status. With `shows=` it also reports whether the error's text has the given word.
 pub(crate) fn run_words(alloc: Global, line: &str, text: &[u8]) -> Result<Done, Broken> {
     let words: Vec<&str> = lines_of(text)?.lines().collect(alloc)?;
-    let mut told = page(alloc);
+    let mut reported = page(alloc);
     match read_words(alloc, words.as_slice()) {
-        Ok(job) => tell_job(&job, &mut told)?,
-        Err(WordsFault::Words(error)) => tell_error(alloc, &error, line, &mut told)?,
+        Ok(job) => report_job(&job, &mut reported)?,
+        Err(WordsFault::Words(error)) => report_error(alloc, &error, line, &mut reported)?,
         Err(WordsFault::Memory) => return Err(Broken::Memory),
     }
-    Ok(answered(alloc, told))
+    Ok(answered(alloc, reported))
 }
 
-fn tell_job(job: &Job, told: &mut Page) -> Result<(), Broken> {
+fn report_job(job: &Job, reported: &mut Page) -> Result<(), Broken> {
     match job {
         Job::Show {
             file,
             longest,
             bits,
         } => {
-            write_bytes(b"show", told)?;
-            tell_name(b" file=", file, told)?;
-            tell_numbers(*longest, *bits, told)
+            write_bytes(b"show", reported)?;
+            report_name(b" file=", file, reported)?;
+            report_numbers(*longest, *bits, reported)
         }
         Job::Tidy {
             normal,
@@ -38,9 +38,9 @@ fn tell_job(job: &Job, told: &mut Page) -> Result<(), Broken> {
             longest,
             bits,
         } => {
-            tell_either(*normal, b"tidy normal", b"tidy", told)?;
-            tell_name(b" file=", file, told)?;
-            tell_numbers(*longest, *bits, told)
+            report_either(*normal, b"tidy normal", b"tidy", reported)?;
+            report_name(b" file=", file, reported)?;
+            report_numbers(*longest, *bits, reported)
         }
         Job::Check {
             instance,
@@ -50,10 +50,10 @@ fn tell_job(job: &Job, told: &mut Page) -> Result<(), Broken> {
             longest,
             bits,
         } => {
-            tell_files(b"check instance=", instance.as_str(), proof, told)?;
-            tell_either(*stats, b" stats", b"", told)?;
-            tell_either(*progress, b" progress", b"", told)?;
-            tell_numbers(*longest, *bits, told)
+            report_files(b"check instance=", instance.as_str(), proof, reported)?;
+            report_either(*stats, b" stats", b"", reported)?;
+            report_either(*progress, b" progress", b"", reported)?;
+            report_numbers(*longest, *bits, reported)
         }
         Job::Trace {
             instance,
@@ -61,58 +61,63 @@ fn tell_job(job: &Job, told: &mut Page) -> Result<(), Broken> {
             longest,
             bits,
         } => {
-            tell_files(b"trace instance=", instance.as_str(), proof, told)?;
-            tell_numbers(*longest, *bits, told)
+            report_files(b"trace instance=", instance.as_str(), proof, reported)?;
+            report_numbers(*longest, *bits, reported)
         }
     }
 }
 
 /// Reports the names of an instance, after a label, and of a proof.
-fn tell_files(
+fn report_files(
     label: &[u8],
     instance: &str,
     proof: &Option<String>,
-    told: &mut Page,
+    reported: &mut Page,
 ) -> Result<(), Broken> {
-    write_bytes(label, told)?;
-    write_bytes(instance.as_bytes(), told)?;
-    tell_name(b" proof=", proof, told)
+    write_bytes(label, reported)?;
+    write_bytes(instance.as_bytes(), reported)?;
+    report_name(b" proof=", proof, reported)
 }
 
 /// Reports the name of a file after a label, if there is a name.
-fn tell_name(label: &[u8], name: &Option<String>, told: &mut Page) -> Result<(), Broken> {
+fn report_name(label: &[u8], name: &Option<String>, reported: &mut Page) -> Result<(), Broken> {
     if let Some(name) = name {
-        write_bytes(label, told)?;
-        write_bytes(name.as_bytes(), told)?;
+        write_bytes(label, reported)?;
+        write_bytes(name.as_bytes(), reported)?;
     }
     Ok(())
 }
 
 /// Reports the numbers of a job.
-fn tell_numbers(longest: Option<u64>, bits: u32, told: &mut Page) -> Result<(), Broken> {
+fn report_numbers(longest: Option<u64>, bits: u32, reported: &mut Page) -> Result<(), Broken> {
     if let Some(longest) = longest {
-        write_bytes(b" longest=", told)?;
-        tell_count(longest, b"", told)?;
+        write_bytes(b" longest=", reported)?;
+        report_count(longest, b"", reported)?;
     }
-    write_bytes(b" bits=", told)?;
-    tell_count(bits as u64, b"\n", told)?;
+    write_bytes(b" bits=", reported)?;
+    report_count(bits as u64, b"\n", reported)?;
     Ok(())
 }
 
-fn tell_error(
+fn report_error(
     alloc: Global,
     error: &clap::Error,
     line: &str,
-    told: &mut Page,
+    reported: &mut Page,
 ) -> Result<(), Broken> {
-    write_bytes(kind_text(error.kind()), told)?;
-    tell_either(error.exit_code() == 0, b"status 0\n", b"status 2\n", told)?;
+    write_bytes(kind_text(error.kind()), reported)?;
+    report_either(
+        error.exit_code() == 0,
+        b"status 0\n",
+        b"status 2\n",
+        reported,
+    )?;
     let Some((_, word)) = line.split_once("shows=") else {
         return Ok(());
     };
     let text = error.to_string(alloc)?;
     let is_shown = text.as_str().contains(word);
-    tell_either(is_shown, b"shown\n", b"not shown\n", told)?;
+    report_either(is_shown, b"shown\n", b"not shown\n", reported)?;
     Ok(())
 }
 

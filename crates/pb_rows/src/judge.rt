@@ -3,7 +3,7 @@
 use crate::broken::Broken;
 use crate::call::{Call, Grammar};
 use crate::name::lines_of;
-use crate::page::{Done, Page, answered, page, tell_either};
+use crate::page::{Done, Page, answered, page, report_either};
 use crate::value::{instance_of, proof_of, statement_of};
 use pb_opb::instance_is_value;
 use pb_proof::{proof_is_value, statement_is_value};
@@ -16,48 +16,53 @@ use std::alloc::Global;
 pub(crate) fn run_judge(alloc: Global, call: &Call, text: &[u8]) -> Result<Done, Broken> {
     let limits = call.limits()?;
     let lines = lines_of(text)?;
-    let mut told = page(alloc);
+    let mut reported = page(alloc);
     match call.grammar {
         Grammar::Opb => {
             let instance = instance_of(alloc, lines)?;
-            tell(instance_is_value(&instance, limits), &mut told)?;
+            report(instance_is_value(&instance, limits), &mut reported)?;
         }
         Grammar::Proof => {
             let proof = proof_of(alloc, lines)?;
-            tell(proof_is_value(&proof, limits), &mut told)?;
+            report(proof_is_value(&proof, limits), &mut reported)?;
         }
-        Grammar::Statement => judge_lines(alloc, lines, limits, &mut told)?,
+        Grammar::Statement => judge_lines(alloc, lines, limits, &mut reported)?,
         _ => return Err(Broken::Word),
     }
-    Ok(answered(alloc, told))
+    Ok(answered(alloc, reported))
 }
 
-fn judge_lines(alloc: Global, lines: &str, limits: Limits, told: &mut Page) -> Result<(), Broken> {
+fn judge_lines(
+    alloc: Global,
+    lines: &str,
+    limits: Limits,
+    reported: &mut Page,
+) -> Result<(), Broken> {
     for line in lines.lines() {
         let statement = statement_of(alloc, line)?;
-        tell(statement_is_value(&statement, limits), told)?;
+        report(statement_is_value(&statement, limits), reported)?;
     }
     Ok(())
 }
 
-fn tell(is_value: bool, told: &mut Page) -> Result<(), Broken> {
-    tell_either(is_value, b"value\n", b"no value\n", told)?;
+fn report(is_value: bool, reported: &mut Page) -> Result<(), Broken> {
+    report_either(is_value, b"value\n", b"no value\n", reported)?;
     Ok(())
 }
 
 /// Reports the limits that a call names, or that they are not allowed.
 pub(crate) fn run_limits(alloc: Global, call: &Call) -> Result<Done, Broken> {
-    let mut told = page(alloc);
+    let mut reported = page(alloc);
     match Limits::new(call.bits, call.top) {
         Some(limits) => {
-            write_count(limits.bits() as u64, &mut told)?;
-            write_bytes(b" ", &mut told)?;
-            write_count(limits.top(), &mut told)?;
-            write_bytes(b" ", &mut told)?;
-            write_number(limits.largest() as i128, &mut told)?;
-            write_bytes(b"\n", &mut told)?;
+            write_count(limits.bits() as u64, &mut reported)?;
+            write_bytes(b" ", &mut reported)?;
+            write_count(limits.top(), &mut reported)?;
+            write_bytes(b" ", &mut reported)?;
+            write_number(limits.largest() as i128, &mut reported)?;
+            write_bytes(b"\n", &mut reported)?;
         }
-        None => write_bytes(b"none\n", &mut told)?,
+        None => write_bytes(b"none\n", &mut reported)?,
     }
-    Ok(answered(alloc, told))
+    Ok(answered(alloc, reported))
 }

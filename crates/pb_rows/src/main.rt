@@ -12,7 +12,6 @@ mod fault;
 mod feed;
 mod job;
 mod judge;
-mod looks;
 mod name;
 mod page;
 mod pull;
@@ -27,10 +26,11 @@ mod sweep;
 mod text;
 mod turns;
 mod value;
+mod visits;
 
 use crate::broken::Broken;
-use crate::looks::write_looks;
-use crate::rows::{Count, Told, run_rows, write_counts};
+use crate::rows::{Count, Reported, run_rows, write_counts};
+use crate::visits::write_visits;
 use pb_text::Over;
 use std::io::{self, Write};
 use std::process::ExitCode;
@@ -47,7 +47,7 @@ const FAILED: u8 = 3;
 const EACH: &str = "--each";
 
 /// The word that asks for the visits of a proof instead of rows. The files of an instance and of its proof follow it.
-const LOOKS: &str = "--looks";
+const VISITS: &str = "--visits";
 
 fn main(rt: HostRuntime) -> ExitCode {
     ExitCode::from(run(&rt, &mut rt.stderr()))
@@ -55,8 +55,8 @@ fn main(rt: HostRuntime) -> ExitCode {
 
 /// Runs the rows of all files and returns the exit status.
 fn run<R: Env + Files + Print + AllocGlobal, E: Write>(rt: &R, errors: &mut E) -> u8 {
-    if let Some((instance, proof)) = asks_for_looks(rt) {
-        return match tell_looks(rt, instance.as_str(), proof.as_str()) {
+    if let Some((instance, proof)) = visits_asked(rt) {
+        return match report_visits(rt, instance.as_str(), proof.as_str()) {
             Ok(()) => 0,
             Err(_) => FAILED,
         };
@@ -72,16 +72,16 @@ fn run<R: Env + Files + Print + AllocGlobal, E: Write>(rt: &R, errors: &mut E) -
 }
 
 /// The two files whose visits are asked for, if the first word asks for visits.
-fn asks_for_looks<R: Env + AllocGlobal>(rt: &R) -> Option<(String, String)> {
+fn visits_asked<R: Env + AllocGlobal>(rt: &R) -> Option<(String, String)> {
     let mut words = env::args(rt).ok()?.skip(1);
-    if words.next()?.as_str() != LOOKS {
+    if words.next()?.as_str() != VISITS {
         return None;
     }
     Some((words.next()?, words.next()?))
 }
 
 /// Reports the visits of a proof. Both files are given by name.
-fn tell_looks<R: Files + Print + AllocGlobal>(
+fn report_visits<R: Files + Print + AllocGlobal>(
     rt: &R,
     instance: &str,
     proof: &str,
@@ -93,7 +93,7 @@ fn tell_looks<R: Files + Print + AllocGlobal>(
         return Err(Broken::File);
     };
     let mut out = Over::new(io::writer(rt));
-    write_looks(rt.alloc(), instance.as_slice(), proof.as_slice(), &mut out)
+    write_visits(rt.alloc(), instance.as_slice(), proof.as_slice(), &mut out)
 }
 
 /// Runs the rows of the files that the words name.
@@ -102,12 +102,12 @@ fn run_files<R: Env + Files + AllocGlobal, E: Write>(
     errors: &mut E,
 ) -> Result<Count, Broken> {
     let mut count = Count { rows: 0, differ: 0 };
-    let mut told = Told::Differing;
+    let mut reported = Reported::Differing;
     let Ok(words) = env::args(rt) else {
         return Err(Broken::Memory);
     };
     for word in words.skip(1) {
-        run_word(rt, word.as_str(), &mut told, &mut count, errors)?;
+        run_word(rt, word.as_str(), &mut reported, &mut count, errors)?;
     }
     Ok(count)
 }
@@ -116,21 +116,21 @@ fn run_files<R: Env + Files + AllocGlobal, E: Write>(
 fn run_word<R: Files + AllocGlobal, E: Write>(
     rt: &R,
     word: &str,
-    told: &mut Told,
+    reported: &mut Reported,
     count: &mut Count,
     errors: &mut E,
 ) -> Result<(), Broken> {
     if word == EACH {
-        *told = Told::Each;
+        *reported = Reported::Each;
         return Ok(());
     }
-    run_file(rt, word, *told, count, errors)
+    run_file(rt, word, *reported, count, errors)
 }
 
 fn run_file<R: Files + AllocGlobal, E: Write>(
     rt: &R,
     name: &str,
-    told: Told,
+    reported: Reported,
     count: &mut Count,
     errors: &mut E,
 ) -> Result<(), Broken> {
@@ -138,6 +138,6 @@ fn run_file<R: Files + AllocGlobal, E: Write>(
         return Err(Broken::File);
     };
     let mut out = Over::new(errors);
-    run_rows(rt.alloc(), name, text.as_str(), told, count, &mut out)?;
+    run_rows(rt.alloc(), name, text.as_str(), reported, count, &mut out)?;
     Ok(())
 }

@@ -39,26 +39,26 @@ pub(crate) fn is_same(found: &Done, wanted: &Done) -> bool {
 }
 
 /// Writes the line of an end: `ok`, or the line of the stop.
-pub(crate) fn tell_end<S: Sink>(end: Result<(), Stop>, out: &mut S) -> Result<(), Failed> {
+pub(crate) fn report_end<S: Sink>(end: Result<(), Stop>, out: &mut S) -> Result<(), Failed> {
     match end {
         Ok(()) => write_bytes(b"ok\n", out),
-        Err(stop) => tell_stop(stop, out),
+        Err(stop) => report_stop(stop, out),
     }
 }
 
-fn tell_stop<S: Sink>(stop: Stop, out: &mut S) -> Result<(), Failed> {
+fn report_stop<S: Sink>(stop: Stop, out: &mut S) -> Result<(), Failed> {
     let input = Input::File;
     write_fault(&ToolFault::Text { input, stop }, out)
 }
 
 /// Writes a count and a word after it.
-pub(crate) fn tell_count<S: Sink>(count: u64, word: &[u8], out: &mut S) -> Result<(), Failed> {
+pub(crate) fn report_count<S: Sink>(count: u64, word: &[u8], out: &mut S) -> Result<(), Failed> {
     write_count(count, out)?;
     write_bytes(word, out)
 }
 
 /// Writes one of two lines.
-pub(crate) fn tell_either<S: Sink>(
+pub(crate) fn report_either<S: Sink>(
     is_so: bool,
     so: &[u8],
     not_so: &[u8],

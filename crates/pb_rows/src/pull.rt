@@ -5,7 +5,7 @@ ghost use Rattle.std.specs.Prelude.{false, ◌≡◌};
 use crate::broken::Broken;
 use crate::call::{Call, Grammar};
 use crate::feed::{Shape, Shown, show_one};
-use crate::page::{Done, Page, finished, page, tell_count, tell_either, tell_end};
+use crate::page::{Done, Page, finished, page, report_count, report_either, report_end};
 use crate::turns::reader_of;
 use pb_opb::OpbMachine;
 use pb_proof::ProofMachine;
@@ -36,7 +36,7 @@ fn pull_all<E: Shown + Drop, M: Machine<Event = E> + Drop>(
     let mut source = Over::new(reader);
     let mut feeder = Feeder::within(machine, call.most());
     let mut out = page(alloc);
-    let mut told = page(alloc);
+    let mut reported = page(alloc);
     let end = pull_events(
         &mut source,
         &mut feeder,
@@ -44,17 +44,17 @@ fn pull_all<E: Shown + Drop, M: Machine<Event = E> + Drop>(
         Shape::of(call),
         &mut out,
     );
-    tell_end(end, &mut told)?;
+    report_end(end, &mut reported)?;
     let again = pull(&mut source, &mut feeder);
-    tell_either(
+    report_either(
         is_same(end, again),
         b"the same again\n",
         b"not the same again\n",
-        &mut told,
+        &mut reported,
     )?;
     let left = source.into_inner().left.len();
-    tell_count(left as u64, b" left\n", &mut told)?;
-    Ok(finished(out, told))
+    report_count(left as u64, b" left\n", &mut reported)?;
+    Ok(finished(out, reported))
 }
 
 /// Pulls events, which are at most as many as there are bytes.

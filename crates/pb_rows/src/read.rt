@@ -2,7 +2,7 @@
 
 use crate::broken::Broken;
 use crate::call::{Call, Grammar};
-use crate::page::{Done, Page, finished, page, tell_count, tell_end};
+use crate::page::{Done, Page, finished, page, report_count, report_end};
 use pb_opb::{instance_is_value, read_instance, read_instance_within, write_instance};
 use pb_proof::{proof_is_value, read_proof, read_proof_within, write_proof};
 use pb_text::{Failed, Limits, Over, Place, Sink, Stop, write_bytes};
@@ -26,9 +26,9 @@ pub(crate) fn run_read(alloc: Global, call: &Call, text: &[u8]) -> Result<Done, 
         Grammar::Proof => read_veri(alloc, text, call.longest, limits, &mut out),
         _ => return Err(Broken::Word),
     };
-    let mut told = page(alloc);
-    tell(left, &mut told)?;
-    Ok(finished(out, told))
+    let mut reported = page(alloc);
+    report(left, &mut reported)?;
+    Ok(finished(out, reported))
 }
 
 fn read_opb(
@@ -96,11 +96,11 @@ fn refused(stop: Stop, left: usize) -> Left {
     }
 }
 
-fn tell<S: Sink>(left: Left, out: &mut S) -> Result<(), Failed> {
-    tell_end(left.end, out)?;
+fn report<S: Sink>(left: Left, out: &mut S) -> Result<(), Failed> {
+    report_end(left.end, out)?;
     if !left.is_value {
         write_bytes(b"no value\n", out)?;
     }
-    tell_count(left.past.offset, b" bytes, ", out)?;
-    tell_count(left.left as u64, b" left\n", out)
+    report_count(left.past.offset, b" bytes, ", out)?;
+    report_count(left.left as u64, b" left\n", out)
 }

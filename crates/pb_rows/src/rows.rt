@@ -34,7 +34,7 @@ pub struct Count {
 
 /// For which rows a line is written.
 #[derive(Clone, Copy)]
-pub enum Told {
+pub enum Reported {
     /// For those that differ.
     Differing,
     /// For each row, before it is run, and for those that differ.
@@ -54,7 +54,7 @@ pub(crate) fn run_rows<S: Sink>(
     alloc: Global,
     name: &str,
     text: &str,
-    told: Told,
+    reported: Reported,
     count: &mut Count,
     out: &mut S,
 ) -> Result<(), Failed> {
@@ -65,11 +65,11 @@ pub(crate) fn run_rows<S: Sink>(
         if is_kept(&mut row, line) {
             continue;
         }
-        end_row(alloc, &row, told, count, out)?;
+        end_row(alloc, &row, reported, count, out)?;
         let begun = row.begin_line(number, line);
         row.note(begun);
     }
-    end_row(alloc, &row, told, count, out)
+    end_row(alloc, &row, reported, count, out)
 }
 
 /// Adds a line to a row, unless the line begins a row.
@@ -94,7 +94,7 @@ fn is_kept(row: &mut Row<'_>, line: &str) -> bool {
 fn end_row<S: Sink>(
     alloc: Global,
     row: &Row<'_>,
-    told: Told,
+    reported: Reported,
     count: &mut Count,
     out: &mut S,
 ) -> Result<(), Failed> {
@@ -102,7 +102,7 @@ fn end_row<S: Sink>(
         return Ok(());
     }
     count.rows = count.rows.saturating_add(1);
-    if let Told::Each = told {
+    if let Reported::Each = reported {
         write_row(row, out)?;
         write_bytes(b"\n", out)?;
     }
@@ -166,7 +166,7 @@ fn run_call(alloc: Global, call: &Call, row: &Row<'_>) -> Result<Done, Broken> {
         Verb::Feed | Verb::Stop => run_feed(alloc, call, text, &row.wanted),
         Verb::Read => run_read(alloc, call, text),
         Verb::Pull => run_pull(alloc, call, text),
-        Verb::Fronts | Verb::Zeros => run_sweep(alloc, call, text),
+        Verb::Prefixes | Verb::Zeros => run_sweep(alloc, call, text),
         Verb::Judge => run_judge(alloc, call, text),
         Verb::Forms => run_forms(alloc, call, row.call, text),
         Verb::Names => run_names(alloc, text),

@@ -7,7 +7,7 @@ use itoa::Buffer;
 pub(crate) fn add_line(bytes: &mut Vec<u8>, line: &str) -> Result<(), Broken> {
     let line = line.strip_prefix(' ').unwrap_or(line);
     match line.strip_suffix('\\') {
-        Some(front) => add_text(bytes, front),
+        Some(prefix) => add_text(bytes, prefix),
         None => {
             add_text(bytes, line)?;
             bytes.push(b'\n')?;
@@ -19,15 +19,15 @@ pub(crate) fn add_line(bytes: &mut Vec<u8>, line: &str) -> Result<(), Broken> {
 /// Adds the bytes of a text: the part between `\[COUNT:` and `\]` is added COUNT times.
 pub(crate) fn add_text(bytes: &mut Vec<u8>, text: &str) -> Result<(), Broken> {
     let mut parts = text.split("\\[");
-    if let Some(front) = parts.next() {
-        add_turn(bytes, front, 0)?;
+    if let Some(prefix) = parts.next() {
+        add_turn(bytes, prefix, 0)?;
     }
     for part in parts {
-        let Some((group, behind)) = part.split_once("\\]") else {
+        let Some((group, after)) = part.split_once("\\]") else {
             return Err(Broken::Escape);
         };
         add_group(bytes, group)?;
-        add_turn(bytes, behind, 0)?;
+        add_turn(bytes, after, 0)?;
     }
     Ok(())
 }

@@ -2,11 +2,11 @@
 
 use crate::broken::Broken;
 use crate::call::Call;
-use crate::check::{inputs_of, opened, tell_verdict};
-use crate::command::tell_fault;
+use crate::check::{inputs_of, replay_for, report_verdict};
+use crate::command::report_fault;
 use crate::constraint::{Named, write_form};
 use crate::name::lines_of;
-use crate::page::{Done, Page, answered, finished, page, tell_count, tell_either};
+use crate::page::{Done, Page, answered, finished, page, report_count, report_either};
 use pb_proof::{ProofMachine, Statement, statement_is_value};
 use pb_replay::{Fault, Replay};
 use pb_sums::write_count;
@@ -33,26 +33,26 @@ impl Named for Replay {
 
 /// Steps a replay over the instance through the statements of a proof, whose header is not in the row. With `alone`
 /// each line is read by itself. Writes the constraints that are live at the end, each after its id. Reports the verdict
-/// if there is one, or the first fault. With `looks-least` and `looks-most` it reports whether the visits of the last
+/// if there is one, or the first fault. With `visits-least` and `visits-most` it reports whether the visits of the last
 /// `rup` are in that range.
 pub(crate) fn run_steps(alloc: Global, call: &Call, text: &[u8]) -> Result<Done, Broken> {
     let (instance, lines) = inputs_of(text)?;
-    let mut told = page(alloc);
-    let Ok(mut replay) = opened(alloc, call, instance)? else {
-        write_bytes(b"no replay\n", &mut told)?;
-        return Ok(answered(alloc, told));
+    let mut reported = page(alloc);
+    let Ok(mut replay) = replay_for(alloc, call, instance)? else {
+        write_bytes(b"no replay\n", &mut reported)?;
+        return Ok(answered(alloc, reported));
     };
     let mut out = page(alloc);
     let statements = statements_of(alloc, call, lines)?;
     match step_all(&mut replay, statements.as_slice())? {
         Ok(()) => {
             write_live(&replay, &mut out)?;
-            tell_state(&replay, &mut told)?;
+            report_state(&replay, &mut reported)?;
         }
-        Err((place, fault)) => tell_refusal(alloc, &mut replay, place, fault, &mut told)?,
+        Err((place, fault)) => report_refusal(alloc, &mut replay, place, fault, &mut reported)?,
     }
-    tell_looks(call, replay.visits(), &mut told)?;
-    Ok(finished(out, told))
+    report_visit_range(call, replay.visits(), &mut reported)?;
+    Ok(finished(out, reported))
 }
 
 /// The statements of the lines of a row.
@@ -64,20 +64,20 @@ fn statements_of(
     if call.is_alone {
         each_alone(alloc, call, lines_of(lines)?)
     } else {
-        read_behind(alloc, call, HEADER, lines)
+        read_after(alloc, call, HEADER, lines)
     }
 }
 
 /// The statements of a proof that begins with a prefix and continues with lines.
-fn read_behind(
+fn read_after(
     alloc: Global,
     call: &Call,
-    front: &[u8],
+    prefix: &[u8],
     lines: &[u8],
 ) -> Result<Vec<Spanned<Statement>>, Broken> {
     let mut feeder = Feeder::new(ProofMachine::new(alloc, call.limits()?));
     let mut text = Vec::new(alloc);
-    text.extend_from_slice(front)?;
+    text.extend_from_slice(prefix)?;
     text.extend_from_slice(lines)?;
     let mut statements = Vec::new(alloc);
     let mut rest = text.as_slice();
@@ -109,10 +109,10 @@ fn each_alone(alloc: Global, call: &Call, lines: &str) -> Result<Vec<Spanned<Sta
 
 /// The statement of a line, read after the least that a proof has before it.
 fn alone(alloc: Global, call: &Call, line: &str) -> Result<Spanned<Statement>, Broken> {
-    let front = front_of(line);
+    let prefix = prefix_for(line);
     let text = ended(alloc, line)?;
-    let statements = read_behind(alloc, call, front, text.as_slice())?;
-    last_of(statements, front.len() as u64)
+    let statements = read_after(alloc, call, prefix, text.as_slice())?;
+    last_of(statements, prefix.len() as u64)
 }
 
 /// A line with its line feed.
@@ -126,16 +126,16 @@ fn ended(alloc: Global, line: &str) -> Result<Vec<u8>, Broken> {
 /// The last of the statements, which must begin after the bytes of a prefix.
 fn last_of(
     mut statements: Vec<Spanned<Statement>>,
-    front: u64,
+    prefix: u64,
 ) -> Result<Spanned<Statement>, Broken> {
     match statements.pop() {
-        Some(read) if read.first.offset >= front => Ok(read),
+        Some(read) if read.first.offset >= prefix => Ok(read),
         _ => Err(Broken::Value),
     }
 }
 
 /// The least that a proof has before a statement with the first word of the line.
-fn front_of(line: &str) -> &'static [u8] {
+fn prefix_for(line: &str) -> &'static [u8] {
     match line.split_whitespace().next() {
         Some("pseudo-Boolean") => b"",
         Some("f") => HEADER,
@@ -181,26 +181,26 @@ fn write_live(replay: &Replay, out: &mut Page) -> Result<(), Broken> {
     Ok(())
 }
 
-fn tell_state(replay: &Replay, told: &mut Page) -> Result<(), Broken> {
+fn report_state(replay: &Replay, reported: &mut Page) -> Result<(), Broken> {
     match replay.verdict() {
-        Some(verdict) => tell_verdict(verdict, told)?,
-        None => write_bytes(b"ok\n", told)?,
+        Some(verdict) => report_verdict(verdict, reported)?,
+        None => write_bytes(b"ok\n", reported)?,
     }
     Ok(())
 }
 
 /// Reports a fault. The replay must return it again and show no verdict.
-fn tell_refusal(
+fn report_refusal(
     alloc: Global,
     replay: &mut Replay,
     place: Place,
     fault: Fault,
-    told: &mut Page,
+    reported: &mut Page,
 ) -> Result<(), Broken> {
     let name = unvalued(alloc, replay, fault)?;
-    tell_fault(&ToolFault::Step { place, fault, name }, told)?;
+    report_fault(&ToolFault::Step { place, fault, name }, reported)?;
     if replay.step(&Statement::End) != Err(fault) || replay.verdict().is_some() {
-        write_bytes(b"not again\n", told)?;
+        write_bytes(b"not again\n", reported)?;
     }
     Ok(())
 }
@@ -215,12 +215,12 @@ fn unvalued(alloc: Global, replay: &Replay, fault: Fault) -> Result<String, Brok
     Ok(String::new(alloc))
 }
 
-fn tell_looks(call: &Call, looks: u64, told: &mut Page) -> Result<(), Broken> {
-    if let Some(least) = call.looks_least {
-        let is_within = least <= looks && looks <= call.looks_most;
-        tell_either(is_within, b"looks within\n", b"looks outside: ", told)?;
+fn report_visit_range(call: &Call, visits: u64, reported: &mut Page) -> Result<(), Broken> {
+    if let Some(least) = call.visits_least {
+        let is_within = least <= visits && visits <= call.visits_most;
+        report_either(is_within, b"visits within\n", b"visits outside: ", reported)?;
         if !is_within {
-            tell_count(looks, b"\n", told)?;
+            report_count(visits, b"\n", reported)?;
         }
     }
     Ok(())

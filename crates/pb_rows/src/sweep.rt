@@ -3,7 +3,7 @@
 use crate::broken::Broken;
 use crate::call::{Call, Verb};
 use crate::feed::{Cut, End, feed_all};
-use crate::page::{Done, answered, page, tell_count, tell_end};
+use crate::page::{Done, answered, page, report_count, report_end};
 use pb_text::Why;
 use std::alloc::Global;
 
@@ -13,17 +13,17 @@ pub(crate) fn run_sweep(alloc: Global, call: &Call, text: &[u8]) -> Result<Done,
     for at in 0..text.len() {
         let end = feed_changed(alloc, call, text, at)?;
         if !stops_at(end, at as u64, why_of(call)) {
-            return tell_odd(alloc, at as u64, end);
+            return report_odd(alloc, at as u64, end);
         }
     }
-    let mut told = page(alloc);
-    tell_end(Ok(()), &mut told)?;
-    Ok(answered(alloc, told))
+    let mut reported = page(alloc);
+    report_end(Ok(()), &mut reported)?;
+    Ok(answered(alloc, reported))
 }
 
 fn why_of(call: &Call) -> Why {
     match call.verb {
-        Verb::Fronts => Why::Ended,
+        Verb::Prefixes => Why::Ended,
         _ => Why::Byte(0),
     }
 }
@@ -48,9 +48,9 @@ fn stops_at(end: End, at: u64, why: Why) -> bool {
     }
 }
 
-fn tell_odd(alloc: Global, at: u64, end: End) -> Result<Done, Broken> {
-    let mut told = page(alloc);
-    tell_count(at, b": ", &mut told)?;
-    tell_end(end.end, &mut told)?;
-    Ok(answered(alloc, told))
+fn report_odd(alloc: Global, at: u64, end: End) -> Result<Done, Broken> {
+    let mut reported = page(alloc);
+    report_count(at, b": ", &mut reported)?;
+    report_end(end.end, &mut reported)?;
+    Ok(answered(alloc, reported))
 }

@@ -2,7 +2,7 @@
 
 use crate::broken::Broken;
 use crate::call::Call;
-use crate::page::{Done, page, tell_count, tell_either};
+use crate::page::{Done, page, report_count, report_either};
 use crate::turns::writer_of;
 use pb_text::{Over, write_bytes};
 use std::alloc::Global;
@@ -12,11 +12,11 @@ pub(crate) fn run_write(alloc: Global, call: &Call, text: &[u8]) -> Result<Done,
     let mut out = Over::new(writer_of(alloc, call));
     let is_written = write_bytes(text, &mut out).is_ok();
     let writer = out.into_inner();
-    let mut told = page(alloc);
-    tell_either(is_written, b"ok\n", b"write fault\n", &mut told)?;
-    tell_count(writer.calls, b" calls\n", &mut told)?;
+    let mut reported = page(alloc);
+    report_either(is_written, b"ok\n", b"write fault\n", &mut reported)?;
+    report_count(writer.calls, b" calls\n", &mut reported)?;
     Ok(Done {
         written: writer.taken,
-        answer: told.into_inner().taken,
+        answer: reported.into_inner().taken,
     })
 }

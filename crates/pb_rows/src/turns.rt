@@ -4,7 +4,7 @@ use crate::broken::Broken;
 use crate::call::{Call, Each, Verb};
 use crate::check::run_check;
 use crate::command::run_command;
-use crate::page::{Done, Page, page, tell_count};
+use crate::page::{Done, Page, page, report_count};
 use pb_text::doubles::{FaultyReader, FaultyWriter};
 use pb_text::{Failed, Place, Sink, write_bytes};
 use std::alloc::Global;
@@ -28,7 +28,7 @@ impl Calls {
         let given = text.len().saturating_sub(reader.left.len());
         Calls {
             count: reader.calls,
-            place: behind(&text[..given.min(text.len())]),
+            place: place_after(&text[..given.min(text.len())]),
         }
     }
 
@@ -42,7 +42,7 @@ impl Calls {
 }
 
 /// The position after a text.
-fn behind(text: &[u8]) -> Place {
+fn place_after(text: &[u8]) -> Place {
     let mut place = Place::START;
     for byte in text {
         place.offset = place.offset.saturating_add(1);
@@ -112,7 +112,7 @@ fn run_each(alloc: Global, call: &Call, text: &[u8], wanted: &Done) -> Result<Do
             return Ok(run.done);
         }
         if !is_fault(alloc, call, &run, wanted)? {
-            return tell_turn(alloc, run.done, number);
+            return report_turn(alloc, run.done, number);
         }
     }
     Err(Broken::Calls)
@@ -140,26 +140,26 @@ fn failing(call: &Call, number: u64) -> Call {
 /// Whether it is the fault at its position, after a prefix of the expected output. If a read fails, only `show` may
 /// have written.
 fn is_fault(alloc: Global, call: &Call, run: &Run, wanted: &Done) -> Result<bool, Broken> {
-    let mut told = page(alloc);
-    tell_failed(call, run.calls.place, &mut told)?;
-    let fault = told.into_inner().taken;
+    let mut reported = page(alloc);
+    report_failed(call, run.calls.place, &mut reported)?;
+    let fault = reported.into_inner().taken;
     let written = run.done.written.as_slice();
-    let is_front = match (call.each, call.verb) {
+    let is_prefix = match (call.each, call.verb) {
         (Each::Write, _) | (_, Verb::Show) => wanted.written.as_slice().starts_with(written),
         _ => written.is_empty(),
     };
-    Ok(is_front && run.done.answer.as_slice() == fault.as_slice())
+    Ok(is_prefix && run.done.answer.as_slice() == fault.as_slice())
 }
 
 /// Writes the line and the status of the fault of a read or a write that fails.
-fn tell_failed<S: Sink>(call: &Call, place: Place, out: &mut S) -> Result<(), Failed> {
+fn report_failed<S: Sink>(call: &Call, place: Place, out: &mut S) -> Result<(), Failed> {
     if let Each::Write = call.each {
         return write_bytes(UNWRITTEN, out);
     }
     write_bytes(input_of(call), out)?;
     write_bytes(b": line ", out)?;
-    tell_count(place.line, b" column ", out)?;
-    tell_count(place.column, b": read fault\nstatus 3\n", out)
+    report_count(place.line, b" column ", out)?;
+    report_count(place.column, b": read fault\nstatus 3\n", out)
 }
 
 /// The name of the input whose reads fail.
@@ -172,13 +172,13 @@ fn input_of(call: &Call) -> &'static [u8] {
 }
 
 /// The unexpected result of a run, and which call failed in it.
-fn tell_turn(alloc: Global, done: Done, number: u64) -> Result<Done, Broken> {
-    let mut told = page(alloc);
-    write_bytes(done.answer.as_slice(), &mut told)?;
-    write_bytes(b"where this call fails: ", &mut told)?;
-    tell_count(number, b"\n", &mut told)?;
+fn report_turn(alloc: Global, done: Done, number: u64) -> Result<Done, Broken> {
+    let mut reported = page(alloc);
+    write_bytes(done.answer.as_slice(), &mut reported)?;
+    write_bytes(b"where this call fails: ", &mut reported)?;
+    report_count(number, b"\n", &mut reported)?;
     Ok(Done {
         written: done.written,
-        answer: told.into_inner().taken,
+        answer: reported.into_inner().taken,
     })
 }

@@ -217,14 +217,14 @@ fn bytes_of(alloc: Global, digits: &str) -> Result<Bytes, Broken> {
     let mut bytes = Vec::new(alloc);
     let mut rest = digits;
     for _ in 0..digits.len() {
-        let Some((code, behind)) = rest.split_at_checked(2) else {
+        let Some((code, after)) = rest.split_at_checked(2) else {
             break;
         };
         match u8::from_str_radix(code, 16) {
             Ok(byte) => bytes.push(byte)?,
             Err(_) => return Err(Broken::Value),
         }
-        rest = behind;
+        rest = after;
     }
     Ok(Bytes::from_vec(bytes))
 }

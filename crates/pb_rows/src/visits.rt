@@ -11,14 +11,14 @@ use std::alloc::Global;
 
 /// The statements that a replay was stepped through, and the visits of all `rup`s among them.
 #[derive(Clone, Copy)]
-struct Looks {
+struct Visits {
     statements: u64,
-    looks: u64,
+    visits: u64,
 }
 
 /// Steps a replay of an instance through the statements of a proof, each of which it must accept. Writes the number of
 /// the statements, and the number of visits that their `rup`s took.
-pub(crate) fn write_looks<S: Sink>(
+pub(crate) fn write_visits<S: Sink>(
     alloc: Global,
     instance: &[u8],
     proof: &[u8],
@@ -27,26 +27,26 @@ pub(crate) fn write_looks<S: Sink>(
     let Ok(mut replay) = replay_of(alloc, instance, Limits::full())? else {
         return Err(Broken::Value);
     };
-    count_looks(alloc, &mut replay, proof)?.write(out)?;
+    count_visits(alloc, &mut replay, proof)?.write(out)?;
     Ok(())
 }
 
 /// Steps a replay through the statements of a proof.
-fn count_looks(alloc: Global, replay: &mut Replay, proof: &[u8]) -> Result<Looks, Broken> {
+fn count_visits(alloc: Global, replay: &mut Replay, proof: &[u8]) -> Result<Visits, Broken> {
     let mut feeder = Feeder::new(ProofMachine::new(alloc, replay.limits()));
-    let mut looks = Looks {
+    let mut visits = Visits {
         statements: 0,
-        looks: 0,
+        visits: 0,
     };
-    add_each(&mut feeder, replay, proof, &mut looks)?;
-    Ok(looks)
+    add_each(&mut feeder, replay, proof, &mut visits)?;
+    Ok(visits)
 }
 
 fn add_each(
     feeder: &mut Feeder<ProofMachine>,
     replay: &mut Replay,
     proof: &[u8],
-    looks: &mut Looks,
+    visits: &mut Visits,
 ) -> Result<(), Broken> {
     let mut rest = proof;
     for _ in 0..proof.len() {
@@ -55,19 +55,19 @@ fn add_each(
         };
         rest = &rest[fed.used.min(rest.len())..];
         match fed.event {
-            Some(read) => looks.add(replay, &read.event)?,
+            Some(read) => visits.add(replay, &read.event)?,
             None => return Ok(()),
         }
     }
     Ok(())
 }
 
-impl Looks {
+impl Visits {
     fn write<S: Sink>(self, out: &mut S) -> Result<(), Failed> {
         write_count(self.statements, out)?;
         write_bytes(b" statements, ", out)?;
-        write_count(self.looks, out)?;
-        write_bytes(b" looks\n", out)
+        write_count(self.visits, out)?;
+        write_bytes(b" visits\n", out)
     }
 
     /// Steps a replay through a statement, and adds its visits if it is a `rup`.
@@ -77,7 +77,7 @@ impl Looks {
         }
         self.statements = self.statements.saturating_add(1);
         if let Statement::Rup(_) = statement {
-            self.looks = self.looks.saturating_add(replay.visits());
+            self.visits = self.visits.saturating_add(replay.visits());
         }
         Ok(())
     }
