@@ -4,7 +4,7 @@ use Rattle.std.specs.Prelude.{unwrap_or}
 use Rattle.pb_text.specs.declared.Limits.{Limits}
 use Rattle.pb_c.specs.Answers.{Answers}
 use Rattle.pb_c.specs.Options.{IsAsked}
-use Rattle.pb_c.specs.Telling.{Puts}
+use Rattle.pb_c.specs.Buffer.{Puts}
 use Rattle.pb_c.specs.declared.options.Options.{Options}
 
 pub answers : (o : Options) (IsAnswer : Limits → ℕ → List ℕ → ℕ → Type 0) (old new : List ℕ) (whole : ℕ) (limits : Limits) (longest : Option ℕ) (text kept told : List ℕ) (status ended : ℕ)

@@ -1,3 +1,3 @@
 mod Answered
-mod Telling
+mod Buffer
 mod Unsat

@@ -19,7 +19,7 @@ use Rattle.pb_tool.specs.declared.fault.ToolFault.{ToolFault}
 use Rattle.pb_tool.specs.declared.fault.ToolFault.TheVariants.{Text, Open, Overflow, Memory, Write, Step}
 use Rattle.pb_c.specs.Answers.{AnswersCheck, IsTextOf, empty, faults, status_of, written}
 use Rattle.pb_c.specs.Options.{IsAsked}
-use Rattle.pb_c.specs.Telling.{Puts}
+use Rattle.pb_c.specs.Buffer.{Puts}
 use Rattle.pb_c.specs.Unsat.{ShowsTruth, ShowsUnsat}
 use Rattle.pb_c.specs.declared.options.Options.{Options}
 use Rattle.pb_c.specs.declared.page.Page.{Page}

@@ -7,7 +7,7 @@ use Rattle.pb_tool.specs.meaning.Files.{ShowsFile, TidiesFile}
 use Rattle.pb_tool.specs.meaning.Verified.{ChecksFiles}
 use Rattle.pb_tool.specs.declared.fault.ToolFault.{ToolFault}
 use Rattle.pb_c.specs.Options.{AreWrong, IsAsked}
-use Rattle.pb_c.specs.Telling.{IsFrontOf, Puts}
+use Rattle.pb_c.specs.Buffer.{IsPrefixOf, Puts}
 use Rattle.pb_c.specs.declared.options.Options.{Options}
 use Rattle.pb_c.specs.declared.page.Page.{Page}
 
@@ -29,12 +29,12 @@ status_of (Err e) = exit_status e
 -- what was written, or the line of the fault in its place
 abbrev pub IsTextOf : {V : Type 0} → Result V ToolFault → List ℕ → List ℕ → Type 0
 IsTextOf (Ok v) page text = text ≡ page
-IsTextOf (Err e) page text = IsFrontOf [] (fault_line e) text
+IsTextOf (Err e) page text = IsPrefixOf [] (fault_line e) text
 
 -- what was written, followed by the line of the fault if there is one
 abbrev pub IsWholeOf : {V : Type 0} → Result V ToolFault → List ℕ → List ℕ → Type 0
 IsWholeOf (Ok v) page text = text ≡ page
-IsWholeOf (Err e) page text = IsFrontOf page (fault_line e) text
+IsWholeOf (Err e) page text = IsPrefixOf page (fault_line e) text
 
 module _ (limits : Limits) (longest : ℕ) where
   -- `check` has this result for the two texts, and this is its line and its status.

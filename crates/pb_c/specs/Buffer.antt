@@ -7,5 +7,5 @@ abbrev pub Puts : List ℕ → List ℕ → List ℕ → ℕ → Type 0
 Puts text old new whole = (new ≡ take (length old) text ++ drop (length text) old) × (whole ≡ length text)
 
 -- after a text comes a prefix of the line, which is the whole line unless memory runs out
-abbrev pub IsFrontOf : List ℕ → List ℕ → List ℕ → Type 0
-IsFrontOf text line all = (front : List ℕ) × (rest : List ℕ) × (line ≡ front ++ rest) × (all ≡ text ++ front)
+abbrev pub IsPrefixOf : List ℕ → List ℕ → List ℕ → Type 0
+IsPrefixOf text line all = (begun : List ℕ) × (rest : List ℕ) × (line ≡ begun ++ rest) × (all ≡ text ++ begun)

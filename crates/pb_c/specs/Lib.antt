@@ -1,4 +1,4 @@
 pub mod Answers
 pub mod Options
-pub mod Telling
+pub mod Buffer
 pub mod Unsat

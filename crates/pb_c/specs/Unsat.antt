@@ -8,7 +8,7 @@ use Rattle.pb_tool.specs.meaning.Headline.{IsUnsatisfiable}
 use Rattle.pb_tool.specs.meaning.Tidy.{IsInstanceFile}
 use Rattle.pb_tool.specs.meaning.Verified.{verdict_line}
 use Rattle.pb_c.specs.Options.{IsAsked}
-use Rattle.pb_c.specs.Telling.{Puts}
+use Rattle.pb_c.specs.Buffer.{Puts}
 use Rattle.pb_c.specs.declared.options.Options.{Options}
 
 -- If the status is 0, the first text is an instance under the limits of the options. The room has the line of a verdict

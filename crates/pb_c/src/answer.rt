@@ -3,7 +3,7 @@
 ghost use Rattle.std.specs.Prelude.{◌≡◌, ◌<◌, ◌^◌, IfSome, unwrap_or};
 ghost use Rattle.pb_tool.specs.contract.Faults.{exit_status, fault_line};
 ghost use Rattle.pb_c.specs.Answers.{AnswerOfCheck, AnswerOfShow, AnswerOfTidy};
-ghost use Rattle.pb_c.specs.Telling.{IsFrontOf};
+ghost use Rattle.pb_c.specs.Buffer.{IsPrefixOf};
 
 use crate::options::Asked;
 use crate::page::{Page, Text};
@@ -47,7 +47,7 @@ pub(crate) fn checked(alloc: Global, instance: &[u8], proof: &[u8], asked: Asked
             text: page.into_text(),
             status: 0,
         },
-        Err(fault) => refused(Page::new(alloc), &fault),
+        Err(fault) => fault_answer(Page::new(alloc), &fault),
     }
 }
 
@@ -71,7 +71,7 @@ pub(crate) fn tidied(alloc: Global, text: &[u8], normal: bool, asked: Asked) -> 
             text: page.into_text(),
             status: 0,
         },
-        Err(fault) => refused(Page::new(alloc), &fault),
+        Err(fault) => fault_answer(Page::new(alloc), &fault),
     }
 }
 
@@ -87,14 +87,14 @@ pub(crate) fn shown(alloc: Global, text: &[u8], asked: Asked) -> Answer
             text: page.into_text(),
             status: 0,
         },
-        Err(fault) => refused(page, &fault),
+        Err(fault) => fault_answer(page, &fault),
     }
 }
 
 /// The text of a page, followed by the line of a fault, and the status of the fault. If memory runs out, a prefix of
 /// the line follows.
-fn refused(mut page: Page, fault: &ToolFault) -> Answer
-    ensures text { IsFrontOf page.text (fault_line fault.now) result.text }
+fn fault_answer(mut page: Page, fault: &ToolFault) -> Answer
+    ensures text { IsPrefixOf page.text (fault_line fault.now) result.text }
     ensures status { result.status ≡ exit_status fault.now }
 {
     let _ = write_fault(fault, &mut page);

@@ -1,6 +1,6 @@
 //! A text in the room that a caller provides for it.
 
-ghost use Rattle.pb_c.specs.Telling.{Puts};
+ghost use Rattle.pb_c.specs.Buffer.{Puts};
 
 /// Puts a text into the room, as much of it as fits, and returns the length of the whole text in bytes.
 pub(crate) fn put(text: &[u8], room: &mut [u8]) -> usize

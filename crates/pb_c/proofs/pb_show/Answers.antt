@@ -1,5 +1,5 @@
 use Rattle.pb_c.specs.Answers.{AnswerOfShow}
-use Rattle.pb_c.proofs.Telling.{answers}
+use Rattle.pb_c.proofs.Buffer.{answers}
 use Rattle.pb_c.proofs.pb_show.Goals as goal
 
 pub returns : goal.returns

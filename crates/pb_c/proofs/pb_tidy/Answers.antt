@@ -1,5 +1,5 @@
 use Rattle.pb_c.specs.Answers.{AnswerOfTidy}
-use Rattle.pb_c.proofs.Telling.{answers}
+use Rattle.pb_c.proofs.Buffer.{answers}
 use Rattle.pb_c.proofs.pb_tidy.Goals as goal
 
 pub returns : goal.returns

@@ -18,6 +18,6 @@ returns-in-Err c = record {
   left = _;
   page = c.show.new.out;
   shows = of_show c.args.asked.limits _ c.args.text.now _ c.new-page.result c.show.new.out (Err c.in-Err.fault) _ (whole c.new-input.result c.args.text c.new-input.ensures.inner c.new-input.ensures.shown) c.new-page.ensures c.in-Err.ensures.shows;
-  text_is = c.refused.ensures.text;
-  status_is = c.refused.ensures.status;
+  text_is = c.fault_answer.ensures.text;
+  status_is = c.fault_answer.ensures.status;
 }

@@ -18,6 +18,6 @@ returns-in-Err c = record {
   left = _;
   page = c.tidy_with_hasher.new.out;
   tidies = of_tidy c.args.asked.limits _ c.args.normal c.args.text.now _ c.new-page.result c.tidy_with_hasher.new.out (Err c.in-Err.fault) _ (whole c.new-input.result c.args.text c.new-input.ensures.inner c.new-input.ensures.shown) c.new-page.ensures c.in-Err.ensures.tidies;
-  text_is = rw c.new.ensures at c.refused.ensures.text;
-  status_is = c.refused.ensures.status;
+  text_is = rw c.new.ensures at c.fault_answer.ensures.text;
+  status_is = c.fault_answer.ensures.status;
 }
