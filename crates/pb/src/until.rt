@@ -29,8 +29,8 @@ impl<R: Read> Read for UntilEnd<R> {
     }
 }
 
-/// A writer that is not called again after its first error, whatever its kind, or once it has taken no byte. Every later
-/// call fails at once, so a buffer over it writes nothing more, even when it is dropped.
+/// A writer that is not called again after its first error, whatever its kind, or once it has taken no byte. Every
+/// later call fails at once, so a buffer over it writes nothing more, even when it is dropped.
 #[derive(Drop)]
 pub(crate) struct UntilFault<W> {
     inner: W,

@@ -48,7 +48,8 @@ impl<'a, R: Clock, E: Write> Watching<'a, R, E> {
         }
     }
 
-    /// Ends the line, and writes the counts if they are asked for. If standard error cannot be written, nothing reports it.
+    /// Ends the line, and writes the counts if they are asked for. If standard error cannot be written, nothing reports
+    /// it.
     pub(crate) fn end(&mut self) {
         if self.is_written && self.asked.is_terminal {
             let _ = self.errors.write_all(b"\n");

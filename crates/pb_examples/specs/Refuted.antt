@@ -6,6 +6,7 @@ use Rattle.pb_replay.specs.declared.verdict.Verdict.TheVariants.{Unsat}
 use Rattle.pb_tool.specs.meaning.Decided.{AreVerified}
 use Rattle.pb_tool.specs.meaning.Headline.{AreWidest}
 
--- Under the widest limits the answer is true if and only if the two texts are an instance and a proof of UNSAT that the rules accept.
+-- Under the widest limits the answer is true if and only if the two texts are an instance and a proof of UNSAT that the
+-- rules accept.
 abbrev pub IsAnswer : List ℕ → List ℕ → Bool → Type 0
 IsAnswer instance proof answer = (limits : Limits) × AreWidest limits × (IsTrue answer ↔ AreVerified limits byte_limit instance proof Unsat)

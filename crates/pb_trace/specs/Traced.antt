@@ -120,8 +120,8 @@ module _ {S : Type 0} (contents : S → Option (List ℕ)) (faults : S → ℕ) 
   Traces old line (Err (NoMemory Proof)) new = new ≡ old
   Traces old line (Err _) new = ⊥
 
-  -- What a call does to a trace. An accepted statement adds its line, and what is stored of the constraints is again what
-  -- the replay has. Once a line could not be written, nothing changes.
+  -- What a call does to a trace. An accepted statement adds its line, and what is stored of the constraints is again
+  -- what the replay has. Once a line could not be written, nothing changes.
   pub record ShowsLine (old : Tracing S) (read : Spanned Statement) (replay : Replaying) (new : Tracing S) : Type 0 where
     pub text : old.end ≡ Ok tt → Traces old.out (line_bytes old.stored read replay) new.end new.out
     pub stored : old.end ≡ Ok tt → new.end ≡ Ok tt → new.stored ≡ stored_after (extended old.stored replay.live) read.event

@@ -16,8 +16,8 @@ use std::alloc::Global;
 use std::marker::Model;
 
 /// Writes a line for each accepted statement: its position, its canonical text, and each constraint that it adds, as in
-/// `3:1 pol 1 2 + -> 3: >= 1 ;`. A line of `del id` has the deleted constraints, and one of `soli` the best value so far. If a
-/// statement is rejected, further lines say why, as far as the stored constraints do.
+/// `3:1 pol 1 2 + -> 3: >= 1 ;`. A line of `del id` has the deleted constraints, and one of `soli` the best value so
+/// far. If a statement is rejected, further lines say why, as far as the stored constraints do.
 #[derive(Drop)]
 pub struct Trace<S> {
     out: S,

@@ -50,7 +50,8 @@ exit_status (fault.Memory input) = 3
 exit_status fault.Write = 3
 exit_status (fault.Step place e name) = refusal_status e
 
--- how often a source has failed after a command with this result: once more for a read fault, and else as often as before
+-- how often a source has failed after a command with this result: once more for a read fault, and else as often as
+-- before
 abbrev pub faults_reported : Result Unit ToolFault → ℕ → ℕ
 faults_reported (Ok u) n = n
 faults_reported (Err (fault.Text input stop)) n = faults_with stop.why n

@@ -16,7 +16,8 @@ use Rattle.pb_tool.specs.declared.fault.ToolFault.{ToolFault}
 use Rattle.pb_tool.specs.declared.fault.ToolFault.TheVariants.{Text, Write}
 use Rattle.pb_tool.specs.declared.fault.Input.TheVariants.{File}
 
--- Not a fault of a text of this many bytes: the source failed, memory ran out, or the text is longer than the reader allows.
+-- Not a fault of a text of this many bytes: the source failed, memory ran out, or the text is longer than the reader
+-- allows.
 abbrev pub IsOutside : ℕ → Why → Type 0
 IsOutside size Read = Unit {0}
 IsOutside size Memory = Unit {0}

@@ -54,7 +54,8 @@ module _ (limits : Limits) (v : Problem) where
 -- The relation `got` says what a call does to a watch.
 module _ (limits : Limits) (longest : ℕ) {V : Type 0} (got : V → Call → V → Type 0) where
   module _ (v : Problem) (first : State) (before : Option (List ℕ)) (old : V) where
-    -- The text of a proof was read this far in a source. The watch got a call for each statement in it, and no other call.
+    -- The text of a proof was read this far in a source. The watch got a call for each statement in it, and no other
+    -- call.
     pub record IsShown (after : Option (List ℕ)) (place : Place) (done : Bool) (stop : Option Stop) (new : V) : Type 0 where
       pub marks : List (Spanned Statement)
       pub took : TookAll (IsProofText limits) longest before after marks place done stop
@@ -63,8 +64,8 @@ module _ (limits : Limits) (longest : ℕ) {V : Type 0} (got : V → Call → V 
       pub shows : ShowsEach limits v first marks calls last
       pub got_are : GotEach got old calls new
 
-    -- The statement that begins at the position was rejected, and nothing after it was taken. The watch got a call for each
-    -- statement before it, then one for the rejection, and no other call. The replay still has the names.
+    -- The statement that begins at the position was rejected, and nothing after it was taken. The watch got a call for
+    -- each statement before it, then one for the rejection, and no other call. The replay still has the names.
     pub record IsShownUpTo (after : Option (List ℕ)) (begins : Place) (e : Fault) (new : V) : Type 0 where
       pub marks : List (Spanned Statement)
       pub rejected : Spanned Statement
@@ -87,8 +88,8 @@ module _ (limits : Limits) (longest : ℕ) {V : Type 0} (got : V → Call → V 
     abbrev pub IsShownWhole : V → Type 0
     IsShownWhole new = (after : Option (List ℕ)) × (place : Place) × IsShown after place true None new
 
-    -- For the result of a check of the source. What comes after the proof is not shown. If there is no memory for the name
-    -- that a rejection gives, the result is that fault, and the watch got the rejection.
+    -- For the result of a check of the source. What comes after the proof is not shown. If there is no memory for the
+    -- name that a rejection gives, the result is that fault, and the watch got the rejection.
     abbrev pub ShowsProof : Result Verdict ToolFault → Option (List ℕ) → V → Type 0
     ShowsProof (Ok w) after new = IsShownWhole new
     ShowsProof (Err Write) after new = IsShownWhole new

@@ -48,7 +48,8 @@ module _ (limits : Limits) (longest : ℕ) where
   IsNoProofFile = IsRefused (ReadsProof (largest limits) (top_of limits) longest)
 
   module _ {W : Type 0} (contents : W → Option (List ℕ)) (faults : W → ℕ) where
-    -- What was read of the source as a proof, and what was written. Nothing is written before the whole input was accepted.
+    -- What was read of the source as a proof, and what was written. Nothing is written before the whole input was
+    -- accepted.
     abbrev pub TidiesProof : Option (List ℕ) → W → Result Unit ToolFault → Option (List ℕ) → W → Type 0
     TidiesProof = TidiesAs (IsRead (IsProofText limits) longest IsProofOf) (ReadsProof (largest limits) (top_of limits) longest) tidied_proof contents faults
 

@@ -139,8 +139,8 @@ pub fn check_watched<I: Source, P: Source, W: Sink, V: Watch>(
     // `Read` comes only if the source of that input failed.
     ensures instance { I.faults instance.new ≡ faults_of_instance result (I.faults instance.old) }
     ensures proof { P.faults proof.new ≡ faults_of_proof result (P.faults proof.old) }
-    // The watch got a call for each statement that was taken, in order, with its span and the replay after it. If a statement
-    // was rejected, the last call says so. It got no other call.
+    // The watch got a call for each statement that was taken, in order, with its span and the replay after it. If a
+    // statement was rejected, the last call says so. It got no other call.
     ensures watched { IsWatched limits (unwrap_or longest (2 ^ 40)) V.got (I.left instance.old) (P.left proof.old) watch.old
         result (I.left instance.new) (P.left proof.new) watch.new }
     ensures watched_given { IsWatchedGiven limits (unwrap_or longest (2 ^ 40)) V.got (I.history instance.old) (P.history proof.old) watch.old

@@ -53,7 +53,8 @@ pub(crate) struct Went {
     pub(crate) more: bool,
 }
 
-/// Checks a proof whose text comes in pieces of any size. Each statement goes to the replay when its last byte has come.
+/// Checks a proof whose text comes in pieces of any size. Each statement goes to the replay when its last byte has
+/// come.
 #[derive(Drop)]
 pub struct Checker {
     feeder: Feeder<ProofMachine>,

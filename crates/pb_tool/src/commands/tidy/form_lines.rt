@@ -67,7 +67,8 @@ impl FormLines {
         number_names(&mut self.names, terms)
     }
 
-    /// Adds the lines of a constraint's forms. For an equality these are the `at least` side and then the `at most` side.
+    /// Adds the lines of a constraint's forms. For an equality these are the `at least` side and then the `at most`
+    /// side.
     pub(crate) fn add(&mut self, constraint: &Linear, limits: Limits) -> Result<(), AllocError>
         requires { Fits (largest limits) constraint.now }
         ensures names { OnOk result (self.new.names ≡ with_names self.old.names (constraint_names (constraint.now ∷ []))) }

@@ -13,8 +13,8 @@ use Rattle.pb_tool.proofs.lemmas.show.GivenStatements.{HasGiven}
 use Rattle.pb_tool.proofs.lemmas.check.WatchCalls.{HasShown}
 use Rattle.pb_tool.proofs.commands.check.proof.check_statements.Given as goal
 
--- The statements so far were accepted and shown, and the source has not failed. This holds for the bytes that are known of the
--- source and for those that its calls have given.
+-- The statements so far were accepted and shown, and the source has not failed. This holds for the bytes that are known
+-- of the source and for those that its calls have given.
 abbrev pub invariant-loop-read : goal.invariant-loop-read
 invariant-loop-read g l = record {
   faults : g.S.Source.faults l.input ≡ g.S.Source.faults l.fn.input;
