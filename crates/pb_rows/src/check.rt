@@ -1,10 +1,10 @@
 //! Rows of `check`, and of its parts: an instance, a line `&`, and a proof.
 
 use crate::broken::Broken;
-use crate::call::{Call, Each};
 use crate::command::report_fault;
 use crate::feed::Cut;
 use crate::page::{Done, Page, answered, is_same, page};
+use crate::row::call::{Call, Each};
 use crate::turns::{Calls, Run, reader_of, writer_of};
 use pb_opb::read_instance;
 use pb_proof::Bound;

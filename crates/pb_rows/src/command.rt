@@ -1,8 +1,8 @@
 //! Rows of `tidy` and `show`.
 
 use crate::broken::Broken;
-use crate::call::{Call, Each, Verb};
 use crate::page::page;
+use crate::row::call::{Call, Each, Verb};
 use crate::turns::{Calls, Run, reader_of, writer_of};
 use pb_sums::write_count;
 use pb_text::doubles::{FaultyReader, FaultyWriter};

@@ -1,8 +1,8 @@
 //! Rows of normal forms.
 
 use crate::broken::Broken;
-use crate::call::Call;
 use crate::page::{Done, Page, finished, page, report_count, report_either};
+use crate::row::call::Call;
 use pb_normal::{Names, Normal, NormalFault, Side};
 use pb_opb::{Instance, read_instance};
 use pb_sums::write_number;

@@ -1,8 +1,8 @@
 //! Rows of a whole read from a reader, which is returned.
 
 use crate::broken::Broken;
-use crate::call::Call;
 use crate::page::{Done, answered, page, report_count, report_end};
+use crate::row::call::Call;
 use pb_opb::{OpbEvent, OpbMachine};
 use pb_text::{Gather, read_from};
 use std::alloc::{AllocError, Global};

@@ -3,8 +3,8 @@
 ghost use Rattle.std.specs.Prelude.{false, ◌≡◌};
 
 use crate::broken::Broken;
-use crate::call::{Call, Grammar, Verb};
 use crate::page::{Done, Page, finished, is_same, page, report_count, report_end};
+use crate::row::call::{Call, Grammar, Verb};
 use crate::steps::BEFORE_STEPS;
 use pb_opb::{OpbEvent, OpbMachine, write_event};
 use pb_proof::{ProofMachine, Statement, write_statement};

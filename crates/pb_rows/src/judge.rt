@@ -1,10 +1,10 @@
 //! Rows on the rules of values, and on limits.
 
 use crate::broken::Broken;
-use crate::call::{Call, Grammar};
 use crate::name::lines_of;
 use crate::page::{Done, Page, answered, page, report_either};
-use crate::value::{instance_of, proof_of, statement_of};
+use crate::row::call::{Call, Grammar};
+use crate::row::value::{instance_of, proof_of, statement_of};
 use pb_opb::instance_is_value;
 use pb_proof::{proof_is_value, statement_is_value};
 use pb_sums::{write_count, write_number};

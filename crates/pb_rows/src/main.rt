@@ -1,9 +1,7 @@
 //! Runs rows: calls of the library, with their expected output and expected result.
 #![tactic(auto)]
 
-mod accepted;
 mod broken;
-mod call;
 mod check;
 mod command;
 mod constraint;
@@ -20,12 +18,10 @@ mod refuted;
 mod rest;
 mod row;
 mod rows;
-mod spell;
 mod steps;
 mod sweep;
 mod text;
 mod turns;
-mod value;
 mod visits;
 
 use crate::broken::Broken;

@@ -3,9 +3,9 @@
 ghost use Rattle.std.specs.Prelude.{false, ◌≡◌};
 
 use crate::broken::Broken;
-use crate::call::{Call, Grammar};
 use crate::feed::{Shape, Shown, show_one};
 use crate::page::{Done, Page, finished, page, report_count, report_either, report_end};
+use crate::row::call::{Call, Grammar};
 use crate::turns::reader_of;
 use pb_opb::OpbMachine;
 use pb_proof::ProofMachine;

@@ -1,8 +1,8 @@
 //! Rows of whole readers.
 
 use crate::broken::Broken;
-use crate::call::{Call, Grammar};
 use crate::page::{Done, Page, finished, page, report_count, report_end};
+use crate::row::call::{Call, Grammar};
 use pb_opb::{instance_is_value, read_instance, read_instance_within, write_instance};
 use pb_proof::{proof_is_value, read_proof, read_proof_within, write_proof};
 use pb_text::{Failed, Limits, Over, Place, Sink, Stop, write_bytes};

@@ -1,8 +1,8 @@
 //! Rows of the rest of an input.
 
 use crate::broken::Broken;
-use crate::call::Call;
 use crate::page::{Done, answered, page, report_count, report_end};
+use crate::row::call::Call;
 use crate::turns::reader_of;
 use pb_text::{BYTE_LIMIT, Over, rest_is_blank};
 use std::alloc::Global;

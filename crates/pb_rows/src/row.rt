@@ -1,8 +1,13 @@
 //! One row.
 
+mod accepted;
+pub(crate) mod call;
+pub(crate) mod spell;
+pub(crate) mod value;
+
 use crate::broken::Broken;
 use crate::page::Done;
-use crate::spell::{add_line, add_text};
+use crate::row::spell::{add_line, add_text};
 use std::alloc::Global;
 
 /// The word of a call whose input is that of the row before.

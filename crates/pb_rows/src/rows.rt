@@ -1,7 +1,6 @@
 //! Reads rows and runs them.
 
 use crate::broken::Broken;
-use crate::call::{Call, Verb, call_of};
 use crate::check::run_checker;
 use crate::constraint::run_forms;
 use crate::counted::run_count;
@@ -16,7 +15,8 @@ use crate::read::run_read;
 use crate::refuted::run_refuted;
 use crate::rest::run_rest;
 use crate::row::Row;
-use crate::spell::add_line;
+use crate::row::call::{Call, Verb, call_of};
+use crate::row::spell::add_line;
 use crate::steps::run_steps;
 use crate::sweep::run_sweep;
 use crate::text::run_write;

@@ -1,12 +1,12 @@
 //! Rows of a replay, statement by statement.
 
 use crate::broken::Broken;
-use crate::call::Call;
 use crate::check::{inputs_of, replay_for, report_verdict};
 use crate::command::report_fault;
 use crate::constraint::{Named, write_form};
 use crate::name::lines_of;
 use crate::page::{Done, Page, answered, finished, page, report_count, report_either};
+use crate::row::call::Call;
 use pb_proof::{ProofMachine, Statement, statement_is_value};
 use pb_replay::{Fault, Replay};
 use pb_sums::write_count;

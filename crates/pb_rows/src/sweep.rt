@@ -1,9 +1,9 @@
 //! Rows of many texts that are made from one.
 
 use crate::broken::Broken;
-use crate::call::{Call, Verb};
 use crate::feed::{Cut, End, feed_all};
 use crate::page::{Done, answered, page, report_count, report_end};
+use crate::row::call::{Call, Verb};
 use pb_text::Why;
 use std::alloc::Global;
 

@@ -1,8 +1,8 @@
 //! Rows of texts that are written.
 
 use crate::broken::Broken;
-use crate::call::Call;
 use crate::page::{Done, page, report_count, report_either};
+use crate::row::call::Call;
 use crate::turns::writer_of;
 use pb_text::{Over, write_bytes};
 use std::alloc::Global;

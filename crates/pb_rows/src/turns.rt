@@ -1,10 +1,10 @@
 //! Rows of `show`, `tidy` and `check`. Each call of a reader or the writer can be made to fail in turn.
 
 use crate::broken::Broken;
-use crate::call::{Call, Each, Verb};
 use crate::check::run_check;
 use crate::command::run_command;
 use crate::page::{Done, Page, page, report_count};
+use crate::row::call::{Call, Each, Verb};
 use pb_text::doubles::{FaultyReader, FaultyWriter};
 use pb_text::{Failed, Place, Sink, write_bytes};
 use std::alloc::Global;

@@ -2,9 +2,9 @@
 
 ghost use Rattle.std.specs.Prelude.{◌<◌, IfSome};
 
-use crate::accepted::accepts;
 use crate::broken::Broken;
 use crate::constraint::is_rule;
+use crate::row::accepted::accepts;
 use pb_sums::Part;
 use pb_text::{BYTE_LIMIT, Limits, Place};
 

@@ -1,6 +1,6 @@
 //! Which words a call accepts.
 
-use crate::call::Verb;
+use crate::row::call::Verb;
 
 /// Whether a call accepts a word with this key. A word of another call is an error, so that none is silently ignored.
 pub(crate) fn accepts(verb: Verb, key: &str) -> bool {
