@@ -76,7 +76,7 @@ impl Propagation {
     }
 
     /// Propagates over the negation, if there is one, and the live constraints, until nothing more follows.
-    pub(crate) fn run(
+    pub(crate) fn propagate(
         &mut self,
         negation: Option<&Normal>,
         constraints: &[Stored],

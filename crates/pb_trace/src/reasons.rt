@@ -84,7 +84,7 @@ impl Scene<'_> {
         write_form(&negation, &self.names, out)?;
         write_bytes(b"\n", out)?;
         let mut propagation = Propagation::new(self.alloc, self.names.len())?;
-        propagation.run(Some(&negation), self.constraints.all())?;
+        propagation.propagate(Some(&negation), self.constraints.all())?;
         self.write_propagation(&propagation, out)
     }
 
@@ -104,7 +104,7 @@ impl Scene<'_> {
                 propagation.force(number, literal.negated, Reason::Given)?;
             }
         }
-        propagation.run(None, self.constraints.all())?;
+        propagation.propagate(None, self.constraints.all())?;
         self.write_propagation(&propagation, out)?;
         match fault {
             Fault::Violates(id) => self.write_violated(id, out),

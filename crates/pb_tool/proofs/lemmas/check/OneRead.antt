@@ -40,8 +40,8 @@ module _ {E : Type 0} where
       within_first n _ (marks_since None (before ++ (i.gap ++ bytes i.text)) items) (omega (arith, h, place_after-offset (before ++ (i.gap ++ bytes i.text)), length-append before (i.gap ++ bytes i.text)))
       (none_within n None (before ++ (i.gap ++ bytes i.text)) items (omega (arith, h, length-append before (i.gap ++ bytes i.text))))
 
-  one_prefix : (n k : ℕ) (m : Spanned E) (marks : List (Spanned E)) → n ≤ k → (n < m.past.offset → ended_within n marks ≡ []) → Begins (ended_within n marks) (ended_within k marks) → Begins (ended_within n (m ∷ marks)) (ended_within k (m ∷ marks))
-  one_prefix n k m marks le none (more, e) = by (leb_tells m.past.offset n)
+  first_begins : (n k : ℕ) (m : Spanned E) (marks : List (Spanned E)) → n ≤ k → (n < m.past.offset → ended_within n marks ≡ []) → Begins (ended_within n marks) (ended_within k marks) → Begins (ended_within n (m ∷ marks)) (ended_within k (m ∷ marks))
+  first_begins n k m marks le none (more, e) = by (leb_tells m.past.offset n)
     where
       by : ((nat_le m.past.offset n ≡ true) × (m.past.offset ≤ n)) ⊎ ((nat_le m.past.offset n ≡ false) × (n < m.past.offset)) → Begins (ended_within n (m ∷ marks)) (ended_within k (m ∷ marks))
       by (inl (t, h)) = (
@@ -54,7 +54,7 @@ module _ {E : Type 0} where
   prefix : (n k : ℕ) (first : Option Place) (before : List ℕ) (items : List (Item E)) → n ≤ k → Begins (ended_within n (marks_since first before items)) (ended_within k (marks_since first before items))
   prefix n k first before [] le = ([], refl)
   prefix n k first before (i ∷ items) le =
-      one_prefix n k _ (marks_since None (before ++ (i.gap ++ bytes i.text)) items) le
+      first_begins n k _ (marks_since None (before ++ (i.gap ++ bytes i.text)) items) le
       (λ h. none_within n None (before ++ (i.gap ++ bytes i.text)) items (omega (arith, h, place_after-offset (before ++ (i.gap ++ bytes i.text)))))
       (prefix n k None (before ++ (i.gap ++ bytes i.text)) items le)
 

@@ -27,9 +27,9 @@ use denote.Triple.Table.{entered}
 use denote.Triple.Walked.{says, Stays, stay_dropped, walk_of, ends_at, walk_Meets, Goes-dropped}
 use Rattle.pb_opb.specs.contracts.event.OpbEvent as E
 use Rattle.pb_tool.specs.declared.commands.tidy.notes.Notes.{Notes}
-use Rattle.pb_tool.specs.contracts.notes.Notes as T
-use Rattle.pb_tool.specs.contracts.notes.Notes.and as F
-use Rattle.pb_tool.specs.contracts.notes.Notes.and.Key.{name as #self}
+use Rattle.pb_tool.specs.contracts.commands.tidy.notes.Notes as T
+use Rattle.pb_tool.specs.contracts.commands.tidy.notes.Notes.and as F
+use Rattle.pb_tool.specs.contracts.commands.tidy.notes.Notes.and.Key.{name as #self}
 use Rattle.pb_tool.proofs.commands.tidy.notes.Notes.and.Statement as stated
 use Rattle.pb_tool.proofs.commands.tidy.notes.Notes.and.Code as code
 

@@ -22,9 +22,9 @@ use denote.Triple.Spec.{Meets, triple_of}
 use denote.Triple.Table.{entered}
 use denote.Triple.Walked.{says, ends_at, walked, walk_Meets}
 use Rattle.pb_tool.specs.declared.commands.tidy.notes.Notes.{Notes}
-use Rattle.pb_tool.specs.contracts.notes.Notes as T
-use Rattle.pb_tool.specs.contracts.notes.Notes.new.Key.{name as #it}
-use Rattle.pb_tool.specs.contracts.notes.Notes.new as it
+use Rattle.pb_tool.specs.contracts.commands.tidy.notes.Notes as T
+use Rattle.pb_tool.specs.contracts.commands.tidy.notes.Notes.new.Key.{name as #it}
+use Rattle.pb_tool.specs.contracts.commands.tidy.notes.Notes.new as it
 use Rattle.pb_tool.proofs.commands.tidy.notes.Notes.new.Statement as stated
 use Rattle.pb_tool.proofs.commands.tidy.notes.Notes.new.Code as code
 
