@@ -15,7 +15,7 @@ use Rattle.pb_replay.specs.Kept.{Replaying}
 use Rattle.pb_replay.specs.Kept.{StandsFor}
 use Rattle.pb_replay.specs.declared.fault.Fault.{Fault}
 use Rattle.pb_text.specs.Whole.{events_at}
-use Rattle.pb_tool.specs.contract.Checks.{Checks, IsRefusedAt, KeepsNamesOf, Leads, Takes, Refuses}
+use Rattle.pb_tool.specs.contract.Checks.{Checks, IsRefusedAt, KeepsNamesOf, LeadsTo, StepsTo, Rejects}
 use Rattle.pb_tool.specs.declared.commands.check.checker.CheckFault.{CheckFault}
 use Rattle.pb_tool.specs.declared.commands.check.checker.CheckFault.TheVariants.{Text, Step}
 
@@ -36,12 +36,12 @@ IsAt r (Err spent) = r.fault ≡ Some spent
 
 -- the result of a step through a statement that was read, from the state of the replay before it
 abbrev pub StepsFrom : Limits → Problem → Result State Fault → Spanned Statement → Result Unit CheckFault → Replaying → Type 0
-StepsFrom limits v now m (Ok u) new = (t : State) × IsAt new (Ok t) × Takes limits v now m.event t
-StepsFrom limits v now m (Err f) new = (e : Fault) × (f ≡ Step m.first e) × Refuses limits v now m.event e
+StepsFrom limits v now m (Ok u) new = (t : State) × IsAt new (Ok t) × StepsTo limits v now m.event t
+StepsFrom limits v now m (Err f) new = (e : Fault) × (f ≡ Step m.first e) × Rejects limits v now m.event e
 
 module _ (limits : Limits) (longest : ℕ) (v : Problem) (first : Result State Fault) (input : List ℕ) where
   -- Every statement so far was accepted, and the text may continue.
-  pub record IsRunning (f : ProofFeeder) (r : Replaying) : Type 0 where
+  pub record IsAccepting (f : ProofFeeder) (r : Replaying) : Type 0 where
     pub marks : List (Spanned Statement)
     pub stands : StandsAt longest (begin (largest limits) (top_of limits)) input marks f
     pub running : halt_of f ≡ None
@@ -49,21 +49,21 @@ module _ (limits : Limits) (longest : ℕ) (v : Problem) (first : Result State F
     pub problem : r.problem ≡ v
     pub now : Result State Fault
     pub at : IsAt r now
-    pub accepted : Leads limits v first (events_at marks) now
+    pub accepted : LeadsTo limits v first (events_at marks) now
 
   -- The feeder and the replay of a checker were fed the input. If a statement was rejected, the names from before it
   -- are still there.
-  abbrev pub Stands : ProofFeeder → Replaying → Option CheckFault → Type 0
-  Stands f r None = IsRunning f r
-  Stands f r (Some (Text s)) = Checks limits longest v first input (place_of f) false (Some (Text s))
-  Stands f r (Some (Step begins e)) =
+  abbrev pub ChecksSoFar : ProofFeeder → Replaying → Option CheckFault → Type 0
+  ChecksSoFar f r None = IsAccepting f r
+  ChecksSoFar f r (Some (Text s)) = Checks limits longest v first input (place_of f) false (Some (Text s))
+  ChecksSoFar f r (Some (Step begins e)) =
       (refused : IsRefusedAt limits longest v first input (place_of f) begins e) × KeepsNamesOf refused.before r.names e
 
 -- This holds for every checker: it was fed some text.
 abbrev pub IsSomewhere : ProofFeeder → Replaying → Option CheckFault → Type 0
 IsSomewhere f r e =
     (limits : Limits) × (longest : ℕ) × (v : Problem) × (first : Result State Fault) × (input : List ℕ)
-    × Stands limits longest v first input f r e
+    × ChecksSoFar limits longest v first input f r e
 
 -- If `StandsAt` holds of a feeder of proofs and an input, the feeder has read that input.
 abbrev pub TextsAreRead : Type 0

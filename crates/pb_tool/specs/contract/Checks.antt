@@ -32,22 +32,22 @@ KeepsNamesOf (Err spent) new e = Unit {0}
 -- A replay over the problem is in a state, or a fault has spent it.
 module _ (limits : Limits) (v : Problem) where
   -- One that is in a state comes to another by one accepted statement. A spent one accepts none.
-  abbrev pub Takes : Result State Fault → Statement → State → Type 0
-  Takes (Ok s) st t = Outcome (largest limits) (top_of limits) v s st (Ok t)
-  Takes (Err spent) st t = ⊥
+  abbrev pub StepsTo : Result State Fault → Statement → State → Type 0
+  StepsTo (Ok s) st t = Outcome (largest limits) (top_of limits) v s st (Ok t)
+  StepsTo (Err spent) st t = ⊥
 
   -- the same by accepted statements, one after another
-  abbrev pub Leads : Result State Fault → List Statement → Result State Fault → Type 0
-  Leads (Ok s) sts now = (t : State) × (now ≡ Ok t) × Accepts (largest limits) (top_of limits) v s sts t
-  Leads (Err spent) sts now = (sts ≡ []) × (now ≡ Err spent)
+  abbrev pub LeadsTo : Result State Fault → List Statement → Result State Fault → Type 0
+  LeadsTo (Ok s) sts now = (t : State) × (now ≡ Ok t) × Accepts (largest limits) (top_of limits) v s sts t
+  LeadsTo (Err spent) sts now = (sts ≡ []) × (now ≡ Err spent)
 
   -- The replay rejects the statement: by its rules, or because memory ran out where it may allocate. A spent one
   -- rejects each statement with its fault.
-  abbrev pub Refuses : Result State Fault → Statement → Fault → Type 0
-  Refuses (Ok s) st e =
+  abbrev pub Rejects : Result State Fault → Statement → Fault → Type 0
+  Rejects (Ok s) st e =
       ((e ≡ fault.Memory) × MayWantAt (largest limits) (top_of limits) v s.next st)
       ⊎ Outcome (largest limits) (top_of limits) v s st (Err e)
-  Refuses (Err spent) st e = e ≡ spent
+  Rejects (Err spent) st e = e ≡ spent
 
 -- A replay over the problem began at first. What is said of the bytes that were fed holds for all of them joined.
 module _ (limits : Limits) (longest : ℕ) (v : Problem) (first : Result State Fault) where
@@ -56,7 +56,7 @@ module _ (limits : Limits) (longest : ℕ) (v : Problem) (first : Result State F
     pub used : List ℕ
     pub marks : List (Spanned Statement)
     pub reads : Reads (IsProof (largest limits) (top_of limits)) longest input used marks place done stop
-    pub accepted : Leads limits v first (events_at marks) now
+    pub accepted : LeadsTo limits v first (events_at marks) now
 
   -- Every statement but the last was accepted. The last one, which began at `begins`, was rejected. Nothing after it
   -- was read.
@@ -70,8 +70,8 @@ module _ (limits : Limits) (longest : ℕ) (v : Problem) (first : Result State F
     pub input_is : input ≡ used ++ left
     pub reads : Reads (IsProof (largest limits) (top_of limits)) longest used used (marks ++ last ∷ []) place done None
     pub begins_is : begins ≡ last.first
-    pub accepted : Leads limits v first (events_at marks) before
-    pub refused : Refuses limits v before last.event e
+    pub accepted : LeadsTo limits v first (events_at marks) before
+    pub refused : Rejects limits v before last.event e
 
   -- how far it came, or which fault comes first
   abbrev pub Checks : List ℕ → Place → Bool → Option CheckFault → Type 0

@@ -6,7 +6,7 @@ use Rattle.pb_text.specs.declared.Limits.{Limits}
 use Rattle.pb_opb.specs.Canonical.{event_bytes}
 use Rattle.pb_proof.specs.Canonical.{statement_bytes}
 use Rattle.pb_tool.specs.meaning.Files.{AsksInProofText, IsProofText, TidiesProof}
-use Rattle.pb_tool.specs.contract.Show.{Shows}
+use Rattle.pb_tool.specs.contract.Show.{ShowsLines}
 use Rattle.pb_replay.specs.declared.verdict.Verdict.{Verdict}
 use Rattle.pb_tool.specs.meaning.Tidy.{AsksInInstanceText, IsInstanceText, Tidies}
 use Rattle.pb_tool.specs.meaning.Verified.{ChecksFiles}
@@ -24,8 +24,8 @@ module _ (limits : Limits) (longest : ℕ) {W : Type 0} (contents : W → Option
   -- The same for `pb show`: the source is read as a proof or as an instance.
   abbrev pub ShowsGiven : List ℕ → W → Result Unit ToolFault → List ℕ → W → Type 0
   ShowsGiven before old result after new =
-      OfGiven (λ left rest. Shows (IsProofText limits) longest (AsksInProofText limits) statement_bytes contents faults left old result rest new) before after
-      ⊎ OfGiven (λ left rest. Shows (IsInstanceText limits) longest (AsksInInstanceText limits) event_bytes contents faults left old result rest new) before after
+      OfGiven (λ left rest. ShowsLines (IsProofText limits) longest (AsksInProofText limits) statement_bytes contents faults left old result rest new) before after
+      ⊎ OfGiven (λ left rest. ShowsLines (IsInstanceText limits) longest (AsksInInstanceText limits) event_bytes contents faults left old result rest new) before after
 
   -- The same for `pb check`: for the bytes that the calls gave of the instance, and those of the proof.
   abbrev pub ChecksGiven : List ℕ → List ℕ → W → Result Verdict ToolFault → List ℕ → List ℕ → W → Type 0

@@ -16,7 +16,7 @@ use Rattle.pb_proof.specs.declared.Statement.{Statement}
 use Rattle.pb_replay.specs.Problem.{Problem}
 use Rattle.pb_replay.specs.Replay.{State}
 use Rattle.pb_replay.specs.declared.fault.Fault.{Fault}
-use Rattle.pb_tool.specs.contract.Checker.{Checking, Stands}
+use Rattle.pb_tool.specs.contract.Checker.{Checking, ChecksSoFar}
 use Rattle.pb_tool.specs.contract.Checks.{Checks}
 use Rattle.pb_tool.specs.declared.commands.check.checker.Went.{Went}
 use Rattle.pb_tool.specs.declared.commands.check.checker.CheckFault.{CheckFault}
@@ -37,13 +37,13 @@ is_whole c = is_complete c.feeder
 -- The checker was fed the input. Its statements have at most longest bytes, and its replay, with these limits, began at
 -- first.
 abbrev pub ChecksAt : Limits → ℕ → Problem → Result State Fault → List ℕ → Checking → Type 0
-ChecksAt limits longest v first input c = Stands limits longest v first input c.feeder c.replay c.fault
+ChecksAt limits longest v first input c = ChecksSoFar limits longest v first input c.feeder c.replay c.fault
 
 -- Later input still counts: the text was not said to have ended.
-abbrev pub IsOpen : Option CheckFault → Type 0
-IsOpen None = Unit {0}
-IsOpen (Some (Text s)) = Counts s.why
-IsOpen (Some (Step begins e)) = Unit {0}
+abbrev pub MayGoOn : Option CheckFault → Type 0
+MayGoOn None = Unit {0}
+MayGoOn (Some (Text s)) = Counts s.why
+MayGoOn (Some (Step begins e)) = Unit {0}
 
 abbrev pub fault_in : {A : Type 0} → Result A CheckFault → Option CheckFault
 fault_in (Ok x) = None
@@ -53,13 +53,13 @@ fault_in (Err e) = Some e
 abbrev pub ChecksOnce : Checking → List ℕ → Checking → Type 0
 ChecksOnce old piece new =
     ((limits : Limits) (longest : ℕ) (v : Problem) (first : Result State Fault) (input : List ℕ) →
-    IsOpen old.fault → ChecksAt limits longest v first input old → ChecksAt limits longest v first (input ++ piece) new)
-    × (IsOpen old.fault → IsOpen new.fault)
+    MayGoOn old.fault → ChecksAt limits longest v first input old → ChecksAt limits longest v first (input ++ piece) new)
+    × (MayGoOn old.fault → MayGoOn new.fault)
 
 -- feeds in a row
-abbrev pub Feeds : Checking → List (List ℕ) → Checking → Type 0
-Feeds before [] after = before ≡ after
-Feeds before (piece ∷ pieces) after = (mid : Checking) × ChecksOnce before piece mid × Feeds mid pieces after
+abbrev pub FeedsInTurn : Checking → List (List ℕ) → Checking → Type 0
+FeedsInTurn before [] after = before ≡ after
+FeedsInTurn before (piece ∷ pieces) after = (mid : Checking) × ChecksOnce before piece mid × FeedsInTurn mid pieces after
 
 abbrev pub joined : List (List ℕ) → List ℕ
 joined = flat_map (λ piece. piece)
@@ -68,7 +68,7 @@ joined = flat_map (λ piece. piece)
 -- joined.
 abbrev pub AnyCutting : Type 0
 AnyCutting = (limits : Limits) (longest : ℕ) (v : Problem) (first : Result State Fault) (before after : Checking) (pieces : List (List ℕ)) →
-    ChecksAt limits longest v first [] before → IsOpen (fault_of before) → Feeds before pieces after →
+    ChecksAt limits longest v first [] before → MayGoOn (fault_of before) → FeedsInTurn before pieces after →
     Checks limits longest v first (joined pieces) (place_in after) (is_whole after) (fault_of after)
 
 -- The position is the one after the used bytes, a prefix of the input. At most as much is held as the used bytes have
@@ -85,9 +85,9 @@ EndsStatement limits input =
     × IsProof (largest limits) (top_of limits) (begun ++ rest) × (input ≡ bytes_of begun)
 
 -- no reader failed, as there is none
-abbrev pub IsUnread : CheckFault → Type 0
-IsUnread (Text s) = s.why ≢ Read
-IsUnread (Step begins e) = Unit {0}
+abbrev pub IsNoReadFault : CheckFault → Type 0
+IsNoReadFault (Text s) = s.why ≢ Read
+IsNoReadFault (Step begins e) = Unit {0}
 
 -- If memory ran out for the text, the byte of the input at that position may allocate.
 abbrev pub AllocatesAt : Limits → List ℕ → CheckFault → Type 0

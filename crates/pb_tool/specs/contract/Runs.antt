@@ -64,11 +64,11 @@ module _ (limits : Limits) (longest : ℕ) where
 
   module _ (v : Problem) (first : State) (before : Option (List ℕ)) where
     -- the statements of a source that were stepped through
-    abbrev pub Runs : Result (Verdict × Place) CheckFault → Option (List ℕ) → Replaying → Type 0
-    Runs (Ok r) after new = (t : State) × IsAccepted limits longest v first before after r.1 true None t × (t.concluded ≡ Some r.0)
-    Runs (Err (check.Text s)) after new =
+    abbrev pub RunsProof : Result (Verdict × Place) CheckFault → Option (List ℕ) → Replaying → Type 0
+    RunsProof (Ok r) after new = (t : State) × IsAccepted limits longest v first before after r.1 true None t × (t.concluded ≡ Some r.0)
+    RunsProof (Err (check.Text s)) after new =
         (t : State) × (a : IsAccepted limits longest v first before after s.place false (Some s) t) × IsAsking (AsksInProofText limits) a.took.used a.took.seen s.why
-    Runs (Err (check.Step begins e)) after new =
+    RunsProof (Err (check.Step begins e)) after new =
         (st : Statement) × (state : State) × ComesTo limits longest v first before after begins st state
         × (((e ≡ no_memory) × MayWantAt (largest limits) (top_of limits) v state.next st)
         ⊎ (Outcome (largest limits) (top_of limits) v state st (Err e) × KeepsNames state.names new.names e))

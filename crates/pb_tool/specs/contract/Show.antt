@@ -53,15 +53,15 @@ module _ {E : Type 0} (format : List (Item E) → Type 0) (longest : ℕ) where
   module _ (MayAsk : List ℕ → ℕ → Type 0) (text : E → List ℕ) {W : Type 0} (contents : W → Option (List ℕ)) (faults : W → ℕ) where
     -- What was read of the source, and what was written: the line of each statement that was read. After a write fault,
     -- the lines of all statements read but the last were written, and a prefix of the last line.
-    abbrev pub Shows : Option (List ℕ) → W → Result Unit ToolFault → Option (List ℕ) → W → Type 0
-    Shows before old (Ok u) after new = (marks : List (Spanned E)) × IsSpelling before after marks × Wrote contents faults old (shown text marks) new
-    Shows before old (Err (Text File s)) after new = (marks : List (Spanned E)) × IsRefusedAfter MayAsk before after marks s × Wrote contents faults old (shown text marks) new
-    Shows before old (Err Write) after new =
+    abbrev pub ShowsLines : Option (List ℕ) → W → Result Unit ToolFault → Option (List ℕ) → W → Type 0
+    ShowsLines before old (Ok u) after new = (marks : List (Spanned E)) × IsSpelling before after marks × Wrote contents faults old (shown text marks) new
+    ShowsLines before old (Err (Text File s)) after new = (marks : List (Spanned E)) × IsRefusedAfter MayAsk before after marks s × Wrote contents faults old (shown text marks) new
+    ShowsLines before old (Err Write) after new =
         (marks : List (Spanned E)) × (last : Spanned E) × (mid : W) × TookSoFar format longest before after (marks ++ last ∷ []) last.past
         × Wrote contents faults old (shown text marks) mid × Broke contents faults mid (shown_line text last) new
-    Shows before old (Err (Text Instance s)) after new = ⊥
-    Shows before old (Err (Text Proof s)) after new = ⊥
-    Shows before old (Err (Open i)) after new = ⊥
-    Shows before old (Err (Overflow i)) after new = ⊥
-    Shows before old (Err (Memory i)) after new = ⊥
-    Shows before old (Err (Step place e name)) after new = ⊥
+    ShowsLines before old (Err (Text Instance s)) after new = ⊥
+    ShowsLines before old (Err (Text Proof s)) after new = ⊥
+    ShowsLines before old (Err (Open i)) after new = ⊥
+    ShowsLines before old (Err (Overflow i)) after new = ⊥
+    ShowsLines before old (Err (Memory i)) after new = ⊥
+    ShowsLines before old (Err (Step place e name)) after new = ⊥

@@ -40,18 +40,18 @@ module _ {V : Type 0} (IsValue : Limits → V → Type 0) (text : V → List ℕ
 -- For an instance.
 
 -- v meets the rules of a value under the limits
-abbrev pub IsWithin : Limits → Instance → Type 0
-IsWithin limits v = IsInstanceValue (largest limits) (top_of limits) v
+abbrev pub IsInstanceWithin : Limits → Instance → Type 0
+IsInstanceWithin limits v = IsInstanceValue (largest limits) (top_of limits) v
 
 abbrev pub StaysAsIs : Type 0
-StaysAsIs = ReadsAsItself IsWithin tidied IsInstanceFile
+StaysAsIs = ReadsAsItself IsInstanceWithin tidied IsInstanceFile
 
 -- Its text is treated as an instance.
 abbrev pub IsReadAsInstance : Type 0
 IsReadAsInstance = (v : Instance) → ¬ BeginsWithP (tidied v)
 
 abbrev pub HasNoFault : Type 0
-HasNoFault = IsFaultless IsWithin tidied IsNoInstanceFile
+HasNoFault = IsFaultless IsInstanceWithin tidied IsNoInstanceFile
 
 -- For a proof.
 

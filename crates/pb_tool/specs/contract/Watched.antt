@@ -56,7 +56,7 @@ module _ (limits : Limits) (longest : ℕ) {V : Type 0} (got : V → Call → V 
   module _ (v : Problem) (first : State) (before : Option (List ℕ)) (old : V) where
     -- The text of a proof was read this far in a source. The watch got a call for each statement in it, and no other
     -- call.
-    pub record IsShown (after : Option (List ℕ)) (place : Place) (done : Bool) (stop : Option Stop) (new : V) : Type 0 where
+    pub record HasSeen (after : Option (List ℕ)) (place : Place) (done : Bool) (stop : Option Stop) (new : V) : Type 0 where
       pub marks : List (Spanned Statement)
       pub took : TookAll (IsProofText limits) longest before after marks place done stop
       pub calls : List Call
@@ -66,7 +66,7 @@ module _ (limits : Limits) (longest : ℕ) {V : Type 0} (got : V → Call → V 
 
     -- The statement that begins at the position was rejected, and nothing after it was taken. The watch got a call for
     -- each statement before it, then one for the rejection, and no other call. The replay still has the names.
-    pub record IsShownUpTo (after : Option (List ℕ)) (begins : Place) (e : Fault) (new : V) : Type 0 where
+    pub record HasSeenUpTo (after : Option (List ℕ)) (begins : Place) (e : Fault) (new : V) : Type 0 where
       pub marks : List (Spanned Statement)
       pub rejected : Spanned Statement
       pub took : TookSoFar (IsProofText limits) longest before after (marks ++ rejected ∷ []) rejected.past
@@ -80,22 +80,22 @@ module _ (limits : Limits) (longest : ℕ) {V : Type 0} (got : V → Call → V 
 
     -- for the result of a run through the statements of the source
     abbrev pub ShowsRun : Result (Verdict × Place) CheckFault → Option (List ℕ) → V → Type 0
-    ShowsRun (Ok r) after new = IsShown after r.1 true None new
-    ShowsRun (Err (check.Text s)) after new = IsShown after s.place false (Some s) new
-    ShowsRun (Err (check.Step begins e)) after new = IsShownUpTo after begins e new
+    ShowsRun (Ok r) after new = HasSeen after r.1 true None new
+    ShowsRun (Err (check.Text s)) after new = HasSeen after s.place false (Some s) new
+    ShowsRun (Err (check.Step begins e)) after new = HasSeenUpTo after begins e new
 
     -- the whole proof was read, with some rest after it, and shown
-    abbrev pub IsShownWhole : V → Type 0
-    IsShownWhole new = (after : Option (List ℕ)) × (place : Place) × IsShown after place true None new
+    abbrev pub HasSeenWhole : V → Type 0
+    HasSeenWhole new = (after : Option (List ℕ)) × (place : Place) × HasSeen after place true None new
 
     -- For the result of a check of the source. What comes after the proof is not shown. If there is no memory for the
     -- name that a rejection gives, the result is that fault, and the watch got the rejection.
     abbrev pub ShowsProof : Result Verdict ToolFault → Option (List ℕ) → V → Type 0
-    ShowsProof (Ok w) after new = IsShownWhole new
-    ShowsProof (Err Write) after new = IsShownWhole new
-    ShowsProof (Err (Text of_proof s)) after new = IsShown after s.place false (Some s) new ⊎ IsShownWhole new
+    ShowsProof (Ok w) after new = HasSeenWhole new
+    ShowsProof (Err Write) after new = HasSeenWhole new
+    ShowsProof (Err (Text of_proof s)) after new = HasSeen after s.place false (Some s) new ⊎ HasSeenWhole new
     ShowsProof (Err (Step begins e name)) after new =
-        (told : Fault) × ((e ≡ told) ⊎ ((e ≡ no_memory) × (n : ℕ) × (told ≡ NotTotal n))) × IsShownUpTo after begins told new
+        (told : Fault) × ((e ≡ told) ⊎ ((e ≡ no_memory) × (n : ℕ) × (told ≡ NotTotal n))) × HasSeenUpTo after begins told new
     ShowsProof (Err _) after new = ⊥
 
   -- For the result of a check of two sources. If the instance is rejected, the watch got no call.

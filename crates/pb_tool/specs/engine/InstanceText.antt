@@ -35,5 +35,5 @@ abbrev pub text_of : InstanceText → List ℕ
 text_of t = line_if t.header ++ (t.page.text ++ line_if t.objective)
 
 -- the text is what is written for the instance of these statements
-abbrev pub IsTextOf : List OpbEvent → InstanceText → Type 0
-IsTextOf events t = (v : Instance) × IsValueOf events v × (text_of t ≡ tidied v)
+abbrev pub IsInstanceTextOf : List OpbEvent → InstanceText → Type 0
+IsInstanceTextOf events t = (v : Instance) × IsValueOf events v × (text_of t ≡ tidied v)

@@ -69,5 +69,5 @@ abbrev pub noted : Limits × List OpbEvent → OpbEvent → Limits × List OpbEv
 noted t e = (t.0, t.1 ++ e ∷ [])
 
 -- v is the value of the statements, and their names come in the order of its objective and its constraints
-abbrev pub IsInOrder : List OpbEvent → Instance → Type 0
-IsInOrder events v = IsValueOf events v × (names_on events ≡ names_of (objective_of v.objective) ++ constraint_names v.constraints)
+abbrev pub NamesInOrder : List OpbEvent → Instance → Type 0
+NamesInOrder events v = IsValueOf events v × (names_on events ≡ names_of (objective_of v.objective) ++ constraint_names v.constraints)

@@ -34,5 +34,5 @@ abbrev pub text_of : ProofText → List ℕ
 text_of t = before_steps t ++ (t.steps.text ++ after_steps t)
 
 -- the text is what is written for the proof of these statements
-abbrev pub IsTextOf : List Statement → ProofText → Type 0
-IsTextOf statements t = (v : Proof) × IsProofOf statements v × (text_of t ≡ tidied_proof v)
+abbrev pub IsProofTextOf : List Statement → ProofText → Type 0
+IsProofTextOf statements t = (v : Proof) × IsProofOf statements v × (text_of t ≡ tidied_proof v)

@@ -11,7 +11,7 @@ use Rattle.pb_proof.specs.Proofs.{IsProof, IsProofOf}
 use Rattle.pb_proof.specs.Reading.{AsksInProof, ReadsProof}
 use Rattle.pb_proof.specs.declared.Proof.{Proof}
 use Rattle.pb_proof.specs.declared.Statement.{Statement}
-use Rattle.pb_tool.specs.contract.Show.{Shows}
+use Rattle.pb_tool.specs.contract.Show.{ShowsLines}
 use Rattle.pb_tool.specs.meaning.Tidy.{AsksInInstanceText, IsFile, IsInstanceText, IsRefused, Tidies, TidiesAs}
 use Rattle.pb_tool.specs.declared.fault.ToolFault.{ToolFault}
 
@@ -62,5 +62,5 @@ module _ (limits : Limits) (longest : ℕ) where
 
     abbrev pub ShowsFile : Option (List ℕ) → W → Result Unit ToolFault → Option (List ℕ) → W → Type 0
     ShowsFile before old result after new =
-        (MayBeProof before × Shows (IsProofText limits) longest (AsksInProofText limits) statement_bytes contents faults before old result after new)
-        ⊎ (MayBeInstance before × Shows (IsInstanceText limits) longest (AsksInInstanceText limits) event_bytes contents faults before old result after new)
+        (MayBeProof before × ShowsLines (IsProofText limits) longest (AsksInProofText limits) statement_bytes contents faults before old result after new)
+        ⊎ (MayBeInstance before × ShowsLines (IsInstanceText limits) longest (AsksInInstanceText limits) event_bytes contents faults before old result after new)

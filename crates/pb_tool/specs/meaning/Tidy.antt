@@ -52,14 +52,14 @@ abbrev pub AsksInInstanceText : Limits → List ℕ → ℕ → Type 0
 AsksInInstanceText limits = AsksInInstance (largest limits) (top_of limits)
 
 -- what is written with `normal`: the normal form of v, if no constraint exceeds the limit
-abbrev pub IsAsked : ℕ → Instance → Instance → Type 0
-IsAsked limit v w = IsNormalised v w × ¬ Overflows limit v
+abbrev pub HasNormalForm : ℕ → Instance → Instance → Type 0
+HasNormalForm limit v w = IsNormalised v w × ¬ Overflows limit v
 
 -- Why there is none: a constraint of v exceeds the limit, or none does and memory ran out.
-abbrev pub IsDenied : ℕ → Instance → ToolFault → Type 0
-IsDenied limit v (Overflow File) = Overflows limit v
-IsDenied limit v (Memory File) = ¬ Overflows limit v
-IsDenied limit v _ = ⊥
+abbrev pub LacksNormalForm : ℕ → Instance → ToolFault → Type 0
+LacksNormalForm limit v (Overflow File) = Overflows limit v
+LacksNormalForm limit v (Memory File) = ¬ Overflows limit v
+LacksNormalForm limit v _ = ⊥
 
 module _ {V : Type 0} where
   -- The input was a text of v and a blank rest, and ended there.
@@ -106,11 +106,11 @@ module _ (limits : Limits) (longest : ℕ) where
 
   -- with `normal`: the normal form of the instance that the input was, or why there is none
   abbrev pub IsNormalFile : Option (List ℕ) → Option (List ℕ) → Instance → Type 0
-  IsNormalFile before after w = (v : Instance) × IsInstanceFile before after v × IsAsked (largest limits) v w
+  IsNormalFile before after w = (v : Instance) × IsInstanceFile before after v × HasNormalForm (largest limits) v w
 
   abbrev pub IsNoNormalFile : Option (List ℕ) → Option (List ℕ) → ToolFault → Type 0
   IsNoNormalFile before after (Text File s) = IsNoInstanceFile before after s
-  IsNoNormalFile before after e = (v : Instance) × IsInstanceFile before after v × IsDenied (largest limits) v e
+  IsNoNormalFile before after e = (v : Instance) × IsInstanceFile before after v × LacksNormalForm (largest limits) v e
 
   -- What was read of the source, and what was written. Nothing is written before the whole input was accepted and, with
   -- `normal`, every constraint was normalised.

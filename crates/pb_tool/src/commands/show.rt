@@ -11,7 +11,7 @@ ghost use Rattle.pb_tool.specs.contract.Faults.{faults_reported};
 ghost use Rattle.pb_tool.specs.meaning.Files.{AsksInProofText, IsProofText, ShowsFile};
 ghost use Rattle.pb_tool.specs.contract.Given.{ShowsGiven};
 ghost use Rattle.pb_tool.specs.contract.Seen.{SawStatements};
-ghost use Rattle.pb_tool.specs.contract.Show.{shown_line, EndsAt, Shows};
+ghost use Rattle.pb_tool.specs.contract.Show.{shown_line, EndsAt, ShowsLines};
 ghost use Rattle.pb_tool.specs.meaning.Tidy.{AsksInInstanceText, IsInstanceText};
 
 use crate::canonical::{Canonical, write_line};
@@ -64,8 +64,8 @@ fn show_proof<S: Source, W: Sink>(
     limits: Limits,
 ) -> Result<(), ToolFault>
     requires { 0 < longest }
-    ensures shows { Shows (IsProofText limits) longest (AsksInProofText limits) statement_bytes W.contents W.faults (S.left input.old) out.old result (S.left input.new) out.new }
-    ensures given { OfGiven (λ left rest. Shows (IsProofText limits) longest (AsksInProofText limits) statement_bytes W.contents W.faults left out.old result rest out.new) (S.history input.old) (S.history input.new) }
+    ensures shows { ShowsLines (IsProofText limits) longest (AsksInProofText limits) statement_bytes W.contents W.faults (S.left input.old) out.old result (S.left input.new) out.new }
+    ensures given { OfGiven (λ left rest. ShowsLines (IsProofText limits) longest (AsksInProofText limits) statement_bytes W.contents W.faults left out.old result rest out.new) (S.history input.old) (S.history input.new) }
     ensures seen { SawStatements (S.shown input.new) (S.ended input.new) result }
     ensures faults { S.faults input.new ≡ faults_reported result (S.faults input.old) }
 {
@@ -81,8 +81,8 @@ fn show_instance<S: Source, W: Sink>(
     limits: Limits,
 ) -> Result<(), ToolFault>
     requires { 0 < longest }
-    ensures shows { Shows (IsInstanceText limits) longest (AsksInInstanceText limits) event_bytes W.contents W.faults (S.left input.old) out.old result (S.left input.new) out.new }
-    ensures given { OfGiven (λ left rest. Shows (IsInstanceText limits) longest (AsksInInstanceText limits) event_bytes W.contents W.faults left out.old result rest out.new) (S.history input.old) (S.history input.new) }
+    ensures shows { ShowsLines (IsInstanceText limits) longest (AsksInInstanceText limits) event_bytes W.contents W.faults (S.left input.old) out.old result (S.left input.new) out.new }
+    ensures given { OfGiven (λ left rest. ShowsLines (IsInstanceText limits) longest (AsksInInstanceText limits) event_bytes W.contents W.faults left out.old result rest out.new) (S.history input.old) (S.history input.new) }
     ensures seen { SawStatements (S.shown input.new) (S.ended input.new) result }
     ensures faults { S.faults input.new ≡ faults_reported result (S.faults input.old) }
 {
@@ -98,8 +98,8 @@ fn show_each<S: Source, W: Sink, E: Canonical + Drop, M: Machine<Event = E> + Dr
 ) -> Result<(), ToolFault>
     requires between { M.automaton.begun machine ≡ false }
     requires some { 0 < longest }
-    ensures shows { Shows (Accepts M.automaton machine) longest (MayAsk M.automaton machine) E.text W.contents W.faults (S.left input.old) out.old result (S.left input.new) out.new }
-    ensures given { OfGiven (λ left rest. Shows (Accepts M.automaton machine) longest (MayAsk M.automaton machine) E.text W.contents W.faults left out.old result rest out.new) (S.history input.old) (S.history input.new) }
+    ensures shows { ShowsLines (Accepts M.automaton machine) longest (MayAsk M.automaton machine) E.text W.contents W.faults (S.left input.old) out.old result (S.left input.new) out.new }
+    ensures given { OfGiven (λ left rest. ShowsLines (Accepts M.automaton machine) longest (MayAsk M.automaton machine) E.text W.contents W.faults left out.old result rest out.new) (S.history input.old) (S.history input.new) }
     ensures seen { SawStatements (S.shown input.new) (S.ended input.new) result }
     ensures faults { S.faults input.new ≡ faults_reported result (S.faults input.old) }
 {

@@ -5,7 +5,7 @@ use Rattle.std.proofs.lemmas.List.{append-nil, take_all, take_more}
 use Rattle.pb_text.specs.Reading.{byte_limit}
 use Rattle.pb_replay.specs.declared.verdict.Verdict.{Verdict}
 use Rattle.pb_replay.specs.declared.verdict.Verdict.TheVariants.{Unsat}
-use Rattle.pb_tool.specs.contract.Pieces.{ChecksAt, IsOpen, place_in}
+use Rattle.pb_tool.specs.contract.Pieces.{ChecksAt, MayGoOn, place_in}
 use Rattle.pb_tool.specs.declared.commands.check.checker.CheckFault.{CheckFault}
 use Rattle.pb_examples.specs.Fed.{Verifies}
 use Rattle.pb_examples.proofs.Sound.{true_of}
@@ -22,8 +22,8 @@ joined_more pieces i d lt =
     ∙ flat_map-append (λ (piece : Bor (List ℕ)). piece.now) (take i pieces) (get_or pieces i d ∷ [])
     ∙ ap (λ (rest : List ℕ). joined (take i pieces) ++ rest) (append-nil (get_or pieces i d).now)
 
-opens : (fault : Option CheckFault) → fault ≡ None → IsOpen fault
-opens fault none = subst IsOpen (sym none) tt
+opens : (fault : Option CheckFault) → fault ≡ None → MayGoOn fault
+opens fault none = subst MayGoOn (sym none) tt
 
 pub loop-piece-init : goal.loop-piece-init
 loop-piece-init c = (c.new-checker.ensures.running, c.new-checker.ensures.stands)

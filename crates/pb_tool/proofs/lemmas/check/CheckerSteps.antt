@@ -38,9 +38,9 @@ use Rattle.pb_replay.specs.declared.fault.Fault.TheVariants.{Memory, NotTotal}
 use Rattle.pb_replay.specs.declared.verdict.Verdict.{Verdict}
 use Rattle.std.specs.Prelude.{IsSome, not, is_some}
 use Rattle.pb_text.proofs.Wholes.{marks_events}
-use Rattle.pb_tool.specs.contract.Checker.{Checking, ProofFeeder, IsAt, IsRunning, Stands, StepsFrom, TextsAreRead}
-use Rattle.pb_tool.specs.contract.Checks.{Checks, IsReplayed, KeepsNames, KeepsNamesOf, Leads, Takes, Refuses}
-use Rattle.pb_tool.specs.contract.Pieces.{AnyCutting, bytes_to, ChecksAt, ChecksOnce, IsOpen, IsUnread, Feeds, AllocatesAt, joined, fault_of, is_whole, place_in}
+use Rattle.pb_tool.specs.contract.Checker.{Checking, ProofFeeder, IsAt, IsAccepting, ChecksSoFar, StepsFrom, TextsAreRead}
+use Rattle.pb_tool.specs.contract.Checks.{Checks, IsReplayed, KeepsNames, KeepsNamesOf, LeadsTo, StepsTo, Rejects}
+use Rattle.pb_tool.specs.contract.Pieces.{AnyCutting, bytes_to, ChecksAt, ChecksOnce, MayGoOn, IsNoReadFault, FeedsInTurn, AllocatesAt, joined, fault_of, is_whole, place_in}
 use Rattle.pb_tool.specs.declared.commands.check.checker.CheckFault.{CheckFault}
 use Rattle.pb_tool.specs.declared.commands.check.checker.CheckFault.TheVariants.{Text, Step}
 use Rattle.pb_tool.proofs.lemmas.check.Prefixes.{no_front}
@@ -66,17 +66,17 @@ module _ (limit top : ℕ) (v : Problem) where
   accepts_more (n ∷ marks) m s u t h k = (h.0, h.1, accepts_more marks m h.0 u t h.2 k)
 
 module _ (limits : Limits) (v : Problem) where
-  leads_more : (first : Result State Fault) (marks : List (Spanned Statement)) (m : Spanned Statement) (now : Result State Fault) (t : State) → Leads limits v first (events_at marks) now → Takes limits v now m.event t → Leads limits v first (events_at (marks ++ m ∷ [])) (Ok t)
+  leads_more : (first : Result State Fault) (marks : List (Spanned Statement)) (m : Spanned Statement) (now : Result State Fault) (t : State) → LeadsTo limits v first (events_at marks) now → StepsTo limits v now m.event t → LeadsTo limits v first (events_at (marks ++ m ∷ [])) (Ok t)
   leads_more (Ok s) marks m now t (u, is, h) k =
-      (t, refl, accepts_more (largest limits) (top_of limits) v marks m s u t h (subst (λ (x : Result State Fault). Takes limits v x m.event t) is k))
-  leads_more (Err e) marks m now t (none, is) k = absurd (subst (λ (x : Result State Fault). Takes limits v x m.event t) is k)
+      (t, refl, accepts_more (largest limits) (top_of limits) v marks m s u t h (subst (λ (x : Result State Fault). StepsTo limits v x m.event t) is k))
+  leads_more (Err e) marks m now t (none, is) k = absurd (subst (λ (x : Result State Fault). StepsTo limits v x m.event t) is k)
 
 -- ---- a step
 module _ (limits : Limits) (v : Problem) where
-  took : (old new : Replaying) (m : Spanned Statement) → old.limits ≡ limits → old.problem ≡ v → StepsAs old m.event (Ok tt) new → (s : State) → StandsFor old s → (t : State) × IsAt new (Ok t) × Takes limits v (Ok s) m.event t
+  took : (old new : Replaying) (m : Spanned Statement) → old.limits ≡ limits → old.problem ≡ v → StepsAs old m.event (Ok tt) new → (s : State) → StandsFor old s → (t : State) × IsAt new (Ok t) × StepsTo limits v (Ok s) m.event t
   took old new m l p steps s at =
       let (t, to, out) = steps.0 s at in
-      (t, (steps.1, to), subst (λ (x : Limits). Takes x v (Ok s) m.event t) l (subst (λ (x : Problem). Takes old.limits x (Ok s) m.event t) p out))
+      (t, (steps.1, to), subst (λ (x : Limits). StepsTo x v (Ok s) m.event t) l (subst (λ (x : Problem). StepsTo old.limits x (Ok s) m.event t) p out))
 
 pub stepped_ok : (old new : Replaying) (m : Spanned Statement) → (old.fault ≡ None → StepsAs old m.event (Ok tt) new) → ((e : Fault) → old.fault ≡ Some e → ◌≡◌ {A = Result Unit Fault} (Ok tt) (Err e)) → (now : Result State Fault) → IsAt old now → StepsFrom old.limits old.problem now m (Ok tt) new
 stepped_ok old new m steps again (Ok s) at = took old.limits old.problem old new m refl refl (steps at.0) s at.1
@@ -87,7 +87,7 @@ pub stepped_err : (old new : Replaying) (m : Spanned Statement) (e : Fault) (x :
     → ((d : Fault) → old.fault ≡ Some d → e ≡ d) → (now : Result State Fault) → IsAt old now → StepsFrom old.limits old.problem now m (Err x) new
 stepped_err old new m e x is steps wants again (Ok s) at = (e, is, by (steps at.0).0)
   where
-    by : (e ≡ Memory) ⊎ ((s : State) → StandsFor old s → Outcome (largest old.limits) (top_of old.limits) old.problem s m.event (Err e)) → Refuses old.limits old.problem (Ok s) m.event e
+    by : (e ≡ Memory) ⊎ ((s : State) → StandsFor old s → Outcome (largest old.limits) (top_of old.limits) old.problem s m.event (Err e)) → Rejects old.limits old.problem (Ok s) m.event e
     by (inl memory) = inl (memory, subst (λ (p : Stage). MayWantAt (largest old.limits) (top_of old.limits) old.problem p m.event) (sym at.1.next) (wants at.0 memory))
     by (inr h) = inr (h s at.1)
 stepped_err old new m e x is steps wants again (Err d) at = (e, is, again d at)
@@ -144,14 +144,14 @@ given (Some x) i e = absurd (cc e)
 
 module _ (whole : WholeProofsConclude) (limits : Limits) (longest : ℕ) (v : Problem) (first : Result State Fault) where
   -- the replay was in a state, and is in one
-  pub there : (input used : List ℕ) (marks : List (Spanned Statement)) (place : Place) (now : Result State Fault) → Reads (IsProof (largest limits) (top_of limits)) longest input used marks place true None → Leads limits v first (events_at marks) now → (t : State) × (now ≡ Ok t) × (verdict_at t.next t.concluded ≡ None → ⊥)
+  pub there : (input used : List ℕ) (marks : List (Spanned Statement)) (place : Place) (now : Result State Fault) → Reads (IsProof (largest limits) (top_of limits)) longest input used marks place true None → LeadsTo limits v first (events_at marks) now → (t : State) × (now ≡ Ok t) × (verdict_at t.next t.concluded ≡ None → ⊥)
   there input used marks place now r leads =
       let s = r.answer.0 in
       let (pf, spells) = s.spelled in
       let same = spelled_events (IsProof (largest limits) (top_of limits)) longest used marks s ∙ spells.1 in
-      by first pf (subst (λ (x : List Statement). Leads limits v first x now) same leads)
+      by first pf (subst (λ (x : List Statement). LeadsTo limits v first x now) same leads)
     where
-      by : (first : Result State Fault) (pf : Proof) → Leads limits v first (Header ∷ F pf.count ∷ (pf.steps ++ Output ∷ Conclude pf.conclusion ∷ End ∷ [])) now → (t : State) × (now ≡ Ok t) × (verdict_at t.next t.concluded ≡ None → ⊥)
+      by : (first : Result State Fault) (pf : Proof) → LeadsTo limits v first (Header ∷ F pf.count ∷ (pf.steps ++ Output ∷ Conclude pf.conclusion ∷ End ∷ [])) now → (t : State) × (now ≡ Ok t) × (verdict_at t.next t.concluded ≡ None → ⊥)
       by (Ok s) pf (t, is, accepted) = (t, is, given (verdict_at t.next t.concluded) (whole (largest limits) (top_of limits) v pf s t accepted))
       by (Err e) pf (none, is) = absurd (cc none)
 
@@ -164,16 +164,16 @@ shown_at r t (unspent, at) =
 fed_with : (fed : Fed Statement) (event : Option (Spanned Statement)) → fed.event ≡ event → fed ≡ record { used = fed.used; event = event }
 fed_with fed event e = ap (λ (x : Option (Spanned Statement)). let y : Fed Statement = record { used = fed.used; event = x } in y) e
 
-pub running_at : (limits : Limits) (longest : ℕ) (v : Problem) (first : Result State Fault) (input : List ℕ) (f : ProofFeeder) (r : Replaying) (e : Option CheckFault) → e ≡ None → Stands limits longest v first input f r e → IsRunning limits longest v first input f r
+pub running_at : (limits : Limits) (longest : ℕ) (v : Problem) (first : Result State Fault) (input : List ℕ) (f : ProofFeeder) (r : Replaying) (e : Option CheckFault) → e ≡ None → ChecksSoFar limits longest v first input f r e → IsAccepting limits longest v first input f r
 running_at limits longest v first input f r None e h = h
 running_at limits longest v first input f r (Some x) e h = absurd (cc e)
 
-stands_at : (limits : Limits) (longest : ℕ) (v : Problem) (first : Result State Fault) (input : List ℕ) (f : ProofFeeder) (r : Replaying) (e : Option CheckFault) → e ≡ None → IsRunning limits longest v first input f r → Stands limits longest v first input f r e
+stands_at : (limits : Limits) (longest : ℕ) (v : Problem) (first : Result State Fault) (input : List ℕ) (f : ProofFeeder) (r : Replaying) (e : Option CheckFault) → e ≡ None → IsAccepting limits longest v first input f r → ChecksSoFar limits longest v first input f r e
 stands_at limits longest v first input f r None e h = h
 stands_at limits longest v first input f r (Some x) e h = absurd (cc e)
 
-module _ (read : TextsAreRead) (limits : Limits) (longest : ℕ) (v : Problem) (first : Result State Fault) (input : List ℕ) (f : ProofFeeder) (r : Replaying) (e : Option CheckFault) (none : e ≡ None) (h : Stands limits longest v first input f r e) where
-  abbrev pub now : IsRunning limits longest v first input f r
+module _ (read : TextsAreRead) (limits : Limits) (longest : ℕ) (v : Problem) (first : Result State Fault) (input : List ℕ) (f : ProofFeeder) (r : Replaying) (e : Option CheckFault) (none : e ≡ None) (h : ChecksSoFar limits longest v first input f r e) where
+  abbrev pub now : IsAccepting limits longest v first input f r
   now = running_at limits longest v first input f r e none h
 
   pub running_text : halt_of f ≡ None
@@ -221,7 +221,7 @@ module _ (read : TextsAreRead) (limits : Limits) (longest : ℕ) (v : Problem) (
     owed : IsOpenText f.stop
     owed = subst IsOpenText (sym now.running) tt
 
-    pub quiet : (fed : Fed Statement) → fed.event ≡ None → FeedsOnce f piece (Ok fed) n → halt_of n ≡ None → Stands limits longest v first (input ++ piece) n r e
+    pub quiet : (fed : Fed Statement) → fed.event ≡ None → FeedsOnce f piece (Ok fed) n → halt_of n ≡ None → ChecksSoFar limits longest v first (input ++ piece) n r e
     quiet fed event feeds running =
         let feeds : FeedsOnce f piece (Ok (record { used = fed.used; event = None })) n = subst (λ (x : Fed Statement). FeedsOnce f piece (Ok x) n) (fed_with fed None event) feeds in
         stands_at limits longest v first (input ++ piece) n r e none (record {
@@ -272,7 +272,7 @@ module _ (read : TextsAreRead) (limits : Limits) (longest : ℕ) (v : Problem) (
       pub is_value : ReadStatements → IsStatementValue (largest r.limits) (top_of r.limits) m.event
       is_value values = subst (λ (x : Limits). IsStatementValue (largest x) (top_of x) m.event) (sym now.limits_are) (last_is_value values (largest limits) (top_of limits) longest (input ++ take fed.used piece) said.0 now.marks m (place_of n) (is_complete n) said.1)
 
-      running_on : (t : Replaying) → StepsFrom r.limits r.problem now.now m (Ok tt) t → t.limits ≡ r.limits → t.problem ≡ r.problem → IsRunning limits longest v first (input ++ take fed.used piece) n t
+      running_on : (t : Replaying) → StepsFrom r.limits r.problem now.now m (Ok tt) t → t.limits ≡ r.limits → t.problem ≡ r.problem → IsAccepting limits longest v first (input ++ take fed.used piece) n t
       running_on t (s, at, takes) limited problem = record {
         marks = now.marks ++ m ∷ [];
         stands = stands;
@@ -281,17 +281,17 @@ module _ (read : TextsAreRead) (limits : Limits) (longest : ℕ) (v : Problem) (
         problem = problem ∙ now.problem;
         now = Ok s;
         at = at;
-        accepted = leads_more limits v first now.marks m now.now s now.accepted (subst (λ (x : Problem). Takes limits x now.now m.event s) now.problem (subst (λ (x : Limits). Takes x r.problem now.now m.event s) now.limits_are takes));
+        accepted = leads_more limits v first now.marks m now.now s now.accepted (subst (λ (x : Problem). StepsTo limits x now.now m.event s) now.problem (subst (λ (x : Limits). StepsTo x r.problem now.now m.event s) now.limits_are takes));
       }
 
-      pub stepped : (t : Replaying) → ((before : Result State Fault) → IsAt r before → StepsFrom r.limits r.problem before m (Ok tt) t) → t.limits ≡ r.limits → t.problem ≡ r.problem → Stands limits longest v first (input ++ take fed.used piece) n t e
+      pub stepped : (t : Replaying) → ((before : Result State Fault) → IsAt r before → StepsFrom r.limits r.problem before m (Ok tt) t) → t.limits ≡ r.limits → t.problem ≡ r.problem → ChecksSoFar limits longest v first (input ++ take fed.used piece) n t e
       stepped t steps limited problem = stands_at limits longest v first (input ++ take fed.used piece) n t e none (running_on t (steps now.now now.at) limited problem)
 
       kept_by : (t : Replaying) (why : Fault) → IsFront r.names t.names → ((n : ℕ) → why ≡ NotTotal n → n < length r.names) → (x : Result State Fault) → IsAt r x → KeepsNamesOf x t.names why
       kept_by t why front old (Ok s) at = subst (λ (y : List (List ℕ)). KeepsNames y t.names why) (sym at.1.names) (front, old)
       kept_by t why front old (Err e) at = tt
 
-      refused_by : (t : Replaying) (why : Fault) → Refuses r.limits r.problem now.now m.event why → IsFront r.names t.names → ((n : ℕ) → why ≡ NotTotal n → n < length r.names) → Stands limits longest v first (input ++ piece) n t (Some (Step m.first why))
+      refused_by : (t : Replaying) (why : Fault) → Rejects r.limits r.problem now.now m.event why → IsFront r.names t.names → ((n : ℕ) → why ≡ NotTotal n → n < length r.names) → ChecksSoFar limits longest v first (input ++ piece) n t (Some (Step m.first why))
       refused_by t why refuses front old = (
         record {
           used = said.0;
@@ -304,7 +304,7 @@ module _ (read : TextsAreRead) (limits : Limits) (longest : ℕ) (v : Problem) (
           reads = used_alone (largest limits) (top_of limits) longest (input ++ take fed.used piece) said.0 (now.marks ++ m ∷ []) (place_of n) (is_complete n) said.1;
           begins_is = refl;
           accepted = now.accepted;
-          refused = subst (λ (x : Problem). Refuses limits x now.now m.event why) now.problem (subst (λ (x : Limits). Refuses x r.problem now.now m.event why) now.limits_are refuses);
+          refused = subst (λ (x : Problem). Rejects limits x now.now m.event why) now.problem (subst (λ (x : Limits). Rejects x r.problem now.now m.event why) now.limits_are refuses);
         },
         kept_by t why front old now.now now.at,
       )
@@ -312,14 +312,14 @@ module _ (read : TextsAreRead) (limits : Limits) (longest : ℕ) (v : Problem) (
       abbrev Refusing : Replaying → CheckFault → Type 0
       Refusing t x = (before : Result State Fault) → IsAt r before → StepsFrom r.limits r.problem before m (Err x) t
 
-      pub refused : (t : Replaying) (x : CheckFault) → Refusing t x → IsFront r.names t.names → TellsOld r x → Stands limits longest v first (input ++ piece) n t (Some x)
+      pub refused : (t : Replaying) (x : CheckFault) → Refusing t x → IsFront r.names t.names → TellsOld r x → ChecksSoFar limits longest v first (input ++ piece) n t (Some x)
       refused t x steps front old =
           let (why, is, refuses) = steps now.now now.at in
-          subst (λ (y : CheckFault). Stands limits longest v first (input ++ piece) n t (Some y)) (sym is)
+          subst (λ (y : CheckFault). ChecksSoFar limits longest v first (input ++ piece) n t (Some y)) (sym is)
           (refused_by t why refuses front (λ k h. old m.first k (ap (λ (y : CheckFault). failed y) (is ∙ ap (λ (z : Fault). Step m.first z) h))))
 
-      pub unread_step : (t : Replaying) (x : CheckFault) → Refusing t x → IsUnread x
-      unread_step t x steps = let (why, is, refuses) = steps now.now now.at in subst IsUnread (sym is) tt
+      pub unread_step : (t : Replaying) (x : CheckFault) → Refusing t x → IsNoReadFault x
+      unread_step t x steps = let (why, is, refuses) = steps now.now now.at in subst IsNoReadFault (sym is) tt
 
       pub wanted_step : (t : Replaying) (x : CheckFault) → Refusing t x → AllocatesAt limits (input ++ piece) x
       wanted_step t x steps = let (why, is, refuses) = steps now.now now.at in subst (AllocatesAt limits (input ++ piece)) (sym is) tt
@@ -334,7 +334,7 @@ module _ (limit top longest : ℕ) (used left piece : List ℕ) where
   explained reason.Read c h = h
   explained reason.Memory c (b, more, e, viable, room) = (b, more ++ piece, ap (λ (x : List ℕ). x ++ piece) e, viable, room)
 
-later : (limits : Limits) (longest : ℕ) (v : Problem) (first : Result State Fault) (input piece : List ℕ) (f : ProofFeeder) (r : Replaying) (e : CheckFault) → IsOpen (Some e) → Stands limits longest v first input f r (Some e) → Stands limits longest v first (input ++ piece) f r (Some e)
+later : (limits : Limits) (longest : ℕ) (v : Problem) (first : Result State Fault) (input piece : List ℕ) (f : ProofFeeder) (r : Replaying) (e : CheckFault) → MayGoOn (Some e) → ChecksSoFar limits longest v first input f r (Some e) → ChecksSoFar limits longest v first (input ++ piece) f r (Some e)
 later limits longest v first input piece f r (Text s) counts (now, h) = (
   now,
   record {
@@ -370,7 +370,7 @@ later limits longest v first input piece f r (Step begins e) counts (h, kept) = 
 pub stays : (c : Checking) (piece : List ℕ) (e : CheckFault) → c.fault ≡ Some e → ChecksOnce c piece c
 stays c piece e is = (λ limits longest v first input owed h. by limits longest v first input c.fault is owed h, λ owed. owed)
   where
-    by : (limits : Limits) (longest : ℕ) (v : Problem) (first : Result State Fault) (input : List ℕ) (x : Option CheckFault) → x ≡ Some e → IsOpen x → Stands limits longest v first input c.feeder c.replay x → Stands limits longest v first (input ++ piece) c.feeder c.replay x
+    by : (limits : Limits) (longest : ℕ) (v : Problem) (first : Result State Fault) (input : List ℕ) (x : Option CheckFault) → x ≡ Some e → MayGoOn x → ChecksSoFar limits longest v first input c.feeder c.replay x → ChecksSoFar limits longest v first (input ++ piece) c.feeder c.replay x
     by limits longest v first input None is owed h = absurd (cc is)
     by limits longest v first input (Some x) is owed h = later limits longest v first input piece c.feeder c.replay x owed h
 
@@ -392,13 +392,13 @@ to_all false used piece h = refl
 
 -- ---- feeds in a row
 module _ (read : TextsAreRead) (limits : Limits) (longest : ℕ) (v : Problem) (first : Result State Fault) where
-  row : (input : List ℕ) (before after : Checking) (pieces : List (List ℕ)) → ChecksAt limits longest v first input before → IsOpen (fault_of before) → Feeds before pieces after → ChecksAt limits longest v first (input ++ joined pieces) after
+  row : (input : List ℕ) (before after : Checking) (pieces : List (List ℕ)) → ChecksAt limits longest v first input before → MayGoOn (fault_of before) → FeedsInTurn before pieces after → ChecksAt limits longest v first (input ++ joined pieces) after
   row input before after [] h owed e = subst (λ (x : Checking). ChecksAt limits longest v first (input ++ []) x) e (rw append-nil h)
   row input before after (piece ∷ pieces) h owed (mid, once, rest) =
       subst (λ (x : List ℕ). ChecksAt limits longest v first x after) (append_assoc input piece (joined pieces))
       (row (input ++ piece) mid after pieces (once.0 limits longest v first input owed h) (once.1 owed) rest)
 
-  seen : (input : List ℕ) (c : Checking) (x : Option CheckFault) → Stands limits longest v first input c.feeder c.replay x → Checks limits longest v first input (place_in c) (is_whole c) x
+  seen : (input : List ℕ) (c : Checking) (x : Option CheckFault) → ChecksSoFar limits longest v first input c.feeder c.replay x → Checks limits longest v first input (place_in c) (is_whole c) x
   seen input c None h = ((now read limits longest v first input c.feeder c.replay None refl h).now, replayed read limits longest v first input c.feeder c.replay None refl h)
   seen input c (Some (Text s)) h = h
   seen input c (Some (Step begins e)) h = h.0
@@ -415,6 +415,6 @@ somewhere r sound = by r.fault refl
     by None e = let (s, at, right) = sound e in (Ok s, (e, at))
     by (Some x) e = (Err x, e)
 
-pub leads_none : (limits : Limits) (v : Problem) (first : Result State Fault) → Leads limits v first [] first
+pub leads_none : (limits : Limits) (v : Problem) (first : Result State Fault) → LeadsTo limits v first [] first
 leads_none limits v (Ok s) = (s, refl, refl)
 leads_none limits v (Err e) = (refl, refl)

@@ -22,7 +22,7 @@ use Rattle.pb_replay.specs.declared.verdict.Verdict.{Verdict}
 use Rattle.pb_tool.specs.contract.Checker.{IsAt, StepsFrom}
 use Rattle.pb_text.specs.Whole.{events_at}
 use Rattle.pb_tool.specs.meaning.Files.{AsksInProofText, IsProofText}
-use Rattle.pb_tool.specs.contract.Runs.{IsReportedAs, Replays, Runs}
+use Rattle.pb_tool.specs.contract.Runs.{IsReportedAs, Replays, RunsProof}
 use Rattle.pb_tool.specs.meaning.Verified.{AfterProof, InProof, IsAccepted, IsRefusedText}
 use Rattle.pb_tool.specs.declared.commands.check.checker.CheckFault.{CheckFault}
 use Rattle.pb_tool.specs.declared.commands.check.checker.CheckFault.TheVariants as check
@@ -46,7 +46,7 @@ module _ (limits : Limits) (longest : ℕ) (v : Problem) (first : State) where
 
   module _ (before mid after : List ℕ) (new : Replaying) (ended : Verdict × Place) where
     -- a whole proof, and a blank rest
-    pub given_whole : OfGiven (λ left rest. Runs limits longest v first left (Ok ended) rest new) before mid → OfGiven (λ left rest. ReadsBlank ended.1 left (Ok tt) rest) mid after → OfGiven (λ left rest. Replays limits longest v first left (Ok ended.0) rest) before after
+    pub given_whole : OfGiven (λ left rest. RunsProof limits longest v first left (Ok ended) rest new) before mid → OfGiven (λ left rest. ReadsBlank ended.1 left (Ok tt) rest) mid after → OfGiven (λ left rest. Replays limits longest v first left (Ok ended.0) rest) before after
     given_whole (used, seen, e, (last, a, claimed)) (rest, end, f, blank) = (
       used ++ rest,
       end,
@@ -57,7 +57,7 @@ module _ (limits : Limits) (longest : ℕ) (v : Problem) (first : State) where
     )
 
     -- a whole proof, and a rest that is not blank
-    behind : (s : Stop) → OfGiven (λ left rest. Runs limits longest v first left (Ok ended) rest new) before mid → OfGiven (λ left rest. ReadsBlank ended.1 left (Err s) rest) mid after → OfGiven (λ left rest. IsRefusedText limits longest v first left rest s) before after
+    behind : (s : Stop) → OfGiven (λ left rest. RunsProof limits longest v first left (Ok ended) rest new) before mid → OfGiven (λ left rest. ReadsBlank ended.1 left (Err s) rest) mid after → OfGiven (λ left rest. IsRefusedText limits longest v first left rest s) before after
     behind s (used, seen, e, (last, a, claimed)) (rest, more, f, blank) = (
       used ++ rest,
       more,
@@ -66,16 +66,16 @@ module _ (limits : Limits) (longest : ℕ) (v : Problem) (first : State) where
           (AfterProof (Some (rest ++ more)) ended.1 last ended.0 (accepted_of used seen (rest ++ more) ended.1 last a) claimed blank),
     )
 
-    pub given_rest : (s : Stop) (f : ToolFault) → f ≡ Text of_proof s → OfGiven (λ left rest. Runs limits longest v first left (Ok ended) rest new) before mid → OfGiven (λ left rest. ReadsBlank ended.1 left (Err s) rest) mid after → OfGiven (λ left rest. Replays limits longest v first left (Err f) rest) before after
+    pub given_rest : (s : Stop) (f : ToolFault) → f ≡ Text of_proof s → OfGiven (λ left rest. RunsProof limits longest v first left (Ok ended) rest new) before mid → OfGiven (λ left rest. ReadsBlank ended.1 left (Err s) rest) mid after → OfGiven (λ left rest. Replays limits longest v first left (Err f) rest) before after
     given_rest s f is runs rest = subst (λ (x : ToolFault). OfGiven (λ left end. Replays limits longest v first left (Err x) end) before after) (sym is) (behind s runs rest)
 
   module _ (before after : List ℕ) (new : Replaying) (f : ToolFault) where
     -- a text that stopped
-    pub given_text : (s : Stop) → f ≡ Text of_proof s → OfGiven (λ left rest. Runs limits longest v first left (Err (check.Text s)) rest new) before after → OfGiven (λ left rest. Replays limits longest v first left (Err f) rest) before after
+    pub given_text : (s : Stop) → f ≡ Text of_proof s → OfGiven (λ left rest. RunsProof limits longest v first left (Err (check.Text s)) rest new) before after → OfGiven (λ left rest. Replays limits longest v first left (Err f) rest) before after
     given_text s is (given, seen, e, (last, accepted, asking)) = (given, seen, e, subst (λ (x : ToolFault). Replays limits longest v first (Some (given ++ seen)) (Err x) (Some seen)) (sym is) (InProof last accepted asking))
 
     -- a rejected statement, with the name that the fault gives
-    pub given_report : UnvaluedMayWant → (place : Place) (e : Fault) → IsReportedAs new.names place e f → OfGiven (λ left rest. Runs limits longest v first left (Err (check.Step place e)) rest new) before after → OfGiven (λ left rest. Replays limits longest v first left (Err f) rest) before after
+    pub given_report : UnvaluedMayWant → (place : Place) (e : Fault) → IsReportedAs new.names place e f → OfGiven (λ left rest. RunsProof limits longest v first left (Err (check.Step place e)) rest new) before after → OfGiven (λ left rest. Replays limits longest v first left (Err f) rest) before after
     given_report law place e told (given, seen, is, runs) = (given, seen, is, step_report limits longest v first (Some (given ++ seen)) law (Some seen) new place e f runs told)
 
 -- ---- a run through the statements
@@ -83,13 +83,13 @@ module _ (limits : Limits) (longest : ℕ) (v : Problem) (first : State) where
 module _ (exact : ReadsProofs) (limits : Limits) (longest : ℕ) (before after : List ℕ) (v : Problem) (first : State) (r : Replaying) (marks : List (Spanned Statement))
     (led : (t : State) × StandsFor r t × Accepts (largest limits) (top_of limits) v first (events_at marks) t) (new : Replaying) where
   pub given_stopped : ((used : List ℕ) (b : ℕ) → replayed.MayTake limits used b → AsksInProofText limits used b) → (s : Stop)
-      → OfGiven (λ left rest. (all : TookAll (replayed.Taken limits) longest left rest marks s.place false (Some s)) × IsAsking (replayed.MayTake limits) all.used all.seen s.why) before after → OfGiven (λ left rest. Runs limits longest v first left (Err (check.Text s)) rest new) before after
+      → OfGiven (λ left rest. (all : TookAll (replayed.Taken limits) longest left rest marks s.place false (Some s)) × IsAsking (replayed.MayTake limits) all.used all.seen s.why) before after → OfGiven (λ left rest. RunsProof limits longest v first left (Err (check.Text s)) rest new) before after
   given_stopped asks s (given, seen, e, all) = (given, seen, e, replayed.stopped exact limits longest (Some (given ++ seen)) (Some seen) v first r marks led asks s all)
 
   module _ (none : r.fault ≡ None) where
-    pub given_ended : (place at : Place) (w : Verdict) → place ≡ at → Some w ≡ verdict_in r → OfGiven (λ left rest. TookAll (replayed.Taken limits) longest left rest marks place true None) before after → OfGiven (λ left rest. Runs limits longest v first left (Ok (w, at)) rest new) before after
+    pub given_ended : (place at : Place) (w : Verdict) → place ≡ at → Some w ≡ verdict_in r → OfGiven (λ left rest. TookAll (replayed.Taken limits) longest left rest marks place true None) before after → OfGiven (λ left rest. RunsProof limits longest v first left (Ok (w, at)) rest new) before after
     given_ended place at w same is (given, seen, e, all) = (given, seen, e, moved limits longest v first (Some (given ++ seen)) (Some seen) place at w same (replayed.ended exact limits longest (Some (given ++ seen)) (Some seen) v first r marks led none place w all is))
 
     pub given_step : (m : Spanned Statement) → r.limits ≡ limits → r.problem ≡ v → (x : CheckFault) → ((now : Result State Fault) → IsAt r now → StepsFrom r.limits r.problem now m (Err x) new) → IsFront r.names new.names → TellsOld r x
-        → OfGiven (λ left rest. TookSoFar (replayed.Taken limits) longest left rest (marks ++ m ∷ []) m.past) before after → OfGiven (λ left rest. Runs limits longest v first left (Err x) rest new) before after
+        → OfGiven (λ left rest. TookSoFar (replayed.Taken limits) longest left rest (marks ++ m ∷ []) m.past) before after → OfGiven (λ left rest. RunsProof limits longest v first left (Err x) rest new) before after
     given_step m limited problem x steps names old (given, seen, e, sofar) = (given, seen, e, replayed.refused_run exact limits longest (Some (given ++ seen)) (Some seen) v first r marks led none new m limited problem x steps names old sofar)

@@ -21,7 +21,7 @@ use Rattle.pb_replay.specs.Problem.{Problem}
 use Rattle.pb_replay.specs.Replay.{State}
 use Rattle.pb_replay.specs.Kept.{Replaying}
 use Rattle.pb_replay.specs.declared.fault.Fault.{Fault}
-use Rattle.pb_tool.specs.contract.Checker.{ProofFeeder, Stands, TextsAreRead}
+use Rattle.pb_tool.specs.contract.Checker.{ProofFeeder, ChecksSoFar, TextsAreRead}
 use Rattle.pb_tool.specs.contract.Pieces.{EndsStatement, HoldsOpen}
 use Rattle.pb_tool.specs.declared.commands.check.checker.CheckFault.{CheckFault}
 use Rattle.pb_tool.proofs.lemmas.check.CheckerSteps.{running_at, told as so_far}
@@ -76,7 +76,7 @@ module _ (apart : NoFront) (limit top longest : ℕ) (used left : List ℕ) (mar
       no_front left (bytes_of rest) (apart limit top s.items (begun ++ rest) (left ++ bytes_of rest) s.spelled whole
       (bytes_joined begun rest ∙ (ap (λ (x : List ℕ). x ++ bytes_of rest) (sym is) ∙ (append_assoc used left (bytes_of rest) ∙ ap (λ (x : List ℕ). x ++ (left ++ bytes_of rest)) (sym s.used_are)))))
 
-module _ (exact : ReadsProofs) (limits : Limits) (longest : ℕ) (v : Problem) (first : Result State Fault) (input : List ℕ) (f : ProofFeeder) (r : Replaying) (e : Option CheckFault) (none : e ≡ None) (h : Stands limits longest v first input f r e) (held : ℕ)
+module _ (exact : ReadsProofs) (limits : Limits) (longest : ℕ) (v : Problem) (first : Result State Fault) (input : List ℕ) (f : ProofFeeder) (r : Replaying) (e : Option CheckFault) (none : e ≡ None) (h : ChecksSoFar limits longest v first input f r e) (held : ℕ)
     (few : (longest : ℕ) (start : ProofState) (input : List ℕ) (marks : List (Spanned Statement)) → StandsAt longest start input marks f → HoldsFew start input f held) where
   pub open_at : HoldsOpen limits input (place_of f) held
   open_at =

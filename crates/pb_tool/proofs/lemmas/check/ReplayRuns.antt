@@ -28,10 +28,10 @@ use Rattle.pb_replay.specs.declared.fault.Fault.TheVariants as fault
 use Rattle.pb_replay.specs.declared.verdict.Verdict.{Verdict}
 use Rattle.pb_tool.specs.contract.Checker.{IsAt, StepsFrom}
 use Rattle.pb_text.specs.Whole.{events_at}
-use Rattle.pb_tool.specs.contract.Checks.{KeepsNames, Refuses, Takes}
+use Rattle.pb_tool.specs.contract.Checks.{KeepsNames, Rejects, StepsTo}
 use Rattle.pb_replay.specs.Kept.{StandsFor}
 use Rattle.pb_tool.specs.meaning.Files.{AsksInProofText, IsProofText}
-use Rattle.pb_tool.specs.contract.Runs.{Runs, faults_of_text}
+use Rattle.pb_tool.specs.contract.Runs.{RunsProof, faults_of_text}
 use Rattle.pb_tool.specs.contract.Seen.{SawText}
 use Rattle.pb_tool.specs.meaning.Verified.{IsAccepted}
 use Rattle.pb_tool.specs.declared.commands.check.checker.CheckFault.{CheckFault}
@@ -126,19 +126,19 @@ module _ (exact : ReadsProofs) (limits : Limits) (longest : ℕ) where
               let (s, at, takes) = steps (Ok led.0) (none, led.1) in (
                 s,
                 at.1,
-                accepts_more (largest limits) (top_of limits) v marks m first led.0 s led.2 (subst (λ (x : Problem). Takes limits x (Ok led.0) m.event s) problem (subst (λ (x : Limits). Takes x r.problem (Ok led.0) m.event s) limited takes)),
+                accepts_more (largest limits) (top_of limits) v marks m first led.0 s led.2 (subst (λ (x : Problem). StepsTo limits x (Ok led.0) m.event s) problem (subst (λ (x : Limits). StepsTo x r.problem (Ok led.0) m.event s) limited takes)),
               )
 
-          told : (e : Fault) → KeepsNames led.0.names new.names e → Refuses limits v (Ok led.0) m.event e
+          told : (e : Fault) → KeepsNames led.0.names new.names e → Rejects limits v (Ok led.0) m.event e
               → ((e ≡ fault.Memory) × MayWantAt (largest limits) (top_of limits) v led.0.next m.event) ⊎ (Outcome (largest limits) (top_of limits) v led.0 m.event (Err e) × KeepsNames led.0.names new.names e)
           told e names (inl h) = inl h
           told e names (inr h) = inr (h, names)
 
-          pub refused_run : (x : CheckFault) → Answers r m (Err x) new → IsFront r.names new.names → TellsOld r x → HasSoFar (marks ++ m ∷ []) m.past → Runs limits longest v first before (Err x) after new
+          pub refused_run : (x : CheckFault) → Answers r m (Err x) new → IsFront r.names new.names → TellsOld r x → HasSoFar (marks ++ m ∷ []) m.past → RunsProof limits longest v first before (Err x) after new
           refused_run x steps names old t =
               let (e, is, refuses) = steps (Ok led.0) (none, led.1) in
-              let here = subst (λ (y : Problem). Refuses limits y (Ok led.0) m.event e) problem (subst (λ (y : Limits). Refuses y r.problem (Ok led.0) m.event e) limited refuses) in
-              subst (λ (y : CheckFault). Runs limits longest v first before (Err y) after new) (sym is) (
+              let here = subst (λ (y : Problem). Rejects limits y (Ok led.0) m.event e) problem (subst (λ (y : Limits). Rejects y r.problem (Ok led.0) m.event e) limited refuses) in
+              subst (λ (y : CheckFault). RunsProof limits longest v first before (Err y) after new) (sym is) (
                 m.event,
                 led.0,
                 record { marks = marks; last = m; took = read_so_far (marks ++ m ∷ []) m.past t; begins_is = refl; statement = refl; accepted = led.2 },

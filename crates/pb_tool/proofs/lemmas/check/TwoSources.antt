@@ -24,7 +24,7 @@ use Rattle.pb_replay.specs.declared.fault.Fault.TheVariants as why
 use Rattle.pb_replay.specs.declared.verdict.Verdict.{Verdict}
 use Rattle.pb_tool.specs.meaning.Files.{IsProofText}
 use Rattle.pb_tool.specs.contract.Checks.{KeepsNames}
-use Rattle.pb_tool.specs.contract.Runs.{IsNoReplay, IsReplayOf, IsReportedAs, Replays, Runs, faults_of_instance}
+use Rattle.pb_tool.specs.contract.Runs.{IsNoReplay, IsReplayOf, IsReportedAs, Replays, RunsProof, faults_of_instance}
 use Rattle.pb_tool.specs.meaning.Verified.{ChecksFiles, IsAccepted, IsReported, IsVerified, verdict_line}
 use Rattle.pb_tool.specs.declared.commands.check.checker.CheckFault.TheVariants as check
 use Rattle.pb_tool.specs.declared.fault.ToolFault.{ToolFault}
@@ -72,7 +72,7 @@ module _ (limits : Limits) (longest : ℕ) (v : Problem) (first : State) (before
       )
 
   -- a rejected statement, with the name that the fault gives
-  pub step_report : UnvaluedMayWant → (after : Option (List ℕ)) (new : Replaying) (place : Place) (e : Fault) (f : ToolFault) → Runs limits longest v first before (Err (check.Step place e)) after new → IsReportedAs new.names place e f → Replays limits longest v first before (Err f) after
+  pub step_report : UnvaluedMayWant → (after : Option (List ℕ)) (new : Replaying) (place : Place) (e : Fault) (f : ToolFault) → RunsProof limits longest v first before (Err (check.Step place e)) after new → IsReportedAs new.names place e f → Replays limits longest v first before (Err f) after
   step_report law after new place e (Step at x name) (st, state, comes, why) (is, told) = (
     st,
     state,

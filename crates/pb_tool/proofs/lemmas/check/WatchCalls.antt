@@ -20,11 +20,11 @@ use Rattle.pb_replay.specs.declared.fault.Fault.{Fault}
 use Rattle.pb_replay.specs.declared.fault.Fault.TheVariants.{Memory as no_memory, NotTotal}
 use Rattle.pb_replay.specs.declared.verdict.Verdict.{Verdict}
 use Rattle.pb_tool.specs.contract.Checker.{IsAt, StepsFrom}
-use Rattle.pb_tool.specs.contract.Checks.{KeepsNames, Takes}
+use Rattle.pb_tool.specs.contract.Checks.{KeepsNames, StepsTo}
 use Rattle.pb_tool.specs.meaning.Files.{IsProofText}
 use Rattle.pb_tool.specs.contract.Runs.{IsNoReplay, IsReplayOf, IsReportedAs}
 use Rattle.pb_tool.specs.meaning.Verified.{IsReported}
-use Rattle.pb_tool.specs.contract.Watched.{Call, Accepted, Rejected, GotEach, IsShown, IsShownUpTo, IsShownWhole, IsWatched, ShowsEach, ShowsProof, ShowsRun}
+use Rattle.pb_tool.specs.contract.Watched.{Call, Accepted, Rejected, GotEach, HasSeen, HasSeenUpTo, HasSeenWhole, IsWatched, ShowsEach, ShowsProof, ShowsRun}
 use Rattle.pb_tool.specs.declared.commands.check.checker.CheckFault.{CheckFault}
 use Rattle.pb_tool.specs.declared.commands.check.checker.CheckFault.TheVariants as check
 use Rattle.pb_tool.specs.declared.fault.ToolFault.{ToolFault}
@@ -73,7 +73,7 @@ module _ {V : Type 0} (got : V → Call → V → Type 0) (old : V) (began : Rep
     next_shown steps first at =
         let (t, stands, shows) = h.2 first at in
         let (u, now, takes) = steps (Ok t) (none, stands) in
-        let here = subst (λ (x : Problem). Takes began.limits x (Ok t) m.event u) problem (subst (λ (x : Limits). Takes x r.problem (Ok t) m.event u) limited takes) in
+        let here = subst (λ (x : Problem). StepsTo began.limits x (Ok t) m.event u) problem (subst (λ (x : Limits). StepsTo x r.problem (Ok t) m.event u) limited takes) in
         (u, now.1, shows_more began.limits began.problem first marks h.0 t m new u shows here now.1 now.0)
 
     pub shown_next : Answers r m (Ok tt) new → got mid (Accepted m new) after → HasShown got old began (marks ++ m ∷ []) after new
@@ -106,7 +106,7 @@ module _ {V : Type 0} (got : V → Call → V → Type 0) (old : V) (began : Rep
 
   module _ (exact : ReadsProofs) (longest : ℕ) (first : State) (at : StandsFor began first) (marks : List (Spanned Statement)) (new : V) (r : Replaying) (h : HasShown got old began marks new r) where
     -- all that was read
-    shown_all : (before rest : Option (List ℕ)) (place : Place) (done : Bool) (stop : Option Stop) → TookAll (Taken began.limits) longest before rest marks place done stop → IsShown began.limits longest got began.problem first before old rest place done stop new
+    shown_all : (before rest : Option (List ℕ)) (place : Place) (done : Bool) (stop : Option Stop) → TookAll (Taken began.limits) longest before rest marks place done stop → HasSeen began.limits longest got began.problem first before old rest place done stop new
     shown_all before rest place done stop t =
         let (last, stands, shows) = h.2 first at in
         record {
@@ -129,7 +129,7 @@ module _ {V : Type 0} (got : V → Call → V → Type 0) (old : V) (began : Rep
 
     pub shown_ended : (before rest : Option (List ℕ)) (place at : Place) (w : Verdict) → place ≡ at → TookAll (Taken began.limits) longest before rest marks place true None
         → ShowsRun began.limits longest got began.problem first before old (Ok (w, at)) rest new
-    shown_ended before rest place at w same all = subst (λ (p : Place). IsShown began.limits longest got began.problem first before old rest p true None new) same (shown_all before rest place true None all)
+    shown_ended before rest place at w same all = subst (λ (p : Place). HasSeen began.limits longest got began.problem first before old rest p true None new) same (shown_all before rest place true None all)
 
     pub shown_ended_given : (before rest : List ℕ) (place at : Place) (w : Verdict) → place ≡ at → OfGiven (λ left others. TookAll (Taken began.limits) longest left others marks place true None) before rest
         → OfGiven (λ left others. ShowsRun began.limits longest got began.problem first left old (Ok (w, at)) others new) before rest
@@ -151,7 +151,7 @@ module _ (limits : Limits) (longest : ℕ) {V : Type 0} (got : V → Call → V 
   -- a rejected statement
   pub proof_rejected : (before after : Option (List ℕ)) (names : List (List ℕ)) (place : Place) (e : Fault) (f : ToolFault) → IsReportedAs names place e f → Run (Err (check.Step place e)) before after → Whole (Err f) before after
   proof_rejected before after names place e (Step at x name) (same, why) h =
-      (e, by why, subst (λ (p : Place). IsShownUpTo limits longest got v first before old after p e new) (sym same) h)
+      (e, by why, subst (λ (p : Place). HasSeenUpTo limits longest got v first before old after p e new) (sym same) h)
     where
       by : ((x ≡ no_memory) × ((n : ℕ) × (e ≡ NotTotal n))) ⊎ ((x ≡ e) × IsReported names e (string_bytes name)) → (x ≡ e) ⊎ ((x ≡ no_memory) × (n : ℕ) × (e ≡ NotTotal n))
       by (inl (k, (n, told))) = inr (k, n, told)
@@ -185,14 +185,14 @@ module _ (limits : Limits) (longest : ℕ) {V : Type 0} (got : V → Call → V 
   given_proof_rejected before after names place e f told (given, seen, is, h) = (given, seen, is, proof_rejected limits longest got v first old new (Some (given ++ seen)) (Some seen) names place e f told h)
 
   -- the whole proof, with another rest
-  whole_of : (used seen other : List ℕ) (place : Place) → IsShown limits longest got v first (Some (used ++ seen)) old (Some seen) place true None new → IsShown limits longest got v first (Some (used ++ other)) old (Some other) place true None new
+  whole_of : (used seen other : List ℕ) (place : Place) → HasSeen limits longest got v first (Some (used ++ seen)) old (Some seen) place true None new → HasSeen limits longest got v first (Some (used ++ other)) old (Some other) place true None new
   whole_of used seen other place h =
       record { marks = h.marks; took = all_of (IsProofText limits) longest used seen other h.marks place h.took; calls = h.calls; last = h.last; shows = h.shows; got_are = h.got_are }
 
   -- with all bytes that follow it
-  whole_with : (used seen rest end : List ℕ) (place : Place) → IsShown limits longest got v first (Some (used ++ seen)) old (Some seen) place true None new → IsShownWhole limits longest got v first (Some ((used ++ rest) ++ end)) old new
+  whole_with : (used seen rest end : List ℕ) (place : Place) → HasSeen limits longest got v first (Some (used ++ seen)) old (Some seen) place true None new → HasSeenWhole limits longest got v first (Some ((used ++ rest) ++ end)) old new
   whole_with used seen rest end place h =
-      (Some (rest ++ end), place, subst (λ (x : List ℕ). IsShown limits longest got v first (Some x) old (Some (rest ++ end)) place true None new) (sym (append_assoc used rest end)) (whole_of used seen (rest ++ end) place h))
+      (Some (rest ++ end), place, subst (λ (x : List ℕ). HasSeen limits longest got v first (Some x) old (Some (rest ++ end)) place true None new) (sym (append_assoc used rest end)) (whole_of used seen (rest ++ end) place h))
 
   module _ (before mid after : List ℕ) (ended : Verdict × Place) (runs : RunGiven (Ok ended) before mid) (P : Option (List ℕ) → Option (List ℕ) → Type 0) (more : OfGiven P mid after) where
     pub given_proof_ended : WholeGiven (Ok ended.0) before after

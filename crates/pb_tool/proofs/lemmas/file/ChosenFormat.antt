@@ -21,7 +21,7 @@ use Rattle.pb_proof.specs.Canonical.{statement_bytes}
 use Rattle.pb_proof.specs.Gather as veri_keeping
 use Rattle.pb_proof.specs.Proofs.{IsProof, IsProofOf}
 use Rattle.pb_tool.specs.meaning.Files.{tidied_proof, MayBeProof, MayBeInstance, AsksInProofText, IsProofText, ShowsFile, TidiesFile, TidiesProof}
-use Rattle.pb_tool.specs.contract.Show.{IsSpelling, IsRefusedAfter, InText, InRest, Shows}
+use Rattle.pb_tool.specs.contract.Show.{IsSpelling, IsRefusedAfter, InText, InRest, ShowsLines}
 use Rattle.pb_tool.specs.meaning.Tidy.{tidied, AsksInInstanceText, IsFile, IsInstanceText, IsRefused, Tidies, TidiesAs}
 use Rattle.pb_tool.specs.meaning.Tidy.IsRefused.{InText as in_text, InRest as in_rest}
 use Rattle.pb_tool.specs.declared.fault.ToolFault.{ToolFault}
@@ -68,7 +68,7 @@ module _ {E : Type 0} (format : List (Item E) → Type 0) (longest : ℕ) (befor
   refused_before May after marks s (InRest used seen next took spelled r) = InRest used seen next (took_before before mid next used seen k took) spelled r
 
   module _ (May : List ℕ → ℕ → Type 0) (text : E → List ℕ) {W : Type 0} (contents : W → Option (List ℕ)) (faults : W → ℕ) where
-    pub shows_before : (old : W) (result : Result Unit ToolFault) (after : Option (List ℕ)) (new : W) → Shows format longest May text contents faults mid old result after new → Shows format longest May text contents faults before old result after new
+    pub shows_before : (old : W) (result : Result Unit ToolFault) (after : Option (List ℕ)) (new : W) → ShowsLines format longest May text contents faults mid old result after new → ShowsLines format longest May text contents faults before old result after new
     shows_before old (Ok u) after new (marks, i, w) = (marks, spelling_before after marks i, w)
     shows_before old (Err (Text File s)) after new (marks, i, w) = (marks, refused_before May after marks s i, w)
     shows_before old (Err Write) after new (marks, last, between, t, w, b) = (marks, last, between, so_far_before after (marks ++ last ∷ []) last.past t, w, b)
@@ -80,7 +80,7 @@ module _ {E : Type 0} (format : List (Item E) → Type 0) (longest : ℕ) (befor
     shows_before old (Err (Step place e name)) after new h = h
 
     -- nothing, if the source failed at its first byte
-    pub shows_nothing : ReadsNothing format longest → (old : W) → Shows format longest May text contents faults before old (Err (Text File first_fault)) mid old
+    pub shows_nothing : ReadsNothing format longest → (old : W) → ShowsLines format longest May text contents faults before old (Err (Text File first_fault)) mid old
     shows_nothing reads old =
         let t = took_nothing before mid k in
         ([], InText (record { used = []; seen = t.0; took = t.1; reads = reads t.0 }) tt, writes_nothing contents faults old)
@@ -123,11 +123,11 @@ may_be (Some (b ∷ text)) = by_byte b text (eqb_tells b 112)
 
 module _ (limits : Limits) (longest n : ℕ) (is : longest ≡ n) {W : Type 0} (contents : W → Option (List ℕ)) (faults : W → ℕ) (before mid : Option (List ℕ)) (k : Keeps before mid) (old : W) where
   module _ (result : Result Unit ToolFault) (after : Option (List ℕ)) (new : W) where
-    pub shows_proof : MayBeProof before → Shows (IsProofText limits) longest (AsksInProofText limits) statement_bytes contents faults mid old result after new → ShowsFile limits n contents faults before old result after new
+    pub shows_proof : MayBeProof before → ShowsLines (IsProofText limits) longest (AsksInProofText limits) statement_bytes contents faults mid old result after new → ShowsFile limits n contents faults before old result after new
     shows_proof may s =
         subst (λ (m : ℕ). ShowsFile limits m contents faults before old result after new) is (inl (may, shows_before (IsProofText limits) longest before mid k (AsksInProofText limits) statement_bytes contents faults old result after new s))
 
-    pub shows_instance : MayBeInstance before → Shows (IsInstanceText limits) longest (AsksInInstanceText limits) event_bytes contents faults mid old result after new → ShowsFile limits n contents faults before old result after new
+    pub shows_instance : MayBeInstance before → ShowsLines (IsInstanceText limits) longest (AsksInInstanceText limits) event_bytes contents faults mid old result after new → ShowsFile limits n contents faults before old result after new
     shows_instance may s =
         subst (λ (m : ℕ). ShowsFile limits m contents faults before old result after new) is (inr (may, shows_before (IsInstanceText limits) longest before mid k (AsksInInstanceText limits) event_bytes contents faults old result after new s))
 

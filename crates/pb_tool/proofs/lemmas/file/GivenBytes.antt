@@ -17,7 +17,7 @@ use Rattle.pb_opb.specs.Canonical.{event_bytes}
 use Rattle.pb_proof.specs.Canonical.{statement_bytes}
 use Rattle.pb_proof.specs.Gather.{MayKeep}
 use Rattle.pb_proof.specs.Proofs.{IsProofOf}
-use Rattle.pb_tool.specs.contract.Show.{Shows}
+use Rattle.pb_tool.specs.contract.Show.{ShowsLines}
 use Rattle.pb_tool.specs.meaning.Tidy.{AsksInInstanceText, IsFile, IsInstanceText, IsRefused, Tidies}
 use Rattle.pb_tool.specs.meaning.Tidy.IsRefused.{InRest}
 use Rattle.pb_tool.specs.declared.fault.ToolFault.{ToolFault}
@@ -98,10 +98,10 @@ module _ (limits : Limits) (longest n : ℕ) (is : longest ≡ n) {W : Type 0} (
     shows_either : ShowsGiven limits longest contents faults mid old result after new → ShowsGiven limits n contents faults before old result after new
     shows_either t = subst (λ (m : ℕ). ShowsGiven limits m contents faults before old result after new) is (subst (λ (h : List ℕ). ShowsGiven limits longest contents faults h old result after new) k t)
 
-    pub given_shown_proof : OfGiven (λ left rest. Shows (IsProofText limits) longest (AsksInProofText limits) statement_bytes contents faults left old result rest new) mid after → ShowsGiven limits n contents faults before old result after new
+    pub given_shown_proof : OfGiven (λ left rest. ShowsLines (IsProofText limits) longest (AsksInProofText limits) statement_bytes contents faults left old result rest new) mid after → ShowsGiven limits n contents faults before old result after new
     given_shown_proof t = shows_either (inl t)
 
-    pub given_shown_instance : OfGiven (λ left rest. Shows (IsInstanceText limits) longest (AsksInInstanceText limits) event_bytes contents faults left old result rest new) mid after → ShowsGiven limits n contents faults before old result after new
+    pub given_shown_instance : OfGiven (λ left rest. ShowsLines (IsInstanceText limits) longest (AsksInInstanceText limits) event_bytes contents faults left old result rest new) mid after → ShowsGiven limits n contents faults before old result after new
     given_shown_instance t = shows_either (inr t)
 
   -- nothing, if the source failed at its first byte
@@ -111,7 +111,7 @@ module _ (limits : Limits) (longest n : ℕ) (is : longest ≡ n) {W : Type 0} (
         [],
         [],
         sym (append-nil mid),
-        subst (λ (x : ToolFault). Shows (IsProofText limits) longest (AsksInProofText limits) statement_bytes contents faults (Some []) old (Err x) (Some []) old) (sym fault)
+        subst (λ (x : ToolFault). ShowsLines (IsProofText limits) longest (AsksInProofText limits) statement_bytes contents faults (Some []) old (Err x) (Some []) old) (sym fault)
             (shows_nothing (IsProofText limits) longest (Some []) (Some []) refl (AsksInProofText limits) statement_bytes contents faults (reads longest some) old),
       )
 

@@ -14,7 +14,7 @@ use Rattle.pb_text.specs.declared.Place.{Place}
 use Rattle.pb_text.specs.declared.Spanned.{Spanned}
 use Rattle.pb_text.specs.declared.Stop.{Stop}
 use Rattle.pb_text.proofs.PullsInARow.{row}
-use Rattle.pb_tool.specs.contract.Show.{shown, shown_line, EndsAt, InText, Shows}
+use Rattle.pb_tool.specs.contract.Show.{shown, shown_line, EndsAt, InText, ShowsLines}
 use Rattle.pb_tool.specs.declared.fault.ToolFault.{ToolFault}
 use Rattle.pb_tool.specs.declared.fault.ToolFault.TheVariants.{Text, Write}
 use Rattle.pb_tool.specs.declared.fault.Input.TheVariants.{File}
@@ -65,21 +65,21 @@ all_of format longest given seen other marks place t =
 module _ {E : Type 0} (format : List (Item E) → Type 0) (longest : ℕ) (May : List ℕ → ℕ → Type 0) (text : E → List ℕ) {W : Type 0} (contents : W → Option (List ℕ)) (faults : W → ℕ) where
   -- what was shown of a text of the format, and then the rest
   pub given_shown : (before mid after : List ℕ) (marks : List (Spanned E)) (place : Place) (old new : W) (result : Result (Unit {0}) ToolFault) → OfGiven (λ left rest. TookAll format longest left rest marks place true None) before mid
-      → OfGiven (λ left rest. EndsAt place left result rest) mid after → Wrote contents faults old (shown text marks) new → OfGiven (λ left rest. Shows format longest May text contents faults left old result rest new) before after
+      → OfGiven (λ left rest. EndsAt place left result rest) mid after → Wrote contents faults old (shown text marks) new → OfGiven (λ left rest. ShowsLines format longest May text contents faults left old result rest new) before after
   given_shown before mid after marks place old new result (used, other, e, all) (given, seen, f, ends) w = (
     used ++ given,
     seen,
     given_both before mid after used given e f,
-    subst (λ (x : List ℕ). Shows format longest May text contents faults (Some x) old result (Some seen) new) (sym (append_assoc used given seen))
+    subst (λ (x : List ℕ). ShowsLines format longest May text contents faults (Some x) old result (Some seen) new) (sym (append_assoc used given seen))
         (shows_end format longest May text contents faults (Some (used ++ (given ++ seen))) (Some (given ++ seen)) (Some seen) marks place old new result (all_of format longest used other (given ++ seen) marks place all) ends w),
   )
 
   -- what was shown of a text that was rejected
   pub given_refused : (before after : List ℕ) (marks : List (Spanned E)) (s : Stop) (old new : W) → OfGiven (λ left rest. (all : TookAll format longest left rest marks s.place false (Some s)) × IsAsking May all.used all.seen s.why) before after
-      → Wrote contents faults old (shown text marks) new → OfGiven (λ left rest. Shows format longest May text contents faults left old (Err (Text File s)) rest new) before after
+      → Wrote contents faults old (shown text marks) new → OfGiven (λ left rest. ShowsLines format longest May text contents faults left old (Err (Text File s)) rest new) before after
   given_refused before after marks s old new (given, seen, e, (all, asking)) w = (given, seen, e, (marks, InText all asking, w))
 
   -- what was shown before a line that could not be written
   pub given_broken : (before after : List ℕ) (marks : List (Spanned E)) (last : Spanned E) (old mid new : W) → OfGiven (λ left rest. TookSoFar format longest left rest (marks ++ last ∷ []) last.past) before after
-      → Wrote contents faults old (shown text marks) mid → Broke contents faults mid (shown_line text last) new → OfGiven (λ left rest. Shows format longest May text contents faults left old (Err Write) rest new) before after
+      → Wrote contents faults old (shown text marks) mid → Broke contents faults mid (shown_line text last) new → OfGiven (λ left rest. ShowsLines format longest May text contents faults left old (Err Write) rest new) before after
   given_broken before after marks last old mid new (given, seen, e, sofar) w b = (given, seen, e, (marks, last, mid, sofar, w, b))

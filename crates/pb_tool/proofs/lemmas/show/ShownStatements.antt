@@ -16,7 +16,7 @@ use Rattle.pb_text.specs.Writing.{Wrote}
 use Rattle.pb_text.proofs.PullsInARow.{took_join}
 use Rattle.pb_text.proofs.Short.{place_after-offset}
 use Rattle.pb_text.proofs.Unkept.{asking_to}
-use Rattle.pb_tool.specs.contract.Show.{shown_line, shown, EndsAt, IsSpelling, IsRefusedAfter, InText, InRest, Shows}
+use Rattle.pb_tool.specs.contract.Show.{shown_line, shown, EndsAt, IsSpelling, IsRefusedAfter, InText, InRest, ShowsLines}
 use Rattle.pb_tool.specs.declared.fault.ToolFault.{ToolFault}
 use Rattle.pb_tool.specs.declared.fault.ToolFault.TheVariants.{Text, Open, Overflow, Memory, Write, Step}
 use Rattle.pb_tool.specs.declared.fault.Input.TheVariants.{File, Instance, Proof}
@@ -72,7 +72,7 @@ module _ {E : Type 0} (format : List (Item E) → Type 0) (longest : ℕ) where
   -- what was shown of a text of the format, and then the rest
   module _ (May : List ℕ → ℕ → Type 0) (text : E → List ℕ) {W : Type 0} (contents : W → Option (List ℕ)) (faults : W → ℕ) where
     pub shows_end : (before mid after : Option (List ℕ)) (marks : List (Spanned E)) (place : Place) (old new : W) (result : Result Unit ToolFault) → TookAll format longest before mid marks place true None
-        → EndsAt place mid result after → Wrote contents faults old (shown text marks) new → Shows format longest May text contents faults before old result after new
+        → EndsAt place mid result after → Wrote contents faults old (shown text marks) new → ShowsLines format longest May text contents faults before old result after new
     shows_end before mid after marks place old new (Ok u) t e w = (marks, spelling before mid after marks place t e, w)
     shows_end before mid after marks place old new (Err (Text File s)) t e w = (marks, stray May before mid after marks place s t e, w)
     shows_end before mid after marks place old new (Err (Text Instance s)) t e w = e
@@ -103,7 +103,7 @@ module _ {E : Type 0} (one other : List (Item E) → Type 0) (longest : ℕ)
   refused_to May Other asks before after marks s (InRest used seen mid took spelled r) = InRest used seen mid took (spelt_to used marks spelled) r
 
   module _ (May Other : List ℕ → ℕ → Type 0) (asks : (used : List ℕ) (b : ℕ) → May used b → Other used b) (text : E → List ℕ) {W : Type 0} (contents : W → Option (List ℕ)) (faults : W → ℕ) where
-    pub shows_to : (before : Option (List ℕ)) (old : W) (result : Result Unit ToolFault) (after : Option (List ℕ)) (new : W) → Shows one longest May text contents faults before old result after new → Shows other longest Other text contents faults before old result after new
+    pub shows_to : (before : Option (List ℕ)) (old : W) (result : Result Unit ToolFault) (after : Option (List ℕ)) (new : W) → ShowsLines one longest May text contents faults before old result after new → ShowsLines other longest Other text contents faults before old result after new
     shows_to before old (Ok u) after new (marks, i, w) = (marks, spelling_to before after marks i, w)
     shows_to before old (Err (Text File s)) after new (marks, i, w) = (marks, refused_to May Other asks before after marks s i, w)
     shows_to before old (Err Write) after new (marks, last, mid, t, w, b) = (marks, last, mid, so_far_to before after (marks ++ last ∷ []) last.past t, w, b)

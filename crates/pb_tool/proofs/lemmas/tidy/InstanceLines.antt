@@ -11,7 +11,7 @@ use Rattle.pb_opb.specs.declared.OpbEvent.{OpbEvent}
 use Rattle.pb_opb.specs.declared.OpbEvent.TheVariants.{Header, Comment, Objective, Constraint}
 use Rattle.pb_opb.proofs.Counted.{IsEntry, IsCounted, counted}
 use Rattle.pb_tool.specs.engine.Gathered.{TidiesEach}
-use Rattle.pb_tool.specs.engine.InstanceText.{line, line_if, with, asks, text_of, IsTextOf}
+use Rattle.pb_tool.specs.engine.InstanceText.{line, line_if, with, asks, text_of, IsInstanceTextOf}
 use Rattle.pb_tool.specs.meaning.Tidy.{tidied, AsksInInstanceText, IsInstanceText, Tidies}
 use Rattle.pb_tool.specs.declared.fault.ToolFault.{ToolFault}
 use Rattle.pb_tool.specs.declared.commands.tidy.instance_text.InstanceText.{InstanceText}
@@ -54,7 +54,7 @@ module _ (limit : ℕ) where
 -- ---- the text of an instance
 
 module _ (limit top : ℕ) (empty : InstanceText) (no_page : empty.page.text ≡ []) (no_objective : empty.objective ≡ None) where
-  begun_text : (i : Item OpbEvent) (rest : List (Item OpbEvent)) (e : OpbEvent) → IsBegun limit top i rest e → IsTextOf (e ∷ events_of rest) (gathered with empty (e ∷ events_of rest))
+  begun_text : (i : Item OpbEvent) (rest : List (Item OpbEvent)) (e : OpbEvent) → IsBegun limit top i rest e → IsInstanceTextOf (e ∷ events_of rest) (gathered with empty (e ∷ events_of rest))
   begun_text i rest (Comment t) h = absurd h
   begun_text i rest (Objective t) h = absurd h
   begun_text i rest (Constraint l) h = absurd h
@@ -67,7 +67,7 @@ module _ (limit top : ℕ) (empty : InstanceText) (no_page : empty.page.text ≡
             ∙ (ap (λ (x : List ℕ). gathered line_more x (events_of rest)) alone ∙ text_added limit top n m tail rest (counted limit m rest h.3)),
       )
 
-  instance_text : (items : List (Item OpbEvent)) → IsInstance limit top items → IsTextOf (events_of items) (gathered with empty (events_of items))
+  instance_text : (items : List (Item OpbEvent)) → IsInstance limit top items → IsInstanceTextOf (events_of items) (gathered with empty (events_of items))
   instance_text [] h = absurd h
   instance_text (i ∷ rest) h = begun_text i rest i.event h
 

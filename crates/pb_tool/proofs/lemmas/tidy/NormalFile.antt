@@ -26,8 +26,8 @@ use Rattle.pb_tool.specs.contract.Faults.{faults_reported}
 use Rattle.pb_tool.specs.engine.Gathered.{IsGathered, IsNotGathered}
 use Rattle.pb_tool.specs.engine.InstanceText.{line, line_if}
 use Rattle.pb_tool.specs.contract.Normalised.{IsNormalised, SomePasses}
-use Rattle.pb_tool.specs.engine.NormalText.{AreLines, IsInOrder, IsNoted, as_statement, names_at, names_on, noted}
-use Rattle.pb_tool.specs.meaning.Tidy.{AsksInInstanceText, IsAsked, IsDenied, IsNoNormalFile, IsNormalFile, IsInstanceText, IsInstanceFile, IsNoInstanceFile, WritesText, is_bare, tidied}
+use Rattle.pb_tool.specs.engine.NormalText.{AreLines, NamesInOrder, IsNoted, as_statement, names_at, names_on, noted}
+use Rattle.pb_tool.specs.meaning.Tidy.{AsksInInstanceText, HasNormalForm, LacksNormalForm, IsNoNormalFile, IsNormalFile, IsInstanceText, IsInstanceFile, IsNoInstanceFile, WritesText, is_bare, tidied}
 use Rattle.pb_tool.specs.contract.Seen.{SawFile}
 use Rattle.pb_tool.specs.declared.fault.ToolFault.{ToolFault}
 use Rattle.pb_tool.specs.declared.fault.ToolFault.TheVariants.{Text, Open, Overflow, Memory, Write, Step}
@@ -65,9 +65,9 @@ plain_text n None (c ∷ cs) = full_text n None (c ∷ cs) (Constraint c) (const
 plain_text n (Some terms) cs = full_text n (Some terms) cs (Objective terms) (constraint_events cs) refl refl
 
 -- what was stored is the normal form of the instance
-module _ (events : List OpbEvent) (n : ℕ) (o : Option OpbEvent) (t : Forms) (h : IsNoted events n o t) (x : Limits × List OpbEvent) (view : (t.limits, events) ≡ x) (kept : t.standing ≡ Stored) (v : Instance) (told : IsInOrder x.1 v) where
-  order : IsInOrder events v
-  order = subst (λ (y : Limits × List OpbEvent). IsInOrder y.1 v) (sym view) told
+module _ (events : List OpbEvent) (n : ℕ) (o : Option OpbEvent) (t : Forms) (h : IsNoted events n o t) (x : Limits × List OpbEvent) (view : (t.limits, events) ≡ x) (kept : t.standing ≡ Stored) (v : Instance) (told : NamesInOrder x.1 v) where
+  order : NamesInOrder events v
+  order = subst (λ (y : Limits × List OpbEvent). NamesInOrder y.1 v) (sym view) told
 
   abbrev made : AreLines (names_on events) (constraints_in events) t.lines × ¬ SomePasses (largest t.limits) (constraints_in events)
   made = rw kept at h.made
@@ -110,7 +110,7 @@ module _ (events : List OpbEvent) (n : ℕ) (o : Option OpbEvent) (t : Forms) (h
       ∙ (ap₂ (λ (p : Option OpbEvent) (y : List ℕ). line (Header v.variables (length constraints) []) ++ (line_if p ++ y)) objective text
       ∙ plain_text v.variables v.objective constraints)
 
-  pub kept_form : (w : Instance) × IsAsked (largest x.0) v w × (line (Header n t.lines.count []) ++ (line_if o ++ t.lines.page.text) ≡ tidied w)
+  pub kept_form : (w : Instance) × HasNormalForm (largest x.0) v w × (line (Header n t.lines.count []) ++ (line_if o ++ t.lines.page.text) ≡ tidied w)
   kept_form = (plain v.variables v.objective constraints, (normalised, within), text_kept)
 
 -- ---- the names of the statements of an instance
@@ -132,10 +132,10 @@ gathered_noted limits before (e ∷ events) = gathered_noted limits (before ++ e
 
 -- under these limits the statements have this value
 abbrev IsNotedOf : Limits → Limits × List OpbEvent → Instance → Type 0
-IsNotedOf limits t v = (t.0 ≡ limits) × IsInOrder t.1 v
+IsNotedOf limits t v = (t.0 ≡ limits) × NamesInOrder t.1 v
 
 module _ (limits : Limits) where
-  value_begun : (i : Item OpbEvent) (rest : List (Item OpbEvent)) (e : OpbEvent) → IsBegun (largest limits) (top_of limits) i rest e → (v : Instance) × IsInOrder (e ∷ events_of rest) v
+  value_begun : (i : Item OpbEvent) (rest : List (Item OpbEvent)) (e : OpbEvent) → IsBegun (largest limits) (top_of limits) i rest e → (v : Instance) × NamesInOrder (e ∷ events_of rest) v
   value_begun i rest (Comment t) h = absurd h
   value_begun i rest (Objective t) h = absurd h
   value_begun i rest (Constraint l) h = absurd h
@@ -148,7 +148,7 @@ module _ (limits : Limits) where
         ),
       )
 
-  value_there : (items : List (Item OpbEvent)) → IsInstanceText limits items → (v : Instance) × IsInOrder (events_of items) v
+  value_there : (items : List (Item OpbEvent)) → IsInstanceText limits items → (v : Instance) × NamesInOrder (events_of items) v
   value_there [] h = absurd h
   value_there (i ∷ rest) h = value_begun i rest i.event h
 
@@ -175,9 +175,9 @@ module _ (limits : Limits) where
 
     module _ {W : Type 0} (contents : W → Option (List ℕ)) (faults : W → ℕ) (t : Limits × List OpbEvent) (f : IsGathered accepted longest noted empty before after t) (old : W) where
       abbrev Told : Result (Unit {0}) ToolFault → W → Type 0
-      Told result new = (v : Instance) → IsInOrder t.1 v → WritesText (IsAsked (largest t.0) v) (IsDenied (largest t.0) v) tidied contents faults old result new
+      Told result new = (v : Instance) → NamesInOrder t.1 v → WritesText (HasNormalForm (largest t.0) v) (LacksNormalForm (largest t.0) v) tidied contents faults old result new
 
-      by_fault : (v : Instance) → IsInstanceFile limits longest before after v → (e : ToolFault) → IsDenied (largest limits) v e → IsNoNormalFile limits longest before after e
+      by_fault : (v : Instance) → IsInstanceFile limits longest before after v → (e : ToolFault) → LacksNormalForm (largest limits) v e → IsNoNormalFile limits longest before after e
       by_fault v file (Overflow File) d = (v, file, d)
       by_fault v file (Memory File) d = (v, file, d)
       by_fault v file (Overflow of_instance) d = absurd d
@@ -190,7 +190,7 @@ module _ (limits : Limits) where
       by_fault v file (Step place fault name) d = absurd d
 
       by_result : (v : Instance) → IsInstanceFile limits longest before after v → (result : Result (Unit {0}) ToolFault) (new : W)
-          → WritesText (IsAsked (largest limits) v) (IsDenied (largest limits) v) tidied contents faults old result new
+          → WritesText (HasNormalForm (largest limits) v) (LacksNormalForm (largest limits) v) tidied contents faults old result new
           → WritesText (IsNormalFile limits longest before after) (IsNoNormalFile limits longest before after) tidied contents faults old result new
       by_result v file (Ok u) new (w, asked, wrote) = (w, (v, file, asked), wrote)
       by_result v file (Err Write) new (w, asked, broke) = (w, (v, file, asked), broke)
@@ -204,9 +204,9 @@ module _ (limits : Limits) where
       pub told_file : (result : Result (Unit {0}) ToolFault) (new : W) → Told result new → WritesText (IsNormalFile limits longest before after) (IsNoNormalFile limits longest before after) tidied contents faults old result new
       told_file result new told =
           let (v, file, (under, order)) = noted_file t f in
-          by_result v file result new (subst (λ (l : Limits). WritesText (IsAsked (largest l) v) (IsDenied (largest l) v) tidied contents faults old result new) under (told v order))
+          by_result v file result new (subst (λ (l : Limits). WritesText (HasNormalForm (largest l) v) (LacksNormalForm (largest l) v) tidied contents faults old result new) under (told v order))
 
-      by_seen : (shown : Option ℕ) (ended : Bool) → ended ≡ true → (v : Instance) (result : Result (Unit {0}) ToolFault) (new : W) → WritesText (IsAsked (largest t.0) v) (IsDenied (largest t.0) v) tidied contents faults old result new → SawFile shown ended result
+      by_seen : (shown : Option ℕ) (ended : Bool) → ended ≡ true → (v : Instance) (result : Result (Unit {0}) ToolFault) (new : W) → WritesText (HasNormalForm (largest t.0) v) (LacksNormalForm (largest t.0) v) tidied contents faults old result new → SawFile shown ended result
       by_seen shown ended end v (Ok u) new h = end
       by_seen shown ended end v (Err Write) new h = end
       by_seen shown ended end v (Err (Text i s)) new (d, e) = absurd d
@@ -219,7 +219,7 @@ module _ (limits : Limits) where
       pub told_on : (shown : Option ℕ) (ended : Bool) → ended ≡ true → (result : Result (Unit {0}) ToolFault) (new : W) → Told result new → SawFile shown ended result
       told_on shown ended end result new told = let (v, file, (under, order)) = noted_file t f in by_seen shown ended end v result new (told v order)
 
-      by_count : (v : Instance) (result : Result (Unit {0}) ToolFault) (new : W) (n : ℕ) → WritesText (IsAsked (largest t.0) v) (IsDenied (largest t.0) v) tidied contents faults old result new → n ≡ faults_reported result n
+      by_count : (v : Instance) (result : Result (Unit {0}) ToolFault) (new : W) (n : ℕ) → WritesText (HasNormalForm (largest t.0) v) (LacksNormalForm (largest t.0) v) tidied contents faults old result new → n ≡ faults_reported result n
       by_count v (Ok u) new n h = refl
       by_count v (Err Write) new n h = refl
       by_count v (Err (Text i s)) new n (d, e) = absurd d

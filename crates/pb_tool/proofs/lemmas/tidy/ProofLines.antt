@@ -14,7 +14,7 @@ use Rattle.pb_proof.specs.declared.Statement.{Statement}
 use Rattle.pb_proof.specs.declared.Statement.TheVariants.{Header, F, Pol, Rup, Soli, Solx, Delete, Output, Conclude, End}
 use Rattle.pb_tool.specs.meaning.Files.{tidied_proof, AsksInProofText, IsProofText, TidiesProof}
 use Rattle.pb_tool.specs.engine.Gathered.{TidiesEach}
-use Rattle.pb_tool.specs.engine.ProofText.{line, with, text_of, IsTextOf}
+use Rattle.pb_tool.specs.engine.ProofText.{line, with, text_of, IsProofTextOf}
 use Rattle.pb_tool.specs.declared.fault.ToolFault.{ToolFault}
 use Rattle.pb_tool.specs.declared.commands.tidy.proof_text.ProofText.{ProofText}
 use Rattle.pb_tool.proofs.lemmas.tidy.GatheredText.{tidies_value}
@@ -63,7 +63,7 @@ proof_text empty n v h =
 -- ---- what is written for a proof
 
 module _ (limits : Limits) (longest : ℕ) (accepted : List (Item Statement) → Type 0) (same : (items : List (Item Statement)) → accepted items ↔ IsProofText limits items) (empty : ProofText) (none : empty.steps.text ≡ []) (may_ask : List ℕ → ℕ → Type 0) where
-  has_text : (items : List (Item Statement)) → IsProofText limits items → IsTextOf (events_of items) (gathered with empty (events_of items))
+  has_text : (items : List (Item Statement)) → IsProofText limits items → IsProofTextOf (events_of items) (gathered with empty (events_of items))
   has_text items (v, (steps, are, first, spelled)) = (v, are, ap (λ (x : List Statement). text_of (gathered with empty x)) are ∙ proof_text empty none v steps)
 
   pub tidies_text : ((used : List ℕ) (b : ℕ) → may_ask used b → AsksInProofText limits used b) → {W : Type 0} (contents : W → Option (List ℕ)) (faults : W → ℕ) (before : Option (List ℕ)) (old : W) (result : Result (Unit {0}) ToolFault) (after : Option (List ℕ)) (new : W)

@@ -17,7 +17,7 @@ use Rattle.pb_proof.specs.Reading.{ReadsProof}
 use Rattle.pb_proof.specs.ValueLaws.{ProofValues}
 use Rattle.pb_proof.specs.declared.Proof.{Proof}
 use Rattle.pb_tool.specs.meaning.Files.{tidied_proof, IsProofFile, IsProofText, TidiesFile}
-use Rattle.pb_tool.specs.contract.Stays.{HasNoFault, IsOutside, IsProofWithin, IsReadAsInstance, IsReadAsProof, IsWithin, ProofHasNoFault, ProofStaysAsIs, StaysAsIs, WroteAgain}
+use Rattle.pb_tool.specs.contract.Stays.{HasNoFault, IsOutside, IsProofWithin, IsReadAsInstance, IsReadAsProof, IsInstanceWithin, ProofHasNoFault, ProofStaysAsIs, StaysAsIs, WroteAgain}
 use Rattle.pb_tool.specs.meaning.Tidy.{tidied, IsFile, IsInstanceText, IsInstanceFile, IsRefused, TidiesAs}
 use Rattle.pb_tool.specs.declared.fault.ToolFault.{ToolFault}
 use Rattle.pb_tool.specs.declared.fault.ToolFault.TheVariants.{Text, Open, Overflow, Memory, Write, Step}
@@ -48,10 +48,10 @@ again_as IsReadOf Reads text_of contents faults before rest v MayStop same stops
 
 module _ (instances : InstanceValues) (proofs : ProofValues) (limits : Limits) (longest : ℕ) (before after : Option (List ℕ)) where
   -- what was read meets the rules
-  instance_within : (v : Instance) → IsInstanceFile limits longest before after v → IsWithin limits v
+  instance_within : (v : Instance) → IsInstanceFile limits longest before after v → IsInstanceWithin limits v
   instance_within v f =
       let s = f.spelled.spelled in
-      subst (IsWithin limits) f.value (instances (largest limits) (top_of limits) s.items f.read.event s.spelled f.spelled.value).0
+      subst (IsInstanceWithin limits) f.value (instances (largest limits) (top_of limits) s.items f.read.event s.spelled f.spelled.value).0
 
   proof_within : (v : Proof) → IsProofFile limits longest before after v → IsProofWithin limits v
   proof_within v f =
@@ -63,7 +63,7 @@ module _ (instances : InstanceValues) (proofs : ProofValues) (limits : Limits) (
     abbrev Again : List ℕ → Type 0
     Again text = TidiesFile limits again contents faults false (Some text) old result rest new → WroteAgain contents faults text (λ why. again ≡ 2 ^ 40 → IsOutside (length text) why) old result new
 
-    of_instance_text : (v : Instance) → IsWithin limits v → Again (tidied v)
+    of_instance_text : (v : Instance) → IsInstanceWithin limits v → Again (tidied v)
     of_instance_text v rules (inl (may, t)) = absurd (as_instance v may)
     of_instance_text v rules (inr (may, t)) =
         again_as (IsRead (IsInstanceText limits) again IsValueOf) (ReadsInstance (largest limits) (top_of limits) again) tidied contents faults (Some (tidied v)) rest v (λ why. again ≡ 2 ^ 40 → IsOutside (length (tidied v)) why)

@@ -69,7 +69,7 @@ impl Model for Checker {
 
     ghost view = { λ c. record { feeder = c.feeder; replay = c.replay; fault = c.fault } };
 
-    // `Stands` holds of the checker for some text.
+    // `ChecksSoFar` holds of the checker for some text.
     ghost invariant = { λ c. IsSomewhere c.feeder c.replay c.fault };
 }
 
@@ -82,7 +82,7 @@ impl Checker {
     ghost use Rattle.pb_text.specs.declared.Limits.{Limits};
     ghost use Rattle.pb_replay.specs.Problem.{Problem};
     ghost use Rattle.pb_tool.specs.contract.Checks.{Ends};
-    ghost use Rattle.pb_tool.specs.contract.Pieces.{ChecksAt, ChecksOnce, EndsStatement, HoldsOpen, IsOpen, IsUnread, AllocatesAt, bytes_gone, fault_in, fault_of, is_whole, place_in};
+    ghost use Rattle.pb_tool.specs.contract.Pieces.{ChecksAt, ChecksOnce, EndsStatement, HoldsOpen, MayGoOn, IsNoReadFault, AllocatesAt, bytes_gone, fault_in, fault_of, is_whole, place_in};
     ghost use Rattle.pb_tool.specs.declared.commands.check.checker.CheckFault.{CheckFault as ACheckFault};
 
     /// A checker of a proof for the replay, in whatever state the replay is. It stops at a statement that has not ended
@@ -152,7 +152,7 @@ impl Checker {
         ensures names { IsFront self.old.replay.names self.new.replay.names }
         ensures told { (at : Place) (n : ℕ) → fault_of self.old ≡ None → result ≡ Err (ACheckFault.Step at (AFault.NotTotal n)) → n < length self.new.replay.names }
         // There is no reader that could fail.
-        ensures unread { fault_of self.old ≡ None → IfErr result IsUnread }
+        ensures unread { fault_of self.old ≡ None → IfErr result IsNoReadFault }
         // Memory for the text runs out only at a byte that may allocate.
         ensures memory { (limits : Limits) (longest : ℕ) (v : Problem) (first : Result State AFault) (input : List ℕ)
             → fault_of self.old ≡ None
@@ -182,13 +182,13 @@ impl Checker {
         ensures stands { (limits : Limits) (longest : ℕ) (v : Problem) (first : Result State AFault) (input : List ℕ)
             → ChecksAt limits longest v first input self.old
             → ChecksAt limits longest v first (input ++ bytes_gone result piece.now) self.new }
-        ensures open { IsOpen (fault_of self.new) }
+        ensures open { MayGoOn (fault_of self.new) }
         ensures names { IsFront self.old.replay.names self.new.replay.names }
         ensures told { (at : Place) (n : ℕ) → result ≡ Err (ACheckFault.Step at (AFault.NotTotal n)) → n < length self.new.replay.names }
         ensures fault { fault_of self.new ≡ fault_in result }
         ensures used { IfOk result (λ w. ((place_in self.new).offset ≡ (place_in self.old).offset + w.used) × (w.used ≤ length piece.now)) }
         ensures onward { IfOk result (λ w. w.more ≡ true → 0 < w.used) }
-        ensures unread { IfErr result IsUnread }
+        ensures unread { IfErr result IsNoReadFault }
         ensures memory { (limits : Limits) (longest : ℕ) (v : Problem) (first : Result State AFault) (input : List ℕ)
             → ChecksAt limits longest v first input self.old
             → IfErr result (AllocatesAt limits (input ++ piece.now)) }

@@ -5,7 +5,7 @@ ghost use Rattle.pb_text.specs.Blank.{IsInReach};
 ghost use Rattle.pb_text.specs.Pulling.{OfGiven};
 ghost use Rattle.pb_replay.specs.Replay.{State};
 ghost use Rattle.pb_replay.specs.Kept.{StandsFor};
-ghost use Rattle.pb_tool.specs.contract.Runs.{IsReportedAs, Replays, Runs, faults_of_proof, faults_of_text};
+ghost use Rattle.pb_tool.specs.contract.Runs.{IsReportedAs, Replays, RunsProof, faults_of_proof, faults_of_text};
 ghost use Rattle.pb_tool.specs.contract.Seen.{SawProof, SawText};
 ghost use Rattle.pb_tool.specs.meaning.Verified.{IsReported};
 ghost use Rattle.pb_tool.specs.contract.Watched.{ShowsProof, ShowsRun};
@@ -101,9 +101,9 @@ fn check_statements<S: Source, V: Watch>(
 ) -> Result<(Verdict, Place), CheckFault>
     requires some { 0 < longest }
     requires running { replay.old.fault ≡ None }
-    ensures runs { (first : State) → StandsFor replay.old first → Runs replay.old.limits longest replay.old.problem first (S.left input.old) result (S.left input.new) replay.new }
+    ensures runs { (first : State) → StandsFor replay.old first → RunsProof replay.old.limits longest replay.old.problem first (S.left input.old) result (S.left input.new) replay.new }
     ensures given { (first : State) → StandsFor replay.old first →
-        OfGiven (λ left rest. Runs replay.old.limits longest replay.old.problem first left result rest replay.new) (S.history input.old) (S.history input.new) }
+        OfGiven (λ left rest. RunsProof replay.old.limits longest replay.old.problem first left result rest replay.new) (S.history input.old) (S.history input.new) }
     ensures reach { IfOk result (λ r. IsInReach r.1) }
     ensures seen { IfErr result (SawText (S.shown input.new) (S.ended input.new)) }
     ensures faults { S.faults input.new ≡ faults_of_text result (S.faults input.old) }

@@ -8,8 +8,8 @@ ghost use Rattle.pb_normal.specs.Written.{names_of};
 ghost use Rattle.pb_opb.specs.declared.Instance.{Instance};
 ghost use Rattle.pb_opb.specs.declared.OpbEvent.TheVariants.{Header};
 ghost use Rattle.pb_tool.specs.engine.InstanceText.{line, line_if};
-ghost use Rattle.pb_tool.specs.engine.NormalText.{AreMade, IsInOrder};
-ghost use Rattle.pb_tool.specs.meaning.Tidy.{IsAsked, IsDenied, WritesText, tidied};
+ghost use Rattle.pb_tool.specs.engine.NormalText.{AreMade, NamesInOrder};
+ghost use Rattle.pb_tool.specs.meaning.Tidy.{HasNormalForm, LacksNormalForm, WritesText, tidied};
 
 use crate::canonical::write_line;
 use crate::commands::tidy::form_lines::FormLines;
@@ -120,8 +120,8 @@ impl NormalText {
 
     /// Writes the normal form of the instance, or nothing if there is none.
     pub(crate) fn write<W: Sink>(&self, alloc: Global, out: &mut W) -> Result<(), ToolFault>
-        ensures { (v : Instance) → IsInOrder self.now.1 v →
-            WritesText (IsAsked (largest self.now.0) v) (IsDenied (largest self.now.0) v) tidied W.contents W.faults out.old result out.new }
+        ensures { (v : Instance) → NamesInOrder self.now.1 v →
+            WritesText (HasNormalForm (largest self.now.0) v) (LacksNormalForm (largest self.now.0) v) tidied W.contents W.faults out.old result out.new }
     {
         match self.forms.standing {
             Standing::Stored => {}

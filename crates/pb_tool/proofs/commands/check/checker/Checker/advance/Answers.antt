@@ -88,4 +88,4 @@ pub returns-in-Err-step_watched-clause-names : goal.returns-in-Err-step_watched-
 returns-in-Err-step_watched-clause-names c = search rules
 
 pub returns-in-Ok-step_watched-clause-onward : goal.returns-in-Ok-step_watched-clause-onward
-returns-in-Ok-step_watched-clause-onward c yes = c.feed.ensures.some c.in-Ok.fed c.in-Some.read c.in-Ok.is c.in-Some.is
+returns-in-Ok-step_watched-clause-onward c more = c.feed.ensures.some c.in-Ok.fed c.in-Some.read c.in-Ok.is c.in-Some.is
