@@ -11,10 +11,8 @@ pub(crate) const CAPACITY: usize = 1 << 16;
 
 /// The result without its value.
 pub(crate) fn unit_of<T: Drop>(done: Result<T, ToolFault>) -> Result<(), ToolFault> {
-    match done {
-        Ok(_) => Ok(()),
-        Err(fault) => Err(fault),
-    }
+    let _value = done?;
+    Ok(())
 }
 
 /// Flushes what was written before a fault, and then returns the fault.
