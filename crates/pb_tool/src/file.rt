@@ -70,14 +70,9 @@ pub(crate) fn read_file<S: Source, M: Machine + Drop, G: Gather<Event = M::Event
     ensures shown { IfErr result (λ s. IsShown (S.shown input.new) (S.ended input.new) s.why) }
     ensures faults { S.faults input.new ≡ faults_after None result (S.faults input.old) }
 {
-    let read = match read_whole(input, machine, longest, empty) {
-        Ok(read) => read,
-        Err(stop) => return Err(stop),
-    };
-    match rest_is_blank(input, read.past) {
-        Ok(()) => Ok(read.event),
-        Err(stray) => Err(stray),
-    }
+    let read = read_whole(input, machine, longest, empty)?;
+    rest_is_blank(input, read.past)?;
+    Ok(read.event)
 }
 
 /// Reads an instance. Only white space and comments may follow it.
@@ -96,12 +91,7 @@ pub(crate) fn read_instance_file<S: Source>(
     ensures shown { IfErr result (λ s. IsShown (S.shown input.new) (S.ended input.new) s.why) }
     ensures faults { S.faults input.new ≡ faults_after None result (S.faults input.old) }
 {
-    let instance = match read_instance_within(alloc, input, longest, limits) {
-        Ok(instance) => instance,
-        Err(stop) => return Err(stop),
-    };
-    match rest_is_blank(input, instance.past) {
-        Ok(()) => Ok(instance.event),
-        Err(stop) => Err(stop),
-    }
+    let instance = read_instance_within(alloc, input, longest, limits)?;
+    rest_is_blank(input, instance.past)?;
+    Ok(instance.event)
 }

@@ -2,3 +2,4 @@
 pub mod ChosenFormat
 pub mod GivenBytes
 pub mod OtherReading
+pub mod PassedOn

@@ -1,36 +1,35 @@
-use Rattle.std.proofs.Common.{ℕ, ap, ◌∙◌}
+use Rattle.std.proofs.Common.{ℕ}
 use Rattle.pb_text.specs.Automaton.{Accepts, MayAsk}
-use Rattle.pb_text.specs.Pulling.{faults_with}
 use Rattle.pb_text.specs.Whole.{IsWhole, ReadsWhole}
 use Rattle.pb_tool.specs.meaning.Tidy.IsRefused.{InText, InRest}
 use Rattle.pb_tool.proofs.lemmas.file.GivenBytes.{file_then_blank, given_file, given_stray, used_of}
+use Rattle.pb_tool.proofs.lemmas.file.PassedOn.{passed_on}
 use Rattle.pb_tool.proofs.file.read_file.Goals as goal
 
-pub returns-in-Ok-rest_is_blank-clause-file : goal.returns-in-Ok-rest_is_blank-clause-file
-returns-in-Ok-rest_is_blank-clause-file g c =
-    let (used, seen, took, read) = c.in-Ok.ensures.reads in
-    file_then_blank (IsWhole (Accepts g.M.Machine.automaton c.args.machine) c.args.longest g.G.Gather.with c.args.empty) c.in-Ok.read _ _ _ used seen took read read.past c.in-Ok-rest_is_blank.ensures.blank
+pub returns-in_err-read-clause-refused : goal.returns-in_err-read-clause-refused
+returns-in_err-read-clause-refused g c = passed_on _ _ _ c.from_residual.ensures.1 (InText c.in_err-read.ensures.reads)
 
-pub returns-in-Err-rest_is_blank-clause-refused : goal.returns-in-Err-rest_is_blank-clause-refused
-returns-in-Err-rest_is_blank-clause-refused g c =
-    InRest c.in-Ok.read (g.S.Source.left c.read_whole.new.source) c.in-Ok.ensures.reads c.in-Err-rest_is_blank.ensures.blank
+pub returns-in_err-read-clause-refused_given : goal.returns-in_err-read-clause-refused_given
+returns-in_err-read-clause-refused_given g c =
+    let (given, seen, e, stops) = c.in_err-read.ensures.given in
+    passed_on _ _ _ c.from_residual.ensures.1 (given, seen, e, InText stops)
 
-pub returns-in-Err-rest_is_blank-clause-faults : goal.returns-in-Err-rest_is_blank-clause-faults
-returns-in-Err-rest_is_blank-clause-faults g c = c.in-Err-rest_is_blank.ensures.faults ∙ ap (λ (n : ℕ). faults_with c.in-Err-rest_is_blank.stray.why n) c.in-Ok.ensures.faults
+pub returns-in_err-rest_is_blank-clause-refused : goal.returns-in_err-rest_is_blank-clause-refused
+returns-in_err-rest_is_blank-clause-refused g c =
+    passed_on _ _ _ c.from_residual-in_err-rest_is_blank.ensures.1
+    (InRest c.in_ok-read.read (g.S.Source.left c.read_whole.new.source) c.in_ok-read.ensures.reads c.in_err-rest_is_blank.ensures.blank)
 
-pub returns-in-Err-clause-refused : goal.returns-in-Err-clause-refused
-returns-in-Err-clause-refused g c = InText c.in-Err.ensures.reads
+pub returns-in_err-rest_is_blank-clause-refused_given : goal.returns-in_err-rest_is_blank-clause-refused_given
+returns-in_err-rest_is_blank-clause-refused_given g c =
+    passed_on _ _ _ c.from_residual-in_err-rest_is_blank.ensures.1
+    (given_stray (ReadsWhole (Accepts g.M.Machine.automaton c.args.machine) c.args.longest g.G.Gather.with c.args.empty (MayAsk g.M.Machine.automaton c.args.machine) g.G.Gather.asks) c.in_ok-read.read _
+    (λ given seen more r. used_of (λ used. IsWhole (Accepts g.M.Machine.automaton c.args.machine) c.args.longest g.G.Gather.with c.args.empty used c.in_ok-read.read) given seen more r) _ _ _ c.in_ok-read.ensures.given c.in_err-rest_is_blank.ensures.given)
 
-pub returns-in-Err-clause-refused_given : goal.returns-in-Err-clause-refused_given
-returns-in-Err-clause-refused_given g c =
-    let (given, seen, e, stops) = c.in-Err.ensures.given in
-    (given, seen, e, InText stops)
+pub returns-clause-file : goal.returns-clause-file
+returns-clause-file g c =
+    let (used, seen, took, read) = c.in_ok-read.ensures.reads in
+    file_then_blank (IsWhole (Accepts g.M.Machine.automaton c.args.machine) c.args.longest g.G.Gather.with c.args.empty) c.in_ok-read.read _ _ _ used seen took read read.past c.in_ok-rest_is_blank.ensures.blank
 
-pub returns-in-Ok-rest_is_blank-clause-given : goal.returns-in-Ok-rest_is_blank-clause-given
-returns-in-Ok-rest_is_blank-clause-given g c =
-    given_file (IsWhole (Accepts g.M.Machine.automaton c.args.machine) c.args.longest g.G.Gather.with c.args.empty) c.in-Ok.read (λ used r. r.past) _ _ _ c.in-Ok.ensures.given c.in-Ok-rest_is_blank.ensures.given
-
-pub returns-in-Err-rest_is_blank-clause-refused_given : goal.returns-in-Err-rest_is_blank-clause-refused_given
-returns-in-Err-rest_is_blank-clause-refused_given g c =
-    given_stray (ReadsWhole (Accepts g.M.Machine.automaton c.args.machine) c.args.longest g.G.Gather.with c.args.empty (MayAsk g.M.Machine.automaton c.args.machine) g.G.Gather.asks) c.in-Ok.read c.in-Err-rest_is_blank.stray
-    (λ given seen more r. used_of (λ used. IsWhole (Accepts g.M.Machine.automaton c.args.machine) c.args.longest g.G.Gather.with c.args.empty used c.in-Ok.read) given seen more r) _ _ _ c.in-Ok.ensures.given c.in-Err-rest_is_blank.ensures.given
+pub returns-clause-given : goal.returns-clause-given
+returns-clause-given g c =
+    given_file (IsWhole (Accepts g.M.Machine.automaton c.args.machine) c.args.longest g.G.Gather.with c.args.empty) c.in_ok-read.read (λ used r. r.past) _ _ _ c.in_ok-read.ensures.given c.in_ok-rest_is_blank.ensures.given

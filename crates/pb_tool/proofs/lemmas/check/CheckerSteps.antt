@@ -43,7 +43,7 @@ use Rattle.pb_tool.specs.contract.Checks.{Checks, IsReplayed, KeepsNames, KeepsN
 use Rattle.pb_tool.specs.contract.Pieces.{AnyCutting, bytes_to, ChecksAt, ChecksOnce, MayGoOn, IsNoReadFault, FeedsInTurn, AllocatesAt, joined, fault_of, is_whole, place_in}
 use Rattle.pb_tool.specs.declared.commands.check.checker.CheckFault.{CheckFault}
 use Rattle.pb_tool.specs.declared.commands.check.checker.CheckFault.TheVariants.{Text, Step}
-use Rattle.pb_tool.proofs.lemmas.check.Prefixes.{no_front}
+use Rattle.pb_tool.proofs.lemmas.check.Prefixes.{no_prefix}
 
 abbrev pub failed : CheckFault → Result Unit CheckFault
 failed x = Err x
@@ -329,7 +329,7 @@ module _ (limit top longest : ℕ) (used left piece : List ℕ) where
   explained : (why : Why) → Counts why → Explains (IsProof limit top) longest used left why → Explains (IsProof limit top) longest used (left ++ piece) why
   explained (reason.Byte b) c (more, e, bad, digit) = (more ++ piece, ap (λ (x : List ℕ). x ++ piece) e, bad, digit)
   explained reason.TooLarge c (b, more, e, bad, digit, ends) = (b, more ++ piece, ap (λ (x : List ℕ). x ++ piece) e, bad, digit, ends)
-  explained reason.TooLong c (some, full) = (λ e. some (no_front left piece e), full)
+  explained reason.TooLong c (some, full) = (λ e. some (no_prefix left piece e), full)
   explained reason.Ended c h = absurd c
   explained reason.Read c h = h
   explained reason.Memory c (b, more, e, viable, room) = (b, more ++ piece, ap (λ (x : List ℕ). x ++ piece) e, viable, room)

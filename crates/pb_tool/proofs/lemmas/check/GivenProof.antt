@@ -57,8 +57,8 @@ module _ (limits : Limits) (longest : ℕ) (v : Problem) (first : State) where
     )
 
     -- a whole proof, and a rest that is not blank
-    behind : (s : Stop) → OfGiven (λ left rest. RunsProof limits longest v first left (Ok ended) rest new) before mid → OfGiven (λ left rest. ReadsBlank ended.1 left (Err s) rest) mid after → OfGiven (λ left rest. IsRefusedText limits longest v first left rest s) before after
-    behind s (used, seen, e, (last, a, claimed)) (rest, more, f, blank) = (
+    rest_given : (s : Stop) → OfGiven (λ left rest. RunsProof limits longest v first left (Ok ended) rest new) before mid → OfGiven (λ left rest. ReadsBlank ended.1 left (Err s) rest) mid after → OfGiven (λ left rest. IsRefusedText limits longest v first left rest s) before after
+    rest_given s (used, seen, e, (last, a, claimed)) (rest, more, f, blank) = (
       used ++ rest,
       more,
       given_both before mid after used rest e f,
@@ -67,7 +67,7 @@ module _ (limits : Limits) (longest : ℕ) (v : Problem) (first : State) where
     )
 
     pub given_rest : (s : Stop) (f : ToolFault) → f ≡ Text of_proof s → OfGiven (λ left rest. RunsProof limits longest v first left (Ok ended) rest new) before mid → OfGiven (λ left rest. ReadsBlank ended.1 left (Err s) rest) mid after → OfGiven (λ left rest. Replays limits longest v first left (Err f) rest) before after
-    given_rest s f is runs rest = subst (λ (x : ToolFault). OfGiven (λ left end. Replays limits longest v first left (Err x) end) before after) (sym is) (behind s runs rest)
+    given_rest s f is runs rest = subst (λ (x : ToolFault). OfGiven (λ left end. Replays limits longest v first left (Err x) end) before after) (sym is) (rest_given s runs rest)
 
   module _ (before after : List ℕ) (new : Replaying) (f : ToolFault) where
     -- a text that stopped

@@ -25,7 +25,7 @@ use Rattle.pb_tool.specs.contract.Checker.{ProofFeeder, ChecksSoFar, TextsAreRea
 use Rattle.pb_tool.specs.contract.Pieces.{EndsStatement, HoldsOpen}
 use Rattle.pb_tool.specs.declared.commands.check.checker.CheckFault.{CheckFault}
 use Rattle.pb_tool.proofs.lemmas.check.CheckerSteps.{running_at, told as so_far}
-use Rattle.pb_tool.proofs.lemmas.check.Prefixes.{no_front}
+use Rattle.pb_tool.proofs.lemmas.check.Prefixes.{no_prefix}
 
 -- ---- after whole statements none is unfinished
 length_plain : (gap : List ℕ) → length (plain gap) ≡ length gap
@@ -47,18 +47,18 @@ module _ {E : Type 0} where
   length_item before i = omega (arith, length-append before (i.gap ++ bytes i.text), length-append i.gap (bytes i.text), length-bytes i.text)
 
   -- statements that begin after the first n bytes have none of these
-  behind : (n : ℕ) (before : List ℕ) (items : List (Item E)) → n ≤ length before → open_bytes n (marks_since None before items) ≡ 0
-  behind n before [] h = refl
-  behind n before (i ∷ items) h =
+  past_all : (n : ℕ) (before : List ℕ) (items : List (Item E)) → n ≤ length before → open_bytes n (marks_since None before items) ≡ 0
+  past_all n before [] h = refl
+  past_all n before (i ∷ items) h =
       cond_both (nat_le (place_after (before ++ (i.gap ++ bytes i.text))).offset n)
       (open_bytes n (marks_since None (before ++ (i.gap ++ bytes i.text)) items))
       (n - (place_after (before ++ i.gap)).offset)
       (λ (k : ℕ). k ≡ 0)
-      (λ _. behind n (before ++ (i.gap ++ bytes i.text)) items (omega (arith, h, length_item before i)))
+      (λ _. past_all n (before ++ (i.gap ++ bytes i.text)) items (omega (arith, h, length_item before i)))
       (λ _. omega (arith, h, place_after-offset (before ++ i.gap), length-append before i.gap))
 
   none_open : (n : ℕ) (before : List ℕ) (begun rest : List (Item E)) → n ≡ length before + length (letters_of begun) → open_bytes n (marks_since None before (begun ++ rest)) ≡ 0
-  none_open n before [] rest h = let all : n ≡ length before + 0 = h in behind n before rest (omega (arith, all))
+  none_open n before [] rest h = let all : n ≡ length before + 0 = h in past_all n before rest (omega (arith, all))
   none_open n before (i ∷ begun) rest h =
       let joined : length (letters_of (i ∷ begun)) ≡ length (plain i.gap) + length (i.text ++ letters_of begun) = length-append (plain i.gap) (i.text ++ letters_of begun) in
       let all : length (letters_of (i ∷ begun)) ≡ length i.gap + (length i.text + length (letters_of begun)) = omega (arith, joined, length-append i.text (letters_of begun), length_plain i.gap) in
@@ -73,7 +73,7 @@ module _ (apart : NoFront) (limit top longest : ℕ) (used left : List ℕ) (mar
   nothing_left : (done : Bool) → Answers (IsProof limit top) longest used left marks place done None → left ≡ []
   nothing_left false (under, none) = none
   nothing_left true (s, none) =
-      no_front left (bytes_of rest) (apart limit top s.items (begun ++ rest) (left ++ bytes_of rest) s.spelled whole
+      no_prefix left (bytes_of rest) (apart limit top s.items (begun ++ rest) (left ++ bytes_of rest) s.spelled whole
       (bytes_joined begun rest ∙ (ap (λ (x : List ℕ). x ++ bytes_of rest) (sym is) ∙ (append_assoc used left (bytes_of rest) ∙ ap (λ (x : List ℕ). x ++ (left ++ bytes_of rest)) (sym s.used_are)))))
 
 module _ (exact : ReadsProofs) (limits : Limits) (longest : ℕ) (v : Problem) (first : Result State Fault) (input : List ℕ) (f : ProofFeeder) (r : Replaying) (e : Option CheckFault) (none : e ≡ None) (h : ChecksSoFar limits longest v first input f r e) (held : ℕ)

@@ -7,9 +7,9 @@ some_left [] h = absurd (h refl)
 some_left (b ∷ left) h = omega arith
 
 -- only the empty text is a prefix of the empty text
-pub no_front : (a b : List ℕ) → a ++ b ≡ [] → a ≡ []
-no_front [] b e = refl
-no_front (x ∷ a) b e = absurd (cc e)
+pub no_prefix : (a b : List ℕ) → a ++ b ≡ [] → a ≡ []
+no_prefix [] b e = refl
+no_prefix (x ∷ a) b e = absurd (cc e)
 
 -- a text begins with another one, or that one is longer
 abbrev pub Compared : List ℕ → List ℕ → Type 0

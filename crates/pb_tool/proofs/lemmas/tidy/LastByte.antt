@@ -68,22 +68,22 @@ all_constraints (c ∷ constraints) = (linear_ends c, all_constraints constraint
 not_feed : (text : List ℕ) → EndsWith 59 text → ends_in_feed text ≡ false
 not_feed text (front, e) = ap ends_in_feed e ∙ at_end 59 front
 
-behind : (v : Instance) (objective : Option (List Term)) (constraints : List Linear) → v.objective ≡ objective → v.constraints ≡ constraints → ends_in_feed (instance_bytes v) ≡ is_bare objective constraints
-behind v None [] o c =
+ends_by_parts : (v : Instance) (objective : Option (List Term)) (constraints : List Linear) → v.objective ≡ objective → v.constraints ≡ constraints → ends_in_feed (instance_bytes v) ≡ is_bare objective constraints
+ends_by_parts v None [] o c =
     let events : objective_events v.objective ++ constraint_events v.constraints ≡ [] = rw (o, c) refl in
     ap (λ (x : List OpbEvent). ends_in_feed (header_bytes v.variables (length v.constraints) v.tail ++ (10 ∷ lines (in_order 0 v.comments x)))) events ∙ at_end 10 (header_bytes v.variables (length v.constraints) v.tail)
-behind v None (x ∷ constraints) o c =
+ends_by_parts v None (x ∷ constraints) o c =
     let events : objective_events v.objective ++ constraint_events v.constraints ≡ Constraint x ∷ constraint_events constraints = rw (o, c) refl in
     let body : EndsWith 59 (lines (body_events v)) = subst (λ (es : List OpbEvent). EndsWith 59 (lines (in_order 0 v.comments es))) (sym events) (in_order_ends 0 v.comments (Constraint x) (constraint_events constraints) (linear_ends x, all_constraints constraints)) in
     not_feed (instance_bytes v) (ends_longer 59 (header_bytes v.variables (length v.constraints) v.tail) (10 ∷ lines (body_events v)) (ends_more 59 10 (lines (body_events v)) body))
-behind v (Some terms) constraints o c =
+ends_by_parts v (Some terms) constraints o c =
     let events : objective_events v.objective ++ constraint_events v.constraints ≡ Objective terms ∷ constraint_events constraints = rw (o, c) refl in
     let body : EndsWith 59 (lines (body_events v)) = subst (λ (es : List OpbEvent). EndsWith 59 (lines (in_order 0 v.comments es))) (sym events) (in_order_ends 0 v.comments (Objective terms) (constraint_events constraints) (objective_ends terms, all_constraints constraints)) in
     not_feed (instance_bytes v) (ends_longer 59 (header_bytes v.variables (length v.constraints) v.tail) (10 ∷ lines (body_events v)) (ends_more 59 10 (lines (body_events v)) body))
 
 -- the canonical text ends in a line feed if and only if it is the header alone
 pub ends_bare : (v : Instance) → ends_in_feed (instance_bytes v) ≡ is_bare v.objective v.constraints
-ends_bare v = behind v v.objective v.constraints refl refl
+ends_bare v = ends_by_parts v v.objective v.constraints refl refl
 
 -- what is written for a header alone, and for more
 pub tidied_bare : (v : Instance) → is_bare v.objective v.constraints ≡ true → tidied v ≡ instance_bytes v
