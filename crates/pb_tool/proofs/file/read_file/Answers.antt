@@ -1,4 +1,3 @@
-use Rattle.std.proofs.Common.{ℕ}
 use Rattle.pb_text.specs.Automaton.{Accepts, MayAsk}
 use Rattle.pb_text.specs.Whole.{IsWhole, ReadsWhole}
 use Rattle.pb_tool.specs.meaning.Tidy.IsRefused.{InText, InRest}

@@ -1,4 +1,3 @@
-use Rattle.std.proofs.Common.{ℕ}
 use Rattle.pb_text.specs.Limits.{largest, top_of}
 use Rattle.pb_text.specs.Whole.{IsRead}
 use Rattle.pb_opb.specs.Reading.{ReadsInstance}
