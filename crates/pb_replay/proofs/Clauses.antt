@@ -11,4 +11,5 @@ pub mod Literals
 pub mod Shapes
 pub mod Walks
 pub mod Watching
+pub mod Killed
 pub mod Slots

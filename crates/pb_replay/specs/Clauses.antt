@@ -3,3 +3,4 @@ pub mod Truths
 pub mod Links
 pub mod Runs
 pub mod Shapes
+pub mod Walked

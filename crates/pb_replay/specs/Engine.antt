@@ -7,5 +7,6 @@ pub mod Forms
 pub mod Terms
 pub mod Live
 pub mod Rest
+pub mod Root
 pub mod Slots
 pub mod Laws

@@ -7,6 +7,7 @@ pub mod eager;
 pub mod engine;
 pub mod laws;
 pub mod literal;
+pub mod rests;
 pub mod run;
 pub mod slots;
 pub mod store;

@@ -1,11 +1,7 @@
 -- Lists of coded literals.
-use Rattle.std.specs.Prelude.{◌==◌, ◌||◌, ◌<◌, false, Bool, length, slice_index_or}
-use Rattle.std.proofs.Common.{◌≡◌, ℕ, ◌∷◌, [], List}
-
--- the literal is on the list
-abbrev pub has : List ℕ → ℕ → Bool
-has [] x = false
-has (y ∷ ys) x = (y == x) || has ys x
+use Rattle.std.specs.Prelude.{◌<◌, length, slice_index_or}
+use Rattle.std.proofs.Common.{◌≡◌, ℕ, List}
+pub use Rattle.pb_replay.specs.Clauses.Walked.{has}
 
 -- no literal is on the list twice
 abbrev pub AreSingle : List ℕ → Type 0

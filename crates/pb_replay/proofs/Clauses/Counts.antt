@@ -9,6 +9,7 @@ use Rattle.pb_replay.specs.declared.propagate.clauses.lists.Watch.{Watch}
 use Rattle.pb_replay.specs.Clauses.Truths.{flip}
 use Rattle.pb_replay.specs.Clauses.Links.{watch_at, list_at}
 use Rattle.pb_replay.specs.Clauses.Runs.{AreStored}
+pub use Rattle.pb_replay.specs.Clauses.Walked.{killed}
 use Rattle.pb_replay.proofs.Clauses.Codes.{has, AreSingle}
 use Rattle.pb_replay.proofs.Clauses.Linked.{one-place}
 use Rattle.pb_replay.proofs.Clauses.Truths.{same-slot}
@@ -109,10 +110,6 @@ list-short clauses ws ls l stored =
         let weighs : get_or (map weight clauses) (half e) 0 ≡ weight (list_at clauses (e / 2)) = get_or-map weight clauses (e / 2) [] 0 slot in
         let some = count-some (list_at clauses (e / 2)) l there in
         subst (λ t. 1 ≤ get_or (map weight clauses) t 0) (sym at_i) (omega (arith, weighs, some))
-
--- the occurrences of the walked literals
-abbrev pub killed : List (List ℕ) → List ℕ → ℕ
-killed clauses walked = sum_by (λ xs. count_by (λ x. has walked x) xs) clauses
 
 or-none : (b : Bool) → (b || false) ≡ (false || b)
 or-none true = refl

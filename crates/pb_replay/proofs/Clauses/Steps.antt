@@ -10,7 +10,7 @@ use Rattle.pb_replay.specs.declared.propagate.clauses.lists.Watch.{Watch}
 use Rattle.pb_replay.specs.declared.propagate.clauses.Clauses.{Clauses}
 use Rattle.pb_replay.specs.Clauses.Truths.{flip, true_at, false_at}
 use Rattle.pb_replay.specs.Clauses.Links.{watch_at, list_at, lists_of, AreLinked, Remains}
-use Rattle.pb_replay.specs.Clauses.Runs.{AreStored, IsWatched, ArePassed, AreNoted, AreServed, IsRunning, IsUnit, IsBroken}
+use Rattle.pb_replay.specs.Clauses.Runs.{AreWalked, Grows, AreStored, IsWatched, ArePassed, AreNoted, AreServed, IsRunning, IsUnit, IsBroken}
 use Rattle.pb_replay.proofs.Clauses.Linked.{sits-within, lists-length, list-here}
 use Rattle.pb_replay.proofs.Clauses.Truths.{flip-half, flip-flip, flip-apart, same-slot, not_both}
 
@@ -299,6 +299,31 @@ served-move values clauses passed ws ws' ls ls' l index e other place walked g m
         ]
 
 -- how a search is paid for
+-- what was walked under fewer values stays so
+pub walked-move : (base values : List (Option Bool)) (clauses : List (List ℕ)) (passed : List ℕ) (ws ws' : List Watch) (ls ls' : List (List ℕ)) (l index e other place : ℕ) (codes : List ℕ) → Grows base values → Looking values clauses passed ws ls l index e other place → Shifted values clauses ws ws' ls ls' index e place → AreWalked base ws codes → AreWalked base ws' codes
+walked-move base values clauses passed ws ws' ls ls' l index e other place codes more g m old = record {
+  failed = old.failed;
+  done = λ k live h. done-at k live h (cases_eq k e) (cases_eq (flip k) e);
+}
+  where
+    open' : false_at values (watch_at ws' e).literal ≡ false
+    open' = (found-open values clauses passed ws ws' ls ls' l index e other place g m).0
+
+    -- the watch was on a falsified literal
+    not-true : (k : ℕ) → flip k ≡ e → true_at base (watch_at ws (flip k)).literal ≡ true → ⊥
+    not-true k is h =
+        let at : true_at values (watch_at ws e).literal ≡ true = ap (λ t. true_at values (watch_at ws t).literal) (sym is) ∙ more.met (watch_at ws (flip k)).literal h in
+        not_both values l (ap (true_at values) (sym (looking-literal values clauses passed ws ls l index e other place g)) ∙ at) g.failed
+
+    done-at : (k : ℕ) → (watch_at ws' k).live ≡ true → Contains codes (watch_at ws' k).literal → (k ≡ e) ⊎ (k ≡ e → ⊥) → (flip k ≡ e) ⊎ (flip k ≡ e → ⊥) → true_at base (watch_at ws' (flip k)).literal ≡ true
+    done-at k live h (inl is) q = absurd (both_ways _ (ap (λ t. false_at values (watch_at ws' t).literal) is ∙ open') (more.failed (watch_at ws' k).literal (old.failed (watch_at ws' k).literal h)))
+    done-at k live h (inr n) q =
+        let was = old.done k (sym (m.others k n).live ∙ live) (subst (Contains codes) (m.others k n).literal h) in
+        elim q [
+          | inl is ↦ absurd (not-true k is was)
+          | inr n_flip ↦ ap (true_at base) (m.others (flip k) n_flip).literal ∙ was
+        ]
+
 pub sum-raised : (passed : List ℕ) (s x : ℕ) → s < length passed → sum (set passed s x) + get_or passed s 0 ≡ sum passed + x
 sum-raised passed s x inside = sum_by-set (λ y. y) passed s x 0 inside
 

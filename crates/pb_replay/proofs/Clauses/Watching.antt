@@ -12,6 +12,7 @@ use Rattle.pb_replay.specs.Clauses.Truths.{flip, true_at, false_at}
 use Rattle.pb_replay.specs.Clauses.Links.{watch_at, list_at, lists_of}
 use Rattle.pb_replay.specs.Clauses.Runs.{AreStored, AreServed, AreWalked, IsRunning, AreReady, Grows}
 use Rattle.pb_replay.specs.Clauses.Shapes.{clauses_of, clause_shape, literal_at}
+pub use Rattle.pb_replay.specs.Clauses.Walked.{falsified_code, walked_codes}
 use Rattle.pb_replay.proofs.Engine.Literals.{same-true, same-refl, negation-negation, has-get}
 use Rattle.pb_replay.proofs.Engine.Puts.{place-inside}
 use Rattle.pb_replay.proofs.Engine.Values.{says-inside}
@@ -20,17 +21,10 @@ use Rattle.pb_replay.proofs.Engine.Spent.{place-injective}
 use Rattle.pb_replay.proofs.Clauses.Truths.{flip-half, flip-flip}
 use Rattle.pb_replay.proofs.Clauses.Linked.{lists-length}
 use Rattle.pb_replay.proofs.Clauses.Codes.{has as stands}
-use Rattle.pb_replay.proofs.Clauses.Counts.{killed, killed-more, killed-most, list-short, passed-most}
+use Rattle.pb_replay.proofs.Clauses.Counts.{killed, killed-more, list-short, passed-most}
 use Rattle.pb_replay.proofs.Clauses.Literals.{Agree, false-listed, false-place, place-code}
 use Rattle.pb_replay.proofs.Clauses.Shapes.{Served, met, free, served-settled}
 use Rattle.pb_replay.proofs.Clauses.Walks.{running-grow, walked-grow}
-
-abbrev pub falsified_code : NumberedLiteral → ℕ
-falsified_code l = place (negation l)
-
--- the codes that the first literals of the list falsify
-abbrev pub walked_codes : ℕ → List NumberedLiteral → List ℕ
-walked_codes n list = map falsified_code (take n list)
 
 -- what the walks may have cost
 abbrev pub cost : Clauses → Clauses → ℕ → List NumberedLiteral → ℕ
@@ -62,16 +56,20 @@ take-none : (list : List NumberedLiteral) → take 0 list ≡ []
 take-none [] = refl
 take-none (x ∷ xs) = refl
 
-pub watching-start : (c : Clauses) (values : List (Option Bool)) (list : List NumberedLiteral) → AreReady c → length c.lists.items ≡ 2 * length values → IsWatching c c values list 0
-watching-start c values list r sizes = record {
+pub watching-start : (c : Clauses) (values : List (Option Bool)) (list : List NumberedLiteral) (n : ℕ) → AreReady c → length c.lists.items ≡ 2 * length values → n ≤ length list → AreWalked values c.watches.items (walked_codes n list) → IsWatching c c values list n
+watching-start c values list n r sizes within walked = record {
   literals = refl;
   running = ready-running c values r sizes;
-  within = omega arith;
-  served = subst (AreWalked values c.watches.items) (sym (ap (map falsified_code) (take-none list))) (record {
-    failed = λ x h. absurd (omega (arith, h.1));
-    done = λ e live h. absurd (omega (arith, h.1));
-  });
+  within = within;
+  served = walked;
 }
+
+-- nothing is walked
+pub none-walked : (c : Clauses) (values : List (Option Bool)) (list : List NumberedLiteral) → AreWalked values c.watches.items (walked_codes 0 list)
+none-walked c values list = subst (AreWalked values c.watches.items) (sym (ap (map falsified_code) (take-none list))) (record {
+  failed = λ x h. absurd (omega (arith, h.1));
+  done = λ e live h. absurd (omega (arith, h.1));
+})
 
 pub passed-zero : (ps : List ℕ) → ((s : ℕ) → get_or ps s 0 ≡ 0) → sum ps ≡ 0
 passed-zero [] h = refl
@@ -142,7 +140,7 @@ has-some (x ∷ xs) l h = elim (cases_eq (falsified_code x) (falsified_code l)) 
   | inr n ↦ or_right (same x l) (has xs l) (has-some xs l (stands-tail (falsified_code x) (map falsified_code xs) (falsified_code l) n h))
 ]
 
-fresh-take : (list : List NumberedLiteral) (n : ℕ) (l : NumberedLiteral) → AreSingle list → n < length list → l ≡ get_or list n l → has (take n list) l ≡ false
+pub fresh-take : (list : List NumberedLiteral) (n : ℕ) (l : NumberedLiteral) → AreSingle list → n < length list → l ≡ get_or list n l → has (take n list) l ≡ false
 fresh-take _ n l none inside is = absurd (omega (arith, inside))
 fresh-take _ n l (more {list} k s absent) inside is = elim (cases_lt n (length list)) [
   | inl before ↦ ap (λ xs. has xs l) (take-append-le n list (k ∷ []) (omega (arith, before))) ∙ fresh-take list n l s before (is ∙ get_or_append_left list (k ∷ []) l n before)
@@ -188,18 +186,18 @@ cost-next c0 c c' values list list' n v v' s s' l single inside is same covered 
 -- what a walk costs that was abandoned
 pub cost-broken : (c0 c c' : Clauses) (values : List (Option Bool)) (list : List NumberedLiteral) (n v v' s s' : ℕ) (l : NumberedLiteral) → AreSingle list → n < length list → l ≡ get_or list n l → ((t : ℕ) → get_or c'.passed.items t 0 ≤ length (list_at (clauses_of c) t)) →
     v' + sum c.passed.items + s ≤ v + 2 * length (list_at (lists_of c.lists.items) (falsified_code l)) + sum c'.passed.items + s' → IsWatching c0 c values list n →
-    v' + s + cost c0 c n list ≤ v + s' + 3 * sum_by length (clauses_of c0)
+    v' + s + cost c0 c n list ≤ v + s' + (2 * killed (clauses_of c0) (walked_codes (n + 1) list) + sum_by length (clauses_of c0))
 cost-broken c0 c c' values list n v v' s s' l single inside is bounded covered w =
     let clauses = clauses_of c0 in
     let more_cost = cost-next c0 c c' values list list n v v' s s' l single inside is refl covered w in
     let bounded_0 = subst (λ ls. (t : ℕ) → get_or c'.passed.items t 0 ≤ length (list_at (lists_of ls.items) t)) w.literals bounded in
-    omega (arith, more_cost, killed-most clauses (walked_codes (n + 1) list), passed-most c'.passed.items clauses bounded_0)
+    omega (arith, more_cost, passed-most c'.passed.items clauses bounded_0)
 
-pub cost-most : (c0 c : Clauses) (values : List (Option Bool)) (list : List NumberedLiteral) (n : ℕ) → IsWatching c0 c values list n → cost c0 c n list ≤ 3 * sum_by length (clauses_of c0)
+pub cost-most : (c0 c : Clauses) (values : List (Option Bool)) (list : List NumberedLiteral) (n : ℕ) → IsWatching c0 c values list n → cost c0 c n list ≤ 2 * killed (clauses_of c0) (walked_codes n list) + sum_by length (clauses_of c0)
 cost-most c0 c values list n w =
     let clauses = clauses_of c0 in
     let bounded = subst (λ ls. (t : ℕ) → get_or c.passed.items t 0 ≤ length (list_at (lists_of ls.items) t)) w.literals w.running.passed.bounded in
-    omega (arith, killed-most clauses (walked_codes n list), passed-most c.passed.items clauses bounded)
+    omega (arith, passed-most c.passed.items clauses bounded)
 
 -- if all falsified literals are walked, each clause is settled
 served-by : (values : List (Option Bool)) (clauses : List (List ℕ)) (ws : List Watch) (ls : List (List ℕ)) (walked : List ℕ) (s : ℕ) → AreStored clauses ws ls → AreWalked values ws walked → ((y : ℕ) → false_at values y ≡ true → Contains walked y) → 0 < length (list_at clauses s) → Served values (list_at clauses s)

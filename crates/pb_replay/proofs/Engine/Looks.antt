@@ -6,15 +6,16 @@ use Rattle.std.proofs.lemmas.List.Elements.{Contains-get_or}
 use Rattle.pb_replay.specs.declared.numbered.NumberedLiteral.{NumberedLiteral}
 use Rattle.pb_replay.specs.declared.propagate.term.Term.{Term}
 use Rattle.pb_replay.specs.Engine.Lists.{Shape, AreInside, open_sum, size, Derives, begin, put, Conflicts, broken, Weighted}
-use Rattle.pb_replay.specs.Engine.Counts.{IsCounted, IsTidy, IsPaid, IsAbsent, Adopted, kept, added, IsCalm, IsDone, AreFound, Grown, pushed, spared, spent, weight_in}
+use Rattle.pb_replay.specs.Engine.Counts.{Aside, rest_open, IsCounted, IsTidy, IsPaid, IsAbsent, Adopted, kept, added, IsCalm, IsDone, AreFound, Grown, pushed, spared, spent, weight_in}
 use Rattle.pb_replay.specs.declared.propagate.store.kept.Kept.{Kept}
+use Rattle.pb_replay.specs.declared.propagate.rests.Rests.{Rests}
 use Rattle.pb_replay.specs.Engine.Fields.{shapes_of, kept_shape}
 use Rattle.pb_replay.specs.Engine.Terms.{terms_of}
 use Rattle.pb_replay.specs.Engine.Links.{coefficient_at}
 use Rattle.pb_replay.proofs.Engine.Runs.{Tidy-pass, Tidy-settle, done-new}
 
 -- a form's terms are being passed; the second state is the one before the first of them
-pub record IsLooking (aside : List ℕ) (forms : List Shape) (lists : List (List Weighted)) (form : ℕ) (list0 : List NumberedLiteral) (cands0 work0 : List ℕ) (visits0 : ℕ) (opens cands : List ℕ) (list : List NumberedLiteral) (work trail : List ℕ) (next visits : ℕ) : Type 0 where
+pub record IsLooking (aside : Aside) (forms : List Shape) (lists : List (List Weighted)) (form : ℕ) (list0 : List NumberedLiteral) (cands0 work0 : List ℕ) (visits0 : ℕ) (opens cands : List ℕ) (list : List NumberedLiteral) (work trail : List ℕ) (next visits : ℕ) : Type 0 where
   pub derived : Derives forms list0 list
   pub tidy : IsTidy aside forms opens cands list work trail next form
   pub there : IsAbsent work 0 form → ⊥
@@ -56,7 +57,7 @@ open-now forms opens list form d inside c =
     let none : weight_in form [] ≡ 0 = refl in
     omega (arith, all, none)
 
-pub Looking-next : (aside : List ℕ) (forms : List Shape) (lists : List (List Weighted)) (form : ℕ) (list0 : List NumberedLiteral) (cands0 work0 : List ℕ) (visits0 : ℕ) (opens cands : List ℕ) (list : List NumberedLiteral) (work trail : List ℕ) (next visits seen : ℕ) (opens' cands' : List ℕ) (list' : List NumberedLiteral) (work' trail' : List ℕ) (visits' : ℕ) (f : Shape) (c : ℕ) (t : Term) →
+pub Looking-next : (aside : Aside) (forms : List Shape) (lists : List (List Weighted)) (form : ℕ) (list0 : List NumberedLiteral) (cands0 work0 : List ℕ) (visits0 : ℕ) (opens cands : List ℕ) (list : List NumberedLiteral) (work trail : List ℕ) (next visits seen : ℕ) (opens' cands' : List ℕ) (list' : List NumberedLiteral) (work' trail' : List ℕ) (visits' : ℕ) (f : Shape) (c : ℕ) (t : Term) →
     form < length forms → ((d : Shape) → get_or forms form d ≡ f) → c ≡ get_or cands form 0 → c < length f.terms → t ≡ get_or f.terms c t →
     seen ≡ min (visits + 1) (2 ^ 64 - 1) → visits ≤ seen → get_or opens form 0 < f.degree + t.coefficient →
     Adopted t.literal list list' → IsCounted forms opens list [] →
@@ -101,7 +102,7 @@ Looking-next aside forms lists form list0 cands0 work0 visits0 opens cands list 
         let old = before small in
         omega (arith, e, up, few, old, one)
 
-pub Looking-settled : (aside : List ℕ) (forms : List Shape) (lists : List (List Weighted)) (form : ℕ) (list0 : List NumberedLiteral) (cands0 work0 : List ℕ) (visits0 : ℕ) (opens cands : List ℕ) (list : List NumberedLiteral) (work trail : List ℕ) (next visits : ℕ) (f : Shape) → ((d : Shape) → get_or forms form d ≡ f) → IsCalm f (get_or opens form 0) (get_or cands form 0) → IsLooking aside forms lists form list0 cands0 work0 visits0 opens cands list work trail next visits → IsTidy aside forms opens cands list work trail next (length forms)
+pub Looking-settled : (aside : Aside) (forms : List Shape) (lists : List (List Weighted)) (form : ℕ) (list0 : List NumberedLiteral) (cands0 work0 : List ℕ) (visits0 : ℕ) (opens cands : List ℕ) (list : List NumberedLiteral) (work trail : List ℕ) (next visits : ℕ) (f : Shape) → ((d : Shape) → get_or forms form d ≡ f) → IsCalm f (get_or opens form 0) (get_or cands form 0) → IsLooking aside forms lists form list0 cands0 work0 visits0 opens cands list work trail next visits → IsTidy aside forms opens cands list work trail next (length forms)
 Looking-settled aside forms lists form list0 cands0 work0 visits0 opens cands list work trail next visits f is calm p =
     Tidy-settle aside forms opens cands list work trail next form f (rw (is f) calm) p.tidy
 
@@ -115,7 +116,7 @@ Looking-conflict forms opens list form f inside is c low =
 pub shape-at : (keep : List Kept) (form : ℕ) (k : Kept) → form < length keep → k ≡ get_or keep form k → (d : Shape) → get_or (shapes_of keep) form d ≡ kept_shape k
 shape-at keep form k inside is d = get_or-map kept_shape keep form k d inside ∙ ap kept_shape (sym is)
 
-pub Looking-start : (aside : List ℕ) (forms : List Shape) (lists : List (List Weighted)) (form : ℕ) (opens cands : List ℕ) (list : List NumberedLiteral) (work trail : List ℕ) (next visits : ℕ) → IsTidy aside forms opens cands list work trail next form → (IsAbsent work 0 form → ⊥) → length opens ≡ length forms → length cands ≡ length forms → next ≤ length work → IsLooking aside forms lists form list cands work visits opens cands list work trail next visits
+pub Looking-start : (aside : Aside) (forms : List Shape) (lists : List (List Weighted)) (form : ℕ) (opens cands : List ℕ) (list : List NumberedLiteral) (work trail : List ℕ) (next visits : ℕ) → IsTidy aside forms opens cands list work trail next form → (IsAbsent work 0 form → ⊥) → length opens ≡ length forms → length cands ≡ length forms → next ≤ length work → IsLooking aside forms lists form list cands work visits opens cands list work trail next visits
 Looking-start aside forms lists form opens cands list work trail next visits tidy there o c within = record {
   derived = begin;
   tidy = tidy;
@@ -127,11 +128,11 @@ Looking-start aside forms lists form opens cands list work trail next visits tid
   within = within;
 }
 
-pub Looking-settled_by : (aside : List ℕ) (forms : List Shape) (lists : List (List Weighted)) (form : ℕ) (list0 : List NumberedLiteral) (cands0 work0 : List ℕ) (visits0 : ℕ) (opens cands : List ℕ) (list : List NumberedLiteral) (work trail : List ℕ) (next visits : ℕ) (f : Shape) (n : ℕ) → length forms ≡ n → ((d : Shape) → get_or forms form d ≡ f) → IsCalm f (get_or opens form 0) (get_or cands form 0) → IsLooking aside forms lists form list0 cands0 work0 visits0 opens cands list work trail next visits → IsTidy aside forms opens cands list work trail next n
+pub Looking-settled_by : (aside : Aside) (forms : List Shape) (lists : List (List Weighted)) (form : ℕ) (list0 : List NumberedLiteral) (cands0 work0 : List ℕ) (visits0 : ℕ) (opens cands : List ℕ) (list : List NumberedLiteral) (work trail : List ℕ) (next visits : ℕ) (f : Shape) (n : ℕ) → length forms ≡ n → ((d : Shape) → get_or forms form d ≡ f) → IsCalm f (get_or opens form 0) (get_or cands form 0) → IsLooking aside forms lists form list0 cands0 work0 visits0 opens cands list work trail next visits → IsTidy aside forms opens cands list work trail next n
 Looking-settled_by aside forms lists form list0 cands0 work0 visits0 opens cands list work trail next visits f n e is calm p =
     rw (← e) (Looking-settled aside forms lists form list0 cands0 work0 visits0 opens cands list work trail next visits f is calm p)
 
-pub Looking-next_by : (aside : List ℕ) (keep : List Kept) (lists : List (List Weighted)) (form : ℕ) (list0 : List NumberedLiteral) (cands0 work0 : List ℕ) (visits0 : ℕ) (opens cands : List ℕ) (list : List NumberedLiteral) (work trail : List ℕ) (next visits seen : ℕ) (opens' mid cands' : List ℕ) (list' : List NumberedLiteral) (work' trail' : List ℕ) (next' visits' : ℕ) (k : Kept) (items : List Term) (o c : ℕ) (t : Term) →
+pub Looking-next_by : (aside : Aside) (keep : List Kept) (lists : List (List Weighted)) (form : ℕ) (list0 : List NumberedLiteral) (cands0 work0 : List ℕ) (visits0 : ℕ) (opens cands : List ℕ) (list : List NumberedLiteral) (work trail : List ℕ) (next visits seen : ℕ) (opens' mid cands' : List ℕ) (list' : List NumberedLiteral) (work' trail' : List ℕ) (next' visits' : ℕ) (k : Kept) (items : List Term) (o c : ℕ) (t : Term) →
     form < length keep → k ≡ get_or keep form k → o ≡ get_or opens form o → c ≡ get_or cands form c → items ≡ (terms_of k.terms) → c < length items → t ≡ get_or items c t →
     seen ≡ min (visits + 1) (2 ^ 64 - 1) → visits ≤ seen → o < k.degree + t.coefficient →
     mid ≡ cands → next' ≡ next →
@@ -187,11 +188,11 @@ idle-at keep opens form k o e inside is room open_is low d c =
     let open_0 = get_or_read opens form o room open_is 0 in
     rw (shape-at keep form k inside is d, ← open_0) (k.idle (o - e) c low)
 
-pub changed-at : (keep : List Kept) (opens : List ℕ) (form : ℕ) (k : Kept) (o : ℕ) → form < length keep → k ≡ get_or keep form k → form < length opens → o ≡ get_or opens form o → (o ≡ k.total → ⊥) → (d : Shape) → get_or opens form 0 ≡ size (get_or (shapes_of keep) form d).terms → ⊥
-changed-at keep opens form k o inside is room open_is other d e =
+pub changed-at : (rests : Rests) (keep : List Kept) (opens : List ℕ) (form : ℕ) (k : Kept) (o : ℕ) → form < length keep → k ≡ get_or keep form k → form < length opens → o ≡ get_or opens form o → (o ≡ get_or rests.opens.items form k.total → ⊥) → (d : Shape) → get_or opens form 0 ≡ rest_open rests form (get_or (shapes_of keep) form d) → ⊥
+changed-at rests keep opens form k o inside is room open_is other d e =
     let open_0 = get_or_read opens form o room open_is 0 in
     let shape : size (get_or (shapes_of keep) form d).terms ≡ size (terms_of k.terms) = ap (λ (f : Shape). size f.terms) (shape-at keep form k inside is d) in
-    other (open_0 ∙ e ∙ shape ∙ sym k.sum)
+    other (open_0 ∙ e ∙ ap (get_or rests.opens.items form) (shape ∙ sym k.sum))
 
 -- a coefficient that is read
 pub weight-read : (keep : List Kept) (form index : ℕ) (k : Kept) (w : ℕ) → form < length keep → k ≡ get_or keep form k → ((d : Term) → w ≡ (get_or (terms_of k.terms) index d).coefficient) → w ≡ coefficient_at (shapes_of keep) form index

@@ -5,16 +5,17 @@ use Rattle.std.proofs.lemmas.List.Elements.{Contains-get_or}
 use Rattle.std.proofs.Math.ListN.{get_or-map as get_or-map-default}
 use Rattle.pb_replay.specs.declared.numbered.NumberedLiteral.{NumberedLiteral}
 use Rattle.pb_replay.specs.declared.propagate.store.Occurrence.{Occurrence}
-use Rattle.pb_replay.specs.Engine.Lists.{Shape, Weighted, negation, size, Conflicts, broken}
-use Rattle.pb_replay.specs.Engine.Counts.{place, IsCounted, IsTidy, IsAbsent, IsCalm, Grown}
+use Rattle.pb_replay.specs.declared.propagate.rests.Rests.{Rests}
+use Rattle.pb_replay.specs.Engine.Lists.{Shape, Weighted, negation, Conflicts, broken}
+use Rattle.pb_replay.specs.Engine.Counts.{place, beside, rest_open, IsCounted, IsTidy, IsAbsent, IsCalm, Grown}
 use Rattle.pb_replay.specs.Engine.Fields.{entries_of, lists_of}
 use Rattle.pb_replay.specs.Engine.Links.{weighted, coefficient_at}
 use Rattle.pb_replay.proofs.Engine.Runs.{Counted-fits, Counted-lower, Tidy-lower, grown-before, grown-length}
 
 -- the first j entries were subtracted from the open sums
-pub record IsPutting (forms : List Shape) (es : List Weighted) (opens0 cands : List ℕ) (list : List NumberedLiteral) (work0 trail0 : List ℕ) (next visits0 : ℕ) (opens work trail : List ℕ) (visits j : ℕ) : Type 0 where
+pub record IsPutting (rests : Rests) (forms : List Shape) (es : List Weighted) (opens0 cands : List ℕ) (list : List NumberedLiteral) (work0 trail0 : List ℕ) (next visits0 : ℕ) (opens work trail : List ℕ) (visits j : ℕ) : Type 0 where
   pub counted : IsCounted forms opens list (drop j es)
-  pub tidy : (aside : List ℕ) (busy : ℕ) → IsTidy aside forms opens0 cands list work0 trail0 next busy → IsTidy aside forms opens cands list work trail next busy
+  pub tidy : (aside : List ℕ) (busy : ℕ) → IsTidy (beside rests aside) forms opens0 cands list work0 trail0 next busy → IsTidy (beside rests aside) forms opens cands list work trail next busy
   pub longer : (s : ℕ) → IsAbsent work 0 s → IsAbsent work0 0 s
   pub sizes : length opens ≡ length forms
   pub grown : length work ≤ length work0 + j
@@ -22,8 +23,8 @@ pub record IsPutting (forms : List Shape) (es : List Weighted) (opens0 cands : L
   pub upper : visits ≤ visits0 + j
   pub rising : visits0 ≤ visits
 
-pub Putting-start : (forms : List Shape) (es : List Weighted) (opens cands : List ℕ) (list : List NumberedLiteral) (work trail : List ℕ) (next visits : ℕ) → IsCounted forms opens list es → length opens ≡ length forms → IsPutting forms es opens cands list work trail next visits opens work trail visits 0
-Putting-start forms es opens cands list work trail next visits c s = record {
+pub Putting-start : (rests : Rests) (forms : List Shape) (es : List Weighted) (opens cands : List ℕ) (list : List NumberedLiteral) (work trail : List ℕ) (next visits : ℕ) → IsCounted forms opens list es → length opens ≡ length forms → IsPutting rests forms es opens cands list work trail next visits opens work trail visits 0
+Putting-start rests forms es opens cands list work trail next visits c s = record {
   counted = c;
   tidy = λ aside busy t. t;
   longer = λ s gone. gone;
@@ -34,17 +35,17 @@ Putting-start forms es opens cands list work trail next visits c s = record {
   rising = omega arith;
 }
 
-pub Putting-fits : (forms : List Shape) (es : List Weighted) (opens0 cands : List ℕ) (list : List NumberedLiteral) (work0 trail0 : List ℕ) (next visits0 : ℕ) (opens work trail : List ℕ) (visits j : ℕ) (d : Weighted) (f : Shape) → j < length es → (get_or es j d).form < length forms → IsPutting forms es opens0 cands list work0 trail0 next visits0 opens work trail visits j → (get_or es j d).coefficient ≤ get_or opens (get_or es j d).form 0
-Putting-fits forms es opens0 cands list work0 trail0 next visits0 opens work trail visits j d f inside named p =
+pub Putting-fits : (rests : Rests) (forms : List Shape) (es : List Weighted) (opens0 cands : List ℕ) (list : List NumberedLiteral) (work0 trail0 : List ℕ) (next visits0 : ℕ) (opens work trail : List ℕ) (visits j : ℕ) (d : Weighted) (f : Shape) → j < length es → (get_or es j d).form < length forms → IsPutting rests forms es opens0 cands list work0 trail0 next visits0 opens work trail visits j → (get_or es j d).coefficient ≤ get_or opens (get_or es j d).form 0
+Putting-fits rests forms es opens0 cands list work0 trail0 next visits0 opens work trail visits j d f inside named p =
     Counted-fits forms opens list (get_or es j d) (drop (j + 1) es) f named (subst (IsCounted forms opens list) (drop_more es j d inside) p.counted)
 
-pub Putting-next : (forms : List Shape) (es : List Weighted) (opens0 cands : List ℕ) (list : List NumberedLiteral) (work0 trail0 : List ℕ) (next visits0 : ℕ) (opens work trail : List ℕ) (visits j : ℕ) (opens' work' trail' : List ℕ) (visits' : ℕ) (d : Weighted) → j < length es → (get_or es j d).form < length forms → next ≤ length work0 → opens' ≡ set opens (get_or es j d).form (get_or opens (get_or es j d).form 0 - (get_or es j d).coefficient) → Grown ((f : Shape) (c : ℕ) → IsCalm (get_or forms (get_or es j d).form f) (get_or opens (get_or es j d).form 0 - (get_or es j d).coefficient) c) (get_or es j d).form work work' → Grown ((f : Shape) → get_or opens (get_or es j d).form 0 ≡ size (get_or forms (get_or es j d).form f).terms → ⊥) (get_or es j d).form trail trail' → visits' ≡ min (visits + 1) (2 ^ 64 - 1) → visits ≤ visits' → IsPutting forms es opens0 cands list work0 trail0 next visits0 opens work trail visits j → IsPutting forms es opens0 cands list work0 trail0 next visits0 opens' work' trail' visits' (j + 1)
-Putting-next forms es opens0 cands list work0 trail0 next visits0 opens work trail visits j opens' work' trail' visits' d inside named within is queued noted seen small p =
+pub Putting-next : (rests : Rests) (forms : List Shape) (es : List Weighted) (opens0 cands : List ℕ) (list : List NumberedLiteral) (work0 trail0 : List ℕ) (next visits0 : ℕ) (opens work trail : List ℕ) (visits j : ℕ) (opens' work' trail' : List ℕ) (visits' : ℕ) (d : Weighted) → j < length es → (get_or es j d).form < length forms → next ≤ length work0 → opens' ≡ set opens (get_or es j d).form (get_or opens (get_or es j d).form 0 - (get_or es j d).coefficient) → Grown ((f : Shape) (c : ℕ) → IsCalm (get_or forms (get_or es j d).form f) (get_or opens (get_or es j d).form 0 - (get_or es j d).coefficient) c) (get_or es j d).form work work' → Grown ((f : Shape) → get_or opens (get_or es j d).form 0 ≡ rest_open rests (get_or es j d).form (get_or forms (get_or es j d).form f) → ⊥) (get_or es j d).form trail trail' → visits' ≡ min (visits + 1) (2 ^ 64 - 1) → visits ≤ visits' → IsPutting rests forms es opens0 cands list work0 trail0 next visits0 opens work trail visits j → IsPutting rests forms es opens0 cands list work0 trail0 next visits0 opens' work' trail' visits' (j + 1)
+Putting-next rests forms es opens0 cands list work0 trail0 next visits0 opens work trail visits j opens' work' trail' visits' d inside named within is queued noted seen small p =
     let e = get_or es j d in
     let room : e.form < length opens = omega (arith, named, p.sizes) in
     record {
       counted = Counted-lower forms opens opens' list e (drop (j + 1) es) is room (subst (IsCounted forms opens list) (drop_more es j d inside) p.counted);
-      tidy = λ aside busy t. Tidy-lower aside forms opens opens' cands list work work' trail trail' next busy e.form (get_or opens e.form 0 - e.coefficient) is named room (omega (arith, p.kept, within)) queued noted (p.tidy aside busy t);
+      tidy = λ aside busy t. Tidy-lower (beside rests aside) forms opens opens' cands list work work' trail trail' next busy e.form (get_or opens e.form 0 - e.coefficient) is named room (omega (arith, p.kept, within)) queued noted (p.tidy aside busy t);
       longer = λ s gone. p.longer s (grown-before e.form work work' s queued gone);
       sizes = ap length is ∙ length-set opens e.form (get_or opens e.form 0 - e.coefficient) ∙ p.sizes;
       grown = omega (arith, (grown-length e.form work work' queued).1, p.grown);
@@ -83,22 +84,22 @@ form-within forms es items j e n same is inside named =
     let less = named j entry (omega (arith, ap length same, length-map items (weighted forms), inside)) in
     omega (arith, less, form)
 
-pub Putting-fits_at : (forms : List Shape) (es : List Weighted) (items : List Occurrence) (opens0 cands : List ℕ) (list : List NumberedLiteral) (work0 trail0 : List ℕ) (next visits0 : ℕ) (opens work trail : List ℕ) (visits j : ℕ) (e : Occurrence) → es ≡ map (weighted forms) items → e ≡ get_or items j e → j < length items → All (λ x. x.form < length forms) es → IsPutting forms es opens0 cands list work0 trail0 next visits0 opens work trail visits j → coefficient_at forms e.form e.index ≤ get_or opens e.form 0
-Putting-fits_at forms es items opens0 cands list work0 trail0 next visits0 opens work trail visits j e same is inside named p =
+pub Putting-fits_at : (rests : Rests) (forms : List Shape) (es : List Weighted) (items : List Occurrence) (opens0 cands : List ℕ) (list : List NumberedLiteral) (work0 trail0 : List ℕ) (next visits0 : ℕ) (opens work trail : List ℕ) (visits j : ℕ) (e : Occurrence) → es ≡ map (weighted forms) items → e ≡ get_or items j e → j < length items → All (λ x. x.form < length forms) es → IsPutting rests forms es opens0 cands list work0 trail0 next visits0 opens work trail visits j → coefficient_at forms e.form e.index ≤ get_or opens e.form 0
+Putting-fits_at rests forms es items opens0 cands list work0 trail0 next visits0 opens work trail visits j e same is inside named p =
     let entry = weighted forms e in
     let at : entry ≡ get_or es j entry = item-weighted forms es items j e same is in
     let inside_es : j < length es = omega (arith, ap length same, length-map items (weighted forms), inside) in
-    subst (λ (x : Weighted). x.coefficient ≤ get_or opens x.form 0) (sym at) (Putting-fits forms es opens0 cands list work0 trail0 next visits0 opens work trail visits j entry (record { terms = []; degree = 0 }) inside_es (named j entry inside_es) p)
+    subst (λ (x : Weighted). x.coefficient ≤ get_or opens x.form 0) (sym at) (Putting-fits rests forms es opens0 cands list work0 trail0 next visits0 opens work trail visits j entry (record { terms = []; degree = 0 }) inside_es (named j entry inside_es) p)
 
-pub Putting-next_at : (forms : List Shape) (es : List Weighted) (items : List Occurrence) (opens0 cands : List ℕ) (list : List NumberedLiteral) (work0 trail0 : List ℕ) (next visits0 : ℕ) (opens work trail : List ℕ) (visits j : ℕ) (opens' work' trail' : List ℕ) (visits' : ℕ) (e : Occurrence) → es ≡ map (weighted forms) items → e ≡ get_or items j e → j < length items → All (λ x. x.form < length forms) es → next ≤ length work0 → opens' ≡ set opens e.form (get_or opens e.form 0 - coefficient_at forms e.form e.index) → Grown ((f : Shape) (c : ℕ) → IsCalm (get_or forms e.form f) (get_or opens e.form 0 - coefficient_at forms e.form e.index) c) e.form work work' → Grown ((f : Shape) → get_or opens e.form 0 ≡ size (get_or forms e.form f).terms → ⊥) e.form trail trail' → visits' ≡ min (visits + 1) (2 ^ 64 - 1) → visits ≤ visits' → IsPutting forms es opens0 cands list work0 trail0 next visits0 opens work trail visits j → IsPutting forms es opens0 cands list work0 trail0 next visits0 opens' work' trail' visits' (j + 1)
-Putting-next_at forms es items opens0 cands list work0 trail0 next visits0 opens work trail visits j opens' work' trail' visits' e same is inside named within lower queued noted seen small p =
+pub Putting-next_at : (rests : Rests) (forms : List Shape) (es : List Weighted) (items : List Occurrence) (opens0 cands : List ℕ) (list : List NumberedLiteral) (work0 trail0 : List ℕ) (next visits0 : ℕ) (opens work trail : List ℕ) (visits j : ℕ) (opens' work' trail' : List ℕ) (visits' : ℕ) (e : Occurrence) → es ≡ map (weighted forms) items → e ≡ get_or items j e → j < length items → All (λ x. x.form < length forms) es → next ≤ length work0 → opens' ≡ set opens e.form (get_or opens e.form 0 - coefficient_at forms e.form e.index) → Grown ((f : Shape) (c : ℕ) → IsCalm (get_or forms e.form f) (get_or opens e.form 0 - coefficient_at forms e.form e.index) c) e.form work work' → Grown ((f : Shape) → get_or opens e.form 0 ≡ rest_open rests e.form (get_or forms e.form f) → ⊥) e.form trail trail' → visits' ≡ min (visits + 1) (2 ^ 64 - 1) → visits ≤ visits' → IsPutting rests forms es opens0 cands list work0 trail0 next visits0 opens work trail visits j → IsPutting rests forms es opens0 cands list work0 trail0 next visits0 opens' work' trail' visits' (j + 1)
+Putting-next_at rests forms es items opens0 cands list work0 trail0 next visits0 opens work trail visits j opens' work' trail' visits' e same is inside named within lower queued noted seen small p =
     let entry = weighted forms e in
     let at : entry ≡ get_or es j entry = item-weighted forms es items j e same is in
     let inside_es : j < length es = omega (arith, ap length same, length-map items (weighted forms), inside) in
-    Putting-next forms es opens0 cands list work0 trail0 next visits0 opens work trail visits j opens' work' trail' visits' entry inside_es (named j entry inside_es) within
+    Putting-next rests forms es opens0 cands list work0 trail0 next visits0 opens work trail visits j opens' work' trail' visits' entry inside_es (named j entry inside_es) within
     (subst (λ (x : Weighted). opens' ≡ set opens x.form (get_or opens x.form 0 - x.coefficient)) at lower)
     (subst (λ (x : Weighted). Grown ((f : Shape) (c : ℕ) → IsCalm (get_or forms x.form f) (get_or opens x.form 0 - x.coefficient) c) x.form work work') at queued)
-    (subst (λ (x : Weighted). Grown ((f : Shape) → get_or opens x.form 0 ≡ size (get_or forms x.form f).terms → ⊥) x.form trail trail') at noted) seen small p
+    (subst (λ (x : Weighted). Grown ((f : Shape) → get_or opens x.form 0 ≡ rest_open rests x.form (get_or forms x.form f) → ⊥) x.form trail trail') at noted) seen small p
 
 pub place-inside : (l : NumberedLiteral) (n : ℕ) → l.variable < n → place l < 2 * n
 place-inside l n h = by_sign l.negated l.variable h

@@ -1,14 +1,15 @@
 use Rattle.std.specs.Prelude.{All}
-use Rattle.std.proofs.Common.{◌≡◌, ℕ, ◌<◌, ◌-◌, ◌++◌, ◌∷◌, [], List, refl, sym, ◌∙◌, arith, inl, inr, length, length-append, get_or}
+use Rattle.std.proofs.Common.{◌≡◌, ℕ, ◌<◌, ◌-◌, ◌++◌, ◌∷◌, [], List, refl, sym, ◌∙◌, ap, arith, inl, inr, length, length-append, get_or}
 use Rattle.std.proofs.lemmas.Bool.{cases_lt}
 use Rattle.std.proofs.lemmas.List.{get_or_append_left, get_or-append_right}
 use Rattle.std.proofs.lemmas.List.Sums.{sum_by-cons}
 use Rattle.pb_replay.specs.declared.propagate.term.Term.{Term}
+use Rattle.pb_replay.specs.declared.propagate.rests.Rests.{Rests}
 use Rattle.pb_replay.specs.Engine.Lists.{Shape, negation, open_part, open_sum, size}
-use Rattle.pb_replay.specs.Engine.Counts.{weight_in, IsAbsent, IsCalm, IsCounted, IsTidy, IsUndone}
+use Rattle.pb_replay.specs.Engine.Counts.{weight_in, beside, rest_open, IsAbsent, IsCalm, IsCounted, IsTidy, IsUndone}
 use Rattle.pb_replay.proofs.Engine.Literals.{has-none, open_part-open}
 
-open_sum-empty : (terms : List Term) → open_sum [] terms ≡ size terms
+pub open_sum-empty : (terms : List Term) → open_sum [] terms ≡ size terms
 open_sum-empty [] = refl
 open_sum-empty (t ∷ ts) =
     let first = open_part-open [] t (has-none (negation t.literal)) in
@@ -30,28 +31,31 @@ absent-both xs ys s p q i from less at = elim (cases_lt i (length xs)) [
 ]
 
 -- what a propagation from no literals needs at its start holds if each form is as it was made
-pub rest-counted : (forms : List Shape) (opens cands : List ℕ) → IsUndone forms opens cands [] 0 → IsCounted forms opens [] []
-rest-counted forms opens cands u = record {
+pub rest-counted : (rests : Rests) (forms : List Shape) (opens cands : List ℕ) → rests.opens.items ≡ [] → IsUndone rests forms opens cands [] 0 → IsCounted forms opens [] []
+rest-counted rests forms opens cands bare u = record {
   each = λ s d inside.
       let clean = u.clean s d inside (λ i from less. absurd (omega (arith, less))) in
       let sum = open_sum-empty (get_or forms s d).terms in
       let nothing : weight_in s [] ≡ 0 = refl in
-      omega (arith, clean.0, sum, nothing);
+      let total : rest_open rests s (get_or forms s d) ≡ size (get_or forms s d).terms = ap (λ xs. get_or xs s (size (get_or forms s d).terms)) bare in
+      omega (arith, clean.0, total, sum, nothing);
 }
 
-pub rest-tidy : (aside : List ℕ) (forms : List Shape) (opens cands work : List ℕ) → IsUndone forms opens cands [] 0 → All (λ s. s < length forms) work → IsEager forms (aside ++ work) → IsTidy aside forms opens cands [] work work 0 (length forms)
-rest-tidy aside forms opens cands work u named e = record {
+pub rest-tidy : (rests : Rests) (aside : List ℕ) (forms : List Shape) (opens cands work : List ℕ) → rests.opens.items ≡ [] → rests.starts.items ≡ [] → IsUndone rests forms opens cands [] 0 → All (λ s. s < length forms) work → IsEager forms (aside ++ work) → IsTidy (beside rests aside) forms opens cands [] work work 0 (length forms)
+rest-tidy rests aside forms opens cands work bare plain u named e = record {
   calm = λ s d inside idle off gone.
       let clean = u.clean s d inside (λ i from less. absurd (omega (arith, less))) in
-      rw (clean.0, clean.1) (e.aside s d inside (absent-both aside work s off gone));
-  passed = λ s d inside k f before within.
-      let clean = u.clean s d inside (λ i from less. absurd (omega (arith, less))) in
-      absurd (omega (arith, clean.1, before));
-  bounded = λ s d inside.
-      let clean = u.clean s d inside (λ i from less. absurd (omega (arith, less))) in
-      omega (arith, clean.1);
+      rw (total s d inside, first s d inside) (e.aside s d inside (absent-both aside work s off gone));
+  passed = λ s d inside k f before within. absurd (omega (arith, first s d inside, before));
+  bounded = λ s d inside. omega (arith, first s d inside);
   clean = λ s d inside gone. u.clean s d inside (λ i from less. absurd (omega (arith, less)));
   named = named;
   marked = named;
   traced = λ s gone. gone;
 }
+  where
+    total : (s : ℕ) (d : Shape) → s < length forms → get_or opens s 0 ≡ size (get_or forms s d).terms
+    total s d inside = (u.clean s d inside (λ i from less. absurd (omega (arith, less)))).0 ∙ ap (λ xs. get_or xs s (size (get_or forms s d).terms)) bare
+
+    first : (s : ℕ) (d : Shape) → s < length forms → get_or cands s 0 ≡ 0
+    first s d inside = (u.clean s d inside (λ i from less. absurd (omega (arith, less)))).1 ∙ ap (λ xs. get_or xs s 0) plain

@@ -10,9 +10,10 @@ use Rattle.pb_normal.specs.Form.{Form}
 use Rattle.pb_normal.specs.Rules.{opposite}
 use Rattle.pb_normal.specs.declared.entry.Entry.{Entry}
 use Rattle.pb_replay.specs.declared.propagate.store.kept.Kept.{Kept}
+use Rattle.pb_replay.specs.declared.propagate.rests.Rests.{Rests}
 use Rattle.pb_replay.specs.Engine.Lists.{Shape, size}
 use Rattle.pb_replay.specs.Engine.Forms.{IsKeptAs}
-use Rattle.pb_replay.specs.Engine.Counts.{IsAbsent, IsCalm, IsUndone, IsTidy}
+use Rattle.pb_replay.specs.Engine.Counts.{beside, rest_open, IsAbsent, IsCalm, IsUndone, IsTidy}
 use Rattle.pb_replay.specs.Engine.Fields.{shapes_of, kept_shape, HasEntered}
 use Rattle.pb_replay.specs.Engine.Rest.{IsSlot, AreSlots, waits, kept_waits, IsEager, AreAtRest}
 use Rattle.pb_replay.specs.Engine.Live.{Live}
@@ -36,21 +37,26 @@ element (x ∷ xs) (suc s) h =
     record { value = e.value; at = e.at; got = e.got }
 
 -- at rest each form is as it was made
-pub rest-undone : (keep : List Kept) (opens cands : List ℕ) → AreAtRest keep opens cands → IsUndone (shapes_of keep) opens cands [] 0
-rest-undone keep opens cands r = record {
+pub rest-at : (keep : List Kept) (opens cands : List ℕ) → AreAtRest keep opens cands → (s : ℕ) (d : Shape) → s < length keep → (get_or opens s 0 ≡ size (get_or (shapes_of keep) s d).terms) × (get_or cands s 0 ≡ 0)
+rest-at keep opens cands r s d inside =
+    let e = element keep s inside in
+    let k = e.value in
+    let opened : get_or opens s 0 ≡ k.total = ap (λ (xs : List ℕ). get_or xs s 0) r.opened ∙ get_or-map (λ (x : Kept). x.total) keep s k 0 inside ∙ ap (λ (x : Kept). x.total) (e.at k) in
+    let passed : get_or cands s 0 ≡ 0 = ap (λ (xs : List ℕ). get_or xs s 0) r.passed ∙ get_or-map (λ (x : Kept). 0) keep s k 0 inside in
+    let shape : get_or (shapes_of keep) s d ≡ kept_shape k = get_or-map kept_shape keep s k d inside ∙ ap kept_shape (e.at k) in
+    (opened ∙ k.sum ∙ sym (ap (λ (f : Shape). size f.terms) shape), passed)
+
+pub rest-undone : (rests : Rests) (keep : List Kept) (opens cands : List ℕ) → rests.opens.items ≡ [] → rests.starts.items ≡ [] → AreAtRest keep opens cands → IsUndone rests (shapes_of keep) opens cands [] 0
+rest-undone rests keep opens cands bare plain r = record {
   clean = λ s d less gone.
-      let inside : s < length keep = omega (arith, less, length-map keep kept_shape) in
-      let e = element keep s inside in
-      let k = e.value in
-      let opened : get_or opens s 0 ≡ k.total = ap (λ (xs : List ℕ). get_or xs s 0) r.opened ∙ get_or-map (λ (x : Kept). x.total) keep s k 0 inside ∙ ap (λ (x : Kept). x.total) (e.at k) in
-      let passed : get_or cands s 0 ≡ 0 = ap (λ (xs : List ℕ). get_or xs s 0) r.passed ∙ get_or-map (λ (x : Kept). 0) keep s k 0 inside in
-      let shape : get_or (shapes_of keep) s d ≡ kept_shape k = get_or-map kept_shape keep s k d inside ∙ ap kept_shape (e.at k) in
-      (opened ∙ k.sum ∙ sym (ap (λ (f : Shape). size f.terms) shape), passed);
+      let at = rest-at keep opens cands r s d (omega (arith, less, length-map keep kept_shape)) in
+      let total : rest_open rests s (get_or (shapes_of keep) s d) ≡ size (get_or (shapes_of keep) s d).terms = ap (λ xs. get_or xs s (size (get_or (shapes_of keep) s d).terms)) bare in
+      (at.0 ∙ sym total, at.1 ∙ sym (ap (λ xs. get_or xs s 0) plain));
   named = λ i d h. absurd (omega (arith, h));
 }
 
-pub undone-rest : (keep : List Kept) (opens cands work : List ℕ) (from : ℕ) → length opens ≡ length keep → length cands ≡ length keep → length work ≤ from → IsUndone (shapes_of keep) opens cands work from → AreAtRest keep opens cands
-undone-rest keep opens cands work from o c all u = record {
+pub undone-rest : (rests : Rests) (keep : List Kept) (opens cands work : List ℕ) (from : ℕ) → rests.opens.items ≡ [] → rests.starts.items ≡ [] → length opens ≡ length keep → length cands ≡ length keep → length work ≤ from → IsUndone rests (shapes_of keep) opens cands work from → AreAtRest keep opens cands
+undone-rest rests keep opens cands work from bare plain o c all u = record {
   opened = ext_get_or 0 opens (map (λ k. k.total) keep) (omega (arith, o, length-map keep (λ (k : Kept). k.total))) (λ s less. total_at s (omega (arith, less, o)));
   passed = ext_get_or 0 cands (map (λ k. 0) keep) (omega (arith, c, length-map {B = ℕ} keep (λ (k : Kept). 0))) (λ s less. zero_at s (omega (arith, less, c)));
 }
@@ -61,13 +67,13 @@ undone-rest keep opens cands work from o c all u = record {
         let k = e.value in
         let shape : get_or (shapes_of keep) s (kept_shape k) ≡ kept_shape k = get_or-map kept_shape keep s k (kept_shape k) inside ∙ ap kept_shape (e.at k) in
         let clean = u.clean s (kept_shape k) (omega (arith, inside, length-map keep kept_shape)) (λ i after h. absurd (omega (arith, after, h, all))) in
-        clean.0 ∙ ap (λ (f : Shape). size f.terms) shape ∙ sym k.sum ∙ sym (get_or-map (λ (x : Kept). x.total) keep s k 0 inside ∙ ap (λ (x : Kept). x.total) (e.at k))
+        clean.0 ∙ ap (λ xs. get_or xs s (size (get_or (shapes_of keep) s (kept_shape k)).terms)) bare ∙ ap (λ (f : Shape). size f.terms) shape ∙ sym k.sum ∙ sym (get_or-map (λ (x : Kept). x.total) keep s k 0 inside ∙ ap (λ (x : Kept). x.total) (e.at k))
 
     zero_at : (s : ℕ) → s < length keep → get_or cands s 0 ≡ get_or {A = ℕ} (map (λ (k : Kept). 0) keep) s 0
     zero_at s inside =
         let e = element keep s inside in
         let clean = u.clean s (kept_shape e.value) (omega (arith, inside, length-map keep kept_shape)) (λ i after h. absurd (omega (arith, after, h, all))) in
-        clean.1 ∙ sym (get_or-map (λ (x : Kept). 0) keep s e.value 0 inside)
+        clean.1 ∙ ap (λ xs. get_or xs s 0) plain ∙ sym (get_or-map (λ (x : Kept). 0) keep s e.value 0 inside)
 
 pub rest-lengths : (keep : List Kept) (opens cands : List ℕ) → AreAtRest keep opens cands → (length opens ≡ length keep) × (length cands ≡ length keep)
 rest-lengths keep opens cands r = (ap length r.opened ∙ length-map keep (λ (k : Kept). k.total), ap length r.passed ∙ length-map {B = ℕ} keep (λ (k : Kept). 0))
@@ -188,7 +194,7 @@ slots-length (o ∷ os) [] a = absurd (let e : true ≡ false = a in cc)
 slots-length (o ∷ os) (y ∷ ys) a = let rest = slots-length os ys a.1 in omega (arith, rest)
 
 -- the last form was removed
-front-of : {X : Type 0} (xs ys : List X) (y : X) → xs ≡ ys ++ (y ∷ []) → take (length xs - 1) xs ≡ ys
+pub front-of : {X : Type 0} (xs ys : List X) (y : X) → xs ≡ ys ++ (y ∷ []) → take (length xs - 1) xs ≡ ys
 front-of xs ys y e = rw e (ap (λ n. take n (ys ++ (y ∷ []))) short ∙ take-append_seam ys (y ∷ []))
   where
     short : length (ys ++ (y ∷ [])) - 1 ≡ length ys
@@ -283,11 +289,11 @@ opposite-inside es n all k d h =
     omega (arith, ap (λ (x : Entry). x.variable) is, ap (λ (x : Entry). x.variable) (e.at e.value), small)
 
 -- what a propagation from no literals needs at its start, if all forms that may propagate with nothing assigned wait
-pub rest-tidy-all : (keep : List Kept) (eager opens cands : List ℕ) → AreAtRest keep opens cands → IsEager keep eager → IsTidy (filter (waits keep) eager) (shapes_of keep) opens cands [] [] [] 0 (length keep)
-rest-tidy-all keep eager opens cands rest e =
+pub rest-tidy-all : (rests : Rests) (keep : List Kept) (eager opens cands : List ℕ) → rests.opens.items ≡ [] → rests.starts.items ≡ [] → AreAtRest keep opens cands → IsEager keep eager → IsTidy (beside rests (filter (waits keep) eager)) (shapes_of keep) opens cands [] [] [] 0 (length keep)
+rest-tidy-all rests keep eager opens cands bare plain rest e =
     let waiting = filter (waits keep) eager in
     let whole : IsEager keep (waiting ++ []) = subst (IsEager keep) (sym (append-nil waiting)) (eager-filter keep eager e) in
-    let tidy = rest-tidy waiting (shapes_of keep) opens cands [] (rest-undone keep opens cands rest) (λ i d less. absurd (omega (arith, less))) (calm-but keep (waiting ++ []) whole) in
+    let tidy = rest-tidy rests waiting (shapes_of keep) opens cands [] bare plain (rest-undone rests keep opens cands bare plain rest) (λ i d less. absurd (omega (arith, less))) (calm-but keep (waiting ++ []) whole) in
     rw (length-map keep kept_shape) at tidy
 
 -- the same, if one of the forms is put to work first
@@ -298,8 +304,8 @@ filter-twice p x = at (p x) refl
     at true e = rw (e, e) refl
     at false e = rw e refl
 
-pub rest-tidy-first : (keep : List Kept) (eager opens cands work trail : List ℕ) (number : ℕ) → number < length keep → work ≡ filter (waits keep) (number ∷ []) → trail ≡ filter (waits keep) (number ∷ []) → AreAtRest keep opens cands → IsEager keep (eager ++ filter (waits keep) (number ∷ [])) → IsTidy (filter (waits keep) eager) (shapes_of keep) opens cands [] work trail 0 (length keep)
-rest-tidy-first keep eager opens cands work trail number inside is noted rest e =
+pub rest-tidy-first : (rests : Rests) (keep : List Kept) (eager opens cands work trail : List ℕ) (number : ℕ) → rests.opens.items ≡ [] → rests.starts.items ≡ [] → number < length keep → work ≡ filter (waits keep) (number ∷ []) → trail ≡ filter (waits keep) (number ∷ []) → AreAtRest keep opens cands → IsEager keep (eager ++ filter (waits keep) (number ∷ [])) → IsTidy (beside rests (filter (waits keep) eager)) (shapes_of keep) opens cands [] work trail 0 (length keep)
+rest-tidy-first rests keep eager opens cands work trail number bare plain inside is noted rest e =
     let waiting = filter (waits keep) eager in
     let first = filter (waits keep) (number ∷ []) in
     let once : filter (waits keep) first ≡ first = filter-twice (waits keep) number in
@@ -307,5 +313,5 @@ rest-tidy-first keep eager opens cands work trail number inside is noted rest e 
     let whole : IsEager keep (waiting ++ first) = subst (IsEager keep) split (eager-filter keep (eager ++ first) e) in
     let P : ℕ → Type 0 = λ s. s < length (shapes_of keep) in
     let named = filter-all P (waits keep) (number ∷ []) (All-cons P number [] (omega (arith, inside, length-map keep kept_shape)) (All-nil P)) in
-    let tidy = rest-tidy waiting (shapes_of keep) opens cands first (rest-undone keep opens cands rest) named (calm-but keep (waiting ++ first) whole) in
+    let tidy = rest-tidy rests waiting (shapes_of keep) opens cands first bare plain (rest-undone rests keep opens cands bare plain rest) named (calm-but keep (waiting ++ first) whole) in
     rw (is, noted) (rw (length-map keep kept_shape) at tidy)

@@ -6,8 +6,8 @@ use Rattle.std.proofs.lemmas.List.Elements.{All-push}
 use Rattle.std.proofs.lemmas.List.Sums.{sum_by-cons}
 use Rattle.pb_replay.specs.declared.numbered.NumberedLiteral.{NumberedLiteral}
 use Rattle.pb_replay.specs.declared.propagate.term.Term.{Term}
-use Rattle.pb_replay.specs.Engine.Lists.{Shape, negation, same, has, open_part, open_sum, size, IsSettled, Weighted}
-use Rattle.pb_replay.specs.Engine.Counts.{entry_weight, weight_in, term_weight, weight_on, AreFalling, IsCalm, IsDone, ArePassed, IsAbsent, IsCounted, IsTidy, Grown, pushed, spared}
+use Rattle.pb_replay.specs.Engine.Lists.{Shape, negation, same, has, open_part, open_sum, IsSettled, Weighted}
+use Rattle.pb_replay.specs.Engine.Counts.{entry_weight, weight_in, term_weight, weight_on, AreFalling, IsCalm, IsDone, ArePassed, IsAbsent, IsCounted, IsTidy, Aside, rest_open, Grown, pushed, spared}
 use Rattle.pb_replay.proofs.Engine.Derivations.{settled-of_terms}
 use Rattle.pb_replay.proofs.Engine.Literals.{negation-negation, has-push, has-push_old, has-push_new, same-true, same-refl, open_part-falsified, open_part-open}
 use Rattle.pb_replay.proofs.Engine.Gets.{lt_of_apart}
@@ -112,7 +112,7 @@ Counted-put forms opens list next l entries e absent linked r = rw e (record {
       omega (arith, before, none, taken, link);
 })
 
-pub Tidy-put : (aside : List ℕ) (forms : List Shape) (opens cands : List ℕ) (list longer : List NumberedLiteral) (work trail : List ℕ) (next busy : ℕ) (l : NumberedLiteral) → longer ≡ list ++ (l ∷ []) → IsTidy aside forms opens cands list work trail next busy → IsTidy aside forms opens cands longer work trail next busy
+pub Tidy-put : (aside : Aside) (forms : List Shape) (opens cands : List ℕ) (list longer : List NumberedLiteral) (work trail : List ℕ) (next busy : ℕ) (l : NumberedLiteral) → longer ≡ list ++ (l ∷ []) → IsTidy aside forms opens cands list work trail next busy → IsTidy aside forms opens cands longer work trail next busy
 Tidy-put aside forms opens cands list longer work trail next busy l e r = rw e (record {
   calm = r.calm;
   passed = λ s d inside k f before within. done-push list l (get_or (get_or forms s d).terms k f).literal (r.passed s d inside k f before within);
@@ -172,8 +172,8 @@ grown-length x old _ (spared p) = (omega arith, omega arith)
 pub grown-before : {needless : Type 0} (x : ℕ) (old new : List ℕ) (s : ℕ) → Grown needless x old new → IsAbsent new 0 s → IsAbsent old 0 s
 grown-before x old new s g gone = grown-absent x old new 0 s g gone
 
-pub Tidy-lower : (aside : List ℕ) (forms : List Shape) (opens lower cands : List ℕ) (list : List NumberedLiteral) (work more trail longer : List ℕ) (next busy x y : ℕ) → lower ≡ set opens x y → x < length forms → x < length opens → next ≤ length work →
-    Grown ((d : Shape) (c : ℕ) → IsCalm (get_or forms x d) y c) x work more → Grown ((d : Shape) → get_or opens x 0 ≡ size (get_or forms x d).terms → ⊥) x trail longer →
+pub Tidy-lower : (aside : Aside) (forms : List Shape) (opens lower cands : List ℕ) (list : List NumberedLiteral) (work more trail longer : List ℕ) (next busy x y : ℕ) → lower ≡ set opens x y → x < length forms → x < length opens → next ≤ length work →
+    Grown ((d : Shape) (c : ℕ) → IsCalm (get_or forms x d) y c) x work more → Grown ((d : Shape) → get_or opens x 0 ≡ rest_open aside.rests x (get_or forms x d) → ⊥) x trail longer →
     IsTidy aside forms opens cands list work trail next busy → IsTidy aside forms lower cands list more longer next busy
 Tidy-lower aside forms opens lower cands list work more trail longer next busy x y is inside_x room within queued noted r = rw is (record {
   calm = λ s d inside idle off gone. elim (cases_eq s x) [
@@ -201,7 +201,7 @@ Tidy-lower aside forms opens lower cands list work more trail longer next busy x
         grown-new x trail longer 0 s (omega arith) one noted gone d (r.clean x d inside_x (rw one at before)).0
 
 -- the busy form's candidate changes
-pub Tidy-pass : (aside : List ℕ) (forms : List Shape) (opens cands passed : List ℕ) (list : List NumberedLiteral) (work trail : List ℕ) (next busy c : ℕ) (terms : List Term) (e : Term) → passed ≡ set cands busy (c + 1) → c ≡ get_or cands busy 0 → busy < length cands → ((d : Shape) → busy < length forms → (get_or forms busy d).terms ≡ terms) → c < length terms → IsDone list (get_or terms c e).literal → (IsAbsent work 0 busy → ⊥) → IsTidy aside forms opens cands list work trail next busy → IsTidy aside forms opens passed list work trail next busy
+pub Tidy-pass : (aside : Aside) (forms : List Shape) (opens cands passed : List ℕ) (list : List NumberedLiteral) (work trail : List ℕ) (next busy c : ℕ) (terms : List Term) (e : Term) → passed ≡ set cands busy (c + 1) → c ≡ get_or cands busy 0 → busy < length cands → ((d : Shape) → busy < length forms → (get_or forms busy d).terms ≡ terms) → c < length terms → IsDone list (get_or terms c e).literal → (IsAbsent work 0 busy → ⊥) → IsTidy aside forms opens cands list work trail next busy → IsTidy aside forms opens passed list work trail next busy
 Tidy-pass aside forms opens cands passed list work trail next busy c terms e is at room same here done there r = rw is (record {
   calm = λ s d inside idle off gone. rw (get_or-set_other cands busy s (c + 1) 0 idle) (r.calm s d inside idle off gone);
   passed = λ s d inside k f before within. elim (cases_eq s busy) [
@@ -240,7 +240,7 @@ Tidy-pass aside forms opens cands passed list work trail next busy c terms e is 
     last_one a b h k = grind arith
 
 -- the next form of the work list is visited
-pub Tidy-next : (aside : List ℕ) (forms : List Shape) (opens cands : List ℕ) (list : List NumberedLiteral) (work trail : List ℕ) (next : ℕ) → IsTidy aside forms opens cands list work trail next (length forms) → IsTidy aside forms opens cands list work trail (next + 1) (get_or work next 0)
+pub Tidy-next : (aside : Aside) (forms : List Shape) (opens cands : List ℕ) (list : List NumberedLiteral) (work trail : List ℕ) (next : ℕ) → IsTidy aside forms opens cands list work trail next (length forms) → IsTidy aside forms opens cands list work trail (next + 1) (get_or work next 0)
 Tidy-next aside forms opens cands list work trail next r = record {
   calm = λ s d inside idle off gone. r.calm s d inside (λ e. absurd (omega (arith, e, inside))) off (λ i from less at. elim (cases_eq i next) [
     | inl here ↦ idle (sym at ∙ ap (λ j. get_or work j 0) here)
@@ -254,7 +254,7 @@ Tidy-next aside forms opens cands list work trail next r = record {
   traced = r.traced;
 }
 
-pub Tidy-settle : (aside : List ℕ) (forms : List Shape) (opens cands : List ℕ) (list : List NumberedLiteral) (work trail : List ℕ) (next busy : ℕ) (e : Shape) → IsCalm (get_or forms busy e) (get_or opens busy 0) (get_or cands busy 0) → IsTidy aside forms opens cands list work trail next busy → IsTidy aside forms opens cands list work trail next (length forms)
+pub Tidy-settle : (aside : Aside) (forms : List Shape) (opens cands : List ℕ) (list : List NumberedLiteral) (work trail : List ℕ) (next busy : ℕ) (e : Shape) → IsCalm (get_or forms busy e) (get_or opens busy 0) (get_or cands busy 0) → IsTidy aside forms opens cands list work trail next busy → IsTidy aside forms opens cands list work trail next (length forms)
 Tidy-settle aside forms opens cands list work trail next busy e calm r = record {
   calm = λ s d inside idle off gone. elim (cases_eq s busy) [
     | inl one ↦ rw (one, get_or_default forms busy d e (rw one at inside)) calm

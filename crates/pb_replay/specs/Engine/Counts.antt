@@ -1,6 +1,7 @@
 use Rattle.std.specs.Prelude.{◌≡◌, ℕ, ◌+◌, ◌-◌, ◌*◌, ◌^◌, ◌<◌, ◌≤◌, ◌==◌, ◌||◌, ◌++◌, ◌∷◌, [], true, false, if◌then◌else◌, List, length, sum, sum_by, All, slice_index_or, slice_index}
 use Rattle.pb_replay.specs.declared.numbered.NumberedLiteral.{NumberedLiteral}
 use Rattle.pb_replay.specs.declared.propagate.term.Term.{Term}
+use Rattle.pb_replay.specs.declared.propagate.rests.Rests.{Rests}
 use Rattle.pb_replay.specs.Engine.Lists.{Shape, Weighted, negation, same, has, open_sum, size}
 
 -- the index of a literal's list among the occurrence lists
@@ -59,13 +60,28 @@ pub data Grown (needless : Type 0) (x : ℕ) (old : List ℕ) : List ℕ → Typ
   pushed : Grown needless x old (old ++ (x ∷ []))
   spared : needless → Grown needless x old old
 
+-- the open sum and the candidate to which a form returns
+abbrev pub rest_open : Rests → ℕ → Shape → ℕ
+rest_open rests s f = slice_index_or rests.opens.items s (size f.terms)
+
+abbrev pub rest_start : Rests → ℕ → ℕ
+rest_start rests s = slice_index_or rests.starts.items s 0
+
+-- the forms that are set aside, and the state to which forms return
+pub record Aside : Type 0 where
+  pub waiting : List ℕ
+  pub rests : Rests
+
+abbrev pub beside : Rests → List ℕ → Aside
+beside rests waiting = record { waiting = waiting; rests = rests }
+
 -- Each form is calm, except those set aside, the one that is visited, and those that wait on the work list from `next` on.
--- None is visited if `busy` is no form's number. A form that is not on the trail is as it was made.
-pub record IsTidy (aside : List ℕ) (forms : List Shape) (opens candidates : List ℕ) (list : List NumberedLiteral) (work trail : List ℕ) (next busy : ℕ) : Type 0 where
-  pub calm : (s : ℕ) (d : Shape) → s < length forms → (s ≡ busy → ⊥) → IsAbsent aside 0 s → IsAbsent work next s → IsCalm (slice_index_or forms s d) (slice_index opens s) (slice_index candidates s)
+-- None is visited if `busy` is no form's number. A form that is not on the trail is as it is at rest.
+pub record IsTidy (aside : Aside) (forms : List Shape) (opens candidates : List ℕ) (list : List NumberedLiteral) (work trail : List ℕ) (next busy : ℕ) : Type 0 where
+  pub calm : (s : ℕ) (d : Shape) → s < length forms → (s ≡ busy → ⊥) → IsAbsent aside.waiting 0 s → IsAbsent work next s → IsCalm (slice_index_or forms s d) (slice_index opens s) (slice_index candidates s)
   pub passed : (s : ℕ) (d : Shape) → s < length forms → ArePassed (slice_index_or forms s d).terms (slice_index candidates s) list
   pub bounded : (s : ℕ) (d : Shape) → s < length forms → slice_index candidates s ≤ length (slice_index_or forms s d).terms
-  pub clean : (s : ℕ) (d : Shape) → s < length forms → IsAbsent trail 0 s → (slice_index opens s ≡ size (slice_index_or forms s d).terms) × (slice_index candidates s ≡ 0)
+  pub clean : (s : ℕ) (d : Shape) → s < length forms → IsAbsent trail 0 s → (slice_index opens s ≡ rest_open aside.rests s (slice_index_or forms s d)) × (slice_index candidates s ≡ rest_start aside.rests s)
   pub named : All (λ s. s < length forms) work
   pub marked : All (λ s. s < length forms) trail
   pub traced : (s : ℕ) → IsAbsent trail 0 s → IsAbsent work 0 s
@@ -99,7 +115,7 @@ pub data AreSingle : List NumberedLiteral → Type 0 where
   none : AreSingle []
   more : {list : List NumberedLiteral} (l : NumberedLiteral) → AreSingle list → has list l ≡ false → AreSingle (list ++ (l ∷ []))
 
--- the forms that are not on the trail from a position on are as they were made
-pub record IsUndone (forms : List Shape) (opens candidates trail : List ℕ) (from : ℕ) : Type 0 where
-  pub clean : (s : ℕ) (d : Shape) → s < length forms → IsAbsent trail from s → (slice_index opens s ≡ size (slice_index_or forms s d).terms) × (slice_index candidates s ≡ 0)
+-- the forms that are not on the trail from a position on are as they are at rest
+pub record IsUndone (rests : Rests) (forms : List Shape) (opens candidates trail : List ℕ) (from : ℕ) : Type 0 where
+  pub clean : (s : ℕ) (d : Shape) → s < length forms → IsAbsent trail from s → (slice_index opens s ≡ rest_open rests s (slice_index_or forms s d)) × (slice_index candidates s ≡ rest_start rests s)
   pub named : All (λ s. s < length forms) trail

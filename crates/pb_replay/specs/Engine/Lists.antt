@@ -63,6 +63,10 @@ IsClosed forms list = (l : NumberedLiteral) → Puts forms list l → ⊥
 abbrev pub IsWithin : List NumberedLiteral → List NumberedLiteral → Type 0
 IsWithin a b = (l : NumberedLiteral) → has a l ≡ true → has b l ≡ true
 
+-- literals were added after those of the first list
+abbrev pub Extends : List NumberedLiteral → List NumberedLiteral → Type 0
+Extends a b = (rest : List NumberedLiteral) × (b ≡ a ++ rest)
+
 -- whether a variable's value is that of this literal
 abbrev pub holds : Option Bool → Bool → Bool
 holds None n = false

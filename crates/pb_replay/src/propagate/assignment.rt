@@ -1,6 +1,6 @@
 //! The list of assigned literals.
 
-ghost use Rattle.std.specs.Prelude.{◌≡◌, ℕ, ◌+◌, ◌≤◌, ◌<◌, ◌++◌, ◌∷◌, [], Bool, None, true, false, length, sum_by, OnOk, OnErr, IfOk, slice_index_or};
+ghost use Rattle.std.specs.Prelude.{◌≡◌, ℕ, ◌+◌, ◌≤◌, ◌<◌, ◌++◌, ◌∷◌, [], Bool, None, true, false, length, take, sum_by, OnOk, OnErr, IfOk, slice_index_or};
 ghost use Rattle.pb_replay.specs.declared.numbered.NumberedLiteral.{NumberedLiteral};
 ghost use Rattle.pb_replay.specs.Engine.Lists.{has, says, vacancy, negation};
 
@@ -25,6 +25,23 @@ fn forget(values: &mut Vec<Option<bool>>, list: &[NumberedLiteral])
 {
     'list: for literal in list {
         values[literal.variable] = None;
+    }
+}
+
+// Removes the literals after the first `count` from the list, and their values.
+fn shorten(values: &mut Vec<Option<bool>>, list: &mut Vec<NumberedLiteral>, count: usize)
+    requires agrees { (l : NumberedLiteral) → has list.old.items l ≡ says values.old.items l }
+    requires room { length list.old.items + sum_by vacancy values.old.items ≡ length values.old.items }
+    ensures agrees { (l : NumberedLiteral) → has list.new.items l ≡ says values.new.items l }
+    ensures room { length list.new.items + sum_by vacancy values.new.items ≡ length values.new.items }
+    ensures values { length values.new.items ≡ length values.old.items }
+    ensures list { list.new.items ≡ take count list.old.items }
+{
+    'list: while list.len() > count {
+        let last = list.len() - 1;
+        let literal = list[last];
+        values[literal.variable] = None;
+        list.pop();
     }
 }
 
@@ -55,6 +72,14 @@ impl Assignment {
     {
         forget(&mut self.values, self.list.as_slice());
         self.list.clear();
+    }
+
+    /// Removes the literals after the first `count` from the list.
+    pub fn cut(&mut self, count: usize)
+        ensures values { length self.new.values.items ≡ length self.old.values.items }
+        ensures list { self.new.list.items ≡ take count self.old.list.items }
+    {
+        shorten(&mut self.values, &mut self.list, count);
     }
 
     /// Whether the literal is on the list.

@@ -1,14 +1,16 @@
 //! Clauses by slots.
 
-ghost use Rattle.std.specs.Prelude.{◌≡◌, ℕ, ◌+◌, ◌*◌, ◌<◌, ◌≤◌, ◌++◌, ◌∷◌, [], List, All, Bool, Option, length, slice_set, slice_index, true, false, OnOk, OnErr, IfOk};
-ghost use Rattle.pb_replay.specs.Clauses.Links.{lists_of, list_at};
+ghost use Rattle.std.specs.Prelude.{◌≡◌, ℕ, ◌+◌, ◌*◌, ◌/◌, ◌<◌, ◌≤◌, ◌++◌, ◌∷◌, [], List, All, Bool, Option, length, slice_set, slice_index, true, false, OnOk, OnErr, IfOk};
+ghost use Rattle.pb_replay.specs.Clauses.Links.{lists_of, list_at, watch_at};
 ghost use Rattle.pb_replay.specs.Clauses.Runs.{AreReady, IsRunning};
+ghost use Rattle.pb_replay.specs.Engine.Root.{IsServed};
 
 pub mod lists;
 pub mod truth;
 pub mod visiting;
 
 use crate::propagate::clauses::lists::{Watch, put_in, take_out};
+use crate::propagate::clauses::truth::{is_false, is_true};
 use std::alloc::{AllocError, Global};
 
 /// Clauses by slots, each with two watched literals.
@@ -61,6 +63,7 @@ impl Clauses {
         ensures rest { OnOk result (AreReady self.new) }
         ensures literals { OnOk result (lists_of self.new.literals.items ≡ lists_of self.old.literals.items ++ [] ∷ []) }
         ensures unchanged { OnErr result (self.new.literals.items ≡ self.old.literals.items) }
+        ensures watches { OnOk result ((e : ℕ) → watch_at self.new.watches.items e ≡ watch_at self.old.watches.items e) }
         ensures lists { self.new.lists ≡ self.old.lists }
     {
         let alloc = *self.lists.allocator();
@@ -84,8 +87,8 @@ impl Clauses {
         self.lists[literal].len()
     }
 
-    // Whether the slot holds a clause.
-    fn is_filled(&self, slot: usize) -> bool
+    /// Whether the slot holds a clause.
+    pub fn is_filled(&self, slot: usize) -> bool
         ensures yes { result ≡ true → 0 < length (list_at (lists_of self.now.literals.items) slot) }
         ensures no { result ≡ false → list_at (lists_of self.now.literals.items) slot ≡ [] }
     {
@@ -107,6 +110,7 @@ impl Clauses {
         ensures rest { OnOk result (AreReady self.new) }
         ensures literals { OnOk result (lists_of self.new.literals.items ≡ slice_set (lists_of self.old.literals.items) slot literals.items) }
         ensures unchanged { OnErr result (self.new.literals ≡ self.old.literals) }
+        ensures watches { OnOk result ((e : ℕ) → (e / 2 ≡ slot → ⊥) → watch_at self.new.watches.items e ≡ watch_at self.old.watches.items e) }
         ensures lists { OnOk result (length self.new.lists.items ≡ length self.old.lists.items) }
     {
         let first = literals[0];
@@ -157,12 +161,34 @@ impl Clauses {
         self.literals[slot] = Vec::new(alloc);
     }
 
+    /// Whether the watches of a clause are on literals that are not falsified, or one of them is true.
+    pub fn is_served(&self, values: &[Option<bool>], slot: usize) -> bool
+        requires rest { AreReady self.now }
+        requires filled { 0 < length (list_at (lists_of self.now.literals.items) slot) }
+        requires values { length self.now.lists.items ≡ 2 * length values.now }
+        ensures { result ≡ true → IsServed values.now self.now.watches.items slot }
+    {
+        let first = self.watches[2 * slot].literal;
+        let second = self.watches[2 * slot + 1].literal;
+        if is_true(values, first) {
+            return true;
+        }
+        if is_true(values, second) {
+            return true;
+        }
+        if is_false(values, first) {
+            return false;
+        }
+        !is_false(values, second)
+    }
+
     /// Prepares for another run. Only the clauses in which a search has begun are visited, and nothing is allocated.
     pub fn rest(&mut self)
         requires running { (values : List (Option Bool)) × IsRunning values self.old }
         ensures rest { AreReady self.new }
         ensures literals { self.new.literals ≡ self.old.literals }
         ensures lists { self.new.lists ≡ self.old.lists }
+        ensures watches { self.new.watches ≡ self.old.watches }
     {
         'slots: for i in 0..self.moved.len() {
             let slot = self.moved[i];

@@ -1,5 +1,7 @@
 //! The engine: live forms by number, and the results of propagation over them.
 
+pub mod question;
+pub mod root;
 pub mod visits;
 
 ghost use Rattle.std.specs.Prelude.{◌≡◌, ℕ, List, Option, Some, None, ◌+◌, ◌*◌, ◌<◌, ◌≤◌, ◌++◌, ◌∷◌, [], ◌⊎◌, true, false, All, length, filter, slice_index_or, slice_get, slice_set, sum_by, OnOk, OnErr, IfOk, IfSome, IfNone, map};
@@ -9,10 +11,13 @@ ghost use Rattle.pb_replay.specs.declared.numbered.NumberedLiteral.{NumberedLite
 ghost use Rattle.pb_replay.specs.declared.propagate.store.kept.Kept.{Kept};
 ghost use Rattle.pb_replay.specs.Engine.Live.{Standing, Live, Gives, terms_in, one_in};
 ghost use Rattle.pb_replay.specs.Engine.Lists.{has, negation, IsWithin};
-ghost use Rattle.pb_replay.specs.Engine.Counts.{IsCounted, IsTidy, IsUndone, AreSingle};
-ghost use Rattle.pb_replay.specs.Engine.Fields.{shapes_of, IsSound};
+ghost use Rattle.pb_replay.specs.Engine.Counts.{IsCounted, beside, IsTidy, IsUndone, AreSingle};
+ghost use Rattle.pb_replay.specs.Engine.Fields.{shapes_of, forms_of, IsSound};
 ghost use Rattle.pb_replay.specs.Propagation.{With, MeetsConflict, IsCompletion, IsRup};
-ghost use Rattle.pb_replay.specs.Engine.Rest.{AreAtRest, waits, IsRefuted, IsEnded};
+ghost use Rattle.pb_replay.specs.Engine.Rest.{AreAtRest, IsAtRest, waits, IsRefuted, IsEnded};
+ghost use Rattle.pb_replay.specs.Engine.Root.{IsRooted, HasGained};
+ghost use Rattle.pb_replay.specs.declared.propagate.store.Store.{Store};
+ghost use Rattle.pb_replay.specs.declared.propagate.clauses.Clauses.{Clauses};
 ghost use Rattle.pb_replay.specs.Clauses.Runs.{AreReady, IsRunning};
 ghost use Rattle.pb_replay.specs.Clauses.Shapes.{AreJoined, clauses_of, all_of};
 
@@ -20,7 +25,10 @@ use crate::numbered::NumberedLiteral;
 use crate::propagate::assignment::Assignment;
 use crate::propagate::clauses::Clauses;
 use crate::propagate::eager::Eager;
+use crate::propagate::engine::question::ask;
+use crate::propagate::engine::root::Root;
 use crate::propagate::engine::visits::Visits;
+use crate::propagate::rests::Rests;
 use crate::propagate::run::{Run, choose, propagate, try_put, undo_forms};
 use crate::propagate::slots::{occupy, quit, vacancy};
 use crate::propagate::store::Store;
@@ -37,6 +45,7 @@ pub struct Engine {
     run: Run,
     eager: Eager,
     clauses: Clauses,
+    root: Root,
     // For each number the slot of its form, or no slot if the form was removed. The slot of a removed form is used again.
     places: Vec<usize>,
     // The slots of removed forms.
@@ -50,18 +59,24 @@ impl Model for Engine {
 
     ghost Value = { Standing };
 
-    ghost use Rattle.std.specs.Prelude.{◌≡◌, false};
+    ghost use Rattle.std.specs.Prelude.{◌≡◌, true, false, length};
     ghost use Rattle.pb_replay.specs.Engine.Fields.{forms_of};
     ghost use Rattle.pb_replay.specs.Engine.Rest.{IsAtRest};
     ghost use Rattle.pb_replay.specs.Engine.Slots.{numbered, ArePlaced};
+    ghost use Rattle.pb_replay.specs.Engine.Root.{IsRooted};
 
     ghost view = { λ e. record { forms = numbered (forms_of e.store.kept.items) e.places.items; variables = e.store.variables; visits = e.run.visits; spent = e.spent } };
 
-    ghost invariant = { λ e. e.spent ≡ false → IsAtRest e.store e.run e.eager e.clauses (forms_of e.store.kept.items) × ArePlaced (forms_of e.store.kept.items) e.places.items };
+    ghost invariant = { λ e. e.spent ≡ false → IsAtRest e.store e.run e.eager e.clauses (forms_of e.store.kept.items) × ArePlaced (forms_of e.store.kept.items) e.places.items × (e.root.live ≡ true → IsRooted e.store e.clauses e.root.run e.root.rests (length e.store.kept.items)) };
 }
 
 // Assigns the given literals. Returns whether two of them are opposite, or a form is then falsified.
-fn assume(store: &Store, run: &mut Run, given: &[NumberedLiteral]) -> Result<bool, AllocError>
+fn assume(
+    store: &Store,
+    rests: &Rests,
+    run: &mut Run,
+    given: &[NumberedLiteral],
+) -> Result<bool, AllocError>
     requires store { IsSound store.now }
     requires inside { All (λ l. l.variable < store.now.variables) given.now }
     requires values { length run.old.assignment.values.items ≡ store.now.variables }
@@ -76,7 +91,7 @@ fn assume(store: &Store, run: &mut Run, given: &[NumberedLiteral]) -> Result<boo
     ensures within { OnOk result (length run.old.work.items ≤ length run.new.work.items) }
     ensures single { OnOk result (AreSingle run.new.assignment.list.items) }
     ensures counted { IfOk result (λ found. found ≡ false → IsCounted (shapes_of store.now.kept.items) run.new.opens.items run.new.assignment.list.items []) }
-    ensures tidy { OnOk result ((aside : List ℕ) (busy : ℕ) → IsTidy aside (shapes_of store.now.kept.items) run.old.opens.items run.old.candidates.items run.old.assignment.list.items run.old.work.items run.old.trail.items run.old.next busy → IsTidy aside (shapes_of store.now.kept.items) run.new.opens.items run.new.candidates.items run.new.assignment.list.items run.new.work.items run.new.trail.items run.new.next busy) }
+    ensures tidy { OnOk result ((aside : List ℕ) (busy : ℕ) → IsTidy (beside rests.now aside) (shapes_of store.now.kept.items) run.old.opens.items run.old.candidates.items run.old.assignment.list.items run.old.work.items run.old.trail.items run.old.next busy → IsTidy (beside rests.now aside) (shapes_of store.now.kept.items) run.new.opens.items run.new.candidates.items run.new.assignment.list.items run.new.work.items run.new.trail.items run.new.next busy) }
     ensures refuted { IfOk result (λ found. found ≡ true → IsRefuted (shapes_of store.now.kept.items) given.now given.now) }
     ensures same { IfOk result (λ found. found ≡ false → IsWithin run.new.assignment.list.items given.now × IsWithin given.now run.new.assignment.list.items) }
 {
@@ -85,7 +100,7 @@ fn assume(store: &Store, run: &mut Run, given: &[NumberedLiteral]) -> Result<boo
         if run.assignment.contains(literal.negation()) {
             return Ok(true);
         }
-        if try_put(store, run, literal)? {
+        if try_put(store, rests, run, literal)? {
             return Ok(true);
         }
     }
@@ -95,6 +110,7 @@ fn assume(store: &Store, run: &mut Run, given: &[NumberedLiteral]) -> Result<boo
 // Propagates from the given literals. Returns whether a conflict is met.
 fn settle(
     store: &Store,
+    rests: &Rests,
     clauses: &mut Clauses,
     run: &mut Run,
     given: &[NumberedLiteral],
@@ -109,7 +125,7 @@ fn settle(
     requires waiting { All (λ s. s < length store.now.kept.items) waiting.now }
     requires empty { run.old.assignment.list.items ≡ [] }
     requires counted { IsCounted (shapes_of store.now.kept.items) run.old.opens.items run.old.assignment.list.items [] }
-    requires tidy { IsTidy (filter (waits store.now.kept.items) waiting.now) (shapes_of store.now.kept.items) run.old.opens.items run.old.candidates.items run.old.assignment.list.items run.old.work.items run.old.trail.items run.old.next (length store.now.kept.items) }
+    requires tidy { IsTidy (beside rests.now (filter (waits store.now.kept.items) waiting.now)) (shapes_of store.now.kept.items) run.old.opens.items run.old.candidates.items run.old.assignment.list.items run.old.work.items run.old.trail.items run.old.next (length store.now.kept.items) }
     requires joined { AreJoined (shapes_of store.now.kept.items) (clauses_of clauses.old) }
     requires ready { AreReady clauses.old }
     requires widths { length clauses.old.lists.items ≡ 2 * store.now.variables }
@@ -118,22 +134,23 @@ fn settle(
     ensures values { OnOk result (length run.new.assignment.values.items ≡ length run.old.assignment.values.items) }
     ensures opens { OnOk result (length run.new.opens.items ≡ length store.now.kept.items) }
     ensures candidates { OnOk result (length run.new.candidates.items ≡ length store.now.kept.items) }
-    ensures undone { OnOk result (IsUndone (shapes_of store.now.kept.items) run.new.opens.items run.new.candidates.items run.new.trail.items 0) }
+    ensures undone { OnOk result (IsUndone rests.now (shapes_of store.now.kept.items) run.new.opens.items run.new.candidates.items run.new.trail.items 0) }
     ensures refuted { IfOk result (λ found. found ≡ true → (list : List NumberedLiteral) × IsRefuted (all_of store.now clauses.old) given.now list) }
     ensures ended { IfOk result (λ found. found ≡ false → IsEnded (all_of store.now clauses.old) given.now run.new.assignment.list.items) }
 {
-    if assume(store, run, given)? {
+    if assume(store, rests, run, given)? {
         return Ok(true);
     }
-    let found = propagate(store, clauses, run, waiting)?;
+    let found = propagate(store, rests, clauses, run, waiting, 0)?;
     Ok(found)
 }
 
-// Undoes a propagation.
-fn rest(store: &Store, clauses: &mut Clauses, run: &mut Run)
+// Undoes a propagation that began from nothing.
+fn rest(store: &Store, rests: &Rests, clauses: &mut Clauses, run: &mut Run)
     requires opens { length run.old.opens.items ≡ length store.now.kept.items }
     requires candidates { length run.old.candidates.items ≡ length store.now.kept.items }
-    requires undone { IsUndone (shapes_of store.now.kept.items) run.old.opens.items run.old.candidates.items run.old.trail.items 0 }
+    requires undone { IsUndone rests.now (shapes_of store.now.kept.items) run.old.opens.items run.old.candidates.items run.old.trail.items 0 }
+    requires bare { (rests.now.opens.items ≡ []) × (rests.now.starts.items ≡ []) }
     requires running { IsRunning run.old.assignment.values.items clauses.old }
     ensures ready { AreReady clauses.new }
     ensures literals { clauses.new.literals ≡ clauses.old.literals }
@@ -146,12 +163,40 @@ fn rest(store: &Store, clauses: &mut Clauses, run: &mut Run)
     ensures next { run.new.next ≡ 0 }
     ensures visits { run.new.visits ≡ run.old.visits }
 {
-    undo_forms(store, run);
+    undo_forms(store, rests, run);
     clauses.rest();
     run.assignment.clear();
     run.work.clear();
     run.trail.clear();
     run.next = 0;
+}
+
+// The root after a form was stored in a slot. It is made anew once the questions without it took as many visits as there are forms
+// and variables.
+fn follow(
+    store: &Store,
+    run: &Run,
+    eager: &Eager,
+    clauses: &mut Clauses,
+    root: &mut Root,
+    slot: usize,
+) -> Result<(), AllocError>
+    requires rest { IsAtRest store.now run.now eager.now clauses.old (forms_of store.now.kept.items) }
+    requires slot { slot < length store.now.kept.items }
+    requires gained { root.old.live ≡ true → (before : Store) × (old : Clauses) × IsRooted before old root.old.run root.old.rests (length before.kept.items) × HasGained before old store.now clauses.old slot }
+    ensures rest { OnOk result (IsAtRest store.now run.now eager.now clauses.new (forms_of store.now.kept.items)) }
+    ensures rooted { OnOk result (root.new.live ≡ true → IsRooted store.now clauses.new root.new.run root.new.rests (length store.now.kept.items)) }
+{
+    if root.live {
+        root.admit(store, clauses, slot)?;
+        return Ok(());
+    }
+    let size = store.kept.len().saturating_add(store.variables);
+    if root.paid < size as u64 {
+        return Ok(());
+    }
+    root.make(store, run, clauses, eager)?;
+    Ok(())
 }
 
 impl Engine {
@@ -179,6 +224,7 @@ impl Engine {
             },
             eager: Eager::new(alloc),
             clauses: Clauses::new(alloc),
+            root: Root::new(alloc),
             places: Vec::new(alloc),
             free: Vec::new(alloc),
             spent: false,
@@ -195,6 +241,7 @@ impl Engine {
     {
         let alloc = *self.places.allocator();
         self.spent = true;
+        self.root.end();
         self.store.occurrences.push(Vec::new(alloc))?;
         self.store.occurrences.push(Vec::new(alloc))?;
         self.run.assignment.widen()?;
@@ -230,6 +277,14 @@ impl Engine {
             slot,
             form,
         )?;
+        follow(
+            &self.store,
+            &self.run,
+            &self.eager,
+            &mut self.clauses,
+            &mut self.root,
+            slot,
+        )?;
         self.places.push(slot)?;
         self.spent = false;
         Ok(())
@@ -249,6 +304,7 @@ impl Engine {
             return;
         }
         self.places[number] = usize::MAX;
+        self.root.end();
         quit(
             &mut self.store,
             &mut self.run,
@@ -310,18 +366,33 @@ impl Engine {
         let Ok(negation) = goal.negation() else {
             return Err(AllocError);
         };
+        if self.root.live {
+            let answer = ask(
+                &mut self.store,
+                &mut self.clauses,
+                &mut self.root,
+                &mut self.run.visits,
+                negation,
+            )?;
+            self.spent = false;
+            return Ok(answer);
+        }
+        let rests = Rests::none(*self.places.allocator());
         let number = self.store.kept.len();
         enter(&mut self.store, &mut self.run, negation)?;
         choose(&self.store, number, &mut self.run.trail)?;
         choose(&self.store, number, &mut self.run.work)?;
         let found = propagate(
             &self.store,
+            &rests,
             &mut self.clauses,
             &mut self.run,
             self.eager.list.as_slice(),
+            0,
         )?;
-        rest(&self.store, &mut self.clauses, &mut self.run);
+        rest(&self.store, &rests, &mut self.clauses, &mut self.run);
         leave(&mut self.store, &mut self.run);
+        self.root.paid = self.root.paid.saturating_add(self.run.visits.number());
         self.spent = false;
         if found {
             return Ok(true);
@@ -348,8 +419,11 @@ impl Engine {
     {
         let visits = mem::replace(&mut self.run.visits, Visits::none());
         self.spent = true;
+        self.root.end();
+        let rests = Rests::none(*self.places.allocator());
         let found = settle(
             &self.store,
+            &rests,
             &mut self.clauses,
             &mut self.run,
             given,
@@ -357,7 +431,7 @@ impl Engine {
         )?;
         let mut values = Vec::new(*self.places.allocator());
         values.extend_from_slice(self.run.assignment.values.as_slice())?;
-        rest(&self.store, &mut self.clauses, &mut self.run);
+        rest(&self.store, &rests, &mut self.clauses, &mut self.run);
         self.run.visits = visits;
         self.spent = false;
         if found {

@@ -4,6 +4,7 @@ ghost use Rattle.std.specs.Prelude.{◌≡◌, ℕ, ◌<◌, ◌++◌, ◌∷◌
 ghost use Rattle.pb_replay.specs.Engine.Counts.{IsAbsent};
 ghost use Rattle.pb_replay.specs.Engine.Fields.{forms_of};
 ghost use Rattle.pb_replay.specs.Engine.Rest.{IsAtRest, waits};
+ghost use Rattle.pb_replay.specs.Engine.Root.{HasWidened, HasGained};
 
 use crate::propagate::clause::is_clause;
 use crate::propagate::clauses::Clauses;
@@ -39,6 +40,7 @@ pub fn vacancy(
     ensures rest { OnOk result (IsAtRest store.new run.new eager.new clauses.new (forms_of store.new.kept.items)) }
     ensures slot { IfOk result (λ slot. slice_get (forms_of store.new.kept.items) slot ≡ Some None) }
     ensures forms { (s : ℕ) → slice_index_or (forms_of store.new.kept.items) s None ≡ slice_index_or (forms_of store.old.kept.items) s None }
+    ensures widened { IfOk result (λ slot. HasWidened store.old clauses.old store.new clauses.new slot) }
     ensures variables { store.new.variables ≡ store.old.variables }
     ensures visits { run.new.visits ≡ run.old.visits }
 {
@@ -83,6 +85,7 @@ pub fn occupy(
     requires inside { All (λ t. t.variable < store.old.variables) form.terms }
     ensures rest { OnOk result (IsAtRest store.new run.new eager.new clauses.new (forms_of store.new.kept.items)) }
     ensures forms { OnOk result (forms_of store.new.kept.items ≡ slice_set (forms_of store.old.kept.items) slot (Some form)) }
+    ensures gained { OnOk result (HasGained store.old clauses.old store.new clauses.new slot) }
     // On failure the form may be in its slot, but not on the list of those that may propagate with nothing assigned.
     ensures refused { OnErr result ((forms_of store.new.kept.items ≡ forms_of store.old.kept.items) ⊎ (forms_of store.new.kept.items ≡ slice_set (forms_of store.old.kept.items) slot (Some form))) }
     ensures variables { store.new.variables ≡ store.old.variables }

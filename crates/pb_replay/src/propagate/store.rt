@@ -3,6 +3,7 @@
 pub mod falling;
 pub mod kept;
 pub mod links;
+pub mod opened;
 
 ghost use Rattle.std.specs.Prelude.{◌≡◌, ℕ, ◌≤◌, ◌+◌, ◌-◌, ◌^◌, ◌<◌, length, min, slice_index_or};
 ghost use Rattle.pb_replay.specs.declared.propagate.term.Term.{Term};

@@ -1,8 +1,8 @@
 //! Visits to the clauses in which a falsified literal is watched.
 
-ghost use Rattle.std.specs.Prelude.{◌≡◌, ℕ, ◌≤◌, ◌+◌, ◌*◌, ◌<◌, ◌++◌, ◌∷◌, [], true, false, List, length, OnOk, IfOk, slice_index_or, sum};
-ghost use Rattle.pb_replay.specs.Engine.Lists.{Derives, Conflicts};
-ghost use Rattle.pb_replay.specs.Engine.Counts.{IsCounted, IsTidy, AreFound, AreSingle, spent};
+ghost use Rattle.std.specs.Prelude.{◌≡◌, ℕ, ◌≤◌, ◌+◌, ◌*◌, ◌<◌, ◌++◌, ◌∷◌, [], true, false, List, Bool, Option, length, OnOk, IfOk, slice_index_or, sum};
+ghost use Rattle.pb_replay.specs.Engine.Lists.{Extends, Derives, Conflicts};
+ghost use Rattle.pb_replay.specs.Engine.Counts.{IsCounted, beside, IsTidy, AreFound, AreSingle, spent};
 ghost use Rattle.pb_replay.specs.Engine.Fields.{shapes_of, entries_of, IsSound};
 ghost use Rattle.pb_replay.specs.Clauses.Truths.{false_at};
 ghost use Rattle.pb_replay.specs.Clauses.Links.{lists_of, list_at};
@@ -12,6 +12,7 @@ ghost use Rattle.pb_replay.specs.Clauses.Shapes.{AreJoined, clauses_of, all_of, 
 use crate::numbered::NumberedLiteral;
 use crate::propagate::clauses::Clauses;
 use crate::propagate::clauses::visiting::{Visit, visit_clause};
+use crate::propagate::rests::Rests;
 use crate::propagate::run::{Run, put};
 use crate::propagate::store::Store;
 use std::alloc::AllocError;
@@ -30,6 +31,7 @@ fn literal_of(code: u32) -> NumberedLiteral
 /// or a form, is falsified.
 pub fn walk(
     store: &Store,
+    rests: &Rests,
     clauses: &mut Clauses,
     run: &mut Run,
     literal: usize,
@@ -50,12 +52,14 @@ pub fn walk(
     ensures candidates { run.new.candidates ≡ run.old.candidates }
     ensures running { OnOk result (IsRunning run.new.assignment.values.items clauses.new) }
     ensures walked { IfOk result (λ found. found ≡ false → (walked : List ℕ) → AreServed run.old.assignment.values.items clauses.old.watches.items walked literal 0 → AreWalked run.new.assignment.values.items clauses.new.watches.items (walked ++ literal ∷ [])) }
+    ensures kept { OnOk result ((base : List (Option Bool)) (codes : List ℕ) → Grows base run.old.assignment.values.items → AreWalked base clauses.old.watches.items codes → AreWalked base clauses.new.watches.items codes) }
     ensures derived { OnOk result (Derives (all_of store.now clauses.old) run.old.assignment.list.items run.new.assignment.list.items) }
     ensures grows { OnOk result (Grows run.old.assignment.values.items run.new.assignment.values.items) }
     ensures conflict { IfOk result (λ found. found ≡ true → Conflicts (all_of store.now clauses.old) run.new.assignment.list.items) }
     ensures counted { IfOk result (λ found. found ≡ false → IsCounted (shapes_of store.now.kept.items) run.new.opens.items run.new.assignment.list.items []) }
-    ensures tidy { OnOk result ((aside : List ℕ) (busy : ℕ) → IsTidy aside (shapes_of store.now.kept.items) run.old.opens.items run.old.candidates.items run.old.assignment.list.items run.old.work.items run.old.trail.items run.old.next busy → IsTidy aside (shapes_of store.now.kept.items) run.new.opens.items run.new.candidates.items run.new.assignment.list.items run.new.work.items run.new.trail.items run.new.next busy) }
+    ensures tidy { OnOk result ((aside : List ℕ) (busy : ℕ) → IsTidy (beside rests.now aside) (shapes_of store.now.kept.items) run.old.opens.items run.old.candidates.items run.old.assignment.list.items run.old.work.items run.old.trail.items run.old.next busy → IsTidy (beside rests.now aside) (shapes_of store.now.kept.items) run.new.opens.items run.new.candidates.items run.new.assignment.list.items run.new.work.items run.new.trail.items run.new.next busy) }
     ensures single { AreSingle run.old.assignment.list.items → AreSingle run.new.assignment.list.items }
+    ensures extends { Extends run.old.assignment.list.items run.new.assignment.list.items }
     ensures longer_work { OnOk result (length run.old.work.items ≤ length run.new.work.items) }
     ensures work { OnOk result (length run.new.work.items + spent (entries_of (shapes_of store.now.kept.items) store.now.occurrences.items) run.old.assignment.list.items ≤ length run.old.work.items + spent (entries_of (shapes_of store.now.kept.items) store.now.occurrences.items) run.new.assignment.list.items) }
 
@@ -80,7 +84,7 @@ pub fn walk(
             }
             Visit::Leaves => {}
             Visit::Forces(code) => {
-                if put(store, run, literal_of(code))? {
+                if put(store, rests, run, literal_of(code))? {
                     return Ok(true);
                 }
                 index += 1;

@@ -1,9 +1,9 @@
 //! A visit to one watch of a falsified literal.
 
-ghost use Rattle.std.specs.Prelude.{◌≡◌, ℕ, ◌+◌, ◌*◌, ◌-◌, ◌^◌, ◌<◌, ◌≤◌, ◌⊎◌, ◌++◌, ◌∷◌, [], List, true, false, All, length, min, sum, slice_get, slice_index_or, OnOk, IfOk, Some};
+ghost use Rattle.std.specs.Prelude.{◌≡◌, ℕ, ◌+◌, ◌*◌, ◌-◌, ◌^◌, ◌<◌, ◌≤◌, ◌⊎◌, ◌++◌, ◌∷◌, [], List, Bool, Option, true, false, All, length, min, sum, slice_get, slice_index_or, OnOk, IfOk, Some};
 ghost use Rattle.pb_replay.specs.Clauses.Truths.{false_at, true_at};
 ghost use Rattle.pb_replay.specs.Clauses.Links.{lists_of, list_at, watch_at, AreLinked, Remains};
-ghost use Rattle.pb_replay.specs.Clauses.Runs.{IsRunning, AreServed, HasFound, index_after};
+ghost use Rattle.pb_replay.specs.Clauses.Runs.{IsRunning, AreServed, AreWalked, Grows, HasFound, index_after};
 
 use crate::propagate::clauses::Clauses;
 use crate::propagate::clauses::lists::{Watch, put_in, take_out};
@@ -152,6 +152,7 @@ pub fn visit_clause(
     ensures running { OnOk result (IsRunning values.now clauses.new) }
     ensures served { IfOk result (λ r. (walked : List ℕ) → AreServed values.now clauses.old.watches.items walked literal index → AreServed values.now clauses.new.watches.items walked literal (index_after index r)) }
     ensures found { IfOk result (λ r. HasFound values.now clauses.old clauses.new literal index r) }
+    ensures kept { OnOk result ((base : List (Option Bool)) (codes : List ℕ) → Grows base values.now → AreWalked base clauses.old.watches.items codes → AreWalked base clauses.new.watches.items codes) }
 
     // Upper and lower bounds on the number of visits.
     ensures covered { visits.new + sum clauses.old.passed.items ≤ visits.old + 2 + sum clauses.new.passed.items }

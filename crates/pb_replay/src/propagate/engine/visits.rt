@@ -26,6 +26,15 @@ impl Visits {
         Visits { number: 0 }
     }
 
+    /// One visit for each of so many literals.
+    pub(super) fn of(literals: usize) -> Visits
+        ensures { result ≡ literals }
+    {
+        Visits {
+            number: literals as u64,
+        }
+    }
+
     /// One visit more.
     pub fn count(&mut self)
         ensures rising { self.old ≤ self.new }

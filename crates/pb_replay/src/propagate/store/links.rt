@@ -1,6 +1,6 @@
 //! Forms are added and removed.
 
-ghost use Rattle.std.specs.Prelude.{◌≡◌, ℕ, List, All, Some, None, map, ◌+◌, ◌-◌, ◌*◌, ◌<◌, ◌≤◌, ◌^◌, ◌++◌, ◌∷◌, [], true, length, take, sum_by, IfOk, OnOk, OnErr, slice_get, slice_index_or, slice_set, swap_remove};
+ghost use Rattle.std.specs.Prelude.{◌≡◌, ℕ, List, All, Some, None, map, ◌+◌, ◌-◌, ◌*◌, ◌/◌, ◌<◌, ◌≤◌, ◌^◌, ◌++◌, ◌∷◌, [], true, length, take, sum_by, IfOk, OnOk, OnErr, slice_get, slice_index_or, slice_set, swap_remove};
 ghost use Rattle.pb_replay.specs.declared.propagate.term.Term.{Term};
 ghost use Rattle.pb_replay.specs.declared.propagate.store.Occurrence.{Occurrence};
 ghost use Rattle.pb_replay.specs.declared.propagate.store.kept.Kept.{Kept};
@@ -11,7 +11,7 @@ ghost use Rattle.pb_replay.specs.Engine.Terms.{terms_of};
 ghost use Rattle.pb_replay.specs.Engine.Fields.{kept_shape, shapes_of, forms_of, spots_of, lists_of, entries_of, IsSound, HasEntered, HasFilled, IsEmpty, IsUnlisted};
 ghost use Rattle.pb_replay.specs.Engine.Links.{IsLinked, Moved, cut, terms_at};
 ghost use Rattle.pb_normal.specs.Form.{IsNormal};
-ghost use Rattle.pb_replay.specs.Clauses.Links.{list_at};
+ghost use Rattle.pb_replay.specs.Clauses.Links.{list_at, watch_at};
 ghost use Rattle.pb_replay.specs.Clauses.Runs.{AreReady};
 ghost use Rattle.pb_replay.specs.Clauses.Shapes.{IsClause, clauses_of, code};
 
@@ -188,6 +188,7 @@ pub fn watch(
     ensures ready { OnOk result (AreReady clauses.new) }
     ensures literals { OnOk result (clauses_of clauses.new ≡ slice_set (clauses_of clauses.old) slot (map code form.terms)) }
     ensures lists { OnOk result (length clauses.new.lists.items ≡ length clauses.old.lists.items) }
+    ensures watches { OnOk result ((e : ℕ) → (e / 2 ≡ slot → ⊥) → watch_at clauses.new.watches.items e ≡ watch_at clauses.old.watches.items e) }
     ensures kept { OnOk result ((k : Kept) × (k.terms.form ≡ Some form) × IsUnlisted k × (store.new.kept.items ≡ slice_set store.old.kept.items slot k)) }
     ensures unchanged { OnErr result (store.new.kept.items ≡ store.old.kept.items) }
     ensures rest { (store.new.spots ≡ store.old.spots) × (store.new.occurrences ≡ store.old.occurrences) × (store.new.variables ≡ store.old.variables) }

@@ -1,6 +1,6 @@
 use Rattle.std.proofs.Common.{◌≡◌, ◌≤◌, ℕ, List, [], length, take}
 use Rattle.pb_replay.specs.Engine.Lists.{IsWithin}
-use Rattle.pb_replay.specs.Engine.Counts.{IsCounted, IsTidy, AreSingle}
+use Rattle.pb_replay.specs.Engine.Counts.{IsCounted, beside, IsTidy, AreSingle}
 use Rattle.pb_replay.specs.Engine.Fields.{shapes_of}
 use Rattle.pb_replay.proofs.propagate.engine.assume.Given as goal
 
@@ -13,7 +13,7 @@ invariant-given l = record {
   longer : length l.initial.run.work.items ≤ length l.run.work.items;
   single : AreSingle l.run.assignment.list.items;
   counted : IsCounted (shapes_of l.store.kept.items) l.run.opens.items l.run.assignment.list.items [];
-  tidy : (aside : List ℕ) (busy : ℕ) → IsTidy aside (shapes_of l.store.kept.items) l.initial.run.opens.items l.initial.run.candidates.items l.initial.run.assignment.list.items l.initial.run.work.items l.initial.run.trail.items l.initial.run.next busy → IsTidy aside (shapes_of l.store.kept.items) l.run.opens.items l.run.candidates.items l.run.assignment.list.items l.run.work.items l.run.trail.items l.run.next busy;
+  tidy : (aside : List ℕ) (busy : ℕ) → IsTidy (beside l.rests aside) (shapes_of l.store.kept.items) l.initial.run.opens.items l.initial.run.candidates.items l.initial.run.assignment.list.items l.initial.run.work.items l.initial.run.trail.items l.initial.run.next busy → IsTidy (beside l.rests aside) (shapes_of l.store.kept.items) l.run.opens.items l.run.candidates.items l.run.assignment.list.items l.run.work.items l.run.trail.items l.run.next busy;
   within : IsWithin l.run.assignment.list.items l.given;
   covers : IsWithin (take l.i l.given) l.run.assignment.list.items;
 }

@@ -4,9 +4,11 @@ use Rattle.std.proofs.Common.{ℕ, ◌<◌, ◌+◌, Vec, Global, set, length, g
 use Rattle.std.proofs.lemmas.List.{length-map, get_or_read}
 use Rattle.std.proofs.lemmas.List.Sums.{get_or-le-sum_by}
 use Rattle.pb_replay.specs.declared.propagate.term.Term.{Term}
+use Rattle.pb_replay.specs.Engine.Counts.{beside}
 use Rattle.pb_replay.specs.Engine.Fields.{shapes_of, entries_of, kept_shape}
 use Rattle.pb_replay.specs.Engine.Terms.{terms_of}
 use Rattle.pb_replay.proofs.Engine.Looks.{IsLooking, Looking-start, Looking-next_by, calm-by, waiting-by, Looking-settled_by, Looking-conflict, shape-at, term-inside}
+use Rattle.pb_replay.proofs.Root.Extends.{extends-then, derives-extends}
 use Rattle.pb_replay.proofs.Engine.Spent.{sum-bounded, derivation-single}
 use Rattle.pb_replay.proofs.propagate.run.look.Goals as goal
 
@@ -18,7 +20,7 @@ terms-init c =
       values = refl;
       next = refl;
       counted = c.requires.counted;
-      looking = Looking-start (filter (waits store.kept.items) c.args.waiting.now) (shapes_of store.kept.items) (entries_of (shapes_of store.kept.items) store.occurrences.items) c.args.form run.opens.items run.candidates.items run.assignment.list.items run.work.items run.trail.items run.next run.visits c.requires.tidy c.requires.there
+      looking = Looking-start (beside c.args.rests.now (filter (waits store.kept.items) c.args.waiting.now)) (shapes_of store.kept.items) (entries_of (shapes_of store.kept.items) store.occurrences.items) c.args.form run.opens.items run.candidates.items run.assignment.list.items run.work.items run.trail.items run.next run.visits c.requires.tidy c.requires.there
           (c.requires.opens ∙ sym (length-map store.kept.items kept_shape)) (c.requires.candidates ∙ sym (length-map store.kept.items kept_shape)) c.requires.next;
     }
 
@@ -44,7 +46,7 @@ returns-then-candidate-len-clause-tidy c = λ found.
     let roomc : c.args.form < length run.candidates.items = omega (arith, c.terms.invariant.looking.candidate_sizes, sizes, c.requires.form) in
     let calm = calm-by c.index-kept.result.now run.opens.items run.candidates.items c.args.form c.index-opened.result.now c.index-candidate.result.now room roomc c.index-opened.ensures c.index-candidate.ensures (c.is_below-falsified.ensures.above c.if-falsified.false)
     (λ d less. absurd (omega (arith, less, c.len.ensures, c.if-candidate-len.true))) in
-    Looking-settled_by (filter (waits store.kept.items) c.args.waiting.now) (shapes_of store.kept.items) (entries_of (shapes_of store.kept.items) store.occurrences.items) c.args.form start.assignment.list.items start.candidates.items start.work.items start.visits run.opens.items run.candidates.items run.assignment.list.items run.work.items run.trail.items run.next run.visits (kept_shape c.index-kept.result.now) (length store.kept.items) sizes
+    Looking-settled_by (beside c.args.rests.now (filter (waits store.kept.items) c.args.waiting.now)) (shapes_of store.kept.items) (entries_of (shapes_of store.kept.items) store.occurrences.items) c.args.form start.assignment.list.items start.candidates.items start.work.items start.visits run.opens.items run.candidates.items run.assignment.list.items run.work.items run.trail.items run.next run.visits (kept_shape c.index-kept.result.now) (length store.kept.items) sizes
     (shape-at store.kept.items c.args.form c.index-kept.result.now c.requires.form c.index-kept.ensures) calm c.terms.invariant.looking
 
 pub returns-then-not-demands-clause-tidy : goal.returns-then-not-demands-clause-tidy
@@ -57,7 +59,7 @@ returns-then-not-demands-clause-tidy c = λ found.
     let roomc : c.args.form < length run.candidates.items = omega (arith, c.terms.invariant.looking.candidate_sizes, sizes, c.requires.form) in
     let calm = calm-by c.index-kept.result.now run.opens.items run.candidates.items c.args.form c.index-opened.result.now c.index-candidate.result.now room roomc c.index-opened.ensures c.index-candidate.ensures (c.is_below-falsified.ensures.above c.if-falsified.false)
     (waiting-by c.index-kept.result.now (terms_of c.index-kept.result.now.terms) c.index-opened.result.now c.index-candidate.result.now c.visit_term-term.result refl (c.visit_term-term.ensures.item c.visit_term-term.result) (c.is_below-demands.ensures.above c.if-not-demands.true)) in
-    Looking-settled_by (filter (waits store.kept.items) c.args.waiting.now) (shapes_of store.kept.items) (entries_of (shapes_of store.kept.items) store.occurrences.items) c.args.form start.assignment.list.items start.candidates.items start.work.items start.visits run.opens.items run.candidates.items run.assignment.list.items run.work.items run.trail.items run.next run.visits (kept_shape c.index-kept.result.now) (length store.kept.items) sizes
+    Looking-settled_by (beside c.args.rests.now (filter (waits store.kept.items) c.args.waiting.now)) (shapes_of store.kept.items) (entries_of (shapes_of store.kept.items) store.occurrences.items) c.args.form start.assignment.list.items start.candidates.items start.work.items start.visits run.opens.items run.candidates.items run.assignment.list.items run.work.items run.trail.items run.next run.visits (kept_shape c.index-kept.result.now) (length store.kept.items) sizes
     (shape-at store.kept.items c.args.form c.index-kept.result.now c.requires.form c.index-kept.ensures) calm c.terms.invariant.looking
 
 pub overflow_add-kept : goal.overflow_add-kept
@@ -78,7 +80,7 @@ terms-preserved c =
       values = told.values ∙ c.terms.invariant.values;
       next = told.next ∙ c.terms.invariant.next;
       counted = told.counted c.if-found.false;
-      looking = Looking-next_by (filter (waits store.kept.items) c.args.waiting.now) store.kept.items (entries_of (shapes_of store.kept.items) store.occurrences.items) c.args.form start.assignment.list.items start.candidates.items start.work.items start.visits run.opens.items run.candidates.items run.assignment.list.items run.work.items run.trail.items run.next run.visits c.visit_term-term.new.visits
+      looking = Looking-next_by (beside c.args.rests.now (filter (waits store.kept.items) c.args.waiting.now)) store.kept.items (entries_of (shapes_of store.kept.items) store.occurrences.items) c.args.form start.assignment.list.items start.candidates.items start.work.items start.visits run.opens.items run.candidates.items run.assignment.list.items run.work.items run.trail.items run.next run.visits c.visit_term-term.new.visits
           done.opens.items done.candidates.items (set done.candidates.items c.args.form (c.index-candidate.result.now + 1)) done.assignment.list.items done.work.items done.trail.items done.next done.visits
           c.index-kept.result.now (terms_of c.index-kept.result.now.terms) c.index-opened.result.now c.index-candidate.result.now c.visit_term-term.result
           c.requires.form c.index-kept.ensures c.index-opened.ensures c.index-candidate.ensures refl (omega (arith, c.if-candidate-len.false, c.len.ensures)) (c.visit_term-term.ensures.item c.visit_term-term.result)
@@ -239,7 +241,7 @@ pub returns-in_err-found-clause-covered : goal.returns-in_err-found-clause-cover
 returns-in_err-found-clause-covered c = omega (arith, c.terms.invariant.looking.paid.upper, c.visit_term-term.ensures.count, c.try_put.ensures.covered)
 
 -- where a further form is falsified: the term is passed
-passed : (c : goal.Then-found) → IsLooking (filter (waits c.args.store.now.kept.items) c.args.waiting.now) (shapes_of c.args.store.now.kept.items) (entries_of (shapes_of c.args.store.now.kept.items) c.args.store.now.occurrences.items) c.args.form c.args.run.now.assignment.list.items c.args.run.now.candidates.items c.args.run.now.work.items c.args.run.now.visits
+passed : (c : goal.Then-found) → IsLooking (beside c.args.rests.now (filter (waits c.args.store.now.kept.items) c.args.waiting.now)) (shapes_of c.args.store.now.kept.items) (entries_of (shapes_of c.args.store.now.kept.items) c.args.store.now.occurrences.items) c.args.form c.args.run.now.assignment.list.items c.args.run.now.candidates.items c.args.run.now.work.items c.args.run.now.visits
     c.try_put.new.run.opens.items (set c.try_put.new.run.candidates.items c.args.form (c.index-candidate.result.now + 1)) c.try_put.new.run.assignment.list.items c.try_put.new.run.work.items c.try_put.new.run.trail.items c.try_put.new.run.next c.try_put.new.run.visits
 passed c =
     let store = c.args.store.now in
@@ -247,7 +249,7 @@ passed c =
     let start = c.args.run.now in
     let done = c.try_put.new.run in
     let told = c.in_ok-found.ensures in
-    Looking-next_by (filter (waits store.kept.items) c.args.waiting.now) store.kept.items (entries_of (shapes_of store.kept.items) store.occurrences.items) c.args.form start.assignment.list.items start.candidates.items start.work.items start.visits run.opens.items run.candidates.items run.assignment.list.items run.work.items run.trail.items run.next run.visits c.visit_term-term.new.visits
+    Looking-next_by (beside c.args.rests.now (filter (waits store.kept.items) c.args.waiting.now)) store.kept.items (entries_of (shapes_of store.kept.items) store.occurrences.items) c.args.form start.assignment.list.items start.candidates.items start.work.items start.visits run.opens.items run.candidates.items run.assignment.list.items run.work.items run.trail.items run.next run.visits c.visit_term-term.new.visits
     done.opens.items done.candidates.items (set done.candidates.items c.args.form (c.index-candidate.result.now + 1)) done.assignment.list.items done.work.items done.trail.items done.next done.visits
     c.index-kept.result.now (terms_of c.index-kept.result.now.terms) c.index-opened.result.now c.index-candidate.result.now c.visit_term-term.result
     c.requires.form c.index-kept.ensures c.index-opened.ensures c.index-candidate.ensures refl (omega (arith, c.if-candidate-len.false, c.len.ensures)) (c.visit_term-term.ensures.item c.visit_term-term.result)
@@ -271,3 +273,18 @@ returns-then-found-clause-conflict c = λ found. c.in_ok-found.ensures.conflict 
 
 pub returns-then-found-clause-found : goal.returns-then-found-clause-found
 returns-then-found-clause-found c = (passed c).found
+
+pub returns-then-falsified-clause-extends : goal.returns-then-falsified-clause-extends
+returns-then-falsified-clause-extends c = derives-extends (shapes_of c.args.store.now.kept.items) _ _ c.terms.invariant.looking.derived
+
+pub returns-then-candidate-len-clause-extends : goal.returns-then-candidate-len-clause-extends
+returns-then-candidate-len-clause-extends c = derives-extends (shapes_of c.args.store.now.kept.items) _ _ c.terms.invariant.looking.derived
+
+pub returns-then-not-demands-clause-extends : goal.returns-then-not-demands-clause-extends
+returns-then-not-demands-clause-extends c = derives-extends (shapes_of c.args.store.now.kept.items) _ _ c.terms.invariant.looking.derived
+
+pub returns-in_err-found-clause-extends : goal.returns-in_err-found-clause-extends
+returns-in_err-found-clause-extends c = extends-then c.args.run.now.assignment.list.items c.terms.run.assignment.list.items c.try_put.new.run.assignment.list.items (derives-extends (shapes_of c.args.store.now.kept.items) _ _ c.terms.invariant.looking.derived) c.try_put.ensures.extends
+
+pub returns-then-found-clause-extends : goal.returns-then-found-clause-extends
+returns-then-found-clause-extends c = derives-extends (shapes_of c.args.store.now.kept.items) _ _ (passed c).derived

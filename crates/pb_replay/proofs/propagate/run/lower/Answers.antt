@@ -1,4 +1,4 @@
-use Rattle.std.proofs.Common.{ℕ, [], ◌-◌, ◌∙◌, set, get_or, length, ap, subst, arith}
+use Rattle.std.proofs.Common.{ℕ, [], ◌-◌, ◌∙◌, sym, set, get_or, length, ap, subst, arith}
 use Rattle.std.proofs.lemmas.List.{get_or_read, get_or-set_same}
 use Rattle.pb_replay.specs.Engine.Lists.{Shape}
 use Rattle.pb_replay.specs.Engine.Counts.{IsCalm}
@@ -32,7 +32,7 @@ pub returns-clause-trail : goal.returns-clause-trail
 returns-clause-trail c =
     let run = c.args.run.now in
     let e = c.args.entry in
-    grown-by e.form run.trail.items _ (λ other. changed-at c.args.store.now.kept.items run.opens.items e.form c.index-kept.result.now c.index-opened.result.now c.requires.form c.index-kept.ensures c.requires.inside c.index-opened.ensures other) c.in_ok-note.ensures
+    grown-by e.form run.trail.items _ (λ other. changed-at c.args.rests.now c.args.store.now.kept.items run.opens.items e.form c.index-kept.result.now c.index-opened.result.now c.requires.form c.index-kept.ensures c.requires.inside c.index-opened.ensures (λ e. other (e ∙ sym c.open-rest.ensures))) c.in_ok-note.ensures
 
 pub returns-clause-falsified : goal.returns-clause-falsified
 returns-clause-falsified c = λ found d.

@@ -1,8 +1,8 @@
 use Rattle.std.specs.Prelude.{filter, sum, sum_by}
 use Rattle.std.proofs.Common.{◌≡◌, ◌+◌, ◌*◌, ◌<◌, ◌≤◌, ◌++◌, ◌∷◌, [], ℕ, List, Vec, Global, length, drop, get_or, refl, sym, ap, subst, inl, inr, ◌∙◌, arith}
-use Rattle.std.proofs.lemmas.List.{length-map, get_or_default, take_rest}
+use Rattle.std.proofs.lemmas.List.{length-map, get_or_default, take_rest, drop_all}
 use Rattle.pb_replay.specs.Engine.Lists.{Derives, Conflicts, IsSettled}
-use Rattle.pb_replay.specs.Engine.Counts.{place, spent}
+use Rattle.pb_replay.specs.Engine.Counts.{place, beside, spent}
 use Rattle.pb_replay.specs.Engine.Fields.{shapes_of, entries_of, kept_shape}
 use Rattle.pb_replay.specs.Engine.Rest.{waits}
 use Rattle.pb_replay.specs.Clauses.Truths.{false_at}
@@ -11,10 +11,12 @@ use Rattle.pb_replay.specs.Clauses.Runs.{AreServed, AreWalked}
 use Rattle.pb_replay.specs.Clauses.Shapes.{all_of, clauses_of, joined}
 use Rattle.pb_replay.proofs.Engine.Derivations.{derivation-then, derivation-keeps}
 use Rattle.pb_replay.proofs.Engine.Propagated.{Propagating-start, Propagating-look, Propagating-next, Propagating-walk, Propagating-bound, Propagating-choose, Propagating-settled, Propagating-upper}
+use Rattle.pb_replay.proofs.Root.Extends.{extends-none, extends-then, derives-extends, spent-extends, killed-extends}
+use Rattle.pb_replay.specs.Clauses.Walked.{killed, walked_codes}
 use Rattle.pb_replay.proofs.Engine.Spent.{sum-bounded, derivation-single}
 use Rattle.pb_replay.proofs.Engine.Values.{opposite}
 use Rattle.pb_replay.proofs.Clauses.Shapes.{derives-joined, conflicts-joined, joined-source}
-use Rattle.pb_replay.proofs.Clauses.Walks.{grows-listed, running-grow}
+use Rattle.pb_replay.proofs.Clauses.Walks.{grows-refl, grows-trans, grows-listed, running-grow}
 use Rattle.pb_replay.proofs.Clauses.Watching.{falsified_code, cost, next-of, watching-start, watching-grow, watching-next, watching-settled, derived-take, cost-grow, cost-next, cost-broken, cost-most}
 use Rattle.pb_replay.proofs.propagate.run.propagate.Goals as goal
 
@@ -24,9 +26,11 @@ work-init c =
     let run = c.args.run.now in
     record {
       values = refl;
+      grows = grows-refl run.assignment.values.items;
+      kept = λ base codes more old. old;
       taken = omega arith;
-      watching = watching-start c.args.clauses.now run.assignment.values.items run.assignment.list.items c.requires.ready (omega (arith, c.requires.widths, c.requires.values));
-      state = Propagating-start (waits store.kept.items) c.args.waiting.now (shapes_of store.kept.items) (all_of store c.args.clauses.now) (entries_of (shapes_of store.kept.items) store.occurrences.items) (length store.kept.items) run.opens.items run.candidates.items run.assignment.list.items run.work.items run.trail.items run.next run.visits (cost c.args.clauses.now c.args.clauses.now 0 run.assignment.list.items) c.requires.counted c.requires.tidy c.requires.opens c.requires.candidates c.requires.next;
+      watching = watching-start c.args.clauses.now run.assignment.values.items run.assignment.list.items c.args.from c.requires.ready (omega (arith, c.requires.widths, c.requires.values)) c.requires.from c.requires.walked;
+      state = Propagating-start c.args.rests.now (waits store.kept.items) c.args.waiting.now (shapes_of store.kept.items) (all_of store c.args.clauses.now) (entries_of (shapes_of store.kept.items) store.occurrences.items) (length store.kept.items) run.opens.items run.candidates.items run.assignment.list.items run.work.items run.trail.items run.next run.visits (cost c.args.clauses.now c.args.clauses.now c.args.from run.assignment.list.items) c.requires.counted c.requires.tidy c.requires.opens c.requires.candidates c.requires.next;
     }
 
 pub place_of-requires : goal.place_of-requires
@@ -105,7 +109,8 @@ returns-in_err-walk-clause-upper c =
     let covered = subst (λ t. done.visits + sum c.work.clauses.passed.items + spent (entries_of (shapes_of c.args.store.now.kept.items) c.args.store.now.occurrences.items) c.work.run.assignment.list.items ≤ c.work.run.visits + 2 * length (list_at (lists_of c.work.clauses.lists.items) t) + sum c.walk.new.clauses.passed.items + spent (entries_of (shapes_of c.args.store.now.kept.items) c.args.store.now.occurrences.items) c.walk.new.run.assignment.list.items) read c.walk.ensures.covered in
     let same = ap (λ (v : Vec ℕ Global). sum v.items) c.walk.ensures.candidates in
     let broken = cost-broken c.args.clauses.now c.work.clauses c.walk.new.clauses run.assignment.values.items run.assignment.list.items c.work.walked run.visits done.visits (spent lists run.assignment.list.items) (spent lists done.assignment.list.items) l single inside c.index-literal.ensures c.walk.ensures.bounded covered w in
-    Propagating-upper (waits store.kept.items) c.args.waiting.now (shapes_of store.kept.items) (all_of store c.args.clauses.now) (entries_of (shapes_of store.kept.items) store.occurrences.items) (length store.kept.items) start.assignment.list.items start.candidates.items start.work.items start.next start.visits (cost c.args.clauses.now c.work.clauses c.work.walked run.assignment.list.items) c.work.taken run.opens.items run.candidates.items run.assignment.list.items run.work.items run.trail.items run.next run.visits done.assignment.list.items done.candidates.items done.visits (3 * sum_by length (clauses_of c.args.clauses.now)) 0 c.requires.single c.requires.next state c.walk.ensures.single (omega (arith, state.within)) (omega (arith, broken, same))
+    let upper = Propagating-upper c.args.rests.now (waits store.kept.items) c.args.waiting.now (shapes_of store.kept.items) (all_of store c.args.clauses.now) (entries_of (shapes_of store.kept.items) store.occurrences.items) (length store.kept.items) start.assignment.list.items start.candidates.items start.work.items start.next start.visits (cost c.args.clauses.now c.work.clauses c.work.walked run.assignment.list.items) c.work.taken run.opens.items run.candidates.items run.assignment.list.items run.work.items run.trail.items run.next run.visits done.assignment.list.items done.candidates.items done.visits (2 * killed (clauses_of c.args.clauses.now) (walked_codes (c.work.walked + 1) run.assignment.list.items) + sum_by length (clauses_of c.args.clauses.now)) 0 (spent-extends (entries_of (shapes_of store.kept.items) store.occurrences.items) run.assignment.list.items done.assignment.list.items c.walk.ensures.extends) c.requires.next state (omega (arith, state.within)) (omega (arith, broken, same)) in
+    omega (arith, upper, killed-extends (clauses_of c.args.clauses.now) run.assignment.list.items done.assignment.list.items (c.work.walked + 1) c.walk.ensures.extends)
 
 pub returns-then-branch-2-clause-upper : goal.returns-then-branch-2-clause-upper
 returns-then-branch-2-clause-upper c =
@@ -124,7 +129,8 @@ returns-then-branch-2-clause-upper c =
     let covered = subst (λ t. done.visits + sum c.work.clauses.passed.items + spent (entries_of (shapes_of c.args.store.now.kept.items) c.args.store.now.occurrences.items) c.work.run.assignment.list.items ≤ c.work.run.visits + 2 * length (list_at (lists_of c.work.clauses.lists.items) t) + sum c.walk.new.clauses.passed.items + spent (entries_of (shapes_of c.args.store.now.kept.items) c.args.store.now.occurrences.items) c.walk.new.run.assignment.list.items) read c.walk.ensures.covered in
     let same = ap (λ (v : Vec ℕ Global). sum v.items) c.walk.ensures.candidates in
     let broken = cost-broken c.args.clauses.now c.work.clauses c.walk.new.clauses run.assignment.values.items run.assignment.list.items c.work.walked run.visits done.visits (spent lists run.assignment.list.items) (spent lists done.assignment.list.items) l single inside c.index-literal.ensures c.walk.ensures.bounded covered w in
-    Propagating-upper (waits store.kept.items) c.args.waiting.now (shapes_of store.kept.items) (all_of store c.args.clauses.now) (entries_of (shapes_of store.kept.items) store.occurrences.items) (length store.kept.items) start.assignment.list.items start.candidates.items start.work.items start.next start.visits (cost c.args.clauses.now c.work.clauses c.work.walked run.assignment.list.items) c.work.taken run.opens.items run.candidates.items run.assignment.list.items run.work.items run.trail.items run.next run.visits done.assignment.list.items done.candidates.items done.visits (3 * sum_by length (clauses_of c.args.clauses.now)) 0 c.requires.single c.requires.next state c.walk.ensures.single (omega (arith, state.within)) (omega (arith, broken, same))
+    let upper = Propagating-upper c.args.rests.now (waits store.kept.items) c.args.waiting.now (shapes_of store.kept.items) (all_of store c.args.clauses.now) (entries_of (shapes_of store.kept.items) store.occurrences.items) (length store.kept.items) start.assignment.list.items start.candidates.items start.work.items start.next start.visits (cost c.args.clauses.now c.work.clauses c.work.walked run.assignment.list.items) c.work.taken run.opens.items run.candidates.items run.assignment.list.items run.work.items run.trail.items run.next run.visits done.assignment.list.items done.candidates.items done.visits (2 * killed (clauses_of c.args.clauses.now) (walked_codes (c.work.walked + 1) run.assignment.list.items) + sum_by length (clauses_of c.args.clauses.now)) 0 (spent-extends (entries_of (shapes_of store.kept.items) store.occurrences.items) run.assignment.list.items done.assignment.list.items c.walk.ensures.extends) c.requires.next state (omega (arith, state.within)) (omega (arith, broken, same)) in
+    omega (arith, upper, killed-extends (clauses_of c.args.clauses.now) run.assignment.list.items done.assignment.list.items (c.work.walked + 1) c.walk.ensures.extends)
 
 pub returns-then-branch-2-clause-derived : goal.returns-then-branch-2-clause-derived
 returns-then-branch-2-clause-derived c =
@@ -166,7 +172,7 @@ work-smaller-then-walked-len c =
     let inside : c.work.walked < length run.assignment.list.items = omega (arith, c.if-walked-len.true, c.len-else-run-len.ensures, run.assignment.list.ok.0) in
     let read : c.place_of.result ≡ falsified_code l = c.place_of.ensures.place ∙ ap place c.negation.ensures in
     let next = next-of run.assignment.values.items run.assignment.list.items c.work.walked l run.assignment.agrees inside c.index-literal.ensures in
-    let bound = Propagating-bound (waits store.kept.items) c.args.waiting.now (shapes_of store.kept.items) (all_of store c.args.clauses.now) (entries_of (shapes_of store.kept.items) store.occurrences.items) (length store.kept.items) start.assignment.list.items start.candidates.items start.work.items start.next start.visits (cost c.args.clauses.now c.work.clauses c.work.walked run.assignment.list.items) c.work.taken run.opens.items run.candidates.items run.assignment.list.items run.work.items run.trail.items run.next run.visits c.requires.single state in
+    let bound = Propagating-bound c.args.rests.now (waits store.kept.items) c.args.waiting.now (shapes_of store.kept.items) (all_of store c.args.clauses.now) (entries_of (shapes_of store.kept.items) store.occurrences.items) (length store.kept.items) start.assignment.list.items start.candidates.items start.work.items start.next start.visits (cost c.args.clauses.now c.work.clauses c.work.walked run.assignment.list.items) c.work.taken run.opens.items run.candidates.items run.assignment.list.items run.work.items run.trail.items run.next run.visits c.requires.single state in
     omega (arith, bound, c.in_ok-walk.ensures.next, state.within, inside, c.work.invariant.taken, c.work.invariant.values, run.assignment.room)
 
 pub work-preserved-then-walked-len : goal.work-preserved-then-walked-len
@@ -192,9 +198,11 @@ work-preserved-then-walked-len c =
     let walked = subst (λ t. (xs : List ℕ) → AreServed c.work.run.assignment.values.items c.work.clauses.watches.items xs t 0 → AreWalked c.walk.new.run.assignment.values.items c.walk.new.clauses.watches.items (xs ++ (t ∷ []))) read (told.walked c.if-branch-2.false) in
     record {
       values = told.values ∙ c.work.invariant.values;
+      grows = grows-trans start.assignment.values.items run.assignment.values.items done.assignment.values.items c.work.invariant.grows told.grows;
+      kept = λ base codes more old. c.in_ok-walk.ensures.kept base codes (grows-trans base c.args.run.now.assignment.values.items c.work.run.assignment.values.items more c.work.invariant.grows) (c.work.invariant.kept base codes more old);
       taken = c.work.invariant.taken;
       watching = watching-next (all_of store c.args.clauses.now) c.args.clauses.now c.work.clauses c.walk.new.clauses run.assignment.values.items done.assignment.values.items run.assignment.list.items done.assignment.list.items c.work.walked l inside c.index-literal.ensures next.failed told.literals told.running derived walked w;
-      state = Propagating-walk (waits store.kept.items) c.args.waiting.now (shapes_of store.kept.items) (all_of store c.args.clauses.now) (entries_of (shapes_of store.kept.items) store.occurrences.items) (length store.kept.items) start.assignment.list.items start.candidates.items start.work.items start.next start.visits (cost c.args.clauses.now c.work.clauses c.work.walked run.assignment.list.items) (cost c.args.clauses.now c.walk.new.clauses (c.work.walked + 1) done.assignment.list.items) c.work.taken run.opens.items run.candidates.items run.assignment.list.items run.work.items run.trail.items run.next run.visits done.opens.items done.candidates.items done.assignment.list.items done.work.items done.trail.items done.next done.visits
+      state = Propagating-walk c.args.rests.now (waits store.kept.items) c.args.waiting.now (shapes_of store.kept.items) (all_of store c.args.clauses.now) (entries_of (shapes_of store.kept.items) store.occurrences.items) (length store.kept.items) start.assignment.list.items start.candidates.items start.work.items start.next start.visits (cost c.args.clauses.now c.work.clauses c.work.walked run.assignment.list.items) (cost c.args.clauses.now c.walk.new.clauses (c.work.walked + 1) done.assignment.list.items) c.work.taken run.opens.items run.candidates.items run.assignment.list.items run.work.items run.trail.items run.next run.visits done.opens.items done.candidates.items done.assignment.list.items done.work.items done.trail.items done.next done.visits
           told.next (ap (λ (v : Vec ℕ Global). v.items) told.candidates) derived (told.counted c.if-branch-2.false) (told.tidy (filter (waits store.kept.items) (drop c.work.taken c.args.waiting.now)) (length store.kept.items) state.tidy) paid told.work told.rising told.found told.opens told.longer_work state;
     }
 
@@ -205,7 +213,7 @@ look-requires-clause-tidy c =
     let inside : run.next < length run.work.items = omega (arith, c.if-run-len.true, c.len.ensures, run.work.ok.0) in
     let p = waits keep in
     let all = take_rest c.args.waiting.now c.work.taken in
-    rw all (Propagating-look (filter p (drop c.work.taken c.args.waiting.now)) (shapes_of keep) (length keep) run.opens.items run.candidates.items run.assignment.list.items run.work.items run.trail.items run.next c.index-form.result.now (length-map keep kept_shape) inside c.index-form.ensures c.work.invariant.state.tidy)
+    rw all (Propagating-look (beside c.args.rests.now (filter p (drop c.work.taken c.args.waiting.now))) (shapes_of keep) (length keep) run.opens.items run.candidates.items run.assignment.list.items run.work.items run.trail.items run.next c.index-form.result.now (length-map keep kept_shape) inside c.index-form.ensures c.work.invariant.state.tidy)
 
 pub returns-in_err-look-clause-upper : goal.returns-in_err-look-clause-upper
 returns-in_err-look-clause-upper c =
@@ -217,8 +225,8 @@ returns-in_err-look-clause-upper c =
     let done = c.look.new.run in
     let inside : run.next + 1 ≤ length run.work.items = omega (arith, c.if-run-len.true, c.len.ensures, run.work.ok.0) in
     let most = cost-most c.args.clauses.now c.work.clauses run.assignment.values.items run.assignment.list.items c.work.walked w in
-    let upper = Propagating-upper (waits store.kept.items) c.args.waiting.now (shapes_of store.kept.items) (all_of store c.args.clauses.now) (entries_of (shapes_of store.kept.items) store.occurrences.items) (length store.kept.items) start.assignment.list.items start.candidates.items start.work.items start.next start.visits (cost c.args.clauses.now c.work.clauses c.work.walked run.assignment.list.items) c.work.taken run.opens.items run.candidates.items run.assignment.list.items run.work.items run.trail.items run.next run.visits done.assignment.list.items done.candidates.items done.visits (cost c.args.clauses.now c.work.clauses c.work.walked run.assignment.list.items) 1 c.requires.single c.requires.next state c.look.ensures.single inside (omega (arith, c.look.ensures.covered)) in
-    omega (arith, upper, most)
+    let upper = Propagating-upper c.args.rests.now (waits store.kept.items) c.args.waiting.now (shapes_of store.kept.items) (all_of store c.args.clauses.now) (entries_of (shapes_of store.kept.items) store.occurrences.items) (length store.kept.items) start.assignment.list.items start.candidates.items start.work.items start.next start.visits (cost c.args.clauses.now c.work.clauses c.work.walked run.assignment.list.items) c.work.taken run.opens.items run.candidates.items run.assignment.list.items run.work.items run.trail.items run.next run.visits done.assignment.list.items done.candidates.items done.visits (cost c.args.clauses.now c.work.clauses c.work.walked run.assignment.list.items) 1 (spent-extends (entries_of (shapes_of store.kept.items) store.occurrences.items) run.assignment.list.items done.assignment.list.items c.look.ensures.extends) c.requires.next state inside (omega (arith, c.look.ensures.covered)) in
+    omega (arith, upper, most, killed-extends (clauses_of c.args.clauses.now) run.assignment.list.items done.assignment.list.items c.work.walked c.look.ensures.extends)
 
 pub returns-then-branch-clause-upper : goal.returns-then-branch-clause-upper
 returns-then-branch-clause-upper c =
@@ -230,8 +238,8 @@ returns-then-branch-clause-upper c =
     let done = c.look.new.run in
     let inside : run.next + 1 ≤ length run.work.items = omega (arith, c.if-run-len.true, c.len.ensures, run.work.ok.0) in
     let most = cost-most c.args.clauses.now c.work.clauses run.assignment.values.items run.assignment.list.items c.work.walked w in
-    let upper = Propagating-upper (waits store.kept.items) c.args.waiting.now (shapes_of store.kept.items) (all_of store c.args.clauses.now) (entries_of (shapes_of store.kept.items) store.occurrences.items) (length store.kept.items) start.assignment.list.items start.candidates.items start.work.items start.next start.visits (cost c.args.clauses.now c.work.clauses c.work.walked run.assignment.list.items) c.work.taken run.opens.items run.candidates.items run.assignment.list.items run.work.items run.trail.items run.next run.visits done.assignment.list.items done.candidates.items done.visits (cost c.args.clauses.now c.work.clauses c.work.walked run.assignment.list.items) 1 c.requires.single c.requires.next state c.look.ensures.single inside (omega (arith, c.look.ensures.covered)) in
-    omega (arith, upper, most)
+    let upper = Propagating-upper c.args.rests.now (waits store.kept.items) c.args.waiting.now (shapes_of store.kept.items) (all_of store c.args.clauses.now) (entries_of (shapes_of store.kept.items) store.occurrences.items) (length store.kept.items) start.assignment.list.items start.candidates.items start.work.items start.next start.visits (cost c.args.clauses.now c.work.clauses c.work.walked run.assignment.list.items) c.work.taken run.opens.items run.candidates.items run.assignment.list.items run.work.items run.trail.items run.next run.visits done.assignment.list.items done.candidates.items done.visits (cost c.args.clauses.now c.work.clauses c.work.walked run.assignment.list.items) 1 (spent-extends (entries_of (shapes_of store.kept.items) store.occurrences.items) run.assignment.list.items done.assignment.list.items c.look.ensures.extends) c.requires.next state inside (omega (arith, c.look.ensures.covered)) in
+    omega (arith, upper, most, killed-extends (clauses_of c.args.clauses.now) run.assignment.list.items done.assignment.list.items c.work.walked c.look.ensures.extends)
 
 pub returns-then-branch-clause-running : goal.returns-then-branch-clause-running
 returns-then-branch-clause-running c =
@@ -277,7 +285,7 @@ work-smaller-else-branch c =
     let w = c.work.invariant.watching in
     let done = c.look.new.run in
     let inside : run.next + 1 ≤ length run.work.items = omega (arith, c.if-run-len.true, c.len.ensures, run.work.ok.0) in
-    let bound = Propagating-bound (waits store.kept.items) c.args.waiting.now (shapes_of store.kept.items) (all_of store c.args.clauses.now) (entries_of (shapes_of store.kept.items) store.occurrences.items) (length store.kept.items) start.assignment.list.items start.candidates.items start.work.items start.next start.visits (cost c.args.clauses.now c.work.clauses c.work.walked run.assignment.list.items) c.work.taken run.opens.items run.candidates.items run.assignment.list.items run.work.items run.trail.items run.next run.visits c.requires.single state in
+    let bound = Propagating-bound c.args.rests.now (waits store.kept.items) c.args.waiting.now (shapes_of store.kept.items) (all_of store c.args.clauses.now) (entries_of (shapes_of store.kept.items) store.occurrences.items) (length store.kept.items) start.assignment.list.items start.candidates.items start.work.items start.next start.visits (cost c.args.clauses.now c.work.clauses c.work.walked run.assignment.list.items) c.work.taken run.opens.items run.candidates.items run.assignment.list.items run.work.items run.trail.items run.next run.visits c.requires.single state in
     omega (arith, bound, c.in_ok-look.ensures.next, inside, c.work.invariant.taken, c.work.invariant.values, run.assignment.room, w.within)
 
 pub work-preserved-else-branch : goal.work-preserved-else-branch
@@ -295,9 +303,11 @@ work-preserved-else-branch c =
     let tidy = rw (take_rest c.args.waiting.now c.work.taken) at (told.tidy c.if-branch.false) in
     record {
       values = told.values ∙ c.work.invariant.values;
+      grows = grows-trans start.assignment.values.items run.assignment.values.items done.assignment.values.items c.work.invariant.grows grows;
+      kept = c.work.invariant.kept;
       taken = c.work.invariant.taken;
       watching = watching-grow (all_of store c.args.clauses.now) c.args.clauses.now c.work.clauses run.assignment.values.items done.assignment.values.items run.assignment.list.items done.assignment.list.items c.work.walked grows derived w;
-      state = Propagating-next (waits store.kept.items) c.args.waiting.now (shapes_of store.kept.items) (all_of store c.args.clauses.now) (entries_of (shapes_of store.kept.items) store.occurrences.items) (length store.kept.items) start.assignment.list.items start.candidates.items start.work.items start.next start.visits (cost c.args.clauses.now c.work.clauses c.work.walked run.assignment.list.items) c.work.taken run.opens.items run.candidates.items run.assignment.list.items run.work.items run.trail.items run.next run.visits done.opens.items done.candidates.items done.assignment.list.items done.work.items done.trail.items done.next done.visits (cost c.args.clauses.now c.work.clauses c.work.walked done.assignment.list.items)
+      state = Propagating-next c.args.rests.now (waits store.kept.items) c.args.waiting.now (shapes_of store.kept.items) (all_of store c.args.clauses.now) (entries_of (shapes_of store.kept.items) store.occurrences.items) (length store.kept.items) start.assignment.list.items start.candidates.items start.work.items start.next start.visits (cost c.args.clauses.now c.work.clauses c.work.walked run.assignment.list.items) c.work.taken run.opens.items run.candidates.items run.assignment.list.items run.work.items run.trail.items run.next run.visits done.opens.items done.candidates.items done.assignment.list.items done.work.items done.trail.items done.next done.visits (cost c.args.clauses.now c.work.clauses c.work.walked done.assignment.list.items)
           (cost-grow (all_of store c.args.clauses.now) c.args.clauses.now c.work.clauses run.assignment.list.items done.assignment.list.items c.work.walked w.within derived) told.next derived (told.counted c.if-branch.false) tidy told.paid told.found told.opens told.candidates told.within state;
     }
 
@@ -318,8 +328,8 @@ returns-in_err-choose-clause-upper c =
     let state = c.work.invariant.state in
     let w = c.work.invariant.watching in
     let most = cost-most c.args.clauses.now c.work.clauses run.assignment.values.items run.assignment.list.items c.work.walked w in
-    let upper = Propagating-upper (waits store.kept.items) c.args.waiting.now (shapes_of store.kept.items) (all_of store c.args.clauses.now) (entries_of (shapes_of store.kept.items) store.occurrences.items) (length store.kept.items) start.assignment.list.items start.candidates.items start.work.items start.next start.visits (cost c.args.clauses.now c.work.clauses c.work.walked run.assignment.list.items) c.work.taken run.opens.items run.candidates.items run.assignment.list.items run.work.items run.trail.items run.next run.visits run.assignment.list.items run.candidates.items run.visits (cost c.args.clauses.now c.work.clauses c.work.walked run.assignment.list.items) 0 c.requires.single c.requires.next state (λ s. s) (omega (arith, state.within)) (omega arith) in
-    omega (arith, upper, most)
+    let upper = Propagating-upper c.args.rests.now (waits store.kept.items) c.args.waiting.now (shapes_of store.kept.items) (all_of store c.args.clauses.now) (entries_of (shapes_of store.kept.items) store.occurrences.items) (length store.kept.items) start.assignment.list.items start.candidates.items start.work.items start.next start.visits (cost c.args.clauses.now c.work.clauses c.work.walked run.assignment.list.items) c.work.taken run.opens.items run.candidates.items run.assignment.list.items run.work.items run.trail.items run.next run.visits run.assignment.list.items run.candidates.items run.visits (cost c.args.clauses.now c.work.clauses c.work.walked run.assignment.list.items) 0 (omega arith) c.requires.next state (omega (arith, state.within)) (omega arith) in
+    omega (arith, upper, most, killed-extends (clauses_of c.args.clauses.now) run.assignment.list.items run.assignment.list.items c.work.walked (extends-none run.assignment.list.items))
 
 pub returns-in_err-choose-2-clause-bounded : goal.returns-in_err-choose-2-clause-bounded
 returns-in_err-choose-2-clause-bounded c =
@@ -338,8 +348,8 @@ returns-in_err-choose-2-clause-upper c =
     let state = c.work.invariant.state in
     let w = c.work.invariant.watching in
     let most = cost-most c.args.clauses.now c.work.clauses run.assignment.values.items run.assignment.list.items c.work.walked w in
-    let upper = Propagating-upper (waits store.kept.items) c.args.waiting.now (shapes_of store.kept.items) (all_of store c.args.clauses.now) (entries_of (shapes_of store.kept.items) store.occurrences.items) (length store.kept.items) start.assignment.list.items start.candidates.items start.work.items start.next start.visits (cost c.args.clauses.now c.work.clauses c.work.walked run.assignment.list.items) c.work.taken run.opens.items run.candidates.items run.assignment.list.items run.work.items run.trail.items run.next run.visits run.assignment.list.items run.candidates.items run.visits (cost c.args.clauses.now c.work.clauses c.work.walked run.assignment.list.items) 0 c.requires.single c.requires.next state (λ s. s) (omega (arith, state.within)) (omega arith) in
-    omega (arith, upper, most)
+    let upper = Propagating-upper c.args.rests.now (waits store.kept.items) c.args.waiting.now (shapes_of store.kept.items) (all_of store c.args.clauses.now) (entries_of (shapes_of store.kept.items) store.occurrences.items) (length store.kept.items) start.assignment.list.items start.candidates.items start.work.items start.next start.visits (cost c.args.clauses.now c.work.clauses c.work.walked run.assignment.list.items) c.work.taken run.opens.items run.candidates.items run.assignment.list.items run.work.items run.trail.items run.next run.visits run.assignment.list.items run.candidates.items run.visits (cost c.args.clauses.now c.work.clauses c.work.walked run.assignment.list.items) 0 (omega arith) c.requires.next state (omega (arith, state.within)) (omega arith) in
+    omega (arith, upper, most, killed-extends (clauses_of c.args.clauses.now) run.assignment.list.items run.assignment.list.items c.work.walked (extends-none run.assignment.list.items))
 
 pub returns-else-taken-waiting-clause-bounded : goal.returns-else-taken-waiting-clause-bounded
 returns-else-taken-waiting-clause-bounded c =
@@ -358,8 +368,8 @@ returns-else-taken-waiting-clause-upper c =
     let state = c.work.invariant.state in
     let w = c.work.invariant.watching in
     let most = cost-most c.args.clauses.now c.work.clauses run.assignment.values.items run.assignment.list.items c.work.walked w in
-    let upper = Propagating-upper (waits store.kept.items) c.args.waiting.now (shapes_of store.kept.items) (all_of store c.args.clauses.now) (entries_of (shapes_of store.kept.items) store.occurrences.items) (length store.kept.items) start.assignment.list.items start.candidates.items start.work.items start.next start.visits (cost c.args.clauses.now c.work.clauses c.work.walked run.assignment.list.items) c.work.taken run.opens.items run.candidates.items run.assignment.list.items run.work.items run.trail.items run.next run.visits run.assignment.list.items run.candidates.items run.visits (cost c.args.clauses.now c.work.clauses c.work.walked run.assignment.list.items) 0 c.requires.single c.requires.next state (λ s. s) (omega (arith, state.within)) (omega arith) in
-    omega (arith, upper, most)
+    let upper = Propagating-upper c.args.rests.now (waits store.kept.items) c.args.waiting.now (shapes_of store.kept.items) (all_of store c.args.clauses.now) (entries_of (shapes_of store.kept.items) store.occurrences.items) (length store.kept.items) start.assignment.list.items start.candidates.items start.work.items start.next start.visits (cost c.args.clauses.now c.work.clauses c.work.walked run.assignment.list.items) c.work.taken run.opens.items run.candidates.items run.assignment.list.items run.work.items run.trail.items run.next run.visits run.assignment.list.items run.candidates.items run.visits (cost c.args.clauses.now c.work.clauses c.work.walked run.assignment.list.items) 0 (omega arith) c.requires.next state (omega (arith, state.within)) (omega arith) in
+    omega (arith, upper, most, killed-extends (clauses_of c.args.clauses.now) run.assignment.list.items run.assignment.list.items c.work.walked (extends-none run.assignment.list.items))
 
 pub work-smaller : goal.work-smaller
 work-smaller c =
@@ -368,7 +378,7 @@ work-smaller c =
     let run = c.work.run in
     let state = c.work.invariant.state in
     let w = c.work.invariant.watching in
-    let bound = Propagating-bound (waits store.kept.items) c.args.waiting.now (shapes_of store.kept.items) (all_of store c.args.clauses.now) (entries_of (shapes_of store.kept.items) store.occurrences.items) (length store.kept.items) start.assignment.list.items start.candidates.items start.work.items start.next start.visits (cost c.args.clauses.now c.work.clauses c.work.walked run.assignment.list.items) c.work.taken run.opens.items run.candidates.items run.assignment.list.items run.work.items run.trail.items run.next run.visits c.requires.single state in
+    let bound = Propagating-bound c.args.rests.now (waits store.kept.items) c.args.waiting.now (shapes_of store.kept.items) (all_of store c.args.clauses.now) (entries_of (shapes_of store.kept.items) store.occurrences.items) (length store.kept.items) start.assignment.list.items start.candidates.items start.work.items start.next start.visits (cost c.args.clauses.now c.work.clauses c.work.walked run.assignment.list.items) c.work.taken run.opens.items run.candidates.items run.assignment.list.items run.work.items run.trail.items run.next run.visits c.requires.single state in
     omega (arith, bound, state.within, c.if-taken-waiting.true, w.within, c.work.invariant.values, run.assignment.room)
 
 pub work-preserved : goal.work-preserved
@@ -381,9 +391,11 @@ work-preserved c =
     let less : c.work.taken < length c.args.waiting.now = omega (arith, c.if-taken-waiting.true) in
     record {
       values = c.work.invariant.values;
+      grows = c.work.invariant.grows;
+      kept = c.work.invariant.kept;
       taken = omega (arith, less);
       watching = w;
-      state = Propagating-choose (waits store.kept.items) c.args.waiting.now (shapes_of store.kept.items) (all_of store c.args.clauses.now) (entries_of (shapes_of store.kept.items) store.occurrences.items) (length store.kept.items) start.assignment.list.items start.candidates.items start.work.items start.next start.visits (cost c.args.clauses.now c.work.clauses c.work.walked run.assignment.list.items) c.work.taken run.opens.items run.candidates.items run.assignment.list.items run.work.items run.trail.items run.next run.visits (get_or c.args.waiting.now c.work.taken 0) c.choose-then-taken-waiting.new.work.items c.choose.new.work.items less (get_or_default c.args.waiting.now c.work.taken 0 _ less)
+      state = Propagating-choose c.args.rests.now (waits store.kept.items) c.args.waiting.now (shapes_of store.kept.items) (all_of store c.args.clauses.now) (entries_of (shapes_of store.kept.items) store.occurrences.items) (length store.kept.items) start.assignment.list.items start.candidates.items start.work.items start.next start.visits (cost c.args.clauses.now c.work.clauses c.work.walked run.assignment.list.items) c.work.taken run.opens.items run.candidates.items run.assignment.list.items run.work.items run.trail.items run.next run.visits (get_or c.args.waiting.now c.work.taken 0) c.choose-then-taken-waiting.new.work.items c.choose.new.work.items less (get_or_default c.args.waiting.now c.work.taken 0 _ less)
           (omega (arith, c.requires.waiting c.work.taken 0 less, length-map store.kept.items kept_shape)) c.in_ok-choose-2.ensures c.in_ok-choose.ensures state;
     }
 
@@ -399,6 +411,78 @@ returns-else-taken-waiting-clause-settled c =
     let none_waits : length c.args.waiting.now ≤ c.work.taken = omega (arith, c.if-taken-waiting.false) in
     let end : length run.assignment.list.items ≤ c.work.walked = omega (arith, c.if-walked-len.false, c.len-else-run-len.ensures, run.assignment.list.ok.0) in
     elim (joined-source (shapes_of store.kept.items) (clauses_of c.args.clauses.now) f has) [
-      | inl kept ↦ Propagating-settled (waits store.kept.items) c.args.waiting.now store.kept.items (all_of store c.args.clauses.now) (entries_of (shapes_of store.kept.items) store.occurrences.items) start.assignment.list.items start.candidates.items start.work.items start.next start.visits (cost c.args.clauses.now c.work.clauses c.work.walked run.assignment.list.items) c.work.taken run.opens.items run.candidates.items run.assignment.list.items run.work.items run.trail.items run.next run.visits all none_waits state f kept
+      | inl kept ↦ Propagating-settled c.args.rests.now (waits store.kept.items) c.args.waiting.now store.kept.items (all_of store c.args.clauses.now) (entries_of (shapes_of store.kept.items) store.occurrences.items) start.assignment.list.items start.candidates.items start.work.items start.next start.visits (cost c.args.clauses.now c.work.clauses c.work.walked run.assignment.list.items) c.work.taken run.opens.items run.candidates.items run.assignment.list.items run.work.items run.trail.items run.next run.visits all none_waits state f kept
       | inr clause ↦ subst (λ g. IsSettled g c.work.run.assignment.list.items) clause.2 (watching-settled c.args.clauses.now c.work.clauses run.assignment.values.items run.assignment.list.items c.work.walked clause.0 run.assignment.agrees (λ k on. opposite run.assignment.values.items run.assignment.list.items k run.assignment.agrees on) end clause.1 w)
     ]
+
+pub returns-in_err-look-clause-single : goal.returns-in_err-look-clause-single
+returns-in_err-look-clause-single c = c.look.ensures.single (derivation-single (all_of c.args.store.now c.args.clauses.now) c.args.run.now.assignment.list.items c.work.run.assignment.list.items c.requires.single c.work.invariant.state.derived)
+
+pub returns-then-branch-clause-single : goal.returns-then-branch-clause-single
+returns-then-branch-clause-single c = c.look.ensures.single (derivation-single (all_of c.args.store.now c.args.clauses.now) c.args.run.now.assignment.list.items c.work.run.assignment.list.items c.requires.single c.work.invariant.state.derived)
+
+pub returns-in_err-walk-clause-single : goal.returns-in_err-walk-clause-single
+returns-in_err-walk-clause-single c = c.walk.ensures.single (derivation-single (all_of c.args.store.now c.args.clauses.now) c.args.run.now.assignment.list.items c.work.run.assignment.list.items c.requires.single c.work.invariant.state.derived)
+
+pub returns-then-branch-2-clause-single : goal.returns-then-branch-2-clause-single
+returns-then-branch-2-clause-single c = c.walk.ensures.single (derivation-single (all_of c.args.store.now c.args.clauses.now) c.args.run.now.assignment.list.items c.work.run.assignment.list.items c.requires.single c.work.invariant.state.derived)
+
+pub returns-in_err-choose-clause-single : goal.returns-in_err-choose-clause-single
+returns-in_err-choose-clause-single c = derivation-single (all_of c.args.store.now c.args.clauses.now) c.args.run.now.assignment.list.items c.work.run.assignment.list.items c.requires.single c.work.invariant.state.derived
+
+pub returns-in_err-choose-2-clause-single : goal.returns-in_err-choose-2-clause-single
+returns-in_err-choose-2-clause-single c = derivation-single (all_of c.args.store.now c.args.clauses.now) c.args.run.now.assignment.list.items c.work.run.assignment.list.items c.requires.single c.work.invariant.state.derived
+
+pub returns-else-taken-waiting-clause-single : goal.returns-else-taken-waiting-clause-single
+returns-else-taken-waiting-clause-single c = derivation-single (all_of c.args.store.now c.args.clauses.now) c.args.run.now.assignment.list.items c.work.run.assignment.list.items c.requires.single c.work.invariant.state.derived
+
+pub returns-else-taken-waiting-clause-walked : goal.returns-else-taken-waiting-clause-walked
+returns-else-taken-waiting-clause-walked c = λ found.
+    let run = c.work.run in
+    let w = c.work.invariant.watching in
+    let all : c.work.walked ≡ length run.assignment.list.items = omega (arith, w.within, c.if-walked-len.false, c.len-else-run-len.ensures, run.assignment.list.ok.0) in
+    subst (λ n. AreWalked run.assignment.values.items c.work.clauses.watches.items (walked_codes n run.assignment.list.items)) all w.served
+
+pub returns-in_err-look-clause-extends : goal.returns-in_err-look-clause-extends
+returns-in_err-look-clause-extends c = extends-then c.args.run.now.assignment.list.items c.work.run.assignment.list.items c.look.new.run.assignment.list.items (derives-extends (all_of c.args.store.now c.args.clauses.now) c.args.run.now.assignment.list.items c.work.run.assignment.list.items c.work.invariant.state.derived) c.look.ensures.extends
+
+pub returns-then-branch-clause-extends : goal.returns-then-branch-clause-extends
+returns-then-branch-clause-extends c = extends-then c.args.run.now.assignment.list.items c.work.run.assignment.list.items c.look.new.run.assignment.list.items (derives-extends (all_of c.args.store.now c.args.clauses.now) c.args.run.now.assignment.list.items c.work.run.assignment.list.items c.work.invariant.state.derived) c.look.ensures.extends
+
+pub returns-in_err-walk-clause-extends : goal.returns-in_err-walk-clause-extends
+returns-in_err-walk-clause-extends c = extends-then c.args.run.now.assignment.list.items c.work.run.assignment.list.items c.walk.new.run.assignment.list.items (derives-extends (all_of c.args.store.now c.args.clauses.now) c.args.run.now.assignment.list.items c.work.run.assignment.list.items c.work.invariant.state.derived) c.walk.ensures.extends
+
+pub returns-then-branch-2-clause-extends : goal.returns-then-branch-2-clause-extends
+returns-then-branch-2-clause-extends c = extends-then c.args.run.now.assignment.list.items c.work.run.assignment.list.items c.walk.new.run.assignment.list.items (derives-extends (all_of c.args.store.now c.args.clauses.now) c.args.run.now.assignment.list.items c.work.run.assignment.list.items c.work.invariant.state.derived) c.walk.ensures.extends
+
+pub returns-in_err-choose-clause-extends : goal.returns-in_err-choose-clause-extends
+returns-in_err-choose-clause-extends c = derives-extends (all_of c.args.store.now c.args.clauses.now) c.args.run.now.assignment.list.items c.work.run.assignment.list.items c.work.invariant.state.derived
+
+pub returns-in_err-choose-2-clause-extends : goal.returns-in_err-choose-2-clause-extends
+returns-in_err-choose-2-clause-extends c = derives-extends (all_of c.args.store.now c.args.clauses.now) c.args.run.now.assignment.list.items c.work.run.assignment.list.items c.work.invariant.state.derived
+
+pub returns-else-taken-waiting-clause-extends : goal.returns-else-taken-waiting-clause-extends
+returns-else-taken-waiting-clause-extends c = derives-extends (all_of c.args.store.now c.args.clauses.now) c.args.run.now.assignment.list.items c.work.run.assignment.list.items c.work.invariant.state.derived
+
+pub returns-then-branch-clause-kept : goal.returns-then-branch-clause-kept
+returns-then-branch-clause-kept c = c.work.invariant.kept
+
+pub returns-then-branch-2-clause-kept : goal.returns-then-branch-2-clause-kept
+returns-then-branch-2-clause-kept c = λ base codes more old. c.in_ok-walk.ensures.kept base codes (grows-trans base c.args.run.now.assignment.values.items c.work.run.assignment.values.items more c.work.invariant.grows) (c.work.invariant.kept base codes more old)
+
+pub returns-else-taken-waiting-clause-kept : goal.returns-else-taken-waiting-clause-kept
+returns-else-taken-waiting-clause-kept c = c.work.invariant.kept
+
+pub returns-else-taken-waiting-clause-counted : goal.returns-else-taken-waiting-clause-counted
+returns-else-taken-waiting-clause-counted c = λ found. c.work.invariant.state.counted
+
+pub returns-else-taken-waiting-clause-tidy : goal.returns-else-taken-waiting-clause-tidy
+returns-else-taken-waiting-clause-tidy c = λ found.
+    let none_waits : length c.args.waiting.now ≤ c.work.taken = omega (arith, c.if-taken-waiting.false) in
+    let nothing = ap (filter (waits c.args.store.now.kept.items)) (drop_all c.work.taken c.args.waiting.now none_waits) in
+    rw nothing at c.work.invariant.state.tidy
+
+pub returns-else-taken-waiting-clause-done : goal.returns-else-taken-waiting-clause-done
+returns-else-taken-waiting-clause-done c = λ found.
+    let run = c.work.run in
+    omega (arith, c.if-run-len.false, c.len.ensures, run.work.ok.0)

@@ -1,11 +1,11 @@
 use Rattle.std.specs.Prelude.{All, map, sum}
-use Rattle.std.proofs.Common.{Vec, Global, ℕ, ◌<◌, ◌+◌, [], get_or, drop, length, refl, ap, sym, ◌∙◌, arith}
+use Rattle.std.proofs.Common.{Vec, Global, ℕ, ◌<◌, ◌+◌, [], get_or, length, refl, ap, sym, ◌∙◌, arith}
 use Rattle.std.proofs.lemmas.List.{length-map}
 use Rattle.std.proofs.lemmas.List.Sums.{sum_by_push}
 use Rattle.pb_replay.specs.declared.numbered.NumberedLiteral.{NumberedLiteral}
 use Rattle.pb_replay.specs.declared.propagate.assignment.Assignment.{Assignment}
 use Rattle.pb_replay.specs.Engine.Lists.{Weighted, negation}
-use Rattle.pb_replay.specs.Engine.Counts.{place, more, spent}
+use Rattle.pb_replay.specs.Engine.Counts.{place, beside, more, spent}
 use Rattle.pb_replay.specs.Engine.Fields.{shapes_of, spots_of, entries_of, kept_shape, entry_at}
 use Rattle.pb_replay.specs.Engine.Links.{weighted}
 use Rattle.pb_replay.proofs.Engine.Places.{entries-length}
@@ -22,7 +22,7 @@ entries-init c =
       assignment = refl;
       candidates = refl;
       next = refl;
-      putting = Putting-start (shapes_of store.kept.items) (get_or (entries_of (shapes_of store.kept.items) store.occurrences.items) (place (negation c.args.literal)) []) run.opens.items run.candidates.items c.put.new.self.list.items run.work.items run.trail.items run.next run.visits
+      putting = Putting-start c.args.rests.now (shapes_of store.kept.items) (get_or (entries_of (shapes_of store.kept.items) store.occurrences.items) (place (negation c.args.literal)) []) run.opens.items run.candidates.items c.put.new.self.list.items run.work.items run.trail.items run.next run.visits
           (Counted-put (shapes_of store.kept.items) run.opens.items run.assignment.list.items c.put.new.self.list.items c.args.literal _ c.in_ok-put.ensures.ok c.requires.absent (λ s d inside. c.requires.store.whole.linked s d (negation c.args.literal) inside) c.requires.counted)
           (c.requires.opens ∙ sym (length-map store.kept.items kept_shape));
     }
@@ -58,7 +58,7 @@ lower-requires-clause-fits c =
     let named : All (λ (x : Weighted). x.form < length (shapes_of store.kept.items)) (get_or (entries_of (shapes_of store.kept.items) store.occurrences.items) (place (negation c.args.literal)) []) =
     λ k d h. omega (arith, c.requires.store.named (place (negation c.args.literal)) k d h, length-map store.kept.items kept_shape) in
     let inside : c.entries.j < length c.deref.result.now = omega (arith, c.entries-test.true, c.len-j-end.ensures, c.deref.ensures.len) in
-    Putting-fits_at (shapes_of store.kept.items) (get_or (entries_of (shapes_of store.kept.items) store.occurrences.items) (place (negation c.args.literal)) []) c.deref.result.now run.opens.items run.candidates.items c.put.new.self.list.items run.work.items run.trail.items run.next run.visits c.entries.run.opens.items c.entries.run.work.items c.entries.run.trail.items c.entries.run.visits c.entries.j (entry_at c.visit-entry.result) same c.visit-entry.ensures.item inside named c.entries.invariant.putting
+    Putting-fits_at c.args.rests.now (shapes_of store.kept.items) (get_or (entries_of (shapes_of store.kept.items) store.occurrences.items) (place (negation c.args.literal)) []) c.deref.result.now run.opens.items run.candidates.items c.put.new.self.list.items run.work.items run.trail.items run.next run.visits c.entries.run.opens.items c.entries.run.work.items c.entries.run.trail.items c.entries.run.visits c.entries.j (entry_at c.visit-entry.result) same c.visit-entry.ensures.item inside named c.entries.invariant.putting
 
 pub entries-preserved : goal.entries-preserved
 entries-preserved c =
@@ -73,13 +73,13 @@ entries-preserved c =
           let named : All (λ (x : Weighted). x.form < length (shapes_of store.kept.items)) (get_or (entries_of (shapes_of store.kept.items) store.occurrences.items) (place (negation c.args.literal)) []) =
           λ k d h. omega (arith, c.requires.store.named (place (negation c.args.literal)) k d h, length-map store.kept.items kept_shape) in
           let inside : c.entries.j < length c.deref.result.now = omega (arith, c.entries-test.true, c.len-j-end.ensures, c.deref.ensures.len) in
-          Putting-next_at (shapes_of store.kept.items) (get_or (entries_of (shapes_of store.kept.items) store.occurrences.items) (place (negation c.args.literal)) []) c.deref.result.now run.opens.items run.candidates.items c.put.new.self.list.items run.work.items run.trail.items run.next run.visits c.entries.run.opens.items c.entries.run.work.items c.entries.run.trail.items c.entries.run.visits c.entries.j c.lower.new.run.opens.items c.lower.new.run.work.items c.lower.new.run.trail.items c.lower.new.run.visits (entry_at c.visit-entry.result) same c.visit-entry.ensures.item inside named c.requires.next c.in_ok-lower.ensures.opens c.in_ok-lower.ensures.work c.in_ok-lower.ensures.trail (c.in_ok-lower.ensures.visits ∙ c.visit-entry.ensures.count) (omega (arith, c.in_ok-lower.ensures.visits, c.visit-entry.ensures.rising)) c.entries.invariant.putting;
+          Putting-next_at c.args.rests.now (shapes_of store.kept.items) (get_or (entries_of (shapes_of store.kept.items) store.occurrences.items) (place (negation c.args.literal)) []) c.deref.result.now run.opens.items run.candidates.items c.put.new.self.list.items run.work.items run.trail.items run.next run.visits c.entries.run.opens.items c.entries.run.work.items c.entries.run.trail.items c.entries.run.visits c.entries.j c.lower.new.run.opens.items c.lower.new.run.work.items c.lower.new.run.trail.items c.lower.new.run.visits (entry_at c.visit-entry.result) same c.visit-entry.ensures.item inside named c.requires.next c.in_ok-lower.ensures.opens c.in_ok-lower.ensures.work c.in_ok-lower.ensures.trail (c.in_ok-lower.ensures.visits ∙ c.visit-entry.ensures.count) (omega (arith, c.in_ok-lower.ensures.visits, c.visit-entry.ensures.rising)) c.entries.invariant.putting;
     }
 
 pub returns-clause-tidy : goal.returns-clause-tidy
 returns-clause-tidy c = λ aside busy t.
     let run = c.args.run.now in
-    let after = c.entries.invariant.putting.tidy aside busy (Tidy-put aside (shapes_of c.args.store.now.kept.items) run.opens.items run.candidates.items run.assignment.list.items c.put.new.self.list.items run.work.items run.trail.items run.next busy c.args.literal c.in_ok-put.ensures.ok t) in
+    let after = c.entries.invariant.putting.tidy aside busy (Tidy-put (beside c.args.rests.now aside) (shapes_of c.args.store.now.kept.items) run.opens.items run.candidates.items run.assignment.list.items c.put.new.self.list.items run.work.items run.trail.items run.next busy c.args.literal c.in_ok-put.ensures.ok t) in
     rw (c.entries.invariant.candidates, c.entries.invariant.assignment, c.entries.invariant.next) after
 
 pub place_of-requires : goal.place_of-requires
@@ -104,7 +104,7 @@ returns-clause-single c = λ s.
     rw (ap (λ (a : Assignment). a.list.items) c.entries.invariant.assignment, c.in_ok-put.ensures.ok) (more c.args.literal s c.requires.absent)
 
 -- where the loop ends early: one entry more was subtracted
-lowered : (c : goal.Then-branch) → IsPutting (shapes_of c.args.store.now.kept.items) (get_or (entries_of (shapes_of c.args.store.now.kept.items) c.args.store.now.occurrences.items) (place (negation c.args.literal)) []) c.args.run.now.opens.items c.args.run.now.candidates.items c.put.new.self.list.items c.args.run.now.work.items c.args.run.now.trail.items c.args.run.now.next c.args.run.now.visits c.lower.new.run.opens.items c.lower.new.run.work.items c.lower.new.run.trail.items c.lower.new.run.visits (c.entries.j + 1)
+lowered : (c : goal.Then-branch) → IsPutting c.args.rests.now (shapes_of c.args.store.now.kept.items) (get_or (entries_of (shapes_of c.args.store.now.kept.items) c.args.store.now.occurrences.items) (place (negation c.args.literal)) []) c.args.run.now.opens.items c.args.run.now.candidates.items c.put.new.self.list.items c.args.run.now.work.items c.args.run.now.trail.items c.args.run.now.next c.args.run.now.visits c.lower.new.run.opens.items c.lower.new.run.work.items c.lower.new.run.trail.items c.lower.new.run.visits (c.entries.j + 1)
 lowered c =
     let store = c.args.store.now in
     let run = c.args.run.now in
@@ -112,7 +112,7 @@ lowered c =
     let named : All (λ (x : Weighted). x.form < length (shapes_of store.kept.items)) (get_or (entries_of (shapes_of store.kept.items) store.occurrences.items) (place (negation c.args.literal)) []) =
     λ k d h. omega (arith, c.requires.store.named (place (negation c.args.literal)) k d h, length-map store.kept.items kept_shape) in
     let inside : c.entries.j < length c.deref.result.now = omega (arith, c.entries-test.true, c.len-j-end.ensures, c.deref.ensures.len) in
-    Putting-next_at (shapes_of store.kept.items) (get_or (entries_of (shapes_of store.kept.items) store.occurrences.items) (place (negation c.args.literal)) []) c.deref.result.now run.opens.items run.candidates.items c.put.new.self.list.items run.work.items run.trail.items run.next run.visits c.entries.run.opens.items c.entries.run.work.items c.entries.run.trail.items c.entries.run.visits c.entries.j c.lower.new.run.opens.items c.lower.new.run.work.items c.lower.new.run.trail.items c.lower.new.run.visits (entry_at c.visit-entry.result) same c.visit-entry.ensures.item inside named c.requires.next c.in_ok-lower.ensures.opens c.in_ok-lower.ensures.work c.in_ok-lower.ensures.trail (c.in_ok-lower.ensures.visits ∙ c.visit-entry.ensures.count) (omega (arith, c.in_ok-lower.ensures.visits, c.visit-entry.ensures.rising)) c.entries.invariant.putting
+    Putting-next_at c.args.rests.now (shapes_of store.kept.items) (get_or (entries_of (shapes_of store.kept.items) store.occurrences.items) (place (negation c.args.literal)) []) c.deref.result.now run.opens.items run.candidates.items c.put.new.self.list.items run.work.items run.trail.items run.next run.visits c.entries.run.opens.items c.entries.run.work.items c.entries.run.trail.items c.entries.run.visits c.entries.j c.lower.new.run.opens.items c.lower.new.run.work.items c.lower.new.run.trail.items c.lower.new.run.visits (entry_at c.visit-entry.result) same c.visit-entry.ensures.item inside named c.requires.next c.in_ok-lower.ensures.opens c.in_ok-lower.ensures.work c.in_ok-lower.ensures.trail (c.in_ok-lower.ensures.visits ∙ c.visit-entry.ensures.count) (omega (arith, c.in_ok-lower.ensures.visits, c.visit-entry.ensures.rising)) c.entries.invariant.putting
 
 subject-inside : (c : goal.Then-branch) → c.visit-entry.result.form < length (shapes_of c.args.store.now.kept.items)
 subject-inside c =
@@ -137,7 +137,7 @@ returns-then-branch-clause-conflict c = λ found.
 pub returns-then-branch-clause-tidy : goal.returns-then-branch-clause-tidy
 returns-then-branch-clause-tidy c = λ aside busy t.
     let run = c.args.run.now in
-    let after = (lowered c).tidy aside busy (Tidy-put aside (shapes_of c.args.store.now.kept.items) run.opens.items run.candidates.items run.assignment.list.items c.put.new.self.list.items run.work.items run.trail.items run.next busy c.args.literal c.in_ok-put.ensures.ok t) in
+    let after = (lowered c).tidy aside busy (Tidy-put (beside c.args.rests.now aside) (shapes_of c.args.store.now.kept.items) run.opens.items run.candidates.items run.assignment.list.items c.put.new.self.list.items run.work.items run.trail.items run.next busy c.args.literal c.in_ok-put.ensures.ok t) in
     rw (c.lower.ensures.candidates ∙ c.entries.invariant.candidates, c.lower.ensures.assignment ∙ c.entries.invariant.assignment, c.lower.ensures.next ∙ c.entries.invariant.next) after
 
 pub returns-then-branch-clause-kept_work : goal.returns-then-branch-clause-kept_work

@@ -11,5 +11,5 @@ invariant-forms l = record {
   trail : l.run.trail ≡ l.initial.run.trail;
   visits : l.run.visits ≡ l.initial.run.visits;
   assignment : l.run.assignment ≡ l.initial.run.assignment;
-  undone : IsUndone (shapes_of l.store.kept.items) l.run.opens.items l.run.candidates.items l.initial.run.trail.items l.i;
+  undone : IsUndone l.rests (shapes_of l.store.kept.items) l.run.opens.items l.run.candidates.items l.initial.run.trail.items l.i;
 }

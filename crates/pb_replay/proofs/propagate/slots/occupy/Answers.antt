@@ -1,10 +1,14 @@
 use Rattle.std.specs.Prelude.{Some}
-use Rattle.std.proofs.Common.{rules, ◌≡◌, ◌⊎◌, set, inl, inr, ap, length, length-set, arith}
+use Rattle.std.proofs.Common.{rules, refl, ◌∙◌, [], ◌≡◌, ◌⊎◌, set, inl, inr, ap, length, length-set, arith}
 use Rattle.pb_replay.specs.Engine.Fields.{forms_of, shapes_of}
 use Rattle.pb_replay.proofs.Engine.Changes.{forms-filled}
 use Rattle.pb_replay.specs.Clauses.Shapes.{clauses_of}
 use Rattle.pb_replay.proofs.Engine.Slots.{slots-bare, exact-absent, rest-filled, rest-watched}
 use Rattle.pb_replay.proofs.Clauses.Slots.{slots-vacant}
+use Rattle.std.proofs.Common.{ℕ, List, map, get_or-set_other}
+use Rattle.pb_replay.specs.Clauses.Shapes.{code}
+use Rattle.pb_replay.specs.Clauses.Links.{list_at}
+use Rattle.pb_replay.proofs.Root.Gained.{gained-filled}
 use Rattle.pb_replay.proofs.propagate.slots.occupy.Goals as goal
 
 pub fill-requires-clause-slot : goal.fill-requires-clause-slot
@@ -89,3 +93,18 @@ returns-in_err-watch-clause-refused c =
     let now = c.watch.new.store.kept.items in
     let told : (forms_of now ≡ forms_of keep) ⊎ (forms_of now ≡ set (forms_of keep) c.args.slot (Some c.args.form)) = inl (ap forms_of c.in_err-watch.ensures.unchanged) in
     search (rules, told)
+
+pub returns-clause-gained : goal.returns-clause-gained
+returns-clause-gained c =
+    let store = c.args.store.now in
+    let h = c.in_ok-fill.ensures.filled in
+    let vacant = slots-vacant (forms_of store.kept.items) (shapes_of store.kept.items) (clauses_of c.args.clauses.now) c.args.slot c.requires.rest.slots c.requires.slot in
+    gained-filled store c.fill.new.store c.args.clauses.now c.args.clauses.now c.args.slot h.kept c.fill.ensures.variables h.keeps (λ s apart. refl) (λ e apart. refl) vacant
+
+pub returns-then-is_clause-clause-gained : goal.returns-then-is_clause-clause-gained
+returns-then-is_clause-clause-gained c =
+    let store = c.args.store.now in
+    let told = c.in_ok-watch.ensures in
+    let k = told.kept in
+    let vacant = slots-vacant (forms_of store.kept.items) (shapes_of store.kept.items) (clauses_of c.args.clauses.now) c.args.slot c.requires.rest.slots c.requires.slot in
+    gained-filled store c.watch.new.store c.args.clauses.now c.watch.new.clauses c.args.slot k.0 c.watch.ensures.rest.2 k.3 (λ s apart. ap (λ (cs : List (List ℕ)). list_at cs s) told.literals ∙ get_or-set_other (clauses_of c.args.clauses.now) c.args.slot s (map code c.args.form.terms) [] apart) told.watches vacant

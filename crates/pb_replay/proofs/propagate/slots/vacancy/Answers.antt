@@ -1,5 +1,5 @@
 use Rattle.std.specs.Prelude.{None}
-use Rattle.std.proofs.Common.{arith}
+use Rattle.std.proofs.Common.{inr, arith}
 use Rattle.std.proofs.lemmas.List.{length-map}
 use Rattle.pb_replay.specs.declared.propagate.store.kept.Kept.{Kept}
 use Rattle.pb_replay.specs.Engine.Fields.{forms_of}
@@ -28,3 +28,11 @@ pub returns-clause-forms : goal.returns-clause-forms
 returns-clause-forms c = λ s.
     let k = c.in_ok-widen.ensures.kept in
     forms-more c.args.store.now.kept.items c.widen.new.store.kept.items k.0 s k.2 k.1.form
+
+pub returns-clause-widened : goal.returns-clause-widened
+returns-clause-widened c =
+    let k = c.in_ok-widen.ensures.kept in
+    record {
+      kept = inr (omega (arith, c.len-slot.ensures, c.args.store.now.kept.ok.0), k.0, k.2, c.in_ok-extend.ensures.literals);
+      watched = c.in_ok-extend.ensures.watches;
+    }

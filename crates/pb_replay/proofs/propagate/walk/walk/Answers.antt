@@ -1,15 +1,15 @@
-use Rattle.std.specs.Prelude.{sum}
+use Rattle.std.specs.Prelude.{Bool, Option, sum}
 use Rattle.std.proofs.Common.{Vec, Global, ◌<◌, ◌+◌, ◌++◌, ◌∷◌, [], ℕ, List, refl, sym, ◌∙◌, ap, subst, length, arith}
 use Rattle.pb_replay.specs.declared.numbered.NumberedLiteral.{NumberedLiteral}
 use Rattle.pb_replay.specs.Engine.Lists.{has, negation}
 use Rattle.pb_replay.specs.Engine.Fields.{shapes_of, entries_of}
 use Rattle.pb_replay.specs.Clauses.Links.{lists_of, list_at}
-use Rattle.pb_replay.specs.Clauses.Runs.{HasFound, AreServed, index_after, IsBroken, IsRunning}
+use Rattle.pb_replay.specs.Clauses.Runs.{AreWalked, Grows, HasFound, AreServed, index_after, IsBroken, IsRunning}
 use Rattle.pb_replay.specs.Clauses.Shapes.{clauses_of}
-use Rattle.pb_replay.proofs.Clauses.Linked.{list-here}
 use Rattle.pb_replay.proofs.Clauses.Literals.{true-listed, false-listed}
 use Rattle.pb_replay.proofs.Clauses.Shapes.{broken-conflicts, conflicts-joined}
-use Rattle.pb_replay.proofs.Clauses.Walks.{IsWalking, walking-start, walking-next, walking-forces, walked-end}
+use Rattle.pb_replay.proofs.Clauses.Walks.{grows-trans, IsWalking, walking-start, walking-next, walking-forces, walked-end}
+use Rattle.pb_replay.proofs.Root.Extends.{extends-none, extends-then}
 use Rattle.pb_replay.proofs.propagate.walk.walk.Goals as goal
 
 pub watches-init : goal.watches-init
@@ -21,6 +21,8 @@ watches-init c = record {
   next = refl;
   longer = omega arith;
   single = λ s. s;
+  extends = extends-none c.args.run.now.assignment.list.items;
+  kept = λ base codes more old. old;
   counted = c.requires.counted;
   tidy = λ aside busy t. t;
   work = omega arith;
@@ -47,6 +49,8 @@ watches-preserved-in-Stays c =
       next = i.next;
       longer = i.longer;
       single = i.single;
+      extends = i.extends;
+      kept = λ base codes more old. (subst (λ vs. (b : List (Option Bool)) (cs : List ℕ) → Grows b vs → AreWalked b c.watches.clauses.watches.items cs → AreWalked b c.visit_clause.new.clauses.watches.items cs) c.as_slice.ensures.value c.in_ok-visit_clause.ensures.kept) base codes (grows-trans base c.args.run.now.assignment.values.items c.watches.run.assignment.values.items more c.watches.invariant.walking.grows) (c.watches.invariant.kept base codes more old);
       counted = i.counted;
       tidy = i.tidy;
       work = i.work;
@@ -73,6 +77,8 @@ watches-preserved-in-Leaves c =
       next = i.next;
       longer = i.longer;
       single = i.single;
+      extends = i.extends;
+      kept = λ base codes more old. (subst (λ vs. (b : List (Option Bool)) (cs : List ℕ) → Grows b vs → AreWalked b c.watches.clauses.watches.items cs → AreWalked b c.visit_clause.new.clauses.watches.items cs) c.as_slice.ensures.value c.in_ok-visit_clause.ensures.kept) base codes (grows-trans base c.args.run.now.assignment.values.items c.watches.run.assignment.values.items more c.watches.invariant.walking.grows) (c.watches.invariant.kept base codes more old);
       counted = i.counted;
       tidy = i.tidy;
       work = i.work;
@@ -117,6 +123,8 @@ watches-preserved c =
       next = told.next ∙ i.next;
       longer = omega (arith, i.longer, told.longer_work);
       single = λ s. told.single (i.single s);
+      extends = extends-then c.args.run.now.assignment.list.items c.watches.run.assignment.list.items c.put.new.run.assignment.list.items c.watches.invariant.extends c.put.ensures.extends;
+      kept = λ base codes more old. (subst (λ vs. (b : List (Option Bool)) (cs : List ℕ) → Grows b vs → AreWalked b c.watches.clauses.watches.items cs → AreWalked b c.visit_clause.new.clauses.watches.items cs) c.as_slice.ensures.value c.in_ok-visit_clause.ensures.kept) base codes (grows-trans base c.args.run.now.assignment.values.items c.watches.run.assignment.values.items more c.watches.invariant.walking.grows) (c.watches.invariant.kept base codes more old);
       counted = told.counted c.if-branch.false;
       tidy = λ aside busy t. told.tidy aside busy (i.tidy aside busy t);
       work = omega (arith, i.work, paid.work);
@@ -175,3 +183,18 @@ returns-then-branch-clause-conflict c = λ found.
 
 pub returns-then-branch-clause-tidy : goal.returns-then-branch-clause-tidy
 returns-then-branch-clause-tidy c = λ aside busy t. c.in_ok-put-in-Forces.ensures.tidy aside busy (c.watches.invariant.tidy aside busy t)
+
+pub returns-in_err-put-in-Forces-clause-extends : goal.returns-in_err-put-in-Forces-clause-extends
+returns-in_err-put-in-Forces-clause-extends c = extends-then c.args.run.now.assignment.list.items c.watches.run.assignment.list.items c.put.new.run.assignment.list.items c.watches.invariant.extends c.put.ensures.extends
+
+pub returns-then-branch-clause-extends : goal.returns-then-branch-clause-extends
+returns-then-branch-clause-extends c = extends-then c.args.run.now.assignment.list.items c.watches.run.assignment.list.items c.put.new.run.assignment.list.items c.watches.invariant.extends c.put.ensures.extends
+
+pub returns-then-branch-clause-kept : goal.returns-then-branch-clause-kept
+returns-then-branch-clause-kept c = λ base codes more old. (subst (λ vs. (b : List (Option Bool)) (cs : List ℕ) → Grows b vs → AreWalked b c.watches.clauses.watches.items cs → AreWalked b c.visit_clause.new.clauses.watches.items cs) c.as_slice.ensures.value c.in_ok-visit_clause.ensures.kept) base codes (grows-trans base c.args.run.now.assignment.values.items c.watches.run.assignment.values.items more c.watches.invariant.walking.grows) (c.watches.invariant.kept base codes more old)
+
+pub returns-in-Falsified-clause-kept : goal.returns-in-Falsified-clause-kept
+returns-in-Falsified-clause-kept c = λ base codes more old. (subst (λ vs. (b : List (Option Bool)) (cs : List ℕ) → Grows b vs → AreWalked b c.watches.clauses.watches.items cs → AreWalked b c.visit_clause.new.clauses.watches.items cs) c.as_slice.ensures.value c.in_ok-visit_clause.ensures.kept) base codes (grows-trans base c.args.run.now.assignment.values.items c.watches.run.assignment.values.items more c.watches.invariant.walking.grows) (c.watches.invariant.kept base codes more old)
+
+pub returns-clause-kept : goal.returns-clause-kept
+returns-clause-kept c = c.watches.invariant.kept

@@ -1,5 +1,8 @@
 use Rattle.std.proofs.Common.{◌≡◌, ◌≤◌, ◌+◌, ℕ, List, [], length, ◌-◌}
-use Rattle.pb_replay.specs.Engine.Counts.{IsCounted, IsTidy, AreSingle, spent}
+use Rattle.std.specs.Prelude.{Bool, Option}
+use Rattle.pb_replay.specs.Clauses.Runs.{AreWalked, Grows}
+use Rattle.pb_replay.specs.Engine.Lists.{Extends}
+use Rattle.pb_replay.specs.Engine.Counts.{IsCounted, beside, IsTidy, AreSingle, spent}
 use Rattle.pb_replay.specs.Engine.Fields.{shapes_of, entries_of}
 use Rattle.pb_replay.specs.Clauses.Links.{lists_of, list_at}
 use Rattle.pb_replay.proofs.Clauses.Walks.{IsWalking}
@@ -14,8 +17,10 @@ invariant-watches l = record {
   next : l.run.next ≡ l.initial.run.next;
   longer : length l.initial.run.work.items ≤ length l.run.work.items;
   single : AreSingle l.initial.run.assignment.list.items → AreSingle l.run.assignment.list.items;
+  extends : Extends l.initial.run.assignment.list.items l.run.assignment.list.items;
+  kept : (base : List (Option Bool)) (codes : List ℕ) → Grows base l.initial.run.assignment.values.items → AreWalked base l.initial.clauses.watches.items codes → AreWalked base l.clauses.watches.items codes;
   counted : IsCounted (shapes_of l.store.kept.items) l.run.opens.items l.run.assignment.list.items [];
-  tidy : (aside : List ℕ) (busy : ℕ) → IsTidy aside (shapes_of l.store.kept.items) l.initial.run.opens.items l.initial.run.candidates.items l.initial.run.assignment.list.items l.initial.run.work.items l.initial.run.trail.items l.initial.run.next busy → IsTidy aside (shapes_of l.store.kept.items) l.run.opens.items l.run.candidates.items l.run.assignment.list.items l.run.work.items l.run.trail.items l.run.next busy;
+  tidy : (aside : List ℕ) (busy : ℕ) → IsTidy (beside l.rests aside) (shapes_of l.store.kept.items) l.initial.run.opens.items l.initial.run.candidates.items l.initial.run.assignment.list.items l.initial.run.work.items l.initial.run.trail.items l.initial.run.next busy → IsTidy (beside l.rests aside) (shapes_of l.store.kept.items) l.run.opens.items l.run.candidates.items l.run.assignment.list.items l.run.work.items l.run.trail.items l.run.next busy;
   work : length l.run.work.items + spent (entries_of (shapes_of l.store.kept.items) l.store.occurrences.items) l.initial.run.assignment.list.items ≤ length l.initial.run.work.items + spent (entries_of (shapes_of l.store.kept.items) l.store.occurrences.items) l.run.assignment.list.items;
 }
 

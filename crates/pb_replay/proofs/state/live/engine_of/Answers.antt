@@ -1,6 +1,6 @@
 use Rattle.std.specs.Prelude.{Option, Some}
-use Rattle.std.proofs.Common.{◌++◌, ◌∷◌, [], List, sym, ◌∙◌, ap, take, map}
-use Rattle.std.proofs.lemmas.List.{map_more}
+use Rattle.std.proofs.Common.{◌++◌, ◌∷◌, [], arith, List, sym, ◌∙◌, ap, take, map}
+use Rattle.std.proofs.lemmas.List.{map_more, take_all}
 use Rattle.pb_normal.specs.Form.{Form}
 use Rattle.pb_replay.proofs.state.live.engine_of.Goals as goal
 
@@ -17,3 +17,8 @@ loop-form-preserved c =
       told.variables ∙ i.1,
       told.ready,
     )
+
+pub returns-clause-forms : goal.returns-clause-forms
+returns-clause-forms c =
+    let some : Form → Option Form = λ f. Some f in
+    c.loop-form.invariant.0 ∙ ap (map some) (take_all c.loop-form.form-index c.args.forms.now (omega (arith, c.loop-form-test.false)))

@@ -1,6 +1,7 @@
 use Rattle.std.proofs.Common.{refl, ◌∙◌, arith}
 use Rattle.std.proofs.lemmas.List.{get_or_read}
 use Rattle.pb_replay.proofs.Clauses.Stores.{rest-fill, literals-set}
+use Rattle.pb_replay.proofs.Root.Gained.{watches-apart}
 use Rattle.pb_replay.proofs.propagate.clauses.Clauses.fill.Goals as goal
 
 pub returns-clause-literals : goal.returns-clause-literals
@@ -13,3 +14,6 @@ returns-clause-rest c =
     (get_or_read c.args.literals.items 0 c.index-first.result.now (omega (arith, c.requires.two)) c.index-first.ensures 0)
     (get_or_read c.args.literals.items 1 c.index-second.result.now (omega (arith, c.requires.two)) c.index-second.ensures 0)
     c.requires.apart c.requires.inside refl c.in_ok-put_in.ensures.watches c.in_ok-put_in-2.ensures.watches refl refl refl refl c.in_ok-put_in-2.ensures.linked (c.in_ok-put_in-2.ensures.sizes ∙ c.in_ok-put_in.ensures.sizes)
+
+pub returns-clause-watches : goal.returns-clause-watches
+returns-clause-watches c = λ e apart. watches-apart c.args.self.now.watches.items c.put_in.new.watches.items c.put_in-2.new.watches.items c.args.slot e _ _ c.in_ok-put_in.ensures.watches c.in_ok-put_in-2.ensures.watches apart

@@ -1,4 +1,4 @@
-use Rattle.std.proofs.Common.{Vec, Global, ℕ, ◌≡◌, ◌*◌, length, ◌++◌, ◌∙◌, ap}
+use Rattle.std.proofs.Common.{true, false, Vec, Global, ℕ, ◌≡◌, ◌*◌, length, ◌++◌, ◌∙◌, ap, sym}
 use Rattle.pb_replay.specs.Clauses.Links.{lists_of}
 use Rattle.pb_replay.specs.Clauses.Shapes.{all_of, clauses_of}
 use Rattle.pb_replay.specs.Engine.Live.{Standing, Live}
@@ -15,7 +15,7 @@ settle-requires-clause-counted c =
     let e = c.self.inside in
     let both = c.self.invariant (ap (λ (v : Standing). v.spent) c.self.view_is ∙ c.requires.ready) in
     let r = both.0 in
-    rw r.list (rest-counted (shapes_of e.store.kept.items) e.run.opens.items e.run.candidates.items (rest-undone e.store.kept.items e.run.opens.items e.run.candidates.items r.rest))
+    rw r.list (rest-counted c.none-rests.result (shapes_of e.store.kept.items) e.run.opens.items e.run.candidates.items c.none-rests.ensures.opens (rest-undone c.none-rests.result e.store.kept.items e.run.opens.items e.run.candidates.items c.none-rests.ensures.opens c.none-rests.ensures.starts r.rest))
 
 pub settle-requires-clause-tidy : goal.settle-requires-clause-tidy
 settle-requires-clause-tidy c =
@@ -23,7 +23,7 @@ settle-requires-clause-tidy c =
     let both = c.self.invariant (ap (λ (v : Standing). v.spent) c.self.view_is ∙ c.requires.ready) in
     let r = both.0 in
     let keep = e.store.kept.items in
-    let tidy = rest-tidy-all keep e.eager.list.items e.run.opens.items e.run.candidates.items r.rest r.eager in
+    let tidy = rest-tidy-all c.none-rests.result keep e.eager.list.items e.run.opens.items e.run.candidates.items c.none-rests.ensures.opens c.none-rests.ensures.starts r.rest r.eager in
     rw (c.as_slice.ensures.value, r.list, r.work, r.trail, r.next) tidy
 
 pub settle-requires-clause-waiting : goal.settle-requires-clause-waiting
@@ -56,6 +56,7 @@ invariant_of-self-then-found c = λ ready.
         seats = r.seats;
       },
       both.1,
+      λ live. absurd (let e : false ≡ true = sym c.end.ensures ∙ live in cc),
     )
 
 pub returns-then-found-clause-conflict : goal.returns-then-found-clause-conflict
@@ -91,6 +92,7 @@ invariant_of-self-2 c = λ ready.
         seats = r.seats;
       },
       both.1,
+      λ live. absurd (let e : false ≡ true = sym c.end.ensures ∙ live in cc),
     )
 
 pub returns-clause-no_conflict : goal.returns-clause-no_conflict

@@ -1,5 +1,5 @@
 use Rattle.std.specs.Prelude.{None}
-use Rattle.std.proofs.Common.{◌<◌, sym, ◌∙◌, ap, length, set, arith}
+use Rattle.std.proofs.Common.{◌≡◌, true, false, ◌<◌, sym, ◌∙◌, ap, length, set, arith}
 use Rattle.pb_replay.specs.Engine.Live.{Standing}
 use Rattle.pb_replay.specs.Engine.Fields.{forms_of}
 use Rattle.pb_replay.proofs.Engine.Changes.{forms-length}
@@ -17,7 +17,7 @@ invariant_of-self c = λ ready.
     let r = c.self.invariant ready in
     let inside : c.args.number < length e.places.items = omega (arith, c.requires.number, ap (λ (v : Standing). length v.forms) c.self.view_is, numbered-length (forms_of e.store.kept.items) e.places.items) in
     let t = taken-by (forms_of e.store.kept.items) e.places.items c.args.number c.index-slot.result.now inside c.index-slot.ensures (omega (arith, c.if-slot-len.false, c.len.ensures, e.store.kept.ok.0, forms-length e.store.kept.items)) (omega (arith, e.store.kept.ok.0, e.store.kept.ok.1, forms-length e.store.kept.items)) r.1 in
-    (c.quit.ensures.rest, rw c.quit.ensures.forms (placed-left (forms_of e.store.kept.items) e.places.items c.args.number c.index-slot.result.now t r.1))
+    (c.quit.ensures.rest, rw c.quit.ensures.forms (placed-left (forms_of e.store.kept.items) e.places.items c.args.number c.index-slot.result.now t r.1), λ live. absurd (let e : false ≡ true = sym c.end.ensures ∙ live in cc))
 
 pub returns-then-slot-len-clause-forms : goal.returns-then-slot-len-clause-forms
 returns-then-slot-len-clause-forms c =

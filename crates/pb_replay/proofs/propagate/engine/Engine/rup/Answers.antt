@@ -1,5 +1,5 @@
-use Rattle.std.specs.Prelude.{filter, pos, All, Some, sum, sum_by}
-use Rattle.std.proofs.Common.{of_z, inl, inr, Vec, Global, ℕ, subst, ◌≡◌, ◌≤◌, ◌<◌, ◌+◌, ◌*◌, ◌++◌, ◌∷◌, [], List, refl, sym, ◌∙◌, ap, length, length-append, arith}
+use Rattle.std.specs.Prelude.{filter, map, pos, All, Some, sum, sum_by}
+use Rattle.std.proofs.Common.{true, false, of_z, inl, inr, Vec, Global, ℕ, subst, ◌≡◌, ◌≤◌, ◌<◌, ◌+◌, ◌*◌, ◌++◌, ◌∷◌, [], List, refl, sym, ◌∙◌, ap, length, length-append, arith}
 use Rattle.std.specs.Int.{w128}
 use Rattle.std.proofs.lemmas.List.{length-map}
 use Rattle.pb_normal.specs.Form.{Form}
@@ -24,8 +24,11 @@ use Rattle.pb_replay.proofs.Engine.Placed.{placed-with, numbered-same, numbered-
 use Rattle.pb_replay.specs.Clauses.Links.{lists_of}
 use Rattle.pb_replay.specs.Clauses.Shapes.{all_of, clauses_of}
 use Rattle.pb_replay.proofs.Engine.Bounds.{joined-terms, slots-terms, slots-eager, filter-few, found-least, most-looks}
+use Rattle.pb_replay.proofs.Engine.Spent.{spent-le}
+use Rattle.pb_replay.proofs.Clauses.Counts.{killed-most}
+use Rattle.pb_replay.specs.Clauses.Walked.{falsified_code}
 use Rattle.pb_replay.proofs.lemmas.Completing.{closed-none}
-use Rattle.pb_replay.proofs.Engine.Rests.{slots-entered, joined-entered, rest-entered, rest-tidy-first, rest-undone, rest-lengths, rest-left, eager-entered, with-kept, opposite-inside}
+use Rattle.pb_replay.proofs.Engine.Rests.{slots-entered, slots-more, joined-entered, rest-entered, rest-tidy-first, rest-undone, rest-lengths, rest-left, eager-entered, with-kept, opposite-inside}
 use Rattle.pb_replay.proofs.propagate.engine.Engine.rup.Goals as goal
 
 pub enter-requires-clause-inside : goal.enter-requires-clause-inside
@@ -84,7 +87,7 @@ propagate-requires-clause-counted c =
     let r = both.0 in
     let new = c.enter.new in
     let rest = rest-entered c.in-Ok.negation e.store.kept.items new.store.kept.items e.run.opens.items new.run.opens.items e.run.candidates.items new.run.candidates.items c.in_ok-enter.ensures.entered r.rest in
-    rw (ap (λ (a : Assignment). a.list.items) c.enter.ensures.rest.0, r.list) (rest-counted (shapes_of new.store.kept.items) new.run.opens.items new.run.candidates.items (rest-undone new.store.kept.items new.run.opens.items new.run.candidates.items rest))
+    rw (ap (λ (a : Assignment). a.list.items) c.enter.ensures.rest.0, r.list) (rest-counted c.none-rests.result (shapes_of new.store.kept.items) new.run.opens.items new.run.candidates.items c.none-rests.ensures.opens (rest-undone c.none-rests.result new.store.kept.items new.run.opens.items new.run.candidates.items c.none-rests.ensures.opens c.none-rests.ensures.starts rest))
 
 pub propagate-requires-clause-tidy : goal.propagate-requires-clause-tidy
 propagate-requires-clause-tidy c =
@@ -102,7 +105,7 @@ propagate-requires-clause-tidy c =
     let waiting = eager-entered keep new.store.kept.items h.kept e.eager.list.items _ c.len-number.result h.keeps number_is refl r.eager in
     let trail_is = ap (λ (v : Vec ℕ Global). v.items) c.enter.ensures.trail ∙ r.trail in
     let noted = c.in_ok-choose.ensures ∙ ap (λ (xs : List ℕ). xs ++ filter (waits new.store.kept.items) (c.len-number.result ∷ [])) trail_is in
-    let tidy = rest-tidy-first new.store.kept.items e.eager.list.items new.run.opens.items new.run.candidates.items c.choose-2.new.work.items c.choose.new.work.items c.len-number.result inside first noted rest waiting in
+    let tidy = rest-tidy-first c.none-rests.result new.store.kept.items e.eager.list.items new.run.opens.items new.run.candidates.items c.choose-2.new.work.items c.choose.new.work.items c.len-number.result c.none-rests.ensures.opens c.none-rests.ensures.starts inside first noted rest waiting in
     rw (c.as_slice.ensures.value, ap (λ (a : Assignment). a.list.items) c.enter.ensures.rest.0, r.list, c.enter.ensures.rest.2, r.next) tidy
 
 pub invariant_of-self-then-found : goal.invariant_of-self-then-found
@@ -138,6 +141,7 @@ invariant_of-self-then-found c = λ ready.
         seats = rw left.0 r.seats;
       },
       rw left.0 both.1,
+      λ live. absurd (let e : true ≡ false = sym live ∙ c.if-self.false in cc),
     )
 
 pub invariant_of-self-2 : goal.invariant_of-self-2
@@ -173,6 +177,7 @@ invariant_of-self-2 c = λ ready.
         seats = rw left.0 r.seats;
       },
       rw left.0 both.1,
+      λ live. absurd (let e : true ≡ false = sym live ∙ c.if-self.false in cc),
     )
 
 pub returns-then-found-clause-implied : goal.returns-then-found-clause-implied
@@ -247,7 +252,7 @@ returns-then-found-clause-most c =
     let waiting = ap (λ (xs : List ℕ). length (filter (waits new.store.kept.items) xs)) c.as_slice.ensures.value in
     let same : numbered forms e.places.items ≡ c.args.self.now.forms = ap (λ (v : Standing). v.forms) c.self.view_is in
     let looks = most-looks c.propagate.new.run.visits (sum new.run.candidates.items) new.run.visits (length c.choose-2.new.work.items + length (filter (waits new.store.kept.items) c.as_slice.result.now)) new.run.next (sum_by length (entries_of (shapes_of new.store.kept.items) new.store.occurrences.items)) (sum c.propagate.new.run.candidates.items) (sum_by (λ (f : Shape). length f.terms) (shapes_of new.store.kept.items)) (sum_by {X = List ℕ} length (clauses_of e.clauses)) (sum_by one_in forms + 1)
-    c.propagate.ensures.upper (c.enter.ensures.rest.3 ∙ c.none-self-inside.ensures) c.propagate.ensures.bounded c.in_ok-enter.ensures.sound.whole.totals (omega (arith, few, r.few, first, stand, work_is, work, waiting)) in
+    (omega (arith, c.propagate.ensures.upper, spent-le (entries_of (shapes_of new.store.kept.items) new.store.occurrences.items) c.propagate.new.run.assignment.list.items c.propagate.ensures.single, killed-most (clauses_of e.clauses) (map falsified_code c.propagate.new.run.assignment.list.items))) (c.enter.ensures.rest.3 ∙ c.none-self-inside.ensures) c.propagate.ensures.bounded c.in_ok-enter.ensures.sound.whole.totals (omega (arith, few, r.few, first, stand, work_is, work, waiting)) in
     rw (← same) (omega (arith, both.1.alike terms_in refl, both.1.alike one_in refl, looks, terms, both_terms, more, goal_terms, c.leave.ensures.rest.3, c.rest.ensures.visits))
 
 pub returns-clause-most : goal.returns-clause-most
@@ -276,7 +281,7 @@ returns-clause-most c =
     let waiting = ap (λ (xs : List ℕ). length (filter (waits new.store.kept.items) xs)) c.as_slice.ensures.value in
     let same : numbered forms e.places.items ≡ c.args.self.now.forms = ap (λ (v : Standing). v.forms) c.self.view_is in
     let looks = most-looks c.propagate.new.run.visits (sum new.run.candidates.items) new.run.visits (length c.choose-2.new.work.items + length (filter (waits new.store.kept.items) c.as_slice.result.now)) new.run.next (sum_by length (entries_of (shapes_of new.store.kept.items) new.store.occurrences.items)) (sum c.propagate.new.run.candidates.items) (sum_by (λ (f : Shape). length f.terms) (shapes_of new.store.kept.items)) (sum_by {X = List ℕ} length (clauses_of e.clauses)) (sum_by one_in forms + 1)
-    c.propagate.ensures.upper (c.enter.ensures.rest.3 ∙ c.none-self-inside.ensures) c.propagate.ensures.bounded c.in_ok-enter.ensures.sound.whole.totals (omega (arith, few, r.few, first, stand, work_is, work, waiting)) in
+    (omega (arith, c.propagate.ensures.upper, spent-le (entries_of (shapes_of new.store.kept.items) new.store.occurrences.items) c.propagate.new.run.assignment.list.items c.propagate.ensures.single, killed-most (clauses_of e.clauses) (map falsified_code c.propagate.new.run.assignment.list.items))) (c.enter.ensures.rest.3 ∙ c.none-self-inside.ensures) c.propagate.ensures.bounded c.in_ok-enter.ensures.sound.whole.totals (omega (arith, few, r.few, first, stand, work_is, work, waiting)) in
     rw (← same) (omega (arith, both.1.alike terms_in refl, both.1.alike one_in refl, looks, terms, both_terms, more, goal_terms, c.leave.ensures.rest.3, c.rest.ensures.visits))
 
 pub returns-in_err-found-clause-most : goal.returns-in_err-found-clause-most
@@ -305,7 +310,7 @@ returns-in_err-found-clause-most c =
     let waiting = ap (λ (xs : List ℕ). length (filter (waits new.store.kept.items) xs)) c.as_slice.ensures.value in
     let same : numbered forms e.places.items ≡ c.args.self.now.forms = ap (λ (v : Standing). v.forms) c.self.view_is in
     let looks = most-looks c.propagate.new.run.visits (sum new.run.candidates.items) new.run.visits (length c.choose-2.new.work.items + length (filter (waits new.store.kept.items) c.as_slice.result.now)) new.run.next (sum_by length (entries_of (shapes_of new.store.kept.items) new.store.occurrences.items)) (sum c.propagate.new.run.candidates.items) (sum_by (λ (f : Shape). length f.terms) (shapes_of new.store.kept.items)) (sum_by {X = List ℕ} length (clauses_of e.clauses)) (sum_by one_in forms + 1)
-    c.propagate.ensures.upper (c.enter.ensures.rest.3 ∙ c.none-self-inside.ensures) c.propagate.ensures.bounded c.in_ok-enter.ensures.sound.whole.totals (omega (arith, few, r.few, first, stand, work_is, work, waiting)) in
+    (omega (arith, c.propagate.ensures.upper, spent-le (entries_of (shapes_of new.store.kept.items) new.store.occurrences.items) c.propagate.new.run.assignment.list.items c.propagate.ensures.single, killed-most (clauses_of e.clauses) (map falsified_code c.propagate.new.run.assignment.list.items))) (c.enter.ensures.rest.3 ∙ c.none-self-inside.ensures) c.propagate.ensures.bounded c.in_ok-enter.ensures.sound.whole.totals (omega (arith, few, r.few, first, stand, work_is, work, waiting)) in
     rw (← same) (omega (arith, both.1.alike terms_in refl, both.1.alike one_in refl, looks, terms, both_terms, more, goal_terms))
 
 pub returns-then-found-clause-conflict : goal.returns-then-found-clause-conflict
@@ -496,3 +501,147 @@ pub propagate-requires-clause-widths : goal.propagate-requires-clause-widths
 propagate-requires-clause-widths c =
     let both = c.self.invariant (ap (λ (v : Standing). v.spent) c.self.view_is ∙ c.requires.ready) in
     both.0.widths ∙ ap (λ n. 2 * n) (sym c.in_ok-enter.ensures.variables)
+
+-- a question that continues from the root
+pub ask-requires-clause-inside : goal.ask-requires-clause-inside
+ask-requires-clause-inside c =
+    let e = c.self.inside in
+    let count : e.store.variables ≡ c.args.self.now.variables = ap (λ (v : Standing). v.variables) c.self.view_is in
+    let all = opposite-inside c.args.goal.now.terms c.args.self.now.variables c.requires.inside in
+    let terms_are = ap (λ (f : Form). f.terms) c.in-Ok.ensures.negation in
+    let mine = subst (λ (xs : List Entry). All (λ (t : Entry). t.variable < c.args.self.now.variables) xs) (sym terms_are) all in
+    λ k d h. let one = mine k d h in omega (arith, one, count)
+
+pub invariant_of-self-then-self : goal.invariant_of-self-then-self
+invariant_of-self-then-self c = λ ready.
+    let e = c.self.inside in
+    let both = c.self.invariant (ap (λ (v : Standing). v.spent) c.self.view_is ∙ c.requires.ready) in
+    let r = both.0 in
+    let told = c.in_ok-answer.ensures in
+    let lit : clauses_of c.ask.new.clauses ≡ clauses_of e.clauses = ap (λ (v : Vec (Vec ℕ Global) Global). lists_of v.items) c.ask.ensures.literals in (
+      record {
+        sound = told.sound;
+        slots = rw (told.kept, lit) r.slots;
+        joined = rw (told.kept, lit) r.joined;
+        ready = told.ready;
+        widths = told.lists ∙ r.widths ∙ ap (λ n. 2 * n) (sym c.ask.ensures.variables);
+        known = ap (λ (v : Vec (Vec ℕ Global) Global). length v.items) c.ask.ensures.literals ∙ r.known ∙ sym (ap length told.kept);
+        rest = rw told.kept r.rest;
+        values = r.values ∙ sym c.ask.ensures.variables;
+        list = r.list;
+        work = r.work;
+        trail = r.trail;
+        next = r.next;
+        eager = rw told.kept r.eager;
+        exact = rw told.kept r.exact;
+        few = rw told.kept r.few;
+        seats = rw told.kept r.seats;
+      },
+      rw told.kept both.1,
+      λ live. told.rooted,
+    )
+
+pub returns-then-self-clause-forms : goal.returns-then-self-clause-forms
+returns-then-self-clause-forms c = rw c.in_ok-answer.ensures.kept (ap (λ (v : Standing). v.forms) c.self.view_is)
+
+pub returns-then-self-clause-implied : goal.returns-then-self-clause-implied
+returns-then-self-clause-implied c = λ found.
+    let e = c.self.inside in
+    let both = c.self.invariant (ap (λ (v : Standing). v.spent) c.self.view_is ∙ c.requires.ready) in
+    let r = both.0 in
+    let g = c.in-Ok.negation in
+    let forms = forms_of e.store.kept.items in
+    let asked = c.in_ok-answer.ensures.asked in
+    let told = asked.2 in
+    let shapes = all_of e.store e.clauses ++ (asked.0 ∷ []) in
+    let a = placed-with forms e.places.items g shapes both.1 (with-kept forms g shapes (slots-more forms (all_of e.store e.clauses) (Some g) asked.0 r.slots asked.1)) in
+    let shown = numbered forms e.places.items in
+    let d = derives (With (Live shown) g) shapes [] [] told.list a (λ v n. sym (on-none (record { variable = v; negated = n }))) told.derived in
+    let small : length d.list ≤ c.ask.new.visits = omega (arith, told.few, d.count) in
+    let meets : MeetsConflict (With (Live shown) g) [] = record { list = d.list; derived = d.derived; conflict = conflicts (With (Live shown) g) shapes d.list told.list a d.matches (told.conflict found) } in
+    rw (← c.self.view_is) (inr (rw c.in-Ok.ensures.negation at meets))
+
+pub returns-then-self-clause-not_implied : goal.returns-then-self-clause-not_implied
+returns-then-self-clause-not_implied c = λ found rup.
+    let e = c.self.inside in
+    let both = c.self.invariant (ap (λ (v : Standing). v.spent) c.self.view_is ∙ c.requires.ready) in
+    let r = both.0 in
+    let g = c.in-Ok.negation in
+    let forms = forms_of e.store.kept.items in
+    let asked = c.in_ok-answer.ensures.asked in
+    let told = asked.2 in
+    let shapes = all_of e.store e.clauses ++ (asked.0 ∷ []) in
+    let a = placed-with forms e.places.items g shapes both.1 (with-kept forms g shapes (slots-more forms (all_of e.store e.clauses) (Some g) asked.0 r.slots asked.1)) in
+    let shown = numbered forms e.places.items in
+    let d = derives (With (Live shown) g) shapes [] [] told.list a (λ v n. sym (on-none (record { variable = v; negated = n }))) told.derived in
+    let small : length d.list ≤ c.ask.new.visits = omega (arith, told.few, d.count) in
+    let free : MeetsConflict (With (Live shown) g) [] → ⊥ = closed-none (With (Live shown) g) [] d.list d.derived
+    (is-closed (With (Live shown) g) shapes d.list told.list a d.matches (told.settled found))
+    (has-none (With (Live shown) g) shapes d.list told.list a d.matches told.one_sided (told.settled found)) in
+    let free_goal : MeetsConflict (With (Live shown) (negation_of c.args.goal.now)) [] → ⊥ = rw c.in-Ok.ensures.negation at free in
+    let same : shown ≡ c.args.self.now.forms = ap (λ (v : Standing). v.forms) c.self.view_is in
+    elim rup [
+      | inl nothing ↦ c.if-degree-eq0.false (ap (of_z w128) (c.degree.ensures.degree ∙ ap pos nothing))
+      | inr m ↦ free_goal (rw (← same) at m)
+    ]
+
+pub returns-then-self-clause-conflict : goal.returns-then-self-clause-conflict
+returns-then-self-clause-conflict c = λ found.
+    let e = c.self.inside in
+    let both = c.self.invariant (ap (λ (v : Standing). v.spent) c.self.view_is ∙ c.requires.ready) in
+    let r = both.0 in
+    let g = c.in-Ok.negation in
+    let forms = forms_of e.store.kept.items in
+    let asked = c.in_ok-answer.ensures.asked in
+    let told = asked.2 in
+    let shapes = all_of e.store e.clauses ++ (asked.0 ∷ []) in
+    let a = placed-with forms e.places.items g shapes both.1 (with-kept forms g shapes (slots-more forms (all_of e.store e.clauses) (Some g) asked.0 r.slots asked.1)) in
+    let shown = numbered forms e.places.items in
+    let d = derives (With (Live shown) g) shapes [] [] told.list a (λ v n. sym (on-none (record { variable = v; negated = n }))) told.derived in
+    let small : length d.list ≤ c.ask.new.visits = omega (arith, told.few, d.count) in
+    let meets : (m : MeetsConflict (With (Live shown) g) []) × (length m.list ≤ c.ask.new.visits) = (record { list = d.list; derived = d.derived; conflict = conflicts (With (Live shown) g) shapes d.list told.list a d.matches (told.conflict found) }, small) in
+    rw (← c.self.view_is) (inr (rw c.in-Ok.ensures.negation at meets))
+
+pub returns-then-self-clause-completion : goal.returns-then-self-clause-completion
+returns-then-self-clause-completion c = λ found.
+    let e = c.self.inside in
+    let both = c.self.invariant (ap (λ (v : Standing). v.spent) c.self.view_is ∙ c.requires.ready) in
+    let r = both.0 in
+    let g = c.in-Ok.negation in
+    let forms = forms_of e.store.kept.items in
+    let asked = c.in_ok-answer.ensures.asked in
+    let told = asked.2 in
+    let shapes = all_of e.store e.clauses ++ (asked.0 ∷ []) in
+    let a = placed-with forms e.places.items g shapes both.1 (with-kept forms g shapes (slots-more forms (all_of e.store e.clauses) (Some g) asked.0 r.slots asked.1)) in
+    let shown = numbered forms e.places.items in
+    let d = derives (With (Live shown) g) shapes [] [] told.list a (λ v n. sym (on-none (record { variable = v; negated = n }))) told.derived in
+    let small : length d.list ≤ c.ask.new.visits = omega (arith, told.few, d.count) in
+    let done : IsCompletion (With (Live shown) g) [] d.list = record { derived = d.derived; closed = is-closed (With (Live shown) g) shapes d.list told.list a d.matches (told.settled found) } in
+    let whole : (list : List NumberedLiteral) × IsCompletion (With (Live shown) g) [] list × (length list ≤ c.ask.new.visits) = (d.list, done, small) in
+    rw (← c.self.view_is) (rw c.in-Ok.ensures.negation at whole)
+
+pub returns-in_err-answer-clause-forms : goal.returns-in_err-answer-clause-forms
+returns-in_err-answer-clause-forms c =
+    let e = c.self.inside in
+    let both = c.self.invariant (ap (λ (v : Standing). v.spent) c.self.view_is ∙ c.requires.ready) in
+    c.in_err-answer.ensures.forms e.places.items both.1 ∙ ap (λ (v : Standing). v.forms) c.self.view_is
+
+pub returns-then-self-clause-most : goal.returns-then-self-clause-most
+returns-then-self-clause-most c =
+    let e = c.self.inside in
+    let both = c.self.invariant (ap (λ (v : Standing). v.spent) c.self.view_is ∙ c.requires.ready) in
+    let forms = forms_of e.store.kept.items in
+    let terms = slots-terms forms (all_of e.store e.clauses) both.0.slots in
+    let goal_terms : length c.in-Ok.negation.terms ≡ length c.args.goal.now.terms = ap (λ (f : Form). length f.terms) c.in-Ok.ensures.negation ∙ length-map c.args.goal.now.terms opposite_entry in
+    let same : numbered forms e.places.items ≡ c.args.self.now.forms = ap (λ (v : Standing). v.forms) c.self.view_is in
+    rw (← same) (omega (arith, c.ask.ensures.most, terms, goal_terms, both.1.alike terms_in refl))
+
+pub returns-in_err-answer-clause-most : goal.returns-in_err-answer-clause-most
+returns-in_err-answer-clause-most c =
+    let e = c.self.inside in
+    let both = c.self.invariant (ap (λ (v : Standing). v.spent) c.self.view_is ∙ c.requires.ready) in
+    let forms = forms_of e.store.kept.items in
+    let terms = slots-terms forms (all_of e.store e.clauses) both.0.slots in
+    let goal_terms : length c.in-Ok.negation.terms ≡ length c.args.goal.now.terms = ap (λ (f : Form). length f.terms) c.in-Ok.ensures.negation ∙ length-map c.args.goal.now.terms opposite_entry in
+    let same : numbered forms e.places.items ≡ c.args.self.now.forms = ap (λ (v : Standing). v.forms) c.self.view_is in
+    rw (← same) (omega (arith, c.ask.ensures.most, terms, goal_terms, both.1.alike terms_in refl))

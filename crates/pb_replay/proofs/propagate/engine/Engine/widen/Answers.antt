@@ -1,4 +1,4 @@
-use Rattle.std.proofs.Common.{Vec, Global, ℕ, ◌≡◌, ◌∷◌, [], ◌∙◌, ap, length, length-append, arith}
+use Rattle.std.proofs.Common.{true, false, Vec, Global, ℕ, ◌≡◌, ◌∷◌, [], ◌∙◌, ap, length, length-append, arith, sym}
 use Rattle.pb_replay.specs.Engine.Live.{Standing}
 use Rattle.pb_replay.specs.Engine.Fields.{shapes_of, spots_of}
 use Rattle.pb_replay.specs.Clauses.Links.{lists_of}
@@ -35,4 +35,5 @@ invariant_of-self-2 c = λ ready.
         seats = r.seats;
       },
       both.1,
+      λ live. absurd (let e : false ≡ true = sym c.end.ensures ∙ live in cc),
     )

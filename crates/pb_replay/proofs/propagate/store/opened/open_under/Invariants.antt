@@ -1,0 +1,6 @@
+use Rattle.pb_replay.specs.Engine.Terms.{terms_of}
+use Rattle.pb_replay.proofs.Root.Opens.{IsSummed}
+use Rattle.pb_replay.proofs.propagate.store.opened.open_under.Given as goal
+
+abbrev pub invariant-terms : goal.invariant-terms
+invariant-terms l = IsSummed l.values (terms_of l.terms) l.i l.sum
