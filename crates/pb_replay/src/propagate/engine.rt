@@ -171,8 +171,8 @@ fn rest(store: &Store, rests: &Rests, clauses: &mut Clauses, run: &mut Run)
     run.next = 0;
 }
 
-// The root after a form was stored in a slot. It is made anew once the questions without it took as many visits as there are forms
-// and variables.
+// The root after a form was stored in a slot. It is made anew once the questions without it took eight visits for each form and
+// variable.
 fn follow(
     store: &Store,
     run: &Run,
@@ -191,8 +191,8 @@ fn follow(
         root.admit(store, clauses, slot)?;
         return Ok(());
     }
-    let size = store.kept.len().saturating_add(store.variables);
-    if root.paid < size as u64 {
+    let size = store.kept.len().saturating_add(store.variables) as u64;
+    if root.paid / 8 < size {
         return Ok(());
     }
     root.make(store, run, clauses, eager)?;
