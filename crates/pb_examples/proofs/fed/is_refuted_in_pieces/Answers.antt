@@ -38,7 +38,7 @@ loop-piece-preserved c = (
 )
 
 -- the verdict holds for all pieces
-verified : (c : goal.After-drop-checker-inside-27) → Verifies c.args.replay (joined c.args.pieces.now) c.in_ok-verdict.verdict
+verified : (c : goal.After-drop-checker-inside-35) → Verifies c.args.replay (joined c.args.pieces.now) c.in_ok-verdict.verdict
 verified c first at = (
   place_in c.finish.new.self,
   c.in_ok-verdict.ensures.ends c.args.replay.limits byte_limit c.args.replay.problem first (joined c.args.pieces.now) c.loop-piece.invariant.0
@@ -47,7 +47,7 @@ verified c first at = (
 )
 
 -- the answer is whether it is UNSAT
-whether : (c : goal.After-drop-checker-inside-27) → IsTrue c.match-matches.matches ↔ (c.in_ok-verdict.verdict ≡ Unsat)
+whether : (c : goal.After-drop-checker-inside-35) → IsTrue c.match-matches.matches ↔ (c.in_ok-verdict.verdict ≡ Unsat)
 whether c = elim c.match-matches.branch [
   | in-Unsat w ↦ ((λ yes. w.in-Unsat.is), (λ e. w.matches-is))
   | in_default w ↦ ((λ yes. absurd (cc)), (λ e. absurd (w.in_default.not-Unsat e)))
