@@ -20,6 +20,16 @@ beq-flipped false false = refl
 pub falsified-some : (values : List (Option Bool)) (l : NumberedLiteral) (m : Bool) → get_or values l.variable None ≡ Some m → says values (negation l) ≡ beq m l.negated
 falsified-some values l m h = says-some values (negation l) m h ∙ beq-flipped m l.negated
 
+beq-other : (m n : Bool) → beq (not m) n ≡ not (beq m n)
+beq-other true true = refl
+beq-other true false = refl
+beq-other false true = refl
+beq-other false false = refl
+
+-- a literal is true if its variable has its value
+pub true-some : (values : List (Option Bool)) (l : NumberedLiteral) (m : Bool) → get_or values l.variable None ≡ Some m → says values l ≡ not (beq m l.negated)
+true-some values l m h = says-some values l m h ∙ beq-other m l.negated
+
 -- what a term adds
 pub part-none : (values : List (Option Bool)) (list : List NumberedLiteral) (t : Term) → Agree values list → says values (negation t.literal) ≡ true → 0 ≡ open_part list t
 part-none values list t a h = sym (open_part-falsified list t (a (negation t.literal) ∙ h))

@@ -1,6 +1,6 @@
 -- Literals that forms force with nothing assumed.
 use Rattle.std.specs.Prelude.{Bool, true, false, Contains, map, sum_by, Some, slice_get, slice_index_or}
-use Rattle.std.proofs.Common.{◌≡◌, ℕ, ◌+◌, ◌<◌, ◌≤◌, ◌⊎◌, ◌++◌, ◌∷◌, [], List, refl, sym, ◌∙◌, ap, subst, arith, inl, inr, length, get_or, set, length-append, get_or-set_other}
+use Rattle.std.proofs.Common.{◌≡◌, ℕ, zero, suc, ◌+◌, ◌<◌, ◌≤◌, ◌⊎◌, ◌++◌, ◌∷◌, [], List, refl, sym, ◌∙◌, ap, subst, arith, inl, inr, length, get_or, set, length-append, get_or-set_other}
 use Rattle.std.proofs.lemmas.Bool.{cases_lt, both_ways, or_left, or_right}
 use Rattle.std.proofs.lemmas.List.{get_or_past, set_past, get_or-map, length-map, get_or_default}
 use Rattle.std.proofs.lemmas.List.Sums.{sum_by-set, sum_by_push, sum_by-cons}
@@ -10,9 +10,11 @@ use Rattle.pb_replay.specs.declared.propagate.term.Term.{Term}
 use Rattle.pb_replay.specs.Engine.Lists.{Shape, Weighted, negation, same, has, Puts, Derives, begin, put}
 use Rattle.pb_replay.specs.Engine.Counts.{place, spent, AreSingle, none, more}
 use Rattle.pb_replay.specs.Engine.Links.{terms_at, entry_cross, term_cross, entry_at, term_at, IsStored}
+use Rattle.pb_replay.specs.Engine.Root.{IsSpare}
 use Rattle.pb_replay.specs.Clauses.Links.{list_at}
 use Rattle.pb_replay.specs.Clauses.Shapes.{one_term, joined}
 use Rattle.pb_replay.proofs.Engine.Literals.{same-refl, negation-negation, has-push_old, has-push_new}
+use Rattle.pb_replay.proofs.Engine.Derivations.{one_itself}
 use Rattle.pb_replay.proofs.Engine.Crosses.{to, to-none}
 use Rattle.pb_replay.proofs.Root.Cuts.{absent-before}
 use Rattle.pb_replay.proofs.Engine.Spent.{place-injective}
@@ -36,22 +38,40 @@ puts-other a b list l m among = record {
   forced = m.forced;
 }
 
--- a derivation needs only the forms that contain one of its literals
-pub derives-without : (a b : List Shape) (given list : List NumberedLiteral) → ((x : Shape) → Contains a x → (Contains b x) ⊎ (IsUnused x list)) → Derives a given list → Derives b given list
-derives-without a b given _ h begin = begin
-derives-without a b given _ h (put {list} l d m) = put l (derives-without a b given list before d) (puts-other a b list l m used)
+-- a derivation needs only the forms that have put one of its literals
+pub derives-spare : (a b : List Shape) (given list : List NumberedLiteral) → ((x : Shape) → Contains a x → (Contains b x) ⊎ (IsSpare x list)) → Derives a given list → Derives b given list
+derives-spare a b given _ h begin = begin
+derives-spare a b given _ h (put {list} l d m) = put l (derives-spare a b given list before d) (puts-other a b list l m used)
   where
-    before : (x : Shape) → Contains a x → (Contains b x) ⊎ (IsUnused x list)
+    before : (x : Shape) → Contains a x → (Contains b x) ⊎ (IsSpare x list)
     before x c = elim (h x c) [
       | inl in_b ↦ inl in_b
-      | inr unused ↦ inr (λ k w t. absent-before list l k (unused k w t))
+      | inr spare ↦ inr (λ k earlier on within puts. spare k earlier (has-push_old list l k on) (λ j at. has-push_old list l j (within j at)) puts)
     ]
 
     used : Contains b m.form
     used = elim (h m.form m.among) [
       | inl in_b ↦ in_b
-      | inr unused ↦ absurd (both_ways _ (unused l m.coefficient m.term) (has-push_new list l))
+      | inr spare ↦ absurd (spare l list (has-push_new list l) (λ j at. has-push_old list l j at) (puts-other a (m.form ∷ []) list l m (one_itself m.form)))
     ]
+
+only-one : (x y : Shape) → Contains (x ∷ []) y → x ≡ y
+only-one x y (zero, inside, is) = is
+only-one x y (suc i, inside, is) = absurd (omega (arith, inside))
+
+-- a form has put no literal that it lacks
+pub unused-spare : (x : Shape) (list : List NumberedLiteral) → IsUnused x list → IsSpare x list
+unused-spare x list unused l earlier on within puts =
+    let mine : Contains x.terms (record { literal = l; coefficient = puts.coefficient }) = subst (λ (y : Shape). Contains y.terms (record { literal = l; coefficient = puts.coefficient })) (sym (only-one x puts.form puts.among)) puts.term in
+    both_ways _ (unused l puts.coefficient mine) on
+
+-- a derivation needs only the forms that contain one of its literals
+pub derives-without : (a b : List Shape) (given list : List NumberedLiteral) → ((x : Shape) → Contains a x → (Contains b x) ⊎ (IsUnused x list)) → Derives a given list → Derives b given list
+derives-without a b given list h d = derives-spare a b given list
+    (λ x c. elim (h x c) [
+      | inl in_b ↦ inl in_b
+      | inr unused ↦ inr (unused-spare x list unused)
+    ]) d
 
 -- the number of entries in the lists of a list's literals
 abbrev pub owned : List (List Weighted) → List NumberedLiteral → ℕ

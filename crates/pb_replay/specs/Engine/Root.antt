@@ -1,5 +1,5 @@
 -- The root: a propagation from nothing that has ended without a conflict, to which questions return.
-use Rattle.std.specs.Prelude.{◌≡◌, ℕ, ◌+◌, ◌*◌, ◌/◌, ◌<◌, ◌≤◌, ◌⊎◌, ◌++◌, ◌∷◌, Contains, true, false, List, [], Bool, Option, Some, length, slice_get, slice_index, slice_index_or}
+use Rattle.std.specs.Prelude.{◌≡◌, ℕ, ◌+◌, ◌*◌, ◌/◌, ◌<◌, ◌≤◌, ◌⊎◌, ◌++◌, ◌∷◌, Contains, true, false, List, [], Bool, Option, Some, length, slice_get, slice_set, slice_index, slice_index_or}
 use Rattle.pb_replay.specs.declared.propagate.store.kept.Kept.{Kept}
 use Rattle.pb_replay.specs.declared.propagate.store.Store.{Store}
 use Rattle.pb_replay.specs.declared.propagate.run.Run.{Run}
@@ -7,9 +7,10 @@ use Rattle.pb_replay.specs.declared.propagate.rests.Rests.{Rests}
 use Rattle.pb_replay.specs.declared.propagate.clauses.Clauses.{Clauses}
 use Rattle.pb_replay.specs.declared.propagate.clauses.lists.Watch.{Watch}
 use Rattle.pb_replay.specs.declared.numbered.NumberedLiteral.{NumberedLiteral}
-use Rattle.pb_replay.specs.Engine.Lists.{Shape, Derives, Conflicts, IsSettled, has, negation, open_sum}
+use Rattle.pb_replay.specs.declared.propagate.term.Term.{Term}
+use Rattle.pb_replay.specs.Engine.Lists.{Shape, Puts, Derives, Conflicts, IsSettled, IsWithin, has, says, negation, open_sum}
 use Rattle.pb_replay.specs.Engine.Counts.{IsTidy, beside}
-use Rattle.pb_replay.specs.Engine.Fields.{shapes_of}
+use Rattle.pb_replay.specs.Engine.Fields.{shapes_of, IsEmpty}
 use Rattle.pb_replay.specs.Clauses.Truths.{true_at, false_at}
 use Rattle.pb_replay.specs.Clauses.Links.{list_at, watch_at}
 use Rattle.pb_replay.specs.Clauses.Runs.{AreWalked}
@@ -36,6 +37,40 @@ abbrev pub IsServed : List (Option Bool) → List Watch → ℕ → Type 0
 IsServed values watches s =
     (true_at values (watch_at watches (2 * s)).literal ≡ true) ⊎ (true_at values (watch_at watches (2 * s + 1)).literal ≡ true) ⊎
     ((false_at values (watch_at watches (2 * s)).literal ≡ false) × (false_at values (watch_at watches (2 * s + 1)).literal ≡ false))
+
+-- a literal of the clause is open
+abbrev pub HasOpen : List (Option Bool) → List ℕ → Type 0
+HasOpen values codes = (x : ℕ) × Contains codes x × (true_at values x ≡ false) × (false_at values x ≡ false)
+
+-- a literal of the form is true
+abbrev pub HasTrue : List (Option Bool) → List Term → Type 0
+HasTrue values terms = (t : Term) × Contains terms t × (says values t.literal ≡ true)
+
+-- the form has put no literal of the list, at any time before
+abbrev pub IsSpare : Shape → List NumberedLiteral → Type 0
+IsSpare x list = (l : NumberedLiteral) (earlier : List NumberedLiteral) → has list l ≡ true → IsWithin earlier list → Puts (x ∷ []) earlier l → ⊥
+
+-- the same literal is watched
+abbrev pub IsSameWatch : Watch → Watch → Type 0
+IsSameWatch old new = (new.live ≡ old.live) × (new.literal ≡ old.literal)
+
+-- the form of a slot went
+pub record HasVacated (before : Store) (old : Clauses) (store : Store) (clauses : Clauses) (slot : ℕ) : Type 0 where
+  pub variables : store.variables ≡ before.variables
+  pub kept : (k : Kept) × IsEmpty k × (store.kept.items ≡ slice_set before.kept.items slot k)
+  pub emptied : clauses_of clauses ≡ slice_set (clauses_of old) slot []
+  pub watched : (e : ℕ) → (e / 2 ≡ slot → ⊥) → IsSameWatch (watch_at old.watches.items e) (watch_at clauses.watches.items e)
+
+-- the lists have the entry of an empty form for the slot
+pub record HasLost (run run' : Run) (rests rests' : Rests) (slot : ℕ) : Type 0 where
+  pub assignment : run'.assignment ≡ run.assignment
+  pub work : run'.work ≡ run.work
+  pub trail : run'.trail ≡ run.trail
+  pub next : run'.next ≡ run.next
+  pub opens : run'.opens.items ≡ slice_set run.opens.items slot 0
+  pub candidates : run'.candidates.items ≡ slice_set run.candidates.items slot 0
+  pub rest_opens : rests'.opens.items ≡ slice_set rests.opens.items slot 0
+  pub rest_starts : rests'.starts.items ≡ slice_set rests.starts.items slot 0
 
 -- a form came into a slot that was empty, or into a new one
 pub record HasGained (before : Store) (old : Clauses) (store : Store) (clauses : Clauses) (slot : ℕ) : Type 0 where

@@ -3,15 +3,29 @@
 ghost use Rattle.std.specs.Prelude.{◌≡◌, ℕ, ◌+◌, ◌*◌, ◌/◌, ◌<◌, ◌≤◌, ◌++◌, ◌∷◌, [], List, All, Bool, Option, length, slice_set, slice_index, true, false, OnOk, OnErr, IfOk};
 ghost use Rattle.pb_replay.specs.Clauses.Links.{lists_of, list_at, watch_at};
 ghost use Rattle.pb_replay.specs.Clauses.Runs.{AreReady, IsRunning};
-ghost use Rattle.pb_replay.specs.Engine.Root.{IsServed};
+ghost use Rattle.pb_replay.specs.Engine.Root.{IsServed, HasOpen, IsSameWatch};
 
 pub mod lists;
 pub mod truth;
 pub mod visiting;
 
 use crate::propagate::clauses::lists::{Watch, put_in, take_out};
-use crate::propagate::clauses::truth::{is_false, is_true};
+use crate::propagate::clauses::truth::{is_false, is_open, is_true};
 use std::alloc::{AllocError, Global};
+
+// Whether a literal of a clause is open.
+fn some_open(literals: &[u32], values: &[Option<bool>]) -> bool
+    requires inside { All (λ x. x < 2 * length values.now) literals.now }
+    ensures yes { result ≡ true → HasOpen values.now literals.now }
+    ensures no { result ≡ false → HasOpen values.now literals.now → ⊥ }
+{
+    'literals: for i in 0..literals.len() {
+        if is_open(values, literals[i]) {
+            return true;
+        }
+    }
+    false
+}
 
 /// Clauses by slots, each with two watched literals.
 #[derive(Drop)]
@@ -128,6 +142,7 @@ impl Clauses {
         ensures rest { AreReady self.new }
         ensures literals { lists_of self.new.literals.items ≡ slice_set (lists_of self.old.literals.items) slot [] }
         ensures lists { length self.new.lists.items ≡ length self.old.lists.items }
+        ensures watches { (e : ℕ) → (e / 2 ≡ slot → ⊥) → IsSameWatch (watch_at self.old.watches.items e) (watch_at self.new.watches.items e) }
     {
         if !self.is_filled(slot) {
             return;
@@ -142,6 +157,7 @@ impl Clauses {
         ensures rest { AreReady self.new }
         ensures literals { lists_of self.new.literals.items ≡ slice_set (lists_of self.old.literals.items) slot [] }
         ensures lists { length self.new.lists.items ≡ length self.old.lists.items }
+        ensures watches { (e : ℕ) → (e / 2 ≡ slot → ⊥) → IsSameWatch (watch_at self.old.watches.items e) (watch_at self.new.watches.items e) }
     {
         let alloc = *self.lists.allocator();
         let first = self.watches[2 * slot];
@@ -180,6 +196,17 @@ impl Clauses {
             return false;
         }
         !is_false(values, second)
+    }
+
+    /// Whether a literal of a slot's clause is open.
+    pub fn has_open(&self, values: &[Option<bool>], slot: usize) -> bool
+        requires rest { AreReady self.now }
+        requires slot { slot < length self.now.literals.items }
+        requires values { length self.now.lists.items ≡ 2 * length values.now }
+        ensures yes { result ≡ true → HasOpen values.now (list_at (lists_of self.now.literals.items) slot) }
+        ensures no { result ≡ false → HasOpen values.now (list_at (lists_of self.now.literals.items) slot) → ⊥ }
+    {
+        some_open(self.literals[slot].as_slice(), values)
     }
 
     /// Prepares for another run. Only the clauses in which a search has begun are visited, and nothing is allocated.

@@ -304,7 +304,7 @@ impl Engine {
             return;
         }
         self.places[number] = usize::MAX;
-        self.root.end();
+        self.root.lose(&self.store, &self.clauses, slot);
         quit(
             &mut self.store,
             &mut self.run,

@@ -4,7 +4,7 @@ ghost use Rattle.std.specs.Prelude.{◌≡◌, ℕ, ◌<◌, ◌++◌, ◌∷◌
 ghost use Rattle.pb_replay.specs.Engine.Counts.{IsAbsent};
 ghost use Rattle.pb_replay.specs.Engine.Fields.{forms_of};
 ghost use Rattle.pb_replay.specs.Engine.Rest.{IsAtRest, waits};
-ghost use Rattle.pb_replay.specs.Engine.Root.{HasWidened, HasGained};
+ghost use Rattle.pb_replay.specs.Engine.Root.{HasWidened, HasGained, HasVacated};
 
 use crate::propagate::clause::is_clause;
 use crate::propagate::clauses::Clauses;
@@ -120,6 +120,7 @@ pub fn quit(store: &mut Store, run: &mut Run, eager: &mut Eager, clauses: &mut C
     requires slot { slot < length store.old.kept.items }
     ensures rest { IsAtRest store.new run.new eager.new clauses.new (forms_of store.new.kept.items) }
     ensures forms { forms_of store.new.kept.items ≡ slice_set (forms_of store.old.kept.items) slot None }
+    ensures vacated { HasVacated store.old clauses.old store.new clauses.new slot }
     ensures variables { store.new.variables ≡ store.old.variables }
     ensures visits { run.new.visits ≡ run.old.visits }
 {

@@ -1,6 +1,6 @@
 //! Truth values of coded literals. A literal's code is twice its variable, plus 1 if it is negated.
 
-ghost use Rattle.std.specs.Prelude.{◌≡◌, ◌*◌, ◌<◌, ◌+◌, ◌^◌, length};
+ghost use Rattle.std.specs.Prelude.{◌≡◌, ◌⊎◌, ◌*◌, ◌<◌, ◌+◌, ◌^◌, true, false, length};
 ghost use Rattle.pb_replay.specs.Clauses.Truths.{flip, true_at, false_at};
 
 /// The other of the two watches of a clause.
@@ -31,4 +31,16 @@ pub fn is_false(values: &[Option<bool>], code: u32) -> bool
         Some(value) => value != (code % 2 == 0),
         None => false,
     }
+}
+
+/// Whether the literal's variable has no value.
+pub fn is_open(values: &[Option<bool>], code: u32) -> bool
+    requires { code < 2 * length values.now }
+    ensures yes { result ≡ true → (true_at values.now code ≡ false) × (false_at values.now code ≡ false) }
+    ensures no { result ≡ false → (true_at values.now code ≡ true) ⊎ (false_at values.now code ≡ true) }
+{
+    if is_true(values, code) {
+        return false;
+    }
+    !is_false(values, code)
 }

@@ -1,15 +1,15 @@
 //! The root: what the live forms force with nothing assumed.
 
-ghost use Rattle.std.specs.Prelude.{◌≡◌, ℕ, List, Bool, Option, ◌≤◌, ◌+◌, ◌*◌, ◌<◌, ◌++◌, ◌∷◌, ◌↔◌, [], true, false, length, take, slice_set, slice_index_or, OnOk, IfOk};
+ghost use Rattle.std.specs.Prelude.{◌≡◌, ℕ, List, Bool, Option, ◌≤◌, ◌+◌, ◌*◌, ◌<◌, ◌++◌, ◌∷◌, ◌↔◌, [], true, false, length, take, slice_get, slice_set, slice_index_or, Some, OnOk, IfOk};
 ghost use Rattle.pb_replay.specs.declared.propagate.store.Store.{Store};
 ghost use Rattle.pb_replay.specs.declared.propagate.clauses.Clauses.{Clauses};
 ghost use Rattle.pb_replay.specs.Engine.Lists.{Shape, open_sum};
 ghost use Rattle.pb_replay.specs.Engine.Counts.{Grown, IsCalm, IsUndone};
 ghost use Rattle.pb_replay.specs.Engine.Fields.{shapes_of, forms_of, IsSound};
 ghost use Rattle.pb_replay.specs.Engine.Rest.{IsAtRest};
-ghost use Rattle.pb_replay.specs.Engine.Root.{IsRooted, HasGained, HasReached};
+ghost use Rattle.pb_replay.specs.Engine.Root.{IsRooted, HasGained, HasReached, HasLost, IsSpare};
 ghost use Rattle.pb_replay.specs.Clauses.Runs.{AreReady, IsRunning};
-ghost use Rattle.pb_replay.specs.Clauses.Shapes.{AreJoined, clauses_of};
+ghost use Rattle.pb_replay.specs.Clauses.Shapes.{AreJoined, clauses_of, all_of};
 
 use crate::propagate::assignment::Assignment;
 use crate::propagate::clauses::Clauses;
@@ -18,7 +18,7 @@ use crate::propagate::engine::visits::Visits;
 use crate::propagate::rests::Rests;
 use crate::propagate::run::{Run, propagate, queue, undo_forms};
 use crate::propagate::store::Store;
-use crate::propagate::store::opened::open_under;
+use crate::propagate::store::opened::{has_true, open_under};
 use std::alloc::{AllocError, Global};
 
 /// The literals that the live forms force with nothing assumed, and the state of each form under them. Questions continue
@@ -161,6 +161,48 @@ impl Root {
         ensures { self.new.live ≡ false }
     {
         self.live = false;
+    }
+
+    // Whether the form of a slot has forced none of the literals. A clause with an open literal has not, nor has another form
+    // without a true one.
+    fn is_spare(&self, store: &Store, clauses: &Clauses, slot: usize) -> bool
+        requires slot { slot < length store.now.kept.items }
+        requires sound { IsSound store.now }
+        requires ready { AreReady clauses.now }
+        requires known { length clauses.now.literals.items ≡ length store.now.kept.items }
+        requires widths { length clauses.now.lists.items ≡ 2 * store.now.variables }
+        requires values { length self.now.run.assignment.values.items ≡ store.now.variables }
+        ensures { result ≡ true → (x : Shape) → slice_get (all_of store.now clauses.now) slot ≡ Some x → IsSpare x self.now.run.assignment.list.items }
+    {
+        let values = self.run.assignment.values.as_slice();
+        if clauses.is_filled(slot) {
+            return clauses.has_open(values, slot);
+        }
+        !has_true(&store.kept[slot].terms, values)
+    }
+
+    /// The form of a slot goes. The root stays if the form has forced none of its literals, and ends if it may have.
+    pub fn lose(&mut self, store: &Store, clauses: &Clauses, slot: usize)
+        requires slot { slot < length store.now.kept.items }
+        requires sound { IsSound store.now }
+        requires ready { AreReady clauses.now }
+        requires known { length clauses.now.literals.items ≡ length store.now.kept.items }
+        requires widths { length clauses.now.lists.items ≡ 2 * store.now.variables }
+        requires rooted { self.old.live ≡ true → IsRooted store.now clauses.now self.old.run self.old.rests (length store.now.kept.items) }
+        ensures lost { self.new.live ≡ true → (self.old.live ≡ true) × HasLost self.old.run self.new.run self.old.rests self.new.rests slot }
+        ensures spare { self.new.live ≡ true → (x : Shape) → slice_get (all_of store.now clauses.now) slot ≡ Some x → IsSpare x self.old.run.assignment.list.items }
+    {
+        if !self.live {
+            return;
+        }
+        if !self.is_spare(store, clauses, slot) {
+            self.end();
+            return;
+        }
+        self.run.opens[slot] = 0;
+        self.run.candidates[slot] = 0;
+        self.rests.opens[slot] = 0;
+        self.rests.starts[slot] = 0;
     }
 
     /// Propagates from nothing. Nothing is kept if a conflict is met.

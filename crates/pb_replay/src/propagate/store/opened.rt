@@ -1,8 +1,9 @@
-//! The open sum of a form under the values of some literals, outside of questions. No visit is counted.
+//! A form under the values of some literals, outside of questions. No visit is counted.
 
-ghost use Rattle.std.specs.Prelude.{◌≡◌, ◌≤◌, ◌<◌, ◌^◌, List, length, sum_by};
+ghost use Rattle.std.specs.Prelude.{◌≡◌, ◌≤◌, ◌<◌, ◌^◌, true, false, List, length, sum_by};
 ghost use Rattle.pb_replay.specs.declared.numbered.NumberedLiteral.{NumberedLiteral};
 ghost use Rattle.pb_replay.specs.Engine.Lists.{negation, has, says, open_part, open_sum, AreInside};
+ghost use Rattle.pb_replay.specs.Engine.Root.{HasTrue};
 ghost use Rattle.pb_replay.specs.Engine.Terms.{terms_of};
 
 use crate::numbered::NumberedLiteral;
@@ -43,4 +44,29 @@ pub fn open_under(terms: &Falling, values: &[Option<bool>]) -> u128
         sum += part_of(values, terms.term(i));
     }
     sum
+}
+
+// Whether a literal is true.
+fn is_true(values: &[Option<bool>], literal: NumberedLiteral) -> bool
+    requires { literal.variable < length values.now }
+    ensures { result ≡ says values.now literal }
+{
+    match values[literal.variable] {
+        Some(value) => value != literal.negated,
+        None => false,
+    }
+}
+
+/// Whether a literal of a form is true.
+pub fn has_true(terms: &Falling, values: &[Option<bool>]) -> bool
+    requires inside { AreInside (length values.now) (terms_of terms.now) }
+    ensures yes { result ≡ true → HasTrue values.now (terms_of terms.now) }
+    ensures no { result ≡ false → HasTrue values.now (terms_of terms.now) → ⊥ }
+{
+    'terms: for i in 0..terms.len() {
+        if is_true(values, terms.term(i).literal) {
+            return true;
+        }
+    }
+    false
 }

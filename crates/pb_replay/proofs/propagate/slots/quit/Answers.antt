@@ -23,3 +23,11 @@ pub returns-clause-forms : goal.returns-clause-forms
 returns-clause-forms c =
     let k = c.vacate.ensures.kept in
     forms-filled c.args.store.now.kept.items c.vacate.new.store.kept.items k.0 c.args.slot None k.2 k.1.form
+
+pub returns-clause-vacated : goal.returns-clause-vacated
+returns-clause-vacated c = record {
+  variables = c.vacate.ensures.variables;
+  kept = c.vacate.ensures.kept;
+  emptied = c.empty.ensures.literals;
+  watched = c.empty.ensures.watches;
+}

@@ -76,3 +76,19 @@ returns-clause-rest c =
       none = c.requires.rest.none;
       trail = c.requires.rest.trail;
     }
+
+pub returns-clause-watches : goal.returns-clause-watches
+returns-clause-watches c = λ k n.
+    let me = c.args.self.now in
+    let st = c.requires.rest.stored in
+    let live : (watch_at me.watches.items (2 * c.args.slot)).live ≡ true = slot-sits (lists_of me.literals.items) me.watches.items (lists_of me.lists.items) c.args.slot (2 * c.args.slot) st c.requires.some (inl refl) in
+    let live_2 : (watch_at me.watches.items (2 * c.args.slot + 1)).live ≡ true = slot-sits (lists_of me.literals.items) me.watches.items (lists_of me.lists.items) c.args.slot (2 * c.args.slot + 1) st c.requires.some (inr refl) in
+    let one = stands-by me.watches.items (lists_of me.lists.items) (2 * c.args.slot) c.index-first.result.now st.linked live c.index-first.ensures in
+    let apart : 2 * c.args.slot + 1 ≡ 2 * c.args.slot → ⊥ = λ h. absurd (omega (arith, h)) in
+    let still = c.take_out.ensures.remain (2 * c.args.slot) (2 * c.args.slot + 1) one.item apart in
+    let two = stands-by c.take_out.new.watches.items (lists_of c.take_out.new.lists.items) (2 * c.args.slot + 1) c.index-second.result.now c.take_out.ensures.linked (still.live ∙ live_2) c.index-second.ensures in
+    let off : k ≡ 2 * c.args.slot → ⊥ = λ h. n (omega (arith, h)) in
+    let off_2 : k ≡ 2 * c.args.slot + 1 → ⊥ = λ h. n (omega (arith, h)) in
+    let a = c.take_out.ensures.remain (2 * c.args.slot) k one.item off in
+    let b = c.take_out-2.ensures.remain (2 * c.args.slot + 1) k two.item off_2 in
+    (b.live ∙ a.live, b.literal ∙ a.literal)
