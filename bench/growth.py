@@ -76,10 +76,19 @@ def deleted(count):
     return clauses, [f"rup {clause('x1', 'zz')}del id {first + i}\n" for i in range(count // 10)]
 
 
+def dropped(count):
+    """Units u, clauses ~u ~u a b, and each a b as a step, which is deleted after it."""
+    units, ends, others = names("u", count), names("a", count), names("b", count)
+    clauses = [clause(f"~{one}", f"~{after}", end, other) for one, after, end, other in zip(units, units[1:], ends, others)]
+    first = len(units) + len(clauses) + 1
+    steps = [f"rup {clause(end, other)}del id {first + i}\n" for i, (end, other) in enumerate(zip(ends[: count - 1], others))]
+    return [clause(one) for one in units] + clauses, steps
+
+
 # The families, each with its smallest size.
 FAMILIES = {
     facts: 2_500, chain: 2_500, again: 4_000, satisfied: 20_000, copies: 10_000, sums: 8_000, weakened: 10_000, axioms: 10_000,
-    deleted: 10_000,
+    deleted: 10_000, dropped: 2_500,
 }
 
 
