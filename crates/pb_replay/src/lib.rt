@@ -6,6 +6,7 @@ pub mod laws;
 mod numbered;
 mod propagate;
 mod replay;
+mod shared;
 mod state;
 mod step;
 mod verdict;

@@ -8,8 +8,9 @@ pub(crate) mod objective;
 pub(crate) mod solution;
 
 use crate::propagate::engine::Engine;
+use crate::shared::Shared;
 use crate::verdict::Verdict;
-use pb_normal::{Names, Normal};
+use pb_normal::Names;
 use pb_proof::Stage;
 use pb_sums::Linear;
 use pb_text::Limits;
@@ -24,7 +25,8 @@ pub(crate) struct Running {
     pub(crate) names: Names,
     /// How many names the instance has.
     pub(crate) own: usize,
-    pub(crate) loaded: Vec<Normal>,
+    /// The constraints of the instance. The engine owns them too once they are live.
+    pub(crate) loaded: Vec<Shared>,
     /// The objective's terms. Its relation and degree have no meaning.
     pub(crate) objective: Option<Linear>,
     /// The live constraints. The one with id i is at index i - 1.

@@ -1,17 +1,18 @@
 -- `pol`
 use Rattle.std.specs.Prelude.{Result, Ok, Err, Option}
-use Rattle.std.proofs.Common.{◌≡◌, ℕ, List, length, ◌∙◌, inl, inr, subst}
+use Rattle.std.proofs.Common.{◌≡◌, ℕ, ℤ, List, [], ◌∷◌, length, refl, ◌∙◌, inl, inr, subst}
 use Rattle.pb_text.specs.Limits.{largest, top_of}
 use Rattle.pb_proof.specs.declared.PolWord.{PolWord}
 use Rattle.pb_proof.specs.declared.Statement.TheVariants.{Pol}
-use Rattle.pb_proof.specs.Postfix.{Tree, words}
+use Rattle.pb_proof.specs.declared.PolWord.TheVariants.{Id}
+use Rattle.pb_proof.specs.Postfix.{Tree, Constraint, words}
 use Rattle.pb_normal.specs.Form.{Form}
 use Rattle.pb_normal.specs.Names.{HasNames, with_names}
 use Rattle.pb_replay.specs.declared.fault.Fault.{Fault}
 use Rattle.pb_replay.specs.declared.state.Running.{Running}
 use Rattle.pb_replay.specs.Answer.{some}
 use Rattle.pb_replay.specs.Meaning.{IsFront}
-use Rattle.pb_replay.specs.Replay.{Live, Logged, State, TreeForm, added}
+use Rattle.pb_replay.specs.Replay.{IsLive, Live, Logged, State, TreeForm, added}
 use Rattle.pb_replay.specs.Kept.{Adding, Goes, IsInside, IsLinked, state_of, with_mentioned}
 use Rattle.pb_replay.specs.Statements.{word_names}
 use Rattle.pb_replay.proofs.lemmas.Insides.{tree-inside}
@@ -19,6 +20,10 @@ use Rattle.pb_replay.proofs.lemmas.Linked.{inside-more}
 use Rattle.pb_replay.proofs.lemmas.Naming.{length-front}
 use Rattle.pb_replay.proofs.lemmas.Rups.{goes-ok, goes-err}
 use Rattle.pb_replay.proofs.lemmas.States.{same-state, added-over}
+
+-- one id is an expression of its constraint
+pub repeated-form : (limit : ℕ) (names : List (List ℕ)) (live : List (Option Form)) (ws : List PolWord) (form : Form) → (id : ℤ) × (ws ≡ Id id ∷ []) × IsLive live id form → some (λ tree. ws ≡ words tree) (TreeForm limit names live) (Ok form)
+repeated-form limit names live ws form (id, is, there) = (Constraint id, is, inl (form, there, refl))
 
 pub pol-inside : (old : Running) (names : List (List ℕ)) (live : List (Option Form)) (limit : ℕ) (ws : List PolWord) (form : Form) → IsLinked old → IsFront old.names names → live ≡ old.engine.forms → HasNames names (word_names ws)
     → some (λ tree. ws ≡ words tree) (TreeForm limit names live) (Ok form) → IsInside (length names) form

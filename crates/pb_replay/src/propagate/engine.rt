@@ -33,6 +33,7 @@ use crate::propagate::run::{Run, choose, propagate, try_put, undo_forms};
 use crate::propagate::slots::{occupy, quit, vacancy};
 use crate::propagate::store::Store;
 use crate::propagate::store::links::{enter, leave};
+use crate::shared::Shared;
 use pb_normal::{Normal, NormalFault};
 use std::alloc::{AllocError, Global};
 use std::marker::Model;
@@ -251,8 +252,8 @@ impl Engine {
         Ok(())
     }
 
-    /// Adds a form after the others.
-    pub fn insert(&mut self, form: Normal) -> Result<(), AllocError>
+    /// Adds a form after the others. It may have other owners.
+    pub fn insert(&mut self, form: Shared) -> Result<(), AllocError>
         requires ready { self.old.spent ≡ false }
         requires inside { All (λ t. t.variable < self.old.variables) form.terms }
         ensures forms { OnOk result (self.new.forms ≡ self.old.forms ++ Some form ∷ []) }
@@ -324,6 +325,17 @@ impl Engine {
         match self.store.kept.get(self.places[number]) {
             Some(kept) => kept.terms.form(),
             None => None,
+        }
+    }
+
+    /// One more owner of the form with this number.
+    pub fn shared(&self, number: usize) -> Result<Option<Shared>, AllocError>
+        requires { number < length self.now.forms }
+        ensures { IfOk result (λ f. f ≡ slice_index_or self.now.forms number None) }
+    {
+        match self.store.kept.get(self.places[number]) {
+            Some(kept) => kept.terms.shared(),
+            None => Ok(None),
         }
     }
 

@@ -13,7 +13,7 @@ use crate::propagate::run::Run;
 use crate::propagate::store::Store;
 use crate::propagate::store::kept::Kept;
 use crate::propagate::store::links::{fill, vacate, watch, widen};
-use pb_normal::Normal;
+use crate::shared::Shared;
 use std::alloc::AllocError;
 
 // The slot of a removed form.
@@ -78,7 +78,7 @@ pub fn occupy(
     eager: &mut Eager,
     clauses: &mut Clauses,
     slot: usize,
-    form: Normal,
+    form: Shared,
 ) -> Result<(), AllocError>
     requires rest { IsAtRest store.old run.old eager.old clauses.old (forms_of store.old.kept.items) }
     requires slot { slice_get (forms_of store.old.kept.items) slot ≡ Some None }
@@ -91,7 +91,7 @@ pub fn occupy(
     ensures variables { store.new.variables ≡ store.old.variables }
     ensures visits { run.new.visits ≡ run.old.visits }
 {
-    if is_clause(&form) {
+    if is_clause(form.form()) {
         watch(store, clauses, slot, form)?;
         return Ok(());
     }

@@ -6,6 +6,7 @@ ghost use Rattle.pb_replay.specs.Kept.{Keeps, Adding, IsLinked, IsInside};
 
 use crate::fault::Fault;
 use crate::propagate::engine::Engine;
+use crate::shared::Shared;
 use crate::state::Running;
 use pb_normal::Normal;
 use std::alloc::{AllocError, Global};
@@ -38,8 +39,8 @@ pub(crate) fn engine_over(alloc: Global, variables: usize) -> Result<Engine, Fau
     Ok(engine)
 }
 
-/// An engine with copies of the forms, over this many variables.
-pub(crate) fn engine_of(alloc: Global, forms: &[Normal], variables: usize) -> Result<Engine, Fault>
+/// An engine over this many variables, and one more owner of each of the forms.
+pub(crate) fn engine_of(alloc: Global, forms: &[Shared], variables: usize) -> Result<Engine, Fault>
     requires inside { (f : Form) → Contains forms.now f → IsInside variables f }
     ensures forms { IfOk result (λ e. e.forms ≡ map (λ f. Some f) forms.now) }
     ensures variables { IfOk result (λ e. e.variables ≡ variables) }
@@ -48,14 +49,28 @@ pub(crate) fn engine_of(alloc: Global, forms: &[Normal], variables: usize) -> Re
 {
     let mut engine = engine_over(alloc, variables)?;
     for form in forms {
-        let copy = form.copy()?;
-        engine.insert(copy)?;
+        let shared = form.share()?;
+        engine.insert(shared)?;
     }
     Ok(engine)
 }
 
 /// Adds a form with the next id.
 pub(crate) fn add(running: &mut Running, form: Normal) -> Result<(), Fault>
+    requires linked { IsLinked running.old }
+    requires inside { IsInside (length running.old.names) form }
+    ensures adding { Adding running.old form result running.new }
+    ensures best { running.new.best ≡ running.old.best }
+    ensures linked { OnOk result (IsLinked running.new) }
+    ensures kept { Keeps running.old running.new }
+    ensures visits { running.new.visits ≡ running.old.visits }
+{
+    let form = Shared::new(running.alloc, form)?;
+    add_shared(running, form)
+}
+
+/// Adds a form that may have other owners, with the next id.
+pub(crate) fn add_shared(running: &mut Running, form: Shared) -> Result<(), Fault>
     requires linked { IsLinked running.old }
     requires inside { IsInside (length running.old.names) form }
     ensures adding { Adding running.old form result running.new }

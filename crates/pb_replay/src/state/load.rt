@@ -9,6 +9,7 @@ ghost use Rattle.pb_replay.specs.Problem.{FitsAll, Opened, objective_of};
 ghost use Rattle.pb_replay.specs.Kept.{IsFirst, problem_of};
 
 use crate::fault::Fault;
+use crate::shared::share_each;
 use crate::state::Running;
 use crate::state::live::engine_over;
 use pb_normal::{HashKeys, Names, Normal, NormalFault, Side, fits, load, terms_fit};
@@ -127,6 +128,7 @@ fn begun(
         Ok(forms) => forms,
         Err(fault) => return Err(Fault::from(fault)),
     };
+    let loaded = share_each(alloc, forms)?;
     let own = names.len();
     let engine = engine_over(alloc, own)?;
     Ok(Running {
@@ -134,7 +136,7 @@ fn begun(
         limits,
         names,
         own,
-        loaded: forms,
+        loaded,
         objective,
         engine,
         best: None,

@@ -1,14 +1,15 @@
 //! The words of `pol` on a stack of forms.
 
-ghost use Rattle.std.specs.Prelude.{◌≡◌, ◌<◌, ◌≤◌, ◌+◌, ◌-◌, ◌∷◌, ◌++◌, ◌⊎◌, [], pos, ◌≤ℤ◌, All, length, reverse, unsigned_abs, OnOk, OnErr, IfOk, IfErr, Ok, Err};
+ghost use Rattle.std.specs.Prelude.{◌≡◌, ℤ, ◌<◌, ◌≤◌, ◌+◌, ◌-◌, ◌∷◌, ◌++◌, ◌⊎◌, [], pos, ◌≤ℤ◌, All, length, reverse, unsigned_abs, OnOk, OnErr, IfOk, IfErr, IfSome, Ok, Err};
 ghost use Rattle.pb_text.specs.Limits.{largest, top_of};
+ghost use Rattle.pb_proof.specs.declared.PolWord.TheVariants.{Id};
 ghost use Rattle.pb_proof.specs.Postfix.{IsPostfix, words as words_of};
 ghost use Rattle.pb_proof.specs.Values.{IsStatementValue, IsWord};
 ghost use Rattle.pb_normal.specs.Names.{HasNames, with_names};
 ghost use Rattle.pb_normal.specs.Rules.{IsSum, divided, multiplied, saturated, weakened};
 ghost use Rattle.pb_replay.specs.Answer.{some};
 ghost use Rattle.pb_replay.specs.Meaning.{IsFront};
-ghost use Rattle.pb_replay.specs.Replay.{TreeForm, limited};
+ghost use Rattle.pb_replay.specs.Replay.{IsLive, TreeForm, limited};
 ghost use Rattle.pb_replay.specs.Kept.{Keeps, Goes, IsLinked, IsReady};
 ghost use Rattle.pb_replay.specs.Stack.{Word};
 ghost use Rattle.pb_proof.specs.Leaving.{takes};
@@ -16,9 +17,10 @@ ghost use Rattle.pb_replay.specs.Statements.{word_names};
 
 use crate::fault::Fault;
 use crate::propagate::engine::Engine;
+use crate::shared::Shared;
 use crate::state::Running;
-use crate::state::find::{find, number_of};
-use crate::state::live::{add, widen};
+use crate::state::find::{find, number_of, share};
+use crate::state::live::{add_shared, widen};
 use pb_normal::{Names, Normal, Sum};
 use pb_proof::{PolWord, Statement};
 use pb_text::{Limits, Sequence};
@@ -210,6 +212,45 @@ fn evaluated(
     Ok(form)
 }
 
+/// The constraint of the words, if they are one id and it is live. Its terms are not copied.
+fn repeated(engine: &Engine, words: &[PolWord]) -> Result<Option<Shared>, AllocError>
+    ensures { IfOk result (λ found. IfSome found (λ f. (id : ℤ) × (words.now ≡ Id id ∷ []) × IsLive engine.now.forms id f)) }
+{
+    match words {
+        [PolWord::Id(id)] => {
+            let found = share(engine, *id)?;
+            Ok(found)
+        }
+        _ => Ok(None),
+    }
+}
+
+/// The form of the expression of these words, or its fault. That of one id shares the terms of its constraint.
+fn expressed(
+    alloc: Global,
+    names: &Names,
+    engine: &Engine,
+    words: &[PolWord],
+    limits: Limits,
+) -> Result<Shared, Fault>
+    requires postfix { IsPostfix words.now }
+    requires values { All (IsWord (largest limits) (top_of limits)) words.now }
+    requires named { HasNames names.now (word_names words.now) }
+    ensures ok { IfOk result (λ r. some (λ tree. words.now ≡ words_of tree) (TreeForm (largest limits) names.now engine.now.forms) (Ok r)) }
+    ensures err { IfErr result (λ e. (e ≡ Fault.Memory) ⊎ some (λ tree. words.now ≡ words_of tree) (TreeForm (largest limits) names.now engine.now.forms) (Err e)) }
+{
+    if let Some(form) = repeated(engine, words)? {
+        return Ok(form);
+    }
+    match evaluated(alloc, names, engine, words, limits) {
+        Ok(form) => {
+            let form = Shared::new(alloc, form)?;
+            Ok(form)
+        }
+        Err(fault) => Err(fault),
+    }
+}
+
 /// `pol`: the form of an expression is added.
 pub(crate) fn pol(running: &mut Running, words: &Sequence<PolWord>) -> Result<(), Fault>
     requires value { IsStatementValue (largest running.old.limits) (top_of running.old.limits) (Statement.Pol words.now) }
@@ -224,7 +265,7 @@ pub(crate) fn pol(running: &mut Running, words: &Sequence<PolWord>) -> Result<()
         return Err(Fault::Memory);
     }
     widen(&mut running.engine, before, running.names.len())?;
-    let made = evaluated(
+    let made = expressed(
         running.alloc,
         &running.names,
         &running.engine,
@@ -232,7 +273,7 @@ pub(crate) fn pol(running: &mut Running, words: &Sequence<PolWord>) -> Result<()
         running.limits,
     );
     match made {
-        Ok(form) => add(running, form),
+        Ok(form) => add_shared(running, form),
         Err(fault) => Err(fault),
     }
 }

@@ -6,13 +6,15 @@ ghost use Rattle.pb_replay.specs.Engine.Counts.{AreFalling};
 
 use crate::numbered::NumberedLiteral;
 use crate::propagate::term::{Rank, Term};
+use crate::shared::Shared;
 use pb_normal::{Entry, Normal};
 use std::alloc::{AllocError, Global};
 
-/// A form or none, and the positions of its terms in order of falling coefficient. Each term is stored once.
+/// A form or none, and the positions of its terms in order of falling coefficient. Each term is stored once, and the form
+/// may have other owners.
 #[derive(Drop)]
 pub struct Falling {
-    form: Option<Normal>,
+    form: Option<Shared>,
     order: Vec<usize>,
     pub ghost inside: { All (λ p. p < length (entries_in form)) order.items },
 }
@@ -127,7 +129,7 @@ impl Falling {
     }
 
     /// A form that is propagated by its watches. None of its terms is in the order.
-    pub fn unordered(alloc: Global, form: Normal) -> Falling
+    pub fn unordered(alloc: Global, form: Shared) -> Falling
         ensures form { result.form ≡ Some form }
         ensures terms { terms_of result ≡ [] }
     {
@@ -138,12 +140,12 @@ impl Falling {
     }
 
     /// A form.
-    pub fn new(alloc: Global, form: Normal) -> Result<Falling, AllocError>
+    pub fn new(alloc: Global, form: Shared) -> Result<Falling, AllocError>
         ensures form { IfOk result (λ f. f.form ≡ Some form) }
         ensures same { IfOk result (λ f. IsPermutation (map entry_of (terms_of f)) form.terms) }
         ensures falling { IfOk result (λ f. AreFalling (terms_of f)) }
     {
-        let order = order_of(alloc, form.entries())?;
+        let order = order_of(alloc, form.form().entries())?;
         Ok(Falling {
             form: Some(form),
             order,
@@ -162,7 +164,23 @@ impl Falling {
         ensures some { IfSome result (λ f. self.now.form ≡ Some f.now) }
         ensures none { IfNone result (self.now.form ≡ None) }
     {
-        self.form.as_ref()
+        match &self.form {
+            Some(form) => Some(form.form()),
+            None => None,
+        }
+    }
+
+    /// One more owner of the form, if there is one.
+    pub fn shared(&self) -> Result<Option<Shared>, AllocError>
+        ensures { IfOk result (λ f. f ≡ self.now.form) }
+    {
+        match &self.form {
+            Some(form) => {
+                let form = form.share()?;
+                Ok(Some(form))
+            }
+            None => Ok(None),
+        }
     }
 
     /// How many terms are in the order.
@@ -179,7 +197,7 @@ impl Falling {
     {
         let place = self.order[index];
         match &self.form {
-            Some(form) => term_of(form.entries()[place]),
+            Some(form) => term_of(form.form().entries()[place]),
             None => unreachable!(),
         }
     }

@@ -22,6 +22,7 @@ use crate::propagate::run::{Run, place_of};
 use crate::propagate::store::falling::Falling;
 use crate::propagate::store::kept::{Kept, is_below};
 use crate::propagate::store::{Occurrence, Store};
+use crate::shared::Shared;
 use pb_normal::Normal;
 use std::alloc::{AllocError, Global};
 
@@ -56,12 +57,13 @@ fn is_even(terms: &Falling) -> bool
 }
 
 // A form as the engine stores it.
-fn kept_of(alloc: Global, form: Normal) -> Result<Kept, AllocError>
+fn kept_of(alloc: Global, form: Shared) -> Result<Kept, AllocError>
     ensures is { IfOk result (λ kept. IsKeptAs form (kept_shape kept)) }
     ensures form { IfOk result (λ kept. kept.terms.form ≡ Some form) }
 {
-    let degree = form.degree().unsigned_abs();
-    let total = form.size();
+    let normal = form.form();
+    let degree = normal.degree().unsigned_abs();
+    let total = normal.size();
     let terms = Falling::new(alloc, form)?;
     let bound = bound_of(&terms, degree);
     let eager = is_below(total, bound);
@@ -156,7 +158,7 @@ fn empty_kept(alloc: Global) -> Kept
 }
 
 // A form that is propagated by its watches. It has no entries in the occurrence lists.
-fn watched_kept(alloc: Global, form: Normal) -> Kept
+fn watched_kept(alloc: Global, form: Shared) -> Kept
     ensures form { result.terms.form ≡ Some form }
     ensures unlisted { IsUnlisted result }
 {
@@ -175,7 +177,7 @@ pub fn watch(
     store: &mut Store,
     clauses: &mut Clauses,
     slot: usize,
-    form: Normal,
+    form: Shared,
 ) -> Result<(), AllocError>
     requires ready { AreReady clauses.old }
     requires slot { slot < length store.old.kept.items }
@@ -194,7 +196,7 @@ pub fn watch(
     ensures rest { (store.new.spots ≡ store.old.spots) × (store.new.occurrences ≡ store.old.occurrences) × (store.new.variables ≡ store.old.variables) }
 {
     let alloc = *store.kept.allocator();
-    let codes = codes_of(alloc, form.entries())?;
+    let codes = codes_of(alloc, form.form().entries())?;
     clauses.fill(slot, codes)?;
     store.kept[slot] = watched_kept(alloc, form);
     Ok(())
@@ -221,7 +223,7 @@ pub fn widen(store: &mut Store, run: &mut Run) -> Result<(), AllocError>
 }
 
 /// Stores a form in the slot of an empty one.
-pub fn fill(store: &mut Store, run: &mut Run, slot: usize, form: Normal) -> Result<(), AllocError>
+pub fn fill(store: &mut Store, run: &mut Run, slot: usize, form: Shared) -> Result<(), AllocError>
     requires sound { IsSound store.old }
     requires inside { All (λ t. t.variable < store.old.variables) form.terms }
     requires slot { slot < length store.old.kept.items }
@@ -256,6 +258,7 @@ pub fn enter(store: &mut Store, run: &mut Run, form: Normal) -> Result<(), Alloc
     ensures trail { run.new.trail ≡ run.old.trail }
     ensures rest { (run.new.assignment ≡ run.old.assignment) × (run.new.work ≡ run.old.work) × (run.new.next ≡ run.old.next) × (run.new.visits ≡ run.old.visits) }
 {
+    let form = Shared::new(*store.kept.allocator(), form)?;
     let slot = store.kept.len();
     widen(store, run)?;
     fill(store, run, slot, form)?;

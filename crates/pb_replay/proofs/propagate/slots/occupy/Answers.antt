@@ -80,7 +80,7 @@ returns-then-is_clause-clause-rest c =
     let keep = c.args.store.now.kept.items in
     rw (forms-filled keep c.watch.new.store.kept.items k.0 c.args.slot (Some c.args.form) k.3 k.1)
     (rest-watched c.args.store.now c.watch.new.store c.args.run.now c.args.eager.now c.args.clauses.now c.watch.new.clauses (forms_of keep) c.args.form k.0 c.args.slot c.requires.slot k.2 k.3
-    rest.0 rest.1 rest.2 c.is_clause.ensures.normal (c.is_clause.ensures.yes c.if-is_clause.true) told.ready told.literals told.lists c.requires.rest)
+    rest.0 rest.1 rest.2 (rw c.form.ensures at c.is_clause.ensures.normal) (rw c.form.ensures at (c.is_clause.ensures.yes c.if-is_clause.true)) told.ready told.literals told.lists c.requires.rest)
 
 pub returns-then-is_clause-clause-forms : goal.returns-then-is_clause-clause-forms
 returns-then-is_clause-clause-forms c =

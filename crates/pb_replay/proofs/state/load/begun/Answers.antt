@@ -4,7 +4,7 @@ use Rattle.pb_replay.proofs.state.load.begun.Goals as goal
 
 pub returns-clause-ok : goal.returns-clause-ok
 returns-clause-ok c =
-    opened_ok _ c.args.instance.now _ _ _ _ _ c.as_slice.ensures c.in-Ok.ensures.terms (rw c.with_hasher-names.ensures at c.in-Ok.ensures.names) c.in-Ok-load.ensures.names c.in-Ok-load.ensures.fits c.in-Ok.ensures.fits c.in-Ok-load.ensures.forms _ c.len-own.ensures.length
+    rw c.in_ok-loaded.ensures (opened_ok _ c.args.instance.now _ _ _ _ _ c.as_slice.ensures c.in-Ok.ensures.terms (rw c.with_hasher-names.ensures at c.in-Ok.ensures.names) c.in-Ok-load.ensures.names c.in-Ok-load.ensures.fits c.in-Ok.ensures.fits c.in-Ok-load.ensures.forms _ c.len-own.ensures.length)
 
 pub returns-in-Err-load-clause-err : goal.returns-in-Err-load-clause-err
 returns-in-Err-load-clause-err c =

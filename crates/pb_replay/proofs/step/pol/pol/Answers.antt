@@ -3,16 +3,16 @@ use Rattle.pb_replay.proofs.lemmas.Named.{words_named}
 use Rattle.pb_replay.proofs.lemmas.Pols.{pol-inside, pol-goes}
 use Rattle.pb_replay.proofs.step.pol.pol.Goals as goal
 
-pub evaluated-made-requires-clause-named : goal.evaluated-made-requires-clause-named
-evaluated-made-requires-clause-named c =
+pub expressed-made-requires-clause-named : goal.expressed-made-requires-clause-named
+expressed-made-requires-clause-named c =
     words_named _ _ _ _ c.args.words.now c.in_default.ensures.names c.as_slice.ensures c.as_slice-2.ensures
 
-pub add-requires-clause-inside : goal.add-requires-clause-inside
-add-requires-clause-inside c =
+pub add_shared-requires-clause-inside : goal.add_shared-requires-clause-inside
+add_shared-requires-clause-inside c =
     pol-inside c.args.running.now c.number_words.new.names c.widen.new.engine.forms _ c.as_slice-2.result.now c.in-Ok.form c.requires.ready.linked c.in_default.ensures.front c.in_ok-widen.ensures.forms
     (words_named _ _ _ _ c.args.words.now c.in_default.ensures.names c.as_slice.ensures c.as_slice-2.ensures) c.in-Ok.ensures.ok
 
 pub returns-in-Ok-clause-goes : goal.returns-in-Ok-clause-goes
 returns-in-Ok-clause-goes c =
-    pol-goes c.args.running.now (record c.args.running.now { names = c.number_words.new.names; engine = c.widen.new.engine }) c.args.words.now c.as_slice-2.result.now c.in-Ok.form c.add.result c.add.new.running (sym c.as_slice-2.ensures) (rw c.as_slice.ensures at c.in_default.ensures.names) c.in_ok-widen.ensures.forms refl refl refl c.add.ensures.best
-    c.in-Ok.ensures.ok c.add.ensures.adding
+    pol-goes c.args.running.now (record c.args.running.now { names = c.number_words.new.names; engine = c.widen.new.engine }) c.args.words.now c.as_slice-2.result.now c.in-Ok.form c.add_shared.result c.add_shared.new.running (sym c.as_slice-2.ensures) (rw c.as_slice.ensures at c.in_default.ensures.names) c.in_ok-widen.ensures.forms refl refl refl c.add_shared.ensures.best
+    c.in-Ok.ensures.ok c.add_shared.ensures.adding

@@ -39,8 +39,8 @@ returns-clause-entered c =
     let slot : c.len-slot.result ≡ length store.kept.items = omega (arith, c.len-slot.ensures, store.kept.ok.0) in
     record {
       kept = h.kept;
-      is = h.is;
-      form = h.form;
+      is = rw c.in_ok-form.ensures at h.is;
+      form = rw c.in_ok-form.ensures at h.form;
       keeps = h.keeps ∙ set-end store.kept.items c.widen.new.store.kept.items c.len-slot.result k.0 h.kept k.2 slot;
       opened = h.opened ∙ set-end run.opens.items c.widen.new.run.opens.items c.len-slot.result 0 h.kept.total c.in_ok-widen.ensures.opens (slot ∙ sym c.requires.opens);
       candidates = ap (λ (v : Vec ℕ Global). v.items) c.fill.ensures.rest.0 ∙ c.in_ok-widen.ensures.candidates;

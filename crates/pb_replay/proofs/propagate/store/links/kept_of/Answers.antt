@@ -6,22 +6,23 @@ use Rattle.pb_replay.proofs.propagate.store.links.kept_of.Goals as goal
 pub bound_of-bound-requires-clause-size : goal.bound_of-bound-requires-clause-size
 bound_of-bound-requires-clause-size c =
     let size = kept-size (terms_of c.in_ok-terms.terms) c.args.form.terms c.in_ok-terms.ensures.same in
-    omega (arith, size, c.degree.ensures.normal.size_in)
+    let normal = rw c.form-normal.ensures at c.degree.ensures.normal in
+    omega (arith, size, normal.size_in)
 
 pub bound_of-bound-requires-clause-small : goal.bound_of-bound-requires-clause-small
 bound_of-bound-requires-clause-small c =
-    let normal = c.degree.ensures.normal in
-    omega (arith, degree-read c.unsigned_abs-degree.result c.degree.result c.args.form.degree c.unsigned_abs-degree.ensures.value c.degree.ensures.degree normal.degree_in, normal.degree_in)
+    let normal = rw c.form-normal.ensures at c.degree.ensures.normal in
+    omega (arith, degree-read c.unsigned_abs-degree.result c.degree.result c.args.form.degree c.unsigned_abs-degree.ensures.value (rw c.form-normal.ensures at c.degree.ensures.degree) normal.degree_in, normal.degree_in)
 
 pub invariant_of-result : goal.invariant_of-result
 invariant_of-result c =
-    let normal = c.degree.ensures.normal in
+    let normal = rw c.form-normal.ensures at c.degree.ensures.normal in
     let size = kept-size (terms_of c.in_ok-terms.terms) c.args.form.terms c.in_ok-terms.ensures.same in
     record {
       falling = c.in_ok-terms.ensures.falling;
-      sum = c.size-total.ensures.size ∙ sym size;
+      sum = (rw c.form-normal.ensures at c.size-total.ensures.size) ∙ sym size;
       small = omega (arith, size, normal.size_in);
-      low = omega (arith, degree-read c.unsigned_abs-degree.result c.degree.result c.args.form.degree c.unsigned_abs-degree.ensures.value c.degree.ensures.degree normal.degree_in, normal.degree_in);
+      low = omega (arith, degree-read c.unsigned_abs-degree.result c.degree.result c.args.form.degree c.unsigned_abs-degree.ensures.value (rw c.form-normal.ensures at c.degree.ensures.degree) normal.degree_in, normal.degree_in);
       idle = c.bound_of-bound.ensures.calm;
       aside = λ h. c.bound_of-bound.ensures.calm c.size-total.result 0 (c.is_below-eager.ensures.above h);
       busy = λ h.
@@ -32,9 +33,9 @@ invariant_of-result c =
 
 pub returns-clause-is : goal.returns-clause-is
 returns-clause-is c =
-    let normal = c.degree.ensures.normal in
+    let normal = rw c.form-normal.ensures at c.degree.ensures.normal in
     record {
       terms = c.in_ok-terms.ensures.same;
-      degree = degree-read c.unsigned_abs-degree.result c.degree.result c.args.form.degree c.unsigned_abs-degree.ensures.value c.degree.ensures.degree normal.degree_in;
+      degree = degree-read c.unsigned_abs-degree.result c.degree.result c.args.form.degree c.unsigned_abs-degree.ensures.value (rw c.form-normal.ensures at c.degree.ensures.degree) normal.degree_in;
       normal = normal;
     }

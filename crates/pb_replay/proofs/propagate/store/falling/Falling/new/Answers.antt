@@ -6,13 +6,13 @@ use Rattle.pb_replay.proofs.propagate.store.falling.Falling.new.Goals as goal
 
 pub order_of-requires : goal.order_of-requires
 order_of-requires c =
-    omega (arith, total-each c.args.form.terms, ap (sum_by (λ (e : Entry). e.coefficient)) c.entries.ensures.entries, c.entries.ensures.normal.size_in)
+    omega (arith, total-each c.form-2.result.now.terms, ap (sum_by (λ (e : Entry). e.coefficient)) c.entries.ensures.entries, c.entries.ensures.normal.size_in)
 
 pub invariant_of-result : goal.invariant_of-result
-invariant_of-result c = record { inside = rw c.entries.ensures.entries at c.in_ok-order.ensures.inside }
+invariant_of-result c = record { inside = rw (c.entries.ensures.entries, c.form-2.ensures) at c.in_ok-order.ensures.inside }
 
 pub returns-clause-same : goal.returns-clause-same
-returns-clause-same c = rw c.entries.ensures.entries at c.in_ok-order.ensures.same
+returns-clause-same c = rw (c.entries.ensures.entries, c.form-2.ensures) at c.in_ok-order.ensures.same
 
 pub returns-clause-falling : goal.returns-clause-falling
-returns-clause-falling c = rw c.entries.ensures.entries at c.in_ok-order.ensures.falling
+returns-clause-falling c = rw (c.entries.ensures.entries, c.form-2.ensures) at c.in_ok-order.ensures.falling
