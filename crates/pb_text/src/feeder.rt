@@ -205,7 +205,6 @@ impl<M: Machine> Feeder<M> {
     }
 
     /// Takes a prefix of a piece that is fast to take, at most through the end of a statement.
-    #[inline(always)]
     pub(crate) fn bite(&mut self, piece: &[u8]) -> Fed<M::Event>
         requires unfinished { is_complete self.old ≡ false }
         requires running { halt_of self.old ≡ None }
@@ -232,7 +231,6 @@ impl<M: Machine> Feeder<M> {
     }
 
     /// Takes a byte that ends a statement, if that is fast.
-    #[inline(always)]
     fn closes(&mut self, byte: u8) -> Option<Spanned<M::Event>>
         requires unfinished { is_complete self.old ≡ false }
         requires running { halt_of self.old ≡ None }
@@ -402,7 +400,6 @@ impl<M: Machine> Feeder<M> {
     }
 
     /// Advances past the byte that ends a statement, and returns its event with its positions.
-    #[inline(always)]
     fn mark(&mut self, event: M::Event, byte: u8) -> Spanned<M::Event>
         requires room { self.old.place.offset < self.old.end }
         ensures marks { result ≡ record { event = event; first = place_or self.old.first self.old.place; past = self.new.place } }

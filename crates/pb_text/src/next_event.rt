@@ -61,7 +61,6 @@ pub fn pull<S: Source, M: Machine>(
 }
 
 /// Takes available bytes, at most through the end of a statement. If none ends there, it also takes the next byte.
-#[inline(always)]
 fn draw<S: Source, M: Machine>(
     source: &mut S,
     feeder: &mut Feeder<M>,
