@@ -24,6 +24,7 @@ pub trait Sink {
 }
 
 /// Writes all of a text. After a fault, the bytes written are a prefix of it.
+#[inline]
 pub fn write_bytes<S: Sink>(text: &[u8], out: &mut S) -> Result<(), Failed>
     ensures { Writes S.contents S.faults out.old text.now result out.new }
 {

@@ -6,6 +6,7 @@ ghost use Rattle.pb_proof.specs.Line.Pol.{counted, held_number, close_number, cl
 use crate::line::pol::phase::{Change, Held, Phase, Role};
 
 /// How many expressions there are after a change.
+#[inline(always)]
 pub fn counted(change: Change, depth: usize) -> usize
     requires { depth < 2 ^ 63 }
     ensures { result ≡ counted change depth }

@@ -16,6 +16,7 @@ use std::mem;
 const FIRST: usize = 8;
 
 /// Whether the change adds a word.
+#[inline(always)]
 fn adds(change: Change) -> bool
     ensures { result ≡ adds change }
 {
@@ -50,6 +51,7 @@ fn turn_last(words: &mut Vec<PolWord>, change: Change)
 }
 
 /// Changes the words. For a word that is added, the vector has room already.
+#[inline(always)]
 fn change_words(words: &mut Vec<PolWord>, name: Name, change: Change)
     requires room { adds change ≡ true → vec_len words.old < vec_capacity words.old }
     ensures words { words.new.items ≡ changed change words.old.items name }
@@ -67,6 +69,7 @@ fn change_words(words: &mut Vec<PolWord>, name: Name, change: Change)
 }
 
 /// Makes room for one more word, and at first for several: most lines have more than four words.
+#[inline(always)]
 pub fn make_room(words: &mut Vec<PolWord>) -> Result<(), AllocError>
     ensures words { words.new.items ≡ words.old.items }
     ensures ok { OnOk result (vec_len words.new < vec_capacity words.new) }
@@ -80,6 +83,7 @@ pub fn make_room(words: &mut Vec<PolWord>) -> Result<(), AllocError>
 }
 
 /// Ends a word. If memory runs out, nothing changes.
+#[inline(always)]
 pub fn turn(
     alloc: Global,
     words: &mut Vec<PolWord>,
