@@ -1,7 +1,7 @@
 -- What the tool guarantees for sources over texts and for a page, in terms of the texts alone.
 use Rattle.std.proofs.Common.{◌≡◌, ◌∙◌, ℕ, List, Bool, Bor, Option, Some, None, Result, ap, subst}
-use Rattle.pb_text.specs.Kept.{inner_of, shown_of}
-use Rattle.pb_text.specs.Over.{told}
+use Rattle.pb_text.specs.contract.Kept.{inner_of, shown_of}
+use Rattle.pb_text.specs.contract.Over.{told}
 use Rattle.pb_text.specs.declared.Limits.{Limits}
 use Rattle.pb_text.specs.declared.over.Over.{Over}
 use Rattle.pb_replay.specs.declared.verdict.Verdict.{Verdict}

@@ -5,7 +5,7 @@ use Rattle.pb_text.specs.declared.Limits.{Limits}
 use Rattle.pb_text.specs.declared.place.Why.{Why}
 use Rattle.pb_text.specs.declared.place.Why.TheVariants as why
 use Rattle.pb_opb.specs.declared.Instance.{Instance}
-use Rattle.pb_replay.specs.Meaning.{MeansWritten}
+use Rattle.pb_replay.specs.meaning.Meaning.{MeansWritten}
 use Rattle.pb_replay.specs.declared.fault.Fault.{Fault}
 use Rattle.pb_replay.specs.declared.fault.Fault.TheVariants as step
 use Rattle.pb_replay.specs.declared.verdict.Verdict.{Verdict}

@@ -1,6 +1,6 @@
 -- What options set.
 use Rattle.std.specs.Prelude.{◌≡◌, ◌⊎◌, ◌<◌, ◌-◌, ◌^◌, ℕ, zero, suc, min, Option, Some, None}
-use Rattle.pb_text.specs.Limits.{bits_of, top_of}
+use Rattle.pb_text.specs.meaning.Limits.{bits_of, top_of}
 use Rattle.pb_text.specs.declared.Limits.{Limits}
 use Rattle.pb_c.specs.declared.options.Options.{Options}
 

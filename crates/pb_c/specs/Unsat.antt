@@ -2,7 +2,7 @@
 use Rattle.std.specs.Prelude.{◌≡◌, ◌^◌, ℕ, List, codes, take, Option, Some, unwrap_or}
 use Rattle.pb_text.specs.declared.Limits.{Limits}
 use Rattle.pb_opb.specs.declared.Instance.{Instance}
-use Rattle.pb_replay.specs.Meaning.{MeansWritten}
+use Rattle.pb_replay.specs.meaning.Meaning.{MeansWritten}
 use Rattle.pb_replay.specs.declared.verdict.Verdict.{Verdict}
 use Rattle.pb_tool.specs.meaning.Headline.{IsUnsatisfiable}
 use Rattle.pb_tool.specs.meaning.Tidy.{IsInstanceFile}

@@ -1,21 +1,21 @@
 -- What a replay verifies is true of its instance.
 use Rattle.std.proofs.Common.{◌≡◌, ℕ, List, [], ◌∷◌, Option, Some, None, Result, Ok, Err, refl, subst, true, All}
 use Rattle.std.proofs.lemmas.List.Elements.{All-head, All-tail}
-use Rattle.pb_text.specs.Limits.{largest, top_of}
-use Rattle.pb_text.specs.Reading.{byte_limit}
-use Rattle.pb_text.specs.Whole.{events_at}
+use Rattle.pb_text.specs.meaning.Limits.{largest, top_of}
+use Rattle.pb_text.specs.meaning.Reading.{byte_limit}
+use Rattle.pb_text.specs.meaning.Whole.{events_at}
 use Rattle.pb_opb.specs.declared.Instance.{Instance}
-use Rattle.pb_proof.specs.ValueLaws.{ReadStatements}
-use Rattle.pb_proof.specs.Values.{IsStatementValue}
+use Rattle.pb_proof.specs.contract.ValueLaws.{ReadStatements}
+use Rattle.pb_proof.specs.contract.Values.{IsStatementValue}
 use Rattle.pb_proof.specs.declared.Stage.{Stage}
 use Rattle.pb_proof.specs.declared.Stage.TheVariants.{Opening, Formula, Steps, Claim, Closing, Complete}
 use Rattle.pb_proof.specs.declared.Statement.{Statement}
-use Rattle.pb_replay.specs.Kept.{Replaying, StandsFor, verdict_at}
-use Rattle.pb_replay.specs.Laws.{MeaningsAgree, StatementsAreSound}
-use Rattle.pb_replay.specs.Meaning.{IsProblem, IsSound, Means, MeansWritten}
-use Rattle.pb_replay.specs.Problem.{Opened, Problem}
-use Rattle.pb_replay.specs.Replay.{State}
-use Rattle.pb_replay.specs.Statements.{Accepts}
+use Rattle.pb_replay.specs.contract.Kept.{Replaying, StandsFor, verdict_at}
+use Rattle.pb_replay.specs.contract.Laws.{MeaningsAgree, StatementsAreSound}
+use Rattle.pb_replay.specs.meaning.Meaning.{IsProblem, IsSound, Means, MeansWritten}
+use Rattle.pb_replay.specs.meaning.Problem.{Opened, Problem}
+use Rattle.pb_replay.specs.meaning.Replay.{State}
+use Rattle.pb_replay.specs.meaning.Statements.{Accepts}
 use Rattle.pb_replay.specs.declared.fault.Fault.{Fault}
 use Rattle.pb_replay.specs.declared.verdict.Verdict.{Verdict}
 use Rattle.pb_tool.specs.contract.Checker.{IsAt}

@@ -1,6 +1,6 @@
 -- What the first program answers.
 use Rattle.std.specs.Prelude.{◌↔◌, ℕ, List, Bool, IsTrue}
-use Rattle.pb_text.specs.Reading.{byte_limit}
+use Rattle.pb_text.specs.meaning.Reading.{byte_limit}
 use Rattle.pb_text.specs.declared.Limits.{Limits}
 use Rattle.pb_replay.specs.declared.verdict.Verdict.TheVariants.{Unsat}
 use Rattle.pb_tool.specs.meaning.Decided.{AreVerified}

@@ -1,9 +1,9 @@
 -- What reading an instance and writing it again gives.
 use Rattle.std.specs.Prelude.{◌≡◌, ℕ, ◌-◌, ◌^◌, List, ◌++◌}
-use Rattle.pb_text.specs.Spelling.{Item, bytes_of}
-use Rattle.pb_text.specs.Whole.{events_of}
-use Rattle.pb_opb.specs.Instances.{IsInstance}
-use Rattle.pb_opb.specs.Values.{IsValueOf}
+use Rattle.pb_text.specs.meaning.Spelling.{Item, bytes_of}
+use Rattle.pb_text.specs.meaning.Whole.{events_of}
+use Rattle.pb_opb.specs.meaning.Instances.{IsInstance}
+use Rattle.pb_opb.specs.meaning.Values.{IsValueOf}
 use Rattle.pb_opb.specs.declared.Instance.{Instance}
 use Rattle.pb_opb.specs.declared.OpbEvent.{OpbEvent}
 

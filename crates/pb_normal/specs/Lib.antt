@@ -1,12 +1,4 @@
-pub mod Faults
-pub mod Form
-pub mod Adds
-pub mod Growing
-pub mod Keyed
-pub mod Rules
-pub mod Names
-pub mod HashKeys
-pub mod Written
-pub mod Constraints
-pub mod Raw
-pub use Rattle.pb_text.specs.Limits
+pub use Rattle.pb_text.specs.meaning.Limits
+pub mod meaning
+pub mod contract
+pub mod engine

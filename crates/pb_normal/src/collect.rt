@@ -1,8 +1,8 @@
 //! One term for each variable.
 
 ghost use Rattle.std.specs.Prelude.{◌<◌, ◌^◌, [], IfOk, IsTrue};
-ghost use Rattle.pb_normal.specs.Adds.{Adds};
-ghost use Rattle.pb_normal.specs.Form.{total, each, IsRising};
+ghost use Rattle.pb_normal.specs.engine.Adds.{Adds};
+ghost use Rattle.pb_normal.specs.meaning.Form.{total, each, IsRising};
 
 use crate::entry::Entry;
 use crate::merge::merged;

@@ -1,12 +1,12 @@
 //! Written constraints as forms.
 
 ghost use Rattle.std.specs.Prelude.{◌≡◌, ◌++◌, ◌∷◌, [], List, OnOk, OnErr, IfOk, IfErr, Err, All, Contains};
-ghost use Rattle.pb_text.specs.Limits.{largest};
+ghost use Rattle.pb_text.specs.meaning.Limits.{largest};
 ghost use Rattle.pb_sums.specs.declared.values.Linear.{Linear as Written};
-ghost use Rattle.pb_normal.specs.Constraints.{AreFormsOf, Fits, constraint_names, sides_in, with_sides};
-ghost use Rattle.pb_normal.specs.Form.{Form};
-ghost use Rattle.pb_normal.specs.Names.{AfterFront, HasNames, with_names};
-ghost use Rattle.pb_normal.specs.Written.{names_of};
+ghost use Rattle.pb_normal.specs.meaning.Constraints.{AreFormsOf, Fits, constraint_names, sides_in, with_sides};
+ghost use Rattle.pb_normal.specs.meaning.Form.{Form};
+ghost use Rattle.pb_normal.specs.meaning.Names.{AfterFront, HasNames, with_names};
+ghost use Rattle.pb_normal.specs.meaning.Written.{names_of};
 
 use crate::fault::NormalFault;
 use crate::form::Normal;

@@ -1,7 +1,7 @@
 //! Why an operation on forms fails.
 
 ghost use Rattle.std.specs.Prelude.{◌≡◌, Some};
-ghost use Rattle.pb_normal.specs.Faults.{fault_text};
+ghost use Rattle.pb_normal.specs.contract.Faults.{fault_text};
 ghost use Rattle.pb_normal.specs.declared.fault.NormalFault.TheVariants.{Memory};
 
 use std::alloc::{AllocError, AllocFailed};

@@ -1,8 +1,8 @@
 //! Normal forms.
 
 ghost use Rattle.std.specs.Prelude.{◌≡◌, ◌<◌, ◌^◌, ◌↔◌, [], pos, IfOk, IfErr, length, IsTrue, All};
-ghost use Rattle.pb_normal.specs.Form.{IsNormal, ReadsTerm, total, each, size, Holds};
-ghost use Rattle.pb_normal.specs.Rules.{IsContradiction, assignment};
+ghost use Rattle.pb_normal.specs.meaning.Form.{IsNormal, ReadsTerm, total, each, size, Holds};
+ghost use Rattle.pb_normal.specs.meaning.Rules.{IsContradiction, assignment};
 
 use crate::entry::Entry;
 use crate::fault::NormalFault;
@@ -19,7 +19,7 @@ pub struct Normal {
 }
 
 impl Model for Normal {
-    ghost use Rattle.pb_normal.specs.Form.{Form, IsNormal};
+    ghost use Rattle.pb_normal.specs.meaning.Form.{Form, IsNormal};
 
     ghost Value = { Form };
 

@@ -12,7 +12,7 @@ pub enum HashKeys {
 }
 
 impl BuildHasher for HashKeys {
-    ghost use Rattle.pb_normal.specs.HashKeys.{hasher_by};
+    ghost use Rattle.pb_normal.specs.contract.HashKeys.{hasher_by};
 
     type Hasher = DefaultHasher;
 

@@ -1,7 +1,7 @@
 //! A form as a list of terms or as a tree.
 
 ghost use Rattle.std.specs.Prelude.{◌≡◌, length, IfOk};
-ghost use Rattle.pb_normal.specs.Growing.{listing_form, kind_form};
+ghost use Rattle.pb_normal.specs.engine.Growing.{listing_form, kind_form};
 
 use crate::form::Normal;
 use crate::tree::Tree;

@@ -5,10 +5,10 @@ ghost use Rattle.pb_sums.specs.declared.values.Term.{Term};
 ghost use Rattle.pb_sums.specs.declared.values.Linear.{Linear};
 ghost use Rattle.pb_sums.specs.declared.values.Relation.TheVariants.{AtLeast, Equal};
 ghost use Rattle.pb_normal.specs.declared.side.Side.{Side};
-ghost use Rattle.pb_normal.specs.Form.{Form, Holds, Follows, FollowsBoth, IsOpposite, IsOrdered, IsOver, AgreeOn, coefficient, size, total};
-ghost use Rattle.pb_normal.specs.Names.{AreDistinct, HasNames, has_name, number_in, with_names};
-ghost use Rattle.pb_normal.specs.Rules.{IsSum, multiplied, divided, saturated, weakened, axiom_on, negation_of, IsContradiction};
-ghost use Rattle.pb_normal.specs.Written.{names_of, IsFormOf, IsSideOf, SameSolutions, SameAsForm, SameAsForms, linear_of};
+ghost use Rattle.pb_normal.specs.meaning.Form.{Form, Holds, Follows, FollowsBoth, IsOpposite, IsOrdered, IsOver, AgreeOn, coefficient, size, total};
+ghost use Rattle.pb_normal.specs.meaning.Names.{AreDistinct, HasNames, has_name, number_in, with_names};
+ghost use Rattle.pb_normal.specs.meaning.Rules.{IsSum, multiplied, divided, saturated, weakened, axiom_on, negation_of, IsContradiction};
+ghost use Rattle.pb_normal.specs.meaning.Written.{names_of, IsFormOf, IsSideOf, SameSolutions, SameAsForm, SameAsForms, linear_of};
 
 /// If its operands hold, the result of a rule holds. A negation holds if and only if the form, of degree at least 1,
 /// does not. A contradiction holds nowhere.

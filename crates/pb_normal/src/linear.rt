@@ -2,12 +2,12 @@
 
 ghost use Rattle.std.specs.Prelude.{◌≡◌, ◌+◌, ◌<◌, ◌≤◌, ◌^◌, ◌↔◌, ◌+ℤ◌, pos, IfOk, OnOk, OnErr, IsTrue, map, Err};
 ghost use Rattle.std.specs.Int.RustNames.{unsigned_abs};
-ghost use Rattle.pb_text.specs.Limits.{largest};
-ghost use Rattle.pb_normal.specs.Constraints.{Fits};
-ghost use Rattle.pb_normal.specs.Form.{IsNormal, IsWithin};
-ghost use Rattle.pb_normal.specs.Names.{AreDistinct, with_names, AfterFront, HasNames};
-ghost use Rattle.pb_normal.specs.Raw.{entry_of, raw_of, shift};
-ghost use Rattle.pb_normal.specs.Written.{names_of, magnitude, side_terms, side_number, IsSideOf, SameSolutions};
+ghost use Rattle.pb_text.specs.meaning.Limits.{largest};
+ghost use Rattle.pb_normal.specs.meaning.Constraints.{Fits};
+ghost use Rattle.pb_normal.specs.meaning.Form.{IsNormal, IsWithin};
+ghost use Rattle.pb_normal.specs.meaning.Names.{AreDistinct, with_names, AfterFront, HasNames};
+ghost use Rattle.pb_normal.specs.engine.Raw.{entry_of, raw_of, shift};
+ghost use Rattle.pb_normal.specs.meaning.Written.{names_of, magnitude, side_terms, side_number, IsSideOf, SameSolutions};
 
 use crate::collect::collected;
 use crate::entry::Entry;

@@ -1,8 +1,8 @@
 //! Forms of literals with equal coefficients.
 
 ghost use Rattle.std.specs.Prelude.{◌≡◌, ℕ, ◌<◌, ◌^◌, true, false, IfOk, IfErr, map};
-ghost use Rattle.pb_normal.specs.Form.{IsNormal};
-ghost use Rattle.pb_normal.specs.Rules.{IsCountOf, among, unit_of, with_coefficient};
+ghost use Rattle.pb_normal.specs.meaning.Form.{IsNormal};
+ghost use Rattle.pb_normal.specs.meaning.Rules.{IsCountOf, among, unit_of, with_coefficient};
 
 use crate::collect::collected;
 use crate::entry::Entry;

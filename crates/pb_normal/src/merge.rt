@@ -2,9 +2,9 @@
 
 ghost use Rattle.std.specs.Prelude.{◌≡◌, ◌+◌, ◌<◌, ◌^◌, [], ◌∷◌, IfOk, IfSome};
 ghost use Rattle.std.specs.Option.{option_to_list};
-ghost use Rattle.pb_normal.specs.Adds.{Adds, Cancels};
-ghost use Rattle.pb_normal.specs.Form.{total, each, IsRising};
-ghost use Rattle.pb_normal.specs.Rules.{with_coefficient};
+ghost use Rattle.pb_normal.specs.engine.Adds.{Adds, Cancels};
+ghost use Rattle.pb_normal.specs.meaning.Form.{total, each, IsRising};
+ghost use Rattle.pb_normal.specs.meaning.Rules.{with_coefficient};
 
 use crate::entry::Entry;
 use std::alloc::{AllocError, Global};

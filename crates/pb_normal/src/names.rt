@@ -2,7 +2,7 @@
 
 ghost use Rattle.std.specs.Prelude.{◌≡◌, ◌↔◌, ◌<◌, [], length, IsTrue, slice_get, Some, None, true, if◌then◌else◌, IfOk, IfSome, OnOk, OnErr};
 ghost use Rattle.std.specs.Option.{option_copied};
-ghost use Rattle.pb_normal.specs.Names.{AreDistinct, has_name, number_in, with_name};
+ghost use Rattle.pb_normal.specs.meaning.Names.{AreDistinct, has_name, number_in, with_name};
 
 use crate::hash_keys::HashKeys;
 use indexmap::IndexSet;
@@ -19,7 +19,7 @@ pub struct Names {
 impl Model for Names {
     ghost use Rattle.std.specs.Prelude.{List, ℕ, map};
     ghost use Rattle.std.specs.String.{string_bytes};
-    ghost use Rattle.pb_normal.specs.Names.{AreDistinct};
+    ghost use Rattle.pb_normal.specs.meaning.Names.{AreDistinct};
 
     ghost Value = { List (List ℕ) };
 

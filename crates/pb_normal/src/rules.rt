@@ -3,9 +3,9 @@
 ghost use Rattle.std.specs.Prelude.{◌≡◌, ◌*◌, ◌<◌, ◌≤◌, ◌≤ℤ◌, ◌^◌, ◌↔◌, ◌==◌, not, pos, IfOk, IfErr, IsTrue, All, map, min, nat_lt, filter, Err};
 ghost use Rattle.std.specs.Int.{div_ceil};
 ghost use Rattle.std.specs.Int.RustNames.{unsigned_abs};
-ghost use Rattle.pb_text.specs.Limits.{largest};
-ghost use Rattle.pb_normal.specs.Form.{IsNormal, IsWithin, Follows, FollowsBoth, IsOpposite, each, total};
-ghost use Rattle.pb_normal.specs.Rules.{IsSum, Passes, SumPasses, SumMeasures, SumIsContradiction, multiplied, divided, saturated, weakened, axiom_on, negation_of, with_coefficient, of_variable, opposite};
+ghost use Rattle.pb_text.specs.meaning.Limits.{largest};
+ghost use Rattle.pb_normal.specs.meaning.Form.{IsNormal, IsWithin, Follows, FollowsBoth, IsOpposite, each, total};
+ghost use Rattle.pb_normal.specs.meaning.Rules.{IsSum, Passes, SumPasses, SumMeasures, SumIsContradiction, multiplied, divided, saturated, weakened, axiom_on, negation_of, with_coefficient, of_variable, opposite};
 
 use crate::entry::Entry;
 use crate::fault::NormalFault;

@@ -2,9 +2,9 @@
 
 ghost use Rattle.std.specs.Prelude.{◌≡◌, ◌≤ℤ◌, pos, length, IfOk, IfErr, Err};
 ghost use Rattle.std.specs.Int.RustNames.{unsigned_abs};
-ghost use Rattle.pb_text.specs.Limits.{largest};
-ghost use Rattle.pb_normal.specs.Form.{IsWithin};
-ghost use Rattle.pb_normal.specs.Rules.{IsSum, Passes, SumPasses, multiplied, divided, saturated, weakened};
+ghost use Rattle.pb_text.specs.meaning.Limits.{largest};
+ghost use Rattle.pb_normal.specs.meaning.Form.{IsWithin};
+ghost use Rattle.pb_normal.specs.meaning.Rules.{IsSum, Passes, SumPasses, multiplied, divided, saturated, weakened};
 
 use crate::fault::NormalFault;
 use crate::form::Normal;
@@ -30,8 +30,8 @@ pub struct Sum<'a> {
 }
 
 impl<'a> Model for Sum<'a> {
-    ghost use Rattle.pb_normal.specs.Form.{Form};
-    ghost use Rattle.pb_normal.specs.Growing.{kind_form};
+    ghost use Rattle.pb_normal.specs.meaning.Form.{Form};
+    ghost use Rattle.pb_normal.specs.engine.Growing.{kind_form};
 
     ghost Value = { Form };
 

@@ -2,11 +2,11 @@
 
 ghost use Rattle.std.specs.Prelude.{◌≡◌, ◌+◌, ◌<◌, ◌^◌, ◌==◌, [], ◌∷◌, not, filter, IfOk, length, Err};
 ghost use Rattle.std.specs.BTreeMap.{values};
-ghost use Rattle.pb_text.specs.Limits.{largest};
-ghost use Rattle.pb_normal.specs.Adds.{Adds};
-ghost use Rattle.pb_normal.specs.Form.{IsNormal, IsWithin, IsRising, total, each};
-ghost use Rattle.pb_normal.specs.Keyed.{IsKeyed};
-ghost use Rattle.pb_normal.specs.Rules.{IsSum, SumPasses, weakened, of_variable};
+ghost use Rattle.pb_text.specs.meaning.Limits.{largest};
+ghost use Rattle.pb_normal.specs.engine.Adds.{Adds};
+ghost use Rattle.pb_normal.specs.meaning.Form.{IsNormal, IsWithin, IsRising, total, each};
+ghost use Rattle.pb_normal.specs.engine.Keyed.{IsKeyed};
+ghost use Rattle.pb_normal.specs.meaning.Rules.{IsSum, SumPasses, weakened, of_variable};
 
 use crate::entry::Entry;
 use crate::fault::NormalFault;
@@ -26,8 +26,8 @@ pub(crate) struct Tree {
 }
 
 impl Model for Tree {
-    ghost use Rattle.pb_normal.specs.Form.{Form};
-    ghost use Rattle.pb_normal.specs.Keyed.{IsKept, keyed_form};
+    ghost use Rattle.pb_normal.specs.meaning.Form.{Form};
+    ghost use Rattle.pb_normal.specs.engine.Keyed.{IsKept, keyed_form};
 
     ghost Value = { Form };
 

@@ -1,8 +1,8 @@
 //! A form written with names.
 
 ghost use Rattle.std.specs.Prelude.{◌≡◌, ◌<◌, ◌^◌, IfOk, IfErr, All, map, length};
-ghost use Rattle.pb_normal.specs.Form.{total, each};
-ghost use Rattle.pb_normal.specs.Written.{term_of, linear_of};
+ghost use Rattle.pb_normal.specs.meaning.Form.{total, each};
+ghost use Rattle.pb_normal.specs.meaning.Written.{term_of, linear_of};
 
 use crate::entry::Entry;
 use crate::fault::NormalFault;

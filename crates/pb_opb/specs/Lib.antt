@@ -1,13 +1,3 @@
-pub mod Asking
-pub mod Gather
-pub mod Canonical
-pub mod Fields
-pub mod Formats
-pub mod Instances
-pub mod Led
-pub mod Machine
-pub mod Order
-pub mod Reading
-pub mod State
-pub mod Statements
-pub mod Values
+pub mod meaning
+pub mod contract
+pub mod engine

@@ -16,7 +16,7 @@ pub struct InstanceSoFar {
 }
 
 impl InstanceSoFar {
-    ghost use Rattle.pb_opb.specs.Gather.{nothing};
+    ghost use Rattle.pb_opb.specs.meaning.Gather.{nothing};
 
     /// The value before any statement.
     pub fn new(alloc: Global) -> Self
@@ -45,7 +45,7 @@ impl InstanceSoFar {
 }
 
 impl Gather for InstanceSoFar {
-    ghost use Rattle.pb_opb.specs.Gather.{with, ended_with, asks};
+    ghost use Rattle.pb_opb.specs.meaning.Gather.{with, ended_with, asks};
 
     type Event = OpbEvent;
 

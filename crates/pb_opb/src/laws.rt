@@ -1,8 +1,8 @@
 //! The laws of instances and their texts.
 
-ghost use Rattle.pb_opb.specs.Fields.{KeepsItsState};
-ghost use Rattle.pb_opb.specs.Formats.{ReadsInstances, OneInstance, FixedMarks, NoFront, LargerLimits};
-ghost use Rattle.pb_opb.specs.Statements.{CanonicalInstance, InstanceValues, ReadsBack};
+ghost use Rattle.pb_opb.specs.contract.Fields.{KeepsItsState};
+ghost use Rattle.pb_opb.specs.contract.Formats.{ReadsInstances, OneInstance, FixedMarks, NoFront, LargerLimits};
+ghost use Rattle.pb_opb.specs.contract.Statements.{CanonicalInstance, InstanceValues, ReadsBack};
 
 /// A new machine accepts exactly the instances.
 pub fn instances_are_exact()

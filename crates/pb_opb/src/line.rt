@@ -1,6 +1,6 @@
 //! Bytes of a line at the start of a text.
 
-ghost use Rattle.pb_text.specs.Blank.{IsInLine};
+ghost use Rattle.pb_text.specs.meaning.Blank.{IsInLine};
 ghost use Rattle.std.specs.Prelude.{◌≡◌, ◌<◌, ◌≤◌, get_or, length, take};
 
 use memchr::memchr;

@@ -1,8 +1,8 @@
 //! The machine of instances.
 
 ghost use Rattle.std.specs.Prelude.{◌≡◌, ◌<◌, ◌≤◌, true, false, IfSome, None, get_or, length, take};
-ghost use Rattle.pb_text.specs.Limits.{largest, top_of};
-ghost use Rattle.pb_opb.specs.State.{phase_owing, owed_after, statement_of};
+ghost use Rattle.pb_text.specs.meaning.Limits.{largest, top_of};
+ghost use Rattle.pb_opb.specs.engine.State.{phase_owing, owed_after, statement_of};
 
 mod end;
 
@@ -31,12 +31,12 @@ pub struct OpbMachine {
 }
 
 impl Model for OpbMachine {
-    ghost use Rattle.pb_opb.specs.State.{OpbState};
+    ghost use Rattle.pb_opb.specs.engine.State.{OpbState};
 
     ghost Value = { OpbState };
 
-    ghost use Rattle.pb_opb.specs.Fields.{state_of};
-    ghost use Rattle.pb_opb.specs.Order.{IsInOrder};
+    ghost use Rattle.pb_opb.specs.contract.Fields.{state_of};
+    ghost use Rattle.pb_opb.specs.engine.Order.{IsInOrder};
 
     ghost view = { state_of };
 
@@ -45,16 +45,16 @@ impl Model for OpbMachine {
 
 impl OpbMachine {
     ghost use Rattle.std.specs.Prelude.{ℕ, List, Bool, Option, ◌↔◌};
-    ghost use Rattle.pb_text.specs.Asking.{AsksOnly};
-    ghost use Rattle.pb_text.specs.Automaton.{Accepts, MayAsk};
-    ghost use Rattle.pb_text.specs.Reading.{Reads};
+    ghost use Rattle.pb_text.specs.meaning.Asking.{AsksOnly};
+    ghost use Rattle.pb_text.specs.contract.Automaton.{Accepts, MayAsk};
+    ghost use Rattle.pb_text.specs.meaning.Reading.{Reads};
     ghost use Rattle.pb_text.specs.declared.Place.{Place};
     ghost use Rattle.pb_text.specs.declared.Spanned.{Spanned};
     ghost use Rattle.pb_text.specs.declared.Stop.{Stop};
-    ghost use Rattle.pb_text.specs.Spelling.{Item};
-    ghost use Rattle.pb_opb.specs.Asking.{Asks};
-    ghost use Rattle.pb_opb.specs.Instances.{IsInstance};
-    ghost use Rattle.pb_opb.specs.State.{opb, begin};
+    ghost use Rattle.pb_text.specs.meaning.Spelling.{Item};
+    ghost use Rattle.pb_opb.specs.meaning.Asking.{Asks};
+    ghost use Rattle.pb_opb.specs.meaning.Instances.{IsInstance};
+    ghost use Rattle.pb_opb.specs.engine.State.{opb, begin};
 
     /// A machine before an instance, which accepts exactly the instances under the limits. It allocates nothing.
     pub fn new(alloc: Global, limits: Limits) -> Self
@@ -81,9 +81,9 @@ impl OpbMachine {
 }
 
 impl OpbMachine {
-    ghost use Rattle.pb_text.specs.Automaton.{Pushes};
-    ghost use Rattle.pb_opb.specs.State.{opb};
-    ghost use Rattle.pb_opb.specs.Machine.{plan};
+    ghost use Rattle.pb_text.specs.contract.Automaton.{Pushes};
+    ghost use Rattle.pb_opb.specs.engine.State.{opb};
+    ghost use Rattle.pb_opb.specs.engine.Machine.{plan};
 
     /// Takes a byte.
     fn take(&mut self, byte: u8) -> Push<OpbEvent>
@@ -174,8 +174,8 @@ impl OpbMachine {
 }
 
 impl OpbMachine {
-    ghost use Rattle.pb_text.specs.Automaton.{Goes, IsState, Runs};
-    ghost use Rattle.pb_opb.specs.State.{opb, keeps_line};
+    ghost use Rattle.pb_text.specs.contract.Automaton.{Goes, IsState, Runs};
+    ghost use Rattle.pb_opb.specs.engine.State.{opb, keeps_line};
 
     /// Takes a byte that is not stored and ends no statement, as far as this is cheap to decide. Returns whether it
     /// took the byte.
@@ -250,7 +250,7 @@ fn statement_of(event: SumEvent) -> OpbEvent
 }
 
 impl Machine for OpbMachine {
-    ghost use Rattle.pb_opb.specs.State.{opb};
+    ghost use Rattle.pb_opb.specs.engine.State.{opb};
 
     type Event = OpbEvent;
 

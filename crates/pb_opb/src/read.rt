@@ -1,11 +1,11 @@
 //! Reads a whole instance.
 
 ghost use Rattle.std.specs.Prelude.{◌≡◌, ◌<◌, None, IfErr, IfOk};
-ghost use Rattle.pb_text.specs.Blank.{IsInReach};
-ghost use Rattle.pb_text.specs.Limits.{largest, top_of};
-ghost use Rattle.pb_text.specs.Pulling.{OfGiven, faults_after};
-ghost use Rattle.pb_text.specs.Stopping.{IsShown};
-ghost use Rattle.pb_opb.specs.Reading.{ReadsInstance};
+ghost use Rattle.pb_text.specs.meaning.Blank.{IsInReach};
+ghost use Rattle.pb_text.specs.meaning.Limits.{largest, top_of};
+ghost use Rattle.pb_text.specs.meaning.Pulling.{OfGiven, faults_after};
+ghost use Rattle.pb_text.specs.meaning.Stopping.{IsShown};
+ghost use Rattle.pb_opb.specs.meaning.Reading.{ReadsInstance};
 
 use crate::gather::InstanceSoFar;
 use crate::instance::Instance;

@@ -1,9 +1,9 @@
 //! What a machine does with a byte, by its phase.
 
 ghost use Rattle.std.specs.Prelude.{◌≡◌, ℕ, ◌+◌, ◌*◌, ◌-◌, ◌<◌, ◌≤◌, ◌^◌, length};
-ghost use Rattle.pb_opb.specs.Machine.{word_of, spell, count, behind_count, plan};
-ghost use Rattle.pb_opb.specs.State.{is_within, is_done};
-ghost use Rattle.pb_opb.specs.Order.{PhaseFits, MoveFits};
+ghost use Rattle.pb_opb.specs.engine.Machine.{word_of, spell, count, behind_count, plan};
+ghost use Rattle.pb_opb.specs.engine.State.{is_within, is_done};
+ghost use Rattle.pb_opb.specs.engine.Order.{PhaseFits, MoveFits};
 
 use crate::phase::{Field, Move, Phase};
 use pb_text::bytes::{is_blank, is_digit, is_white};

@@ -1,10 +1,10 @@
 //! The rules that an instance meets.
 
-ghost use Rattle.pb_text.specs.Blank.{IsInLine};
+ghost use Rattle.pb_text.specs.meaning.Blank.{IsInLine};
 ghost use Rattle.std.specs.Prelude.{◌≡◌, ◌<◌, ◌≤◌, ◌↔◌, IsTrue, length};
-ghost use Rattle.pb_text.specs.Limits.{largest, top_of};
-ghost use Rattle.pb_opb.specs.Instances.{IsTail};
-ghost use Rattle.pb_opb.specs.Values.{IsObjective, AreLinears, AreComments, IsInstanceValue};
+ghost use Rattle.pb_text.specs.meaning.Limits.{largest, top_of};
+ghost use Rattle.pb_opb.specs.meaning.Instances.{IsTail};
+ghost use Rattle.pb_opb.specs.meaning.Values.{IsObjective, AreLinears, AreComments, IsInstanceValue};
 
 use crate::instance::{Comment, Instance};
 use pb_sums::{Linear, Term, linear_is_value, sum_is_value};

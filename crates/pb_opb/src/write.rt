@@ -1,10 +1,10 @@
 //! Canonical text.
 
 ghost use Rattle.std.specs.Prelude.{◌≡◌, ◌≤◌, [], ◌∷◌, ◌++◌, length};
-ghost use Rattle.pb_text.specs.Writing.{Writes};
-ghost use Rattle.pb_sums.specs.Canonical.{linear_bytes};
-ghost use Rattle.pb_opb.specs.Canonical.{header_bytes, objective_bytes, event_bytes, due, comment_events, constraint_events, in_order, lines, body_events, instance_bytes};
-ghost use Rattle.pb_opb.specs.Led.{led_lines};
+ghost use Rattle.pb_text.specs.meaning.Writing.{Writes};
+ghost use Rattle.pb_sums.specs.contract.Canonical.{linear_bytes};
+ghost use Rattle.pb_opb.specs.contract.Canonical.{header_bytes, objective_bytes, event_bytes, due, comment_events, constraint_events, in_order, lines, body_events, instance_bytes};
+ghost use Rattle.pb_opb.specs.engine.Led.{led_lines};
 
 use crate::event::OpbEvent;
 use crate::instance::{Comment, Instance};

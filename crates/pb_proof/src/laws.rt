@@ -1,9 +1,9 @@
 //! The laws of proofs and their texts.
 
-ghost use Rattle.pb_proof.specs.Fields.{ProofKeeps};
-ghost use Rattle.pb_proof.specs.Line.ClaimFields.{ClaimKeeps};
-ghost use Rattle.pb_proof.specs.Line.Fields.{CountKeeps, IdsKeeps, LiteralsKeeps, RupKeeps, PolKeeps};
-ghost use Rattle.pb_proof.specs.Formats.{ReadsProofs, OneProof, FixedMarks, NoFront, LargerLimits};
+ghost use Rattle.pb_proof.specs.contract.Fields.{ProofKeeps};
+ghost use Rattle.pb_proof.specs.engine.Line.ClaimFields.{ClaimKeeps};
+ghost use Rattle.pb_proof.specs.engine.Line.Fields.{CountKeeps, IdsKeeps, LiteralsKeeps, RupKeeps, PolKeeps};
+ghost use Rattle.pb_proof.specs.contract.Formats.{ReadsProofs, OneProof, FixedMarks, NoFront, LargerLimits};
 
 pub mod values;
 

@@ -1,8 +1,8 @@
 //! The machine for proofs.
 
 ghost use Rattle.std.specs.Prelude.{◌≡◌, false, None, Some, Option};
-ghost use Rattle.pb_text.specs.Limits.{largest, top_of};
-ghost use Rattle.pb_proof.specs.Line.Machine.{line_first};
+ghost use Rattle.pb_text.specs.meaning.Limits.{largest, top_of};
+ghost use Rattle.pb_proof.specs.engine.Line.Machine.{line_first};
 
 mod end;
 pub(crate) mod phase;
@@ -27,8 +27,8 @@ pub struct ProofMachine {
 }
 
 impl Model for ProofMachine {
-    ghost use Rattle.pb_proof.specs.Fields.{proof_state};
-    ghost use Rattle.pb_proof.specs.Machine.State.{ProofState, IsInOrder};
+    ghost use Rattle.pb_proof.specs.contract.Fields.{proof_state};
+    ghost use Rattle.pb_proof.specs.engine.Machine.State.{ProofState, IsInOrder};
 
     ghost Value = { ProofState };
 
@@ -53,16 +53,16 @@ fn start_line(line: &mut Option<LineMachine>, alloc: Global, limits: Limits, kin
 
 impl ProofMachine {
     ghost use Rattle.std.specs.Prelude.{ℕ, List, Bool, ◌↔◌};
-    ghost use Rattle.pb_text.specs.Asking.{AsksOnly};
-    ghost use Rattle.pb_text.specs.Automaton.{Accepts, MayAsk};
-    ghost use Rattle.pb_text.specs.Reading.{Reads};
+    ghost use Rattle.pb_text.specs.meaning.Asking.{AsksOnly};
+    ghost use Rattle.pb_text.specs.contract.Automaton.{Accepts, MayAsk};
+    ghost use Rattle.pb_text.specs.meaning.Reading.{Reads};
     ghost use Rattle.pb_text.specs.declared.Place.{Place};
     ghost use Rattle.pb_text.specs.declared.Spanned.{Spanned};
     ghost use Rattle.pb_text.specs.declared.Stop.{Stop};
-    ghost use Rattle.pb_text.specs.Spelling.{Item};
-    ghost use Rattle.pb_proof.specs.Asking.{Asks};
-    ghost use Rattle.pb_proof.specs.Proofs.{IsProof};
-    ghost use Rattle.pb_proof.specs.Machine.State.{proofs, begin};
+    ghost use Rattle.pb_text.specs.meaning.Spelling.{Item};
+    ghost use Rattle.pb_proof.specs.meaning.Asking.{Asks};
+    ghost use Rattle.pb_proof.specs.meaning.Proofs.{IsProof};
+    ghost use Rattle.pb_proof.specs.engine.Machine.State.{proofs, begin};
 
     /// A machine at the start of a proof. It accepts exactly the proofs under the limits.
     /// Creating it does not allocate.
@@ -89,9 +89,9 @@ impl ProofMachine {
 }
 
 impl ProofMachine {
-    ghost use Rattle.pb_text.specs.Automaton.{Pushes};
-    ghost use Rattle.pb_proof.specs.Machine.State.{proofs};
-    ghost use Rattle.pb_proof.specs.Machine.Transition.{plan};
+    ghost use Rattle.pb_text.specs.contract.Automaton.{Pushes};
+    ghost use Rattle.pb_proof.specs.engine.Machine.State.{proofs};
+    ghost use Rattle.pb_proof.specs.engine.Machine.Transition.{plan};
 
     /// Takes a byte.
     fn take(&mut self, byte: u8) -> Push<Statement>
@@ -148,8 +148,8 @@ impl ProofMachine {
 
 impl ProofMachine {
     ghost use Rattle.std.specs.Prelude.{◌≤◌, take, length};
-    ghost use Rattle.pb_text.specs.Automaton.{IsState, Runs};
-    ghost use Rattle.pb_proof.specs.Machine.State.{proofs};
+    ghost use Rattle.pb_text.specs.contract.Automaton.{IsState, Runs};
+    ghost use Rattle.pb_proof.specs.engine.Machine.State.{proofs};
 
     /// Gives bytes at the start of a text to the line machine, if there is one. Returns how many it took.
     fn give_front(&mut self, text: &[u8]) -> usize
@@ -193,7 +193,7 @@ impl ProofMachine {
 }
 
 impl Machine for ProofMachine {
-    ghost use Rattle.pb_proof.specs.Machine.State.{proofs};
+    ghost use Rattle.pb_proof.specs.engine.Machine.State.{proofs};
 
     type Event = Statement;
 

@@ -1,14 +1,14 @@
 //! Reads a whole proof.
 
 ghost use Rattle.std.specs.Prelude.{false, ◌≡◌, ◌<◌, ◌↔◌, ℕ, List, None, IfErr, IfOk};
-ghost use Rattle.pb_text.specs.Automaton.{Accepts, MayAsk};
-ghost use Rattle.pb_text.specs.Blank.{IsInReach};
-ghost use Rattle.pb_text.specs.Limits.{largest, top_of};
-ghost use Rattle.pb_text.specs.Pulling.{OfGiven, faults_after};
-ghost use Rattle.pb_text.specs.Spelling.{Item};
-ghost use Rattle.pb_text.specs.Stopping.{IsShown};
-ghost use Rattle.pb_proof.specs.Proofs.{IsProof};
-ghost use Rattle.pb_proof.specs.Reading.{AsksInProof, ReadsProof};
+ghost use Rattle.pb_text.specs.contract.Automaton.{Accepts, MayAsk};
+ghost use Rattle.pb_text.specs.meaning.Blank.{IsInReach};
+ghost use Rattle.pb_text.specs.meaning.Limits.{largest, top_of};
+ghost use Rattle.pb_text.specs.meaning.Pulling.{OfGiven, faults_after};
+ghost use Rattle.pb_text.specs.meaning.Spelling.{Item};
+ghost use Rattle.pb_text.specs.meaning.Stopping.{IsShown};
+ghost use Rattle.pb_proof.specs.meaning.Proofs.{IsProof};
+ghost use Rattle.pb_proof.specs.meaning.Reading.{AsksInProof, ReadsProof};
 
 mod gather;
 

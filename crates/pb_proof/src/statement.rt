@@ -34,7 +34,7 @@ pub enum Statement {
 
 impl Statement {
     ghost use Rattle.std.specs.Prelude.{◌≡◌};
-    ghost use Rattle.pb_proof.specs.Order.{stage_of, stage_after};
+    ghost use Rattle.pb_proof.specs.meaning.Order.{stage_of, stage_after};
 
     /// The stage of a proof at which the statement may come.
     pub fn stage(&self) -> Stage

@@ -1,11 +1,11 @@
 //! The rules that statements and proofs meet.
 
 ghost use Rattle.std.specs.Prelude.{◌≡◌, ◌+◌, ◌<◌, ◌≤◌, ◌^◌, ◌↔◌, IsTrue, All};
-ghost use Rattle.pb_text.specs.Limits.{largest, top_of};
-ghost use Rattle.pb_proof.specs.Line.Finished.{finished_with};
-ghost use Rattle.pb_proof.specs.Postfix.{IsPostfix};
-ghost use Rattle.pb_proof.specs.Proofs.{IsStep};
-ghost use Rattle.pb_proof.specs.Values.{IfGiven, IsId, IsFactor, AreLiterals, IsBound, IsWord, IsConclusion, IsStatementValue, IsProofValue};
+ghost use Rattle.pb_text.specs.meaning.Limits.{largest, top_of};
+ghost use Rattle.pb_proof.specs.engine.Line.Finished.{finished_with};
+ghost use Rattle.pb_proof.specs.meaning.Postfix.{IsPostfix};
+ghost use Rattle.pb_proof.specs.meaning.Proofs.{IsStep};
+ghost use Rattle.pb_proof.specs.contract.Values.{IfGiven, IsId, IsFactor, AreLiterals, IsBound, IsWord, IsConclusion, IsStatementValue, IsProofValue};
 
 use crate::conclusion::{Bound, Conclusion};
 use crate::proof::Proof;

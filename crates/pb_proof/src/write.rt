@@ -2,9 +2,9 @@
 
 ghost use Rattle.std.specs.Prelude.{◌≡◌, [], ◌∷◌, ◌++◌};
 ghost use Rattle.std.specs.Fmt.{signed_decimal};
-ghost use Rattle.pb_text.specs.Writing.{Writes};
-ghost use Rattle.pb_proof.specs.Canonical.{literal_line, listed_bytes, bound_bytes, id_shown_bytes, shown_bytes, claim_bytes, count_bytes, statement_bytes, proof_bytes};
-ghost use Rattle.pb_proof.specs.Line.Ended.{ended_lines};
+ghost use Rattle.pb_text.specs.meaning.Writing.{Writes};
+ghost use Rattle.pb_proof.specs.meaning.Canonical.{literal_line, listed_bytes, bound_bytes, id_shown_bytes, shown_bytes, claim_bytes, count_bytes, statement_bytes, proof_bytes};
+ghost use Rattle.pb_proof.specs.engine.Line.Ended.{ended_lines};
 
 mod words;
 

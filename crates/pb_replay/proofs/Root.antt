@@ -1,11 +1,2 @@
 -- Lemmas on the root, which questions continue from.
-pub mod Admitted
-pub mod Cuts
-pub mod Extends
-pub mod Follows
-pub mod Gained
 pub mod Lost
-pub mod Opens
-pub mod Questions
-pub mod Rooted
-pub mod Roots

@@ -3,14 +3,14 @@
 ghost use Rattle.pb_opb.specs.declared.Instance.{Instance as AnInstance};
 ghost use Rattle.std.specs.Prelude.{ℕ, ◌<◌, ◌≡◌, Ok, Err, None, Some, IfOk, IfErr, IfSome, ◌⊎◌, length, slice_get};
 ghost use Rattle.std.specs.Option.{option_copied};
-ghost use Rattle.pb_text.specs.Limits.{largest, top_of};
-ghost use Rattle.pb_proof.specs.Values.{IsStatementValue};
-ghost use Rattle.pb_replay.specs.Problem.{FitsAll, Opened};
-ghost use Rattle.pb_replay.specs.Replay.{State, first_state};
-ghost use Rattle.pb_replay.specs.Meaning.{IsFront, IsProblem, IsSound, Means, MeansWritten};
-ghost use Rattle.pb_replay.specs.Kept.{StandsFor, StepsAs, verdict_in, constraint_in};
-ghost use Rattle.pb_replay.specs.Statements.{MayWantAt};
-ghost use Rattle.pb_replay.specs.Visits.{LooksOf};
+ghost use Rattle.pb_text.specs.meaning.Limits.{largest, top_of};
+ghost use Rattle.pb_proof.specs.contract.Values.{IsStatementValue};
+ghost use Rattle.pb_replay.specs.meaning.Problem.{FitsAll, Opened};
+ghost use Rattle.pb_replay.specs.meaning.Replay.{State, first_state};
+ghost use Rattle.pb_replay.specs.meaning.Meaning.{IsFront, IsProblem, IsSound, Means, MeansWritten};
+ghost use Rattle.pb_replay.specs.contract.Kept.{StandsFor, StepsAs, verdict_in, constraint_in};
+ghost use Rattle.pb_replay.specs.meaning.Statements.{MayWantAt};
+ghost use Rattle.pb_replay.specs.contract.Visits.{LooksOf};
 ghost use Rattle.pb_replay.specs.declared.fault.Fault.{Fault as AFault};
 
 use crate::fault::Fault;
@@ -33,7 +33,7 @@ pub struct Replay {
 }
 
 impl Model for Replay {
-    ghost use Rattle.pb_replay.specs.Kept.{Replaying, IsKept, problem_of};
+    ghost use Rattle.pb_replay.specs.contract.Kept.{Replaying, IsKept, problem_of};
 
     ghost Value = { Replaying };
 

@@ -14,7 +14,7 @@ pub struct Shared {
 }
 
 impl Model for Shared {
-    ghost use Rattle.pb_normal.specs.Form.{Form};
+    ghost use Rattle.pb_normal.specs.meaning.Form.{Form};
 
     ghost Value = { Form };
 

@@ -1,12 +1,12 @@
 //! What the statements do.
 
 ghost use Rattle.std.specs.Prelude.{◌≡◌, ◌↔◌, Err, IsTrue, OnOk};
-ghost use Rattle.pb_text.specs.Limits.{largest, top_of};
-ghost use Rattle.pb_proof.specs.Order.{stage_of};
-ghost use Rattle.pb_proof.specs.Values.{IsStatementValue};
-ghost use Rattle.pb_replay.specs.Kept.{Keeps, Goes, Comes, IsLinked, IsReady, problem_of};
-ghost use Rattle.pb_replay.specs.Statements.{IsCount, MayWant, MayWantAt, PassesFirst};
-ghost use Rattle.pb_replay.specs.Visits.{LooksOf, counted_from};
+ghost use Rattle.pb_text.specs.meaning.Limits.{largest, top_of};
+ghost use Rattle.pb_proof.specs.meaning.Order.{stage_of};
+ghost use Rattle.pb_proof.specs.contract.Values.{IsStatementValue};
+ghost use Rattle.pb_replay.specs.contract.Kept.{Keeps, Goes, Comes, IsLinked, IsReady, problem_of};
+ghost use Rattle.pb_replay.specs.meaning.Statements.{IsCount, MayWant, MayWantAt, PassesFirst};
+ghost use Rattle.pb_replay.specs.contract.Visits.{LooksOf, counted_from};
 
 mod bounds;
 mod conclude;

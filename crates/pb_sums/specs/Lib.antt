@@ -1,11 +1,3 @@
-pub mod Asking
-pub mod Sums
-pub mod Kept
-pub mod Machine
-pub mod Prefix
-pub mod State
-pub mod Canonical
-pub mod Statements
-pub mod Names
-pub mod TermParts
-pub mod Fields
+pub mod meaning
+pub mod contract
+pub mod engine

@@ -1,8 +1,8 @@
 //! The kinds of bytes.
 
 ghost use Rattle.std.specs.Prelude.{◌≡◌};
-ghost use Rattle.pb_sums.specs.Sums.{takes_line_feeds, is_space};
-ghost use Rattle.pb_sums.specs.Machine.{symbol, kind_of_plain, kind, letter_at, KindFits};
+ghost use Rattle.pb_sums.specs.meaning.Sums.{takes_line_feeds, is_space};
+ghost use Rattle.pb_sums.specs.engine.Machine.{symbol, kind_of_plain, kind, letter_at, KindFits};
 
 use crate::grammar::Spaces;
 use crate::phase::Kind;

@@ -1,8 +1,8 @@
 //! The laws of the grammar and of the machine.
 
-ghost use Rattle.pb_sums.specs.Fields.{NameKeeps, ShortKeeps};
-ghost use Rattle.pb_sums.specs.Kept.{KeepsItsState};
-ghost use Rattle.pb_sums.specs.Statements.{ReadsGrammar, EndsLast, EachReads, EachIsState, OneValue, NoFront, LargerLimits, CanonicalLinear, CanonicalSum, CanonicalBytes};
+ghost use Rattle.pb_sums.specs.contract.Fields.{NameKeeps, ShortKeeps};
+ghost use Rattle.pb_sums.specs.contract.Kept.{KeepsItsState};
+ghost use Rattle.pb_sums.specs.contract.Statements.{ReadsGrammar, EndsLast, EachReads, EachIsState, OneValue, NoFront, LargerLimits, CanonicalLinear, CanonicalSum, CanonicalBytes};
 
 /// A new machine reads exactly the grammar, and each state that has not ended reads something.
 pub fn sums_are_exact()

@@ -1,12 +1,12 @@
 //! The machine of sums.
 
 ghost use Rattle.std.specs.Prelude.{true, false, ◌≡◌, ℕ, ◌+◌, ◌-◌, ◌≤◌, ◌^◌, ◌↔◌, ◌&&◌, if◌then◌else◌, Bool, List, [], ◌∷◌, IfOk, OnOk, OnErr, min};
-ghost use Rattle.pb_text.specs.Automaton.{Accepts, IsState};
-ghost use Rattle.pb_text.specs.Limits.{largest};
-ghost use Rattle.pb_text.specs.Spelling.{Item};
-ghost use Rattle.pb_text.specs.Classes.{is_digit};
-ghost use Rattle.pb_sums.specs.Machine.{flushed, is_more, is_in_number};
-ghost use Rattle.pb_sums.specs.State.{units};
+ghost use Rattle.pb_text.specs.contract.Automaton.{Accepts, IsState};
+ghost use Rattle.pb_text.specs.meaning.Limits.{largest};
+ghost use Rattle.pb_text.specs.meaning.Spelling.{Item};
+ghost use Rattle.pb_text.specs.meaning.Classes.{is_digit};
+ghost use Rattle.pb_sums.specs.engine.Machine.{flushed, is_more, is_in_number};
+ghost use Rattle.pb_sums.specs.engine.State.{units};
 
 mod end;
 
@@ -42,11 +42,11 @@ pub struct SumMachine {
 
 impl Model for SumMachine {
     ghost use Rattle.std.specs.Prelude.{◌<◌, ◌^◌};
-    ghost use Rattle.pb_sums.specs.State.{SumState, IsInOrder};
+    ghost use Rattle.pb_sums.specs.engine.State.{SumState, IsInOrder};
 
     ghost Value = { SumState };
 
-    ghost use Rattle.pb_sums.specs.Kept.{state_of};
+    ghost use Rattle.pb_sums.specs.contract.Kept.{state_of};
 
     ghost view = { state_of };
 
@@ -125,10 +125,10 @@ pub fn count_units(terms: &[Term]) -> usize
 }
 
 impl SumMachine {
-    ghost use Rattle.pb_text.specs.Asking.{AsksOnly};
-    ghost use Rattle.pb_text.specs.Automaton.{MayAsk};
-    ghost use Rattle.pb_sums.specs.Asking.{AsksLiteral};
-    ghost use Rattle.pb_sums.specs.State.{sums, first, IsOneText};
+    ghost use Rattle.pb_text.specs.meaning.Asking.{AsksOnly};
+    ghost use Rattle.pb_text.specs.contract.Automaton.{MayAsk};
+    ghost use Rattle.pb_sums.specs.meaning.Asking.{AsksLiteral};
+    ghost use Rattle.pb_sums.specs.engine.State.{sums, first, IsOneText};
 
     /// A machine before its text. It does not allocate.
     pub fn new(alloc: Global, spaces: Spaces, part: Part, limits: Limits) -> Self
@@ -164,9 +164,9 @@ impl SumMachine {
 
 impl SumMachine {
     ghost use Rattle.std.specs.Prelude.{take, length};
-    ghost use Rattle.pb_text.specs.Automaton.{Goes, Runs};
-    ghost use Rattle.pb_sums.specs.Prefix.{LacksNumber, LacksRelation, begins_number, begins_relation, sign_read};
-    ghost use Rattle.pb_sums.specs.State.{sums};
+    ghost use Rattle.pb_text.specs.contract.Automaton.{Goes, Runs};
+    ghost use Rattle.pb_sums.specs.engine.Prefix.{LacksNumber, LacksRelation, begins_number, begins_relation, sign_read};
+    ghost use Rattle.pb_sums.specs.engine.State.{sums};
 
     /// If a term may begin, takes a whole term and a space after it. After the sign of a term, takes the rest and the space.
     #[inline(always)]
@@ -377,7 +377,7 @@ impl SumMachine {
 }
 
 impl Machine for SumMachine {
-    ghost use Rattle.pb_sums.specs.State.{sums};
+    ghost use Rattle.pb_sums.specs.engine.State.{sums};
 
     type Event = SumEvent;
 

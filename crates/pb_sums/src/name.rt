@@ -25,7 +25,7 @@ pub struct Name {
 
 impl Model for Name {
     ghost use Rattle.std.specs.Prelude.{List, ℕ};
-    ghost use Rattle.pb_sums.specs.Names.{bytes_of};
+    ghost use Rattle.pb_sums.specs.engine.Names.{bytes_of};
 
     ghost Value = { List ℕ };
 

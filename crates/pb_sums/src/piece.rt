@@ -2,7 +2,7 @@
 
 ghost use Rattle.std.specs.Prelude.{◌≡◌, ◌+◌, ◌≤◌, ◌<◌, [], ◌∷◌, ◌++◌, length, decimal};
 ghost use Rattle.std.specs.Fmt.{signed_decimal};
-ghost use Rattle.pb_sums.specs.Canonical.{weight_bytes};
+ghost use Rattle.pb_sums.specs.contract.Canonical.{weight_bytes};
 
 use itoa::{Buffer, write_digits};
 use std::marker::Model;

@@ -1,11 +1,11 @@
 //! Names and signs at the start of a text.
 
 ghost use Rattle.std.specs.Prelude.{◌<◌, ◌≤◌, ◌≡◌, IsTrue, IfSome, None, true, false, take, length, get_or};
-ghost use Rattle.pb_text.specs.Classes.{is_name_byte};
-ghost use Rattle.pb_text.specs.Languages.{Each};
-ghost use Rattle.pb_sums.specs.Canonical.{operator_bytes};
-ghost use Rattle.pb_sums.specs.Prefix.{HasSign, LacksRelation};
-ghost use Rattle.pb_sums.specs.Sums.{allows};
+ghost use Rattle.pb_text.specs.meaning.Classes.{is_name_byte};
+ghost use Rattle.pb_text.specs.meaning.Languages.{Each};
+ghost use Rattle.pb_sums.specs.contract.Canonical.{operator_bytes};
+ghost use Rattle.pb_sums.specs.engine.Prefix.{HasSign, LacksRelation};
+ghost use Rattle.pb_sums.specs.meaning.Sums.{allows};
 
 use crate::grammar::Part;
 use crate::transition::allows;

@@ -31,7 +31,7 @@ impl Model for ShortText {
 impl ShortText {
     /// The empty text.
     #[inline(always)]
-    #[tactic(auto, using(crate::proofs::Shorts::none_utf8))]
+    #[tactic(auto, using(crate::proofs::lemmas::values::Shorts::none_utf8))]
     pub fn new(alloc: Global) -> ShortText
         ensures { result ≡ [] }
     {
@@ -122,7 +122,7 @@ impl ShortText {
 
     /// Appends an ASCII byte if there is room for it, and returns whether there was.
     #[inline(always)]
-    #[tactic(auto, using(crate::proofs::Shorts::longer_utf8))]
+    #[tactic(auto, using(crate::proofs::lemmas::values::Shorts::longer_utf8))]
     pub fn push(&mut self, byte: u8) -> bool
         requires { byte < 128 }
         ensures { self.new ≡ (if result then self.old ++ byte ∷ [] else self.old) }

@@ -1,8 +1,8 @@
 //! Parts of a term at the start of a text.
 
 ghost use Rattle.std.specs.Prelude.{◌≡◌, ◌≢◌, ◌≤◌, ◌<◌, ◌^◌, IfSome, None, true, get_or, length, take};
-ghost use Rattle.pb_sums.specs.Prefix.{LacksLiteral, LacksNumber, begins_number, sign_read};
-ghost use Rattle.pb_sums.specs.TermParts.{begins_term, IsTilde, IsSpacedNumber, IsLiteral};
+ghost use Rattle.pb_sums.specs.engine.Prefix.{LacksLiteral, LacksNumber, begins_number, sign_read};
+ghost use Rattle.pb_sums.specs.engine.TermParts.{begins_term, IsTilde, IsSpacedNumber, IsLiteral};
 
 use crate::name::Name;
 use crate::phase::Phase;

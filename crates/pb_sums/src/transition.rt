@@ -1,10 +1,10 @@
 //! What a machine does with a kind of byte.
 
 ghost use Rattle.std.specs.Prelude.{◌≡◌, ℕ, ◌-◌, ◌<◌, ◌≤◌, ◌^◌, Bool, None};
-ghost use Rattle.pb_sums.specs.Sums.{reads_sums, allows};
-ghost use Rattle.pb_sums.specs.Machine.{digits, number, behind, plan, KindFits, PhaseFits, MoveFits, is_numeric, is_in_number, is_more, is_done};
-ghost use Rattle.pb_sums.specs.Prefix.{begins_number, begins_relation, role, sign_read, behind_name, behind_number, behind_space};
-ghost use Rattle.pb_sums.specs.State.{in_hand};
+ghost use Rattle.pb_sums.specs.meaning.Sums.{reads_sums, allows};
+ghost use Rattle.pb_sums.specs.engine.Machine.{digits, number, behind, plan, KindFits, PhaseFits, MoveFits, is_numeric, is_in_number, is_more, is_done};
+ghost use Rattle.pb_sums.specs.engine.Prefix.{begins_number, begins_relation, role, sign_read, behind_name, behind_number, behind_space};
+ghost use Rattle.pb_sums.specs.engine.State.{in_hand};
 
 use crate::grammar::Part;
 use crate::phase::{Kind, Move, Phase};

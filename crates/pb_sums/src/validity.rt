@@ -1,11 +1,11 @@
 //! The rules for a value of the grammar.
 
 ghost use Rattle.std.specs.Prelude.{◌≡◌, ◌<◌, ◌≤◌, ◌^◌, ◌↔◌, IsTrue, nat_abs};
-ghost use Rattle.pb_text.specs.Classes.{is_name_byte};
-ghost use Rattle.pb_text.specs.Languages.{Each};
-ghost use Rattle.pb_text.specs.Limits.{largest};
-ghost use Rattle.pb_sums.specs.Canonical.{IsTerm, AreTerms, IsLinear};
-ghost use Rattle.pb_sums.specs.Sums.{IsName};
+ghost use Rattle.pb_text.specs.meaning.Classes.{is_name_byte};
+ghost use Rattle.pb_text.specs.meaning.Languages.{Each};
+ghost use Rattle.pb_text.specs.meaning.Limits.{largest};
+ghost use Rattle.pb_sums.specs.contract.Canonical.{IsTerm, AreTerms, IsLinear};
+ghost use Rattle.pb_sums.specs.meaning.Sums.{IsName};
 
 use crate::values::{Linear, Term};
 use pb_text::Limits;

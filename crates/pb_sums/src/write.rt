@@ -2,9 +2,9 @@
 
 ghost use Rattle.std.specs.Prelude.{◌≡◌, ◌+◌, ◌≤◌, ◌++◌, ◌<◌, [], ◌∷◌, List, ℕ, decimal, length, drop, if◌then◌else◌};
 ghost use Rattle.std.specs.Fmt.{signed_decimal};
-ghost use Rattle.pb_text.specs.Writing.{Writes};
-ghost use Rattle.pb_sums.specs.Sums.{literal_bytes};
-ghost use Rattle.pb_sums.specs.Canonical.{weight_bytes, term_bytes, further_bytes, sum_bytes, operator_bytes, linear_bytes, place_bytes};
+ghost use Rattle.pb_text.specs.meaning.Writing.{Writes};
+ghost use Rattle.pb_sums.specs.meaning.Sums.{literal_bytes};
+ghost use Rattle.pb_sums.specs.contract.Canonical.{weight_bytes, term_bytes, further_bytes, sum_bytes, operator_bytes, linear_bytes, place_bytes};
 
 use crate::Name;
 use crate::piece::{Piece, ROOM};

@@ -1,10 +1,10 @@
 //! The rest of an input, which must be white space and comments.
 
 ghost use Rattle.std.specs.Prelude.{◌≡◌, ◌+◌, ◌^◌, ◌≤◌, ◌&&◌, ◌||◌, not, nat_eq, true, None, IfErr, OnOk};
-ghost use Rattle.pb_text.specs.Blank.{ReadsBlank};
-ghost use Rattle.pb_text.specs.Classes.{is_white};
-ghost use Rattle.pb_text.specs.Pulling.{OfGiven, faults_after};
-ghost use Rattle.pb_text.specs.Stopping.{IsShown};
+ghost use Rattle.pb_text.specs.meaning.Blank.{ReadsBlank};
+ghost use Rattle.pb_text.specs.meaning.Classes.{is_white};
+ghost use Rattle.pb_text.specs.meaning.Pulling.{OfGiven, faults_after};
+ghost use Rattle.pb_text.specs.meaning.Stopping.{IsShown};
 
 use crate::bytes::is_white;
 use crate::feeder::BYTE_LIMIT;

@@ -1,7 +1,7 @@
 //! Classes of bytes.
 
 ghost use Rattle.std.specs.Prelude.{◌≡◌, ◌<◌, IsTrue};
-ghost use Rattle.pb_text.specs.Classes.{is_blank, is_white, is_digit, is_letter, is_name_byte};
+ghost use Rattle.pb_text.specs.meaning.Classes.{is_blank, is_white, is_digit, is_letter, is_name_byte};
 
 /// Each name byte at its own index, and a comma at every other index.
 static NAME_BYTES: [u8; 256] = *b"\

@@ -1,7 +1,7 @@
 //! Numbers that are read digit by digit.
 
 ghost use Rattle.std.specs.Prelude.{◌≡◌, ◌+◌, ◌*◌, ◌^◌, ◌<◌, ◌≤◌, MatchOption};
-ghost use Rattle.pb_text.specs.Numbers.{signed};
+ghost use Rattle.pb_text.specs.meaning.Numbers.{signed};
 
 /// Numbers below this have room for one more digit, so they need no division.
 const SMALL: u128 = 1 << 60;

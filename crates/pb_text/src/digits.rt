@@ -1,9 +1,9 @@
 //! Digits at the start of a text.
 
 ghost use Rattle.std.specs.Prelude.{◌<◌, ◌≤◌, ◌≡◌, ◌^◌, IsTrue, false, take, length, get_or};
-ghost use Rattle.pb_text.specs.Classes.{is_digit};
-ghost use Rattle.pb_text.specs.Digits.{value_from};
-ghost use Rattle.pb_text.specs.Languages.{Each};
+ghost use Rattle.pb_text.specs.meaning.Classes.{is_digit};
+ghost use Rattle.pb_text.specs.contract.Digits.{value_from};
+ghost use Rattle.pb_text.specs.meaning.Languages.{Each};
 
 use crate::bytes::is_digit;
 

@@ -1,8 +1,8 @@
 //! The events of a source, one after another.
 
 ghost use Rattle.std.specs.Prelude.{◌≡◌};
-ghost use Rattle.pb_text.specs.Feeding.{place_of};
-ghost use Rattle.pb_text.specs.Events.{Gives, feeder_of, most_left, source_of};
+ghost use Rattle.pb_text.specs.contract.Feeding.{place_of};
+ghost use Rattle.pb_text.specs.contract.Events.{Gives, feeder_of, most_left, source_of};
 
 use crate::feeder::Feeder;
 use crate::machine::Machine;

@@ -1,8 +1,8 @@
 //! A source that fails at once.
 
 ghost use Rattle.std.specs.Prelude.{false, ◌≡◌, ◌<◌, ℕ};
-ghost use Rattle.pb_text.specs.Automaton.{Accepts};
-ghost use Rattle.pb_text.specs.NothingRead.{ReadsNothing, first_fault};
+ghost use Rattle.pb_text.specs.contract.Automaton.{Accepts};
+ghost use Rattle.pb_text.specs.contract.NothingRead.{ReadsNothing, first_fault};
 
 use crate::machine::Machine;
 use crate::place::{Place, Stop, Why};

@@ -1,10 +1,10 @@
 //! Reads a text in pieces.
 
 ghost use Rattle.std.specs.Prelude.{true, false, ◌≡◌, ◌≢◌, ℕ, Some, None, Ok, Err, ◌+◌, ◌-◌, ◌^◌, ◌<◌, ◌≤◌, List, [], ◌∷◌, ◌++◌, take, if◌then◌else◌, OnOk, OnErr, IfOk, IfErr, length, slice_get, is_some};
-ghost use Rattle.pb_text.specs.SpentBytes.{end_of};
-ghost use Rattle.pb_text.specs.Spelling.{place_next, place_or};
-ghost use Rattle.pb_text.specs.Standing.{opened};
-ghost use Rattle.pb_text.specs.Stopping.{IsShown};
+ghost use Rattle.pb_text.specs.engine.SpentBytes.{end_of};
+ghost use Rattle.pb_text.specs.meaning.Spelling.{place_next, place_or};
+ghost use Rattle.pb_text.specs.contract.Standing.{opened};
+ghost use Rattle.pb_text.specs.meaning.Stopping.{IsShown};
 
 use crate::machine::{Machine, Push};
 use crate::place::{Place, Spanned, Stop, Why};
@@ -50,11 +50,11 @@ pub struct Feeder<M: Machine> {
 impl<M: Machine> Feeder<M> {
     ghost use Rattle.pb_text.specs.declared.place.Spanned.{Spanned};
     ghost use Rattle.pb_text.specs.declared.place.Stop.{Stop};
-    ghost use Rattle.pb_text.specs.Blank.{IsInReach};
-    ghost use Rattle.pb_text.specs.Automaton.{Accepts, IsState};
-    ghost use Rattle.pb_text.specs.Standing.{IsOpen};
-    ghost use Rattle.pb_text.specs.Reading.{Reads, EndsAs};
-    ghost use Rattle.pb_text.specs.Feeding.{StandsAt, FeedsOnce, HoldsFew, WantsMemory, stop_of, marks_in, marks_taken, state_of, place_of, halt_of, is_complete};
+    ghost use Rattle.pb_text.specs.meaning.Blank.{IsInReach};
+    ghost use Rattle.pb_text.specs.contract.Automaton.{Accepts, IsState};
+    ghost use Rattle.pb_text.specs.contract.Standing.{IsOpen};
+    ghost use Rattle.pb_text.specs.meaning.Reading.{Reads, EndsAs};
+    ghost use Rattle.pb_text.specs.contract.Feeding.{StandsAt, FeedsOnce, HoldsFew, WantsMemory, stop_of, marks_in, marks_taken, state_of, place_of, halt_of, is_complete};
 
     /// A feeder for a machine that has begun no statement.
     pub fn new(machine: M) -> Self

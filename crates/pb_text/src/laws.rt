@@ -1,12 +1,12 @@
 //! The theorems on feeders and spans.
 
 ghost use Rattle.std.specs.Prelude.{◌≡◌, ℕ, List, [], Bool, Result, length};
-ghost use Rattle.pb_text.specs.Automaton.{Accepts};
-ghost use Rattle.pb_text.specs.Fields.{BytesKeep, SequenceKeeps};
-ghost use Rattle.pb_text.specs.Parts.{KeepsItsParts};
-ghost use Rattle.pb_text.specs.Reading.{Reads, HasFixedMarks};
-ghost use Rattle.pb_text.specs.Standing.{IsOpen, IsUnread};
-ghost use Rattle.pb_text.specs.Feeding.{StandsAt, Feeds, NoneStopped, input_fed, marks_answered, used_by, place_of, halt_of, is_complete};
+ghost use Rattle.pb_text.specs.contract.Automaton.{Accepts};
+ghost use Rattle.pb_text.specs.contract.Fields.{BytesKeep, SequenceKeeps};
+ghost use Rattle.pb_text.specs.contract.Parts.{KeepsItsParts};
+ghost use Rattle.pb_text.specs.meaning.Reading.{Reads, HasFixedMarks};
+ghost use Rattle.pb_text.specs.contract.Standing.{IsOpen, IsUnread};
+ghost use Rattle.pb_text.specs.contract.Feeding.{StandsAt, Feeds, NoneStopped, input_fed, marks_answered, used_by, place_of, halt_of, is_complete};
 ghost use Rattle.pb_text.specs.declared.feeder.Fed.{Fed};
 ghost use Rattle.pb_text.specs.declared.feeder.Feeder.{Feeder};
 ghost use Rattle.pb_text.specs.declared.place.Spanned.{Spanned};

@@ -1,7 +1,7 @@
 //! A machine that reads a text byte by byte.
 
 ghost use Rattle.std.specs.Prelude.{◌≡◌, ◌<◌, ◌≤◌, take, length};
-ghost use Rattle.pb_text.specs.Automaton.{Automaton, IsState, Pushes, Goes, Closes, Runs, begins};
+ghost use Rattle.pb_text.specs.contract.Automaton.{Automaton, IsState, Pushes, Goes, Closes, Runs, begins};
 
 /// The response of a machine to a byte.
 #[derive(Drop)]

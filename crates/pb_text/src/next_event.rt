@@ -1,12 +1,12 @@
 //! The next event of a source.
 
 ghost use Rattle.std.specs.Prelude.{true, false, ◌≡◌, ◌<◌, ℕ, List, [], Option, Some, None, Result, Ok, Err, OnOk, IfErr};
-ghost use Rattle.pb_text.specs.Automaton.{IsState};
-ghost use Rattle.pb_text.specs.Standing.{IsOpen};
-ghost use Rattle.pb_text.specs.Feeding.{StandsAt, WantsMemory, stop_of, state_of, place_of, halt_of, is_complete};
-ghost use Rattle.pb_text.specs.Pulling.{Pulls, Draws, faults_after};
-ghost use Rattle.pb_text.specs.PullsInARow.{HasPulled, PullsOn};
-ghost use Rattle.pb_text.specs.Stopping.{IsShown};
+ghost use Rattle.pb_text.specs.contract.Automaton.{IsState};
+ghost use Rattle.pb_text.specs.contract.Standing.{IsOpen};
+ghost use Rattle.pb_text.specs.contract.Feeding.{StandsAt, WantsMemory, stop_of, state_of, place_of, halt_of, is_complete};
+ghost use Rattle.pb_text.specs.meaning.Pulling.{Pulls, Draws, faults_after};
+ghost use Rattle.pb_text.specs.meaning.PullsInARow.{HasPulled, PullsOn};
+ghost use Rattle.pb_text.specs.meaning.Stopping.{IsShown};
 ghost use Rattle.pb_text.specs.declared.place.Spanned.{Spanned};
 ghost use Rattle.pb_text.specs.declared.place.Stop.{Stop};
 

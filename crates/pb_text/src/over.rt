@@ -1,10 +1,10 @@
 //! A source over any buffered reader, and a sink over any writer.
 
 ghost use Rattle.std.specs.Prelude.{◌≡◌, [], None, false};
-ghost use Rattle.pb_text.specs.Automaton.{IsState};
-ghost use Rattle.pb_text.specs.Feeding.{state_of, halt_of, is_complete};
-ghost use Rattle.pb_text.specs.Over.{Shows, told};
-ghost use Rattle.pb_text.specs.Pouring.{Pours, brought};
+ghost use Rattle.pb_text.specs.contract.Automaton.{IsState};
+ghost use Rattle.pb_text.specs.contract.Feeding.{state_of, halt_of, is_complete};
+ghost use Rattle.pb_text.specs.contract.Over.{Shows, told};
+ghost use Rattle.pb_text.specs.contract.Pouring.{Pours, brought};
 
 use crate::feeder::{Fed, Feeder};
 use crate::history::History;
@@ -26,7 +26,7 @@ pub struct Over<T> {
 }
 
 impl<T> Over<T> {
-    ghost use Rattle.pb_text.specs.Kept.{inner_of, failures_of, history_of, shown_of};
+    ghost use Rattle.pb_text.specs.contract.Kept.{inner_of, failures_of, history_of, shown_of};
 
     pub fn new(inner: T) -> Self
         ensures inner { inner_of result ≡ inner }

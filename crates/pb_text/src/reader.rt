@@ -1,10 +1,10 @@
 //! Reads one whole text from a reader.
 
 ghost use Rattle.std.specs.Prelude.{None, false, ◌≡◌, ◌<◌};
-ghost use Rattle.pb_text.specs.Automaton.{Accepts, MayAsk};
-ghost use Rattle.pb_text.specs.Kept.{failures_of, inner_of};
-ghost use Rattle.pb_text.specs.Pulling.{faults_after};
-ghost use Rattle.pb_text.specs.Whole.{ReadsWhole};
+ghost use Rattle.pb_text.specs.contract.Automaton.{Accepts, MayAsk};
+ghost use Rattle.pb_text.specs.contract.Kept.{failures_of, inner_of};
+ghost use Rattle.pb_text.specs.meaning.Pulling.{faults_after};
+ghost use Rattle.pb_text.specs.meaning.Whole.{ReadsWhole};
 
 use crate::machine::Machine;
 use crate::over::Over;

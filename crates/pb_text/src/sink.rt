@@ -1,7 +1,7 @@
 //! Where bytes go.
 
 ghost use Rattle.std.specs.Prelude.{◌≡◌, ◌<◌, ℕ, List, Option, length};
-ghost use Rattle.pb_text.specs.Writing.{Takes, Writes};
+ghost use Rattle.pb_text.specs.meaning.Writing.{Takes, Writes};
 
 use crate::source::Failed;
 

@@ -1,11 +1,11 @@
 //! Where bytes come from.
 
 ghost use Rattle.std.specs.Prelude.{◌≡◌, ◌∷◌, ℕ, List, Bool, Option, Some, None, codes, false, OnOk, OnErr};
-ghost use Rattle.pb_text.specs.Automaton.{IsState};
-ghost use Rattle.pb_text.specs.Feeding.{state_of, halt_of, is_complete};
-ghost use Rattle.pb_text.specs.Pouring.{Pours, brought};
-ghost use Rattle.pb_text.specs.Source.{Peeks, Skips};
-ghost use Rattle.pb_text.specs.Writing.{one_more};
+ghost use Rattle.pb_text.specs.contract.Automaton.{IsState};
+ghost use Rattle.pb_text.specs.contract.Feeding.{state_of, halt_of, is_complete};
+ghost use Rattle.pb_text.specs.contract.Pouring.{Pours, brought};
+ghost use Rattle.pb_text.specs.contract.Source.{Peeks, Skips};
+ghost use Rattle.pb_text.specs.meaning.Writing.{one_more};
 
 use crate::feeder::Feeder;
 use crate::machine::Machine;

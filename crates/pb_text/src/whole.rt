@@ -1,11 +1,11 @@
 //! Reads one whole text.
 
 ghost use Rattle.std.specs.Prelude.{Bool, true, false, ◌≡◌, ◌<◌, None, IfErr, IfOk, OnOk, OnErr, IsTrue};
-ghost use Rattle.pb_text.specs.Automaton.{Accepts, MayAsk};
-ghost use Rattle.pb_text.specs.Blank.{IsInReach};
-ghost use Rattle.pb_text.specs.Pulling.{OfGiven, faults_after};
-ghost use Rattle.pb_text.specs.Stopping.{IsShown};
-ghost use Rattle.pb_text.specs.Whole.{ReadsWhole};
+ghost use Rattle.pb_text.specs.contract.Automaton.{Accepts, MayAsk};
+ghost use Rattle.pb_text.specs.meaning.Blank.{IsInReach};
+ghost use Rattle.pb_text.specs.meaning.Pulling.{OfGiven, faults_after};
+ghost use Rattle.pb_text.specs.meaning.Stopping.{IsShown};
+ghost use Rattle.pb_text.specs.meaning.Whole.{ReadsWhole};
 
 use crate::feeder::Feeder;
 use crate::machine::Machine;

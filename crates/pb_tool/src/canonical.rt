@@ -1,9 +1,9 @@
 //! Values with a canonical text.
 
 ghost use Rattle.std.specs.Prelude.{ℕ, List};
-ghost use Rattle.pb_text.specs.Writing.{Writes};
-ghost use Rattle.pb_opb.specs.Canonical.{event_bytes};
-ghost use Rattle.pb_proof.specs.Canonical.{statement_bytes};
+ghost use Rattle.pb_text.specs.meaning.Writing.{Writes};
+ghost use Rattle.pb_opb.specs.contract.Canonical.{event_bytes};
+ghost use Rattle.pb_proof.specs.meaning.Canonical.{statement_bytes};
 ghost use Rattle.pb_tool.specs.contract.Show.{line_of};
 
 use pb_opb::{OpbEvent, write_event};

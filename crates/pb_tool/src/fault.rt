@@ -2,8 +2,8 @@
 
 ghost use Rattle.std.specs.Prelude.{◌≡◌, ◌++◌, ◌∷◌, []};
 ghost use Rattle.std.specs.List.{flat_map};
-ghost use Rattle.pb_text.specs.Writing.{Writes};
-ghost use Rattle.pb_text.specs.Reasons.{hex_of, place_text, reason_of};
+ghost use Rattle.pb_text.specs.meaning.Writing.{Writes};
+ghost use Rattle.pb_text.specs.contract.Reasons.{hex_of, place_text, reason_of};
 ghost use Rattle.pb_tool.specs.contract.Faults.{exit_status, fault_line, prefix_of};
 
 mod rejected;

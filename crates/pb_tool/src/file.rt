@@ -2,11 +2,11 @@
 
 ghost use Rattle.std.specs.Prelude.{◌≡◌, ◌<◌, ℕ, false, true, None, IfErr, IfOk, OnOk, OnErr};
 ghost use Rattle.std.specs.Io.KnownBytes.{Keeps};
-ghost use Rattle.pb_text.specs.Automaton.{Accepts, MayAsk};
-ghost use Rattle.pb_text.specs.NothingRead.{ReadsNothing, first_fault};
-ghost use Rattle.pb_text.specs.Pulling.{OfGiven, faults_after};
-ghost use Rattle.pb_text.specs.Stopping.{IsShown};
-ghost use Rattle.pb_text.specs.Writing.{one_more};
+ghost use Rattle.pb_text.specs.contract.Automaton.{Accepts, MayAsk};
+ghost use Rattle.pb_text.specs.contract.NothingRead.{ReadsNothing, first_fault};
+ghost use Rattle.pb_text.specs.meaning.Pulling.{OfGiven, faults_after};
+ghost use Rattle.pb_text.specs.meaning.Stopping.{IsShown};
+ghost use Rattle.pb_text.specs.meaning.Writing.{one_more};
 ghost use Rattle.pb_tool.specs.meaning.Files.{IsProofText};
 ghost use Rattle.pb_tool.specs.engine.Gathered.{IsGathered, IsNotGathered};
 ghost use Rattle.pb_tool.specs.engine.Opening.{IsReadAs};

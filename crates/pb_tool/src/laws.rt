@@ -2,7 +2,7 @@
 
 ghost use Rattle.std.specs.Prelude.{◌≡◌, ◌↔◌, ℕ, Bool, List};
 ghost use Rattle.pb_opb.specs.declared.Instance.{Instance};
-ghost use Rattle.pb_replay.specs.Problem.{Solves};
+ghost use Rattle.pb_replay.specs.meaning.Problem.{Solves};
 ghost use Rattle.pb_tool.specs.contract.Normalised.{IsNormalised};
 ghost use Rattle.pb_tool.specs.contract.Stays.{HasNoFault, IsReadAsInstance, StaysAsIs, TidiesAgain};
 ghost use Rattle.pb_tool.specs.contract.Stays.{IsReadAsProof, ProofHasNoFault, ProofStaysAsIs};

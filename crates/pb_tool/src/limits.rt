@@ -1,7 +1,7 @@
 //! The limits that a user asks for.
 
 ghost use Rattle.std.specs.Prelude.{◌≡◌, ◌-◌, ◌^◌, ◌≤◌, min};
-ghost use Rattle.pb_text.specs.Limits.{bits_of, top_of};
+ghost use Rattle.pb_text.specs.meaning.Limits.{bits_of, top_of};
 
 use pb_text::Limits;
 

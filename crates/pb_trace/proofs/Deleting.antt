@@ -2,7 +2,7 @@
 use Rattle.std.proofs.Common.{◌≡◌, ℕ, suc, ℤ, ◌+◌, ◌<◌, List, [], ◌∷◌, ◌++◌, take, drop, length, get_or, Option, refl, sym, ap, ◌∙◌, append_assoc, take-append-drop}
 use Rattle.std.proofs.lemmas.List.{append-nil, take_more}
 use Rattle.std.proofs.Math.Seq.{drop-cons}
-use Rattle.pb_normal.specs.Form.{Form}
+use Rattle.pb_normal.specs.meaning.Form.{Form}
 use Rattle.pb_trace.specs.Traced.{deleted_bytes, deletion_bytes, without, without_all}
 
 without_all-append : (live : List (Option Form)) (xs ys : List ℤ) → without_all live (xs ++ ys) ≡ without_all (without_all live xs) ys

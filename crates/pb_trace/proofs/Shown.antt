@@ -7,10 +7,10 @@ use Rattle.std.proofs.lemmas.List.Elements.{All-head, All-tail}
 use Rattle.std.proofs.lemmas.Option.{unwrap_or-slice_get}
 use Rattle.std.proofs.Math.Seq.{drop-cons}
 use Rattle.std.proofs.lemmas.Grind.{common_steps}
-use Rattle.pb_sums.specs.Canonical.{term_bytes, further_bytes, head_bytes, linear_bytes}
+use Rattle.pb_sums.specs.contract.Canonical.{term_bytes, further_bytes, head_bytes, linear_bytes}
 use Rattle.pb_normal.specs.declared.entry.Entry.{Entry}
-use Rattle.pb_normal.specs.Form.{Form}
-use Rattle.pb_normal.specs.Written.{term_of, linear_of}
+use Rattle.pb_normal.specs.meaning.Form.{Form}
+use Rattle.pb_normal.specs.meaning.Written.{term_of, linear_of}
 use Rattle.pb_trace.specs.Changes.{term_shown, form_bytes}
 
 -- the texts of list elements, up to one of them

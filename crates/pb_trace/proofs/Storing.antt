@@ -5,7 +5,7 @@ use Rattle.std.proofs.lemmas.List.{drop_all, length-set}
 use Rattle.std.proofs.lemmas.Grind.{common_steps}
 use Rattle.pb_sums.specs.declared.Literal.{Literal}
 use Rattle.pb_sums.specs.declared.Term.{Term}
-use Rattle.pb_proof.specs.Order.{stage_of}
+use Rattle.pb_proof.specs.meaning.Order.{stage_of}
 use Rattle.pb_proof.specs.declared.Bound.{Bound}
 use Rattle.pb_proof.specs.declared.Bound.TheVariants.{Finite, Infinite}
 use Rattle.pb_proof.specs.declared.Conclusion.{Conclusion}
@@ -14,16 +14,16 @@ use Rattle.pb_proof.specs.declared.Stage.{Stage}
 use Rattle.pb_proof.specs.declared.Stage.TheVariants.{Steps}
 use Rattle.pb_proof.specs.declared.Statement.{Statement}
 use Rattle.pb_proof.specs.declared.Statement.TheVariants.{Header, F, Pol, Rup, Soli, Solx, Delete, Output, Conclude, End}
-use Rattle.pb_normal.specs.Form.{Form}
-use Rattle.pb_normal.specs.Names.{with_names}
-use Rattle.pb_replay.specs.Answer.{Answer}
-use Rattle.pb_replay.specs.Conclusions.{none_left, named, lower_bound, upper_bound, Concludes}
-use Rattle.pb_replay.specs.Kept.{StandsFor}
-use Rattle.pb_replay.specs.Problem.{Problem}
-use Rattle.pb_replay.specs.Replay.{State, Deleted, place}
-use Rattle.pb_replay.specs.Statements.{Does, Outcome, mentioned}
-use Rattle.pb_replay.proofs.lemmas.Accepting.{needed, followed, ok-same}
-use Rattle.pb_replay.proofs.lemmas.Concluded.{contradicted-has}
+use Rattle.pb_normal.specs.meaning.Form.{Form}
+use Rattle.pb_normal.specs.meaning.Names.{with_names}
+use Rattle.pb_replay.specs.meaning.Answer.{Answer}
+use Rattle.pb_replay.specs.meaning.Conclusions.{none_left, named, lower_bound, upper_bound, Concludes}
+use Rattle.pb_replay.specs.contract.Kept.{StandsFor}
+use Rattle.pb_replay.specs.meaning.Problem.{Problem}
+use Rattle.pb_replay.specs.meaning.Replay.{State, Deleted, place}
+use Rattle.pb_replay.specs.meaning.Statements.{Does, Outcome, mentioned}
+use Rattle.pb_replay.proofs.lemmas.meaning.Accepting.{needed, followed, ok-same}
+use Rattle.pb_replay.proofs.lemmas.conclusions.Concluded.{contradicted-has}
 use Rattle.pb_trace.specs.Laws.{FirstIsEmpty, IsEmptyAt, StoresTheLive}
 use Rattle.pb_trace.specs.Traced.{extended, stored_after, without_all}
 

@@ -1,17 +1,17 @@
 -- The lines of accepted statements, one after another.
 use Rattle.std.proofs.Common.{◌≡◌, ℕ, List, [], ◌∷◌, ◌++◌, Option, Result, Ok, Err, refl, sym, ap, ◌∙◌, subst}
 use Rattle.std.specs.Result.{IsErr}
-use Rattle.pb_text.specs.Limits.{largest, top_of}
-use Rattle.pb_text.specs.Writing.{Wrote}
+use Rattle.pb_text.specs.meaning.Limits.{largest, top_of}
+use Rattle.pb_text.specs.meaning.Writing.{Wrote}
 use Rattle.pb_text.specs.declared.Limits.{Limits}
 use Rattle.pb_text.specs.declared.Spanned.{Spanned}
-use Rattle.pb_text.proofs.Parts.{part_wrote}
-use Rattle.pb_text.proofs.Writing.{writes_nothing}
+use Rattle.pb_text.proofs.lemmas.text.Parts.{part_wrote}
+use Rattle.pb_text.proofs.lemmas.text.Writing.{writes_nothing}
 use Rattle.pb_proof.specs.declared.Statement.{Statement}
-use Rattle.pb_normal.specs.Form.{Form}
-use Rattle.pb_replay.specs.Problem.{Problem}
-use Rattle.pb_replay.specs.Replay.{State, first_state}
-use Rattle.pb_replay.specs.Statements.{Outcome}
+use Rattle.pb_normal.specs.meaning.Form.{Form}
+use Rattle.pb_replay.specs.meaning.Problem.{Problem}
+use Rattle.pb_replay.specs.meaning.Replay.{State, first_state}
+use Rattle.pb_replay.specs.meaning.Statements.{Outcome}
 use Rattle.pb_tool.specs.contract.Watched.{Call, Accepted, Rejected, GotEach, ShowsEach}
 use Rattle.pb_tool.specs.declared.ToolFault.{ToolFault}
 use Rattle.pb_trace.specs.Laws.{IsEmptyAt, TracesEachLine, lines_of}

@@ -3,9 +3,9 @@ use Rattle.std.specs.Prelude.{ℕ, pos, List, ◌++◌, map, get_or, decimal, co
 use Rattle.pb_sums.specs.declared.values.Term.{Term}
 use Rattle.pb_sums.specs.declared.values.Linear.{Linear}
 use Rattle.pb_sums.specs.declared.values.Relation.TheVariants.{AtLeast}
-use Rattle.pb_sums.specs.Canonical.{linear_bytes}
+use Rattle.pb_sums.specs.contract.Canonical.{linear_bytes}
 use Rattle.pb_normal.specs.declared.entry.Entry.{Entry}
-use Rattle.pb_normal.specs.Form.{Form}
+use Rattle.pb_normal.specs.meaning.Form.{Form}
 
 -- the name with a number, or `?` if no name has it
 abbrev pub name_shown : List (List ℕ) → ℕ → List ℕ

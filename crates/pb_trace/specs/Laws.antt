@@ -1,15 +1,15 @@
 -- What is stored of the constraints is what the replay has, and what is written for a proof.
 use Rattle.std.specs.Prelude.{◌≡◌, ℕ, List, [], ◌∷◌, ◌++◌, Option, Ok}
-use Rattle.pb_text.specs.Writing.{Wrote}
+use Rattle.pb_text.specs.meaning.Writing.{Wrote}
 use Rattle.pb_text.specs.declared.Limits.{Limits}
 use Rattle.pb_text.specs.declared.Spanned.{Spanned}
 use Rattle.pb_proof.specs.declared.Stage.{Stage}
 use Rattle.pb_proof.specs.declared.Stage.TheVariants.{Opening, Formula, Steps, Claim, Closing, Complete}
 use Rattle.pb_proof.specs.declared.Statement.{Statement}
-use Rattle.pb_normal.specs.Form.{Form}
-use Rattle.pb_replay.specs.Kept.{Replaying, StandsFor, StepsAs}
-use Rattle.pb_replay.specs.Problem.{Problem}
-use Rattle.pb_replay.specs.Replay.{State, first_state}
+use Rattle.pb_normal.specs.meaning.Form.{Form}
+use Rattle.pb_replay.specs.contract.Kept.{Replaying, StandsFor, StepsAs}
+use Rattle.pb_replay.specs.meaning.Problem.{Problem}
+use Rattle.pb_replay.specs.meaning.Replay.{State, first_state}
 use Rattle.pb_tool.specs.contract.Watched.{Call, Accepted, Rejected, GotEach, ShowsEach}
 use Rattle.pb_trace.specs.Traced.{Tracing, TracesCall, extended, line_bytes, stored_after}
 

@@ -4,15 +4,15 @@ use Rattle.std.specs.Fmt.{signed_decimal}
 use Rattle.std.specs.List.{flat_map, range_with_len}
 use Rattle.std.specs.Result.{IsErr}
 use Rattle.pb_text.specs.declared.Spanned.{Spanned}
-use Rattle.pb_text.specs.Whole.{gathered}
-use Rattle.pb_text.specs.Writing.{Wrote, Broke}
-use Rattle.pb_sums.specs.Canonical.{place_bytes}
-use Rattle.pb_proof.specs.Canonical.{statement_bytes}
+use Rattle.pb_text.specs.meaning.Whole.{gathered}
+use Rattle.pb_text.specs.meaning.Writing.{Wrote, Broke}
+use Rattle.pb_sums.specs.contract.Canonical.{place_bytes}
+use Rattle.pb_proof.specs.meaning.Canonical.{statement_bytes}
 use Rattle.pb_proof.specs.declared.Statement.{Statement}
 use Rattle.pb_proof.specs.declared.Statement.TheVariants.{Header, F, Pol, Rup, Soli, Solx, Delete, Output, Conclude, End}
-use Rattle.pb_normal.specs.Form.{Form}
-use Rattle.pb_replay.specs.Kept.{Replaying}
-use Rattle.pb_replay.specs.Replay.{place}
+use Rattle.pb_normal.specs.meaning.Form.{Form}
+use Rattle.pb_replay.specs.contract.Kept.{Replaying}
+use Rattle.pb_replay.specs.meaning.Replay.{place}
 use Rattle.pb_tool.specs.contract.Watched.{Call, Accepted, Rejected}
 use Rattle.pb_tool.specs.declared.Input.TheVariants.{Proof}
 use Rattle.pb_tool.specs.declared.ToolFault.{ToolFault}

@@ -2,7 +2,7 @@
 
 ghost use Rattle.std.specs.Prelude.{◌≡◌, ◌-◌, OnOk, codes, length};
 ghost use Rattle.std.specs.Option.{option_copied};
-ghost use Rattle.pb_text.specs.Writing.{Writes};
+ghost use Rattle.pb_text.specs.meaning.Writing.{Writes};
 ghost use Rattle.pb_trace.specs.Traced.{added_bytes, best_bytes, deleted_bytes, deletion_bytes, found_bytes, line_after, live_in, stored_after, tail_bytes, without, without_all};
 
 use crate::stored::Constraints;

@@ -1,7 +1,7 @@
 //! Counts of a check.
 
 ghost use Rattle.std.specs.Prelude.{◌≡◌};
-ghost use Rattle.pb_text.specs.Writing.{Writes};
+ghost use Rattle.pb_text.specs.meaning.Writing.{Writes};
 ghost use Rattle.pb_trace.specs.Counted.{counted, deletions_of, seen, seen_by, statements_in, stats_bytes, visits_of};
 
 use crate::write::write_counted;

@@ -2,7 +2,7 @@
 
 ghost use Rattle.std.specs.Prelude.{◌≡◌, ◌<◌, ◌+◌, ◌-◌, [], ◌∷◌, ◌++◌, Some, None, IfErr, OnOk, MatchOption, get_or, if◌then◌else◌, length, set, slice_get, take};
 ghost use Rattle.std.specs.Option.{option_copied};
-ghost use Rattle.pb_replay.specs.Replay.{place};
+ghost use Rattle.pb_replay.specs.meaning.Replay.{place};
 ghost use Rattle.pb_trace.specs.Traced.{live_in, extended};
 
 use crate::broken::Broken;

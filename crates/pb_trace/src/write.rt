@@ -3,12 +3,12 @@
 ghost use Rattle.std.specs.Prelude.{◌≡◌, ◌<◌, ◌^◌, ◌∷◌, ◌++◌, List, ℕ, All, length, map, slice_get, decimal, codes};
 ghost use Rattle.std.specs.Fmt.{signed_decimal};
 ghost use Rattle.std.specs.Option.{option_copied};
-ghost use Rattle.pb_text.specs.Writing.{Writes};
-ghost use Rattle.pb_sums.specs.Sums.{literal_bytes};
-ghost use Rattle.pb_sums.specs.Canonical.{head_bytes, linear_bytes, place_bytes, term_bytes};
-ghost use Rattle.pb_proof.specs.Canonical.{statement_bytes, word_bytes};
-ghost use Rattle.pb_normal.specs.Form.{total, each};
-ghost use Rattle.pb_normal.specs.Written.{linear_of};
+ghost use Rattle.pb_text.specs.meaning.Writing.{Writes};
+ghost use Rattle.pb_sums.specs.meaning.Sums.{literal_bytes};
+ghost use Rattle.pb_sums.specs.contract.Canonical.{head_bytes, linear_bytes, place_bytes, term_bytes};
+ghost use Rattle.pb_proof.specs.meaning.Canonical.{statement_bytes, word_bytes};
+ghost use Rattle.pb_normal.specs.meaning.Form.{total, each};
+ghost use Rattle.pb_normal.specs.meaning.Written.{linear_of};
 ghost use Rattle.pb_trace.specs.Counted.{count_line};
 ghost use Rattle.pb_trace.specs.Changes.{name_shown, term_shown, form_bytes, change_bytes};
 

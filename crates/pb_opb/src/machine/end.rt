@@ -1,9 +1,9 @@
 //! Ends a statement in one step.
 
 ghost use Rattle.std.specs.Prelude.{◌≡◌};
-ghost use Rattle.pb_text.specs.Automaton.{Closes};
-ghost use Rattle.pb_opb.specs.Machine.{plan};
-ghost use Rattle.pb_opb.specs.State.{opb};
+ghost use Rattle.pb_text.specs.contract.Automaton.{Closes};
+ghost use Rattle.pb_opb.specs.engine.Machine.{plan};
+ghost use Rattle.pb_opb.specs.engine.State.{opb};
 
 use crate::event::OpbEvent;
 use crate::machine::{OpbMachine, owed_after, phase_owing, statement_of};

@@ -1,12 +1,12 @@
 -- An automaton within another one.
 use Rattle.std.proofs.Common.{◌≡◌, ℕ, true, List, [], ◌∷◌, refl, sym, ap, subst, ◌∙◌, map, ◌++◌, ◌&&◌, Option, Some, None}
-use Rattle.pb_text.specs.Automaton.{Automaton, Next, Go, End, Refuse, Skips, Reads, Runs, Accepts, Admits, Pushes, Closes, IsState}
-use Rattle.pb_text.specs.Classes.{is_digit}
+use Rattle.pb_text.specs.contract.Automaton.{Automaton, Next, Go, End, Refuse, Skips, Reads, Runs, Accepts, Admits, Pushes, Closes, IsState}
+use Rattle.pb_text.specs.meaning.Classes.{is_digit}
 use Rattle.pb_text.specs.declared.machine.Push.{Push}
 use Rattle.pb_text.specs.declared.machine.Push.TheVariants as push
-use Rattle.pb_text.specs.Spelling.{Letter, Item, letters_of, bytes, plain}
-use Rattle.pb_text.proofs.Walking.{Walks}
-use Rattle.pb_proof.specs.Line.Machine.{carried, IsCarried, IsEnded}
+use Rattle.pb_text.specs.meaning.Spelling.{Letter, Item, letters_of, bytes, plain}
+use Rattle.pb_text.proofs.lemmas.machine.Walking.{Walks}
+use Rattle.pb_proof.specs.engine.Line.Machine.{carried, IsCarried, IsEnded}
 
 module _ {S E R F : Type 0} (m : Automaton S E) (n : Automaton R F) (into : S → R) (event : E → F) where
   -- In the image of a state, `n` does what `m` does in the state.

@@ -3,14 +3,14 @@ use Rattle.std.proofs.Common.{◌≡◌, ℕ, ◌<◌, Bool, true, false, not, �
 use Rattle.std.proofs.lemmas.List.{append-nil}
 use Rattle.std.proofs.lemmas.Bool.{eqb-true, and_parts, not-true}
 use Rattle.std.specs.Prelude.{nat_eq}
-use Rattle.pb_text.specs.Classes.{is_blank}
-use Rattle.pb_text.specs.Languages.{unmarked, Language, ◌⋅◌, Empty, Byte, Bytes, Blanks1}
-use Rattle.pb_text.specs.Spelling.{Letter, plain}
-use Rattle.pb_text.proofs.Languages.{grown, none_yet, regroup, regroup⁻¹, behind_it}
-use Rattle.pb_text.proofs.Letters.{as_unmarked}
-use Rattle.pb_proof.specs.Machine.Transition.{words_of, meets}
-use Rattle.pb_proof.specs.Lines.{pseudo_word, proof_word, version_word, two_word, f_word, pol_word, rup_word, del_word, id_word, output_word, none_word, conclusion_word, end_word}
-use Rattle.pb_proof.specs.Machine.Transition.{sol_word}
+use Rattle.pb_text.specs.meaning.Classes.{is_blank}
+use Rattle.pb_text.specs.meaning.Languages.{unmarked, Language, ◌⋅◌, Empty, Byte, Bytes, Blanks1}
+use Rattle.pb_text.specs.meaning.Spelling.{Letter, plain}
+use Rattle.pb_text.proofs.lemmas.text.Languages.{grown, none_yet, regroup, regroup⁻¹, behind_it}
+use Rattle.pb_text.proofs.lemmas.text.Letters.{as_unmarked}
+use Rattle.pb_proof.specs.engine.Machine.Transition.{words_of, meets}
+use Rattle.pb_proof.specs.meaning.Lines.{pseudo_word, proof_word, version_word, two_word, f_word, pol_word, rup_word, del_word, id_word, output_word, none_word, conclusion_word, end_word}
+use Rattle.pb_proof.specs.engine.Machine.Transition.{sol_word}
 use Rattle.pb_proof.specs.declared.machine.phase.Keyword.{Keyword}
 use Rattle.pb_proof.specs.declared.machine.phase.Keyword.TheVariants.{Header, Formula, Pol, Rup, Solution, Delete, Output, Conclusion, End}
 use Rattle.pb_proof.proofs.lemmas.Line.Ends.{first_blank, further_blank, nil_last}

@@ -2,8 +2,8 @@
 use Rattle.std.proofs.Common.{◌≡◌, ℕ, suc, ◌+◌, ◌-◌, ◌<◌, ◌≤◌, List, [], ◌∷◌, ◌++◌, take, drop, length, refl, ap, sym, append_assoc, ◌∙◌, arith, get_or, take-append-drop}
 use Rattle.std.proofs.lemmas.List.{append-nil, take_more, drop_all}
 use Rattle.std.proofs.Math.Seq.{drop-cons}
-use Rattle.pb_proof.specs.Canonical.{listed_bytes, statement_bytes, lines, proof_bytes}
-use Rattle.pb_proof.specs.Line.Ended.{ended_lines}
+use Rattle.pb_proof.specs.meaning.Canonical.{listed_bytes, statement_bytes, lines, proof_bytes}
+use Rattle.pb_proof.specs.engine.Line.Ended.{ended_lines}
 use Rattle.pb_proof.specs.declared.proof.Proof.{Proof}
 use Rattle.pb_proof.specs.declared.statement.Statement.{Statement}
 use Rattle.pb_proof.specs.declared.statement.Statement.TheVariants.{Header, F, Output, Conclude, End}

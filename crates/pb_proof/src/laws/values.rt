@@ -1,7 +1,7 @@
 //! The laws of proofs and their values.
 
-ghost use Rattle.pb_proof.specs.Leaving.{WordsTell, WordsLeaveOne};
-ghost use Rattle.pb_proof.specs.ValueLaws.{CanonicalProof, StatementValues, ProofValues, ReadStatements, OneValue, ReadsBack};
+ghost use Rattle.pb_proof.specs.contract.Leaving.{WordsTell, WordsLeaveOne};
+ghost use Rattle.pb_proof.specs.contract.ValueLaws.{CanonicalProof, StatementValues, ProofValues, ReadStatements, OneValue, ReadsBack};
 
 /// The canonical text of a proof that meets the rules is a text of that proof.
 pub fn canonical_proof_spells()

@@ -1,8 +1,8 @@
 //! The machine for conclusions.
 
 ghost use Rattle.std.specs.Prelude.{◌≡◌};
-ghost use Rattle.pb_text.specs.Limits.{largest, top_of};
-ghost use Rattle.pb_proof.specs.Line.ClaimState.{showing_value, claim_value};
+ghost use Rattle.pb_text.specs.meaning.Limits.{largest, top_of};
+ghost use Rattle.pb_proof.specs.engine.Line.ClaimState.{showing_value, claim_value};
 
 mod phase;
 mod transition;
@@ -27,8 +27,8 @@ pub struct ClaimMachine {
 }
 
 impl Model for ClaimMachine {
-    ghost use Rattle.pb_proof.specs.Line.ClaimFields.{claim_state};
-    ghost use Rattle.pb_proof.specs.Line.ClaimState.{ClaimState, IsClaimInOrder};
+    ghost use Rattle.pb_proof.specs.engine.Line.ClaimFields.{claim_state};
+    ghost use Rattle.pb_proof.specs.engine.Line.ClaimState.{ClaimState, IsClaimInOrder};
 
     ghost Value = { ClaimState };
 
@@ -64,7 +64,7 @@ fn claim_value(claim: Claim) -> Conclusion
 }
 
 impl ClaimMachine {
-    ghost use Rattle.pb_proof.specs.Line.ClaimState.{claim_first};
+    ghost use Rattle.pb_proof.specs.engine.Line.ClaimState.{claim_first};
 
     /// A machine at the start of its text. Creating it does not allocate.
     pub fn new(alloc: Global, limits: Limits) -> Self
@@ -80,9 +80,9 @@ impl ClaimMachine {
 }
 
 impl ClaimMachine {
-    ghost use Rattle.pb_text.specs.Automaton.{Pushes};
-    ghost use Rattle.pb_proof.specs.Line.ClaimState.{claim_automaton};
-    ghost use Rattle.pb_proof.specs.Line.Claim.{plan};
+    ghost use Rattle.pb_text.specs.contract.Automaton.{Pushes};
+    ghost use Rattle.pb_proof.specs.engine.Line.ClaimState.{claim_automaton};
+    ghost use Rattle.pb_proof.specs.engine.Line.Claim.{plan};
 
     /// Takes a byte.
     fn take(&mut self, byte: u8) -> Push<Conclusion>
@@ -129,7 +129,7 @@ impl ClaimMachine {
 }
 
 impl Machine for ClaimMachine {
-    ghost use Rattle.pb_proof.specs.Line.ClaimState.{claim_automaton};
+    ghost use Rattle.pb_proof.specs.engine.Line.ClaimState.{claim_automaton};
 
     type Event = Conclusion;
 

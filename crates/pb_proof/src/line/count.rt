@@ -1,9 +1,9 @@
 //! The machine for the rest of a line after `f`.
 
 ghost use Rattle.std.specs.Prelude.{◌≡◌, ◌<◌, ◌≤◌, ◌^◌};
-ghost use Rattle.pb_text.specs.Limits.{top_of};
-ghost use Rattle.pb_proof.specs.Line.ByteKind.{NumberByteFits};
-ghost use Rattle.pb_proof.specs.Line.Count.{digits, behind, plan, counting, is_done, PhaseFits, MoveFits};
+ghost use Rattle.pb_text.specs.meaning.Limits.{top_of};
+ghost use Rattle.pb_proof.specs.engine.Line.ByteKind.{NumberByteFits};
+ghost use Rattle.pb_proof.specs.engine.Line.Count.{digits, behind, plan, counting, is_done, PhaseFits, MoveFits};
 
 mod phase;
 
@@ -23,8 +23,8 @@ pub struct CountMachine {
 }
 
 impl Model for CountMachine {
-    ghost use Rattle.pb_proof.specs.Line.Fields.{count_state};
-    ghost use Rattle.pb_proof.specs.Line.Count.{CountState, IsCountInOrder};
+    ghost use Rattle.pb_proof.specs.engine.Line.Fields.{count_state};
+    ghost use Rattle.pb_proof.specs.engine.Line.Count.{CountState, IsCountInOrder};
 
     ghost Value = { CountState };
 
@@ -101,7 +101,7 @@ impl CountMachine {
 
 impl Machine for CountMachine {
     ghost use Rattle.std.specs.Prelude.{Option, ℕ};
-    ghost use Rattle.pb_proof.specs.Line.Count.{count_automaton};
+    ghost use Rattle.pb_proof.specs.engine.Line.Count.{count_automaton};
 
     type Event = Option<u64>;
 

@@ -1,7 +1,7 @@
 //! Ids at the start of a text.
 
 ghost use Rattle.std.specs.Prelude.{◌≡◌, ◌≤◌, IfSome, None, length, take};
-ghost use Rattle.pb_proof.specs.Line.IdPrefix.{IsSpacedId, LacksId};
+ghost use Rattle.pb_proof.specs.engine.Line.IdPrefix.{IsSpacedId, LacksId};
 
 use pb_text::digits::number_prefix;
 

@@ -1,9 +1,9 @@
 //! The machine for ids.
 
 ghost use Rattle.std.specs.Prelude.{◌≡◌, ◌<◌, ◌≤◌, ◌^◌, ℕ};
-ghost use Rattle.pb_text.specs.Limits.{top_of};
-ghost use Rattle.pb_proof.specs.Line.ByteKind.{NumberByteFits};
-ghost use Rattle.pb_proof.specs.Line.Ids.{digits, before, behind, plan, ids_first, begins_id, is_done, PhaseFits, MoveFits};
+ghost use Rattle.pb_text.specs.meaning.Limits.{top_of};
+ghost use Rattle.pb_proof.specs.engine.Line.ByteKind.{NumberByteFits};
+ghost use Rattle.pb_proof.specs.engine.Line.Ids.{digits, before, behind, plan, ids_first, begins_id, is_done, PhaseFits, MoveFits};
 
 mod end;
 mod phase;
@@ -29,8 +29,8 @@ pub struct IdsMachine {
 }
 
 impl Model for IdsMachine {
-    ghost use Rattle.pb_proof.specs.Line.Fields.{ids_state};
-    ghost use Rattle.pb_proof.specs.Line.Ids.{IdsState, IsIdsInOrder};
+    ghost use Rattle.pb_proof.specs.engine.Line.Fields.{ids_state};
+    ghost use Rattle.pb_proof.specs.engine.Line.Ids.{IdsState, IsIdsInOrder};
 
     ghost Value = { IdsState };
 
@@ -137,8 +137,8 @@ impl IdsMachine {
 
 impl IdsMachine {
     ghost use Rattle.std.specs.Prelude.{take, length};
-    ghost use Rattle.pb_text.specs.Automaton.{IsState, Runs};
-    ghost use Rattle.pb_proof.specs.Line.Ids.{ids_automaton};
+    ghost use Rattle.pb_text.specs.contract.Automaton.{IsState, Runs};
+    ghost use Rattle.pb_proof.specs.engine.Line.Ids.{ids_automaton};
 
     /// Takes the digits of an id, if an id may begin here.
     #[inline(always)]
@@ -162,7 +162,7 @@ impl IdsMachine {
 
 impl Machine for IdsMachine {
     ghost use Rattle.std.specs.Prelude.{List, ℤ};
-    ghost use Rattle.pb_proof.specs.Line.Ids.{ids_automaton};
+    ghost use Rattle.pb_proof.specs.engine.Line.Ids.{ids_automaton};
 
     type Event = Sequence<i64>;
 

@@ -1,8 +1,8 @@
 //! The machine for literals.
 
 ghost use Rattle.std.specs.Prelude.{true, ◌≡◌, ℕ, ◌-◌, ◌^◌, ◌<◌, List, [], IfOk, OnOk, OnErr, min};
-ghost use Rattle.pb_proof.specs.Line.ByteKind.{NameByteFits};
-ghost use Rattle.pb_proof.specs.Line.Literals.{behind, before, plan, flushed, is_more, is_done, in_hand, units, MoveFits};
+ghost use Rattle.pb_proof.specs.engine.Line.ByteKind.{NameByteFits};
+ghost use Rattle.pb_proof.specs.engine.Line.Literals.{behind, before, plan, flushed, is_more, is_done, in_hand, units, MoveFits};
 
 mod phase;
 
@@ -26,8 +26,8 @@ pub struct LiteralsMachine {
 }
 
 impl Model for LiteralsMachine {
-    ghost use Rattle.pb_proof.specs.Line.Fields.{literals_state};
-    ghost use Rattle.pb_proof.specs.Line.Literals.{LiteralsState, IsLiteralsInOrder};
+    ghost use Rattle.pb_proof.specs.engine.Line.Fields.{literals_state};
+    ghost use Rattle.pb_proof.specs.engine.Line.Literals.{LiteralsState, IsLiteralsInOrder};
 
     ghost Value = { LiteralsState };
 
@@ -156,7 +156,7 @@ fn count_units(literals: &[Literal]) -> usize
 }
 
 impl LiteralsMachine {
-    ghost use Rattle.pb_proof.specs.Line.Literals.{literals_first};
+    ghost use Rattle.pb_proof.specs.engine.Line.Literals.{literals_first};
 
     /// A machine at the start of its text. `joined` says whether the literals are joined to what comes before them.
     /// Creating it does not allocate.
@@ -174,7 +174,7 @@ impl LiteralsMachine {
 }
 
 impl Machine for LiteralsMachine {
-    ghost use Rattle.pb_proof.specs.Line.Literals.{literals_automaton};
+    ghost use Rattle.pb_proof.specs.engine.Line.Literals.{literals_automaton};
 
     type Event = Sequence<Literal>;
 

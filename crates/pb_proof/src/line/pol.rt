@@ -1,10 +1,10 @@
 //! The machine for postfix words.
 
 ghost use Rattle.std.specs.Prelude.{◌≡◌, ◌&&◌, if◌then◌else◌};
-ghost use Rattle.pb_text.specs.Automaton.{IsState};
-ghost use Rattle.pb_text.specs.Classes.{is_digit};
-ghost use Rattle.pb_text.specs.Limits.{largest, top_of};
-ghost use Rattle.pb_proof.specs.Line.Pol.{is_in_number};
+ghost use Rattle.pb_text.specs.contract.Automaton.{IsState};
+ghost use Rattle.pb_text.specs.meaning.Classes.{is_digit};
+ghost use Rattle.pb_text.specs.meaning.Limits.{largest, top_of};
+ghost use Rattle.pb_proof.specs.engine.Line.Pol.{is_in_number};
 
 mod close;
 mod end;
@@ -42,9 +42,9 @@ pub struct PolMachine {
 
 impl Model for PolMachine {
     ghost use Rattle.std.specs.Prelude.{◌<◌, ◌≤◌, ◌^◌, vec_len};
-    ghost use Rattle.pb_proof.specs.Line.Fields.{pol_state};
-    ghost use Rattle.pb_proof.specs.Line.Pol.{PhaseFits};
-    ghost use Rattle.pb_proof.specs.Line.PolState.{PolState, IsPolInOrder};
+    ghost use Rattle.pb_proof.specs.engine.Line.Fields.{pol_state};
+    ghost use Rattle.pb_proof.specs.engine.Line.Pol.{PhaseFits};
+    ghost use Rattle.pb_proof.specs.engine.Line.PolState.{PolState, IsPolInOrder};
 
     ghost Value = { PolState };
 
@@ -65,7 +65,7 @@ fn refusal(phase: Phase, byte: u8) -> Push<Sequence<PolWord>>
 }
 
 impl PolMachine {
-    ghost use Rattle.pb_proof.specs.Line.PolState.{pol_first};
+    ghost use Rattle.pb_proof.specs.engine.Line.PolState.{pol_first};
 
     /// A machine at the start of its text. Creating it does not allocate.
     pub fn new(alloc: Global, limits: Limits) -> Self
@@ -85,8 +85,8 @@ impl PolMachine {
 
 impl PolMachine {
     ghost use Rattle.std.specs.Prelude.{◌≤◌, ◌<◌, take, length};
-    ghost use Rattle.pb_text.specs.Automaton.{Goes, IsState, Runs};
-    ghost use Rattle.pb_proof.specs.Line.PolState.{pol_automaton};
+    ghost use Rattle.pb_text.specs.contract.Automaton.{Goes, IsState, Runs};
+    ghost use Rattle.pb_proof.specs.engine.Line.PolState.{pol_automaton};
 
     /// Takes an id and the space after it, if a word may begin here.
     #[inline(always)]
@@ -200,7 +200,7 @@ impl PolMachine {
 }
 
 impl Machine for PolMachine {
-    ghost use Rattle.pb_proof.specs.Line.PolState.{pol_automaton};
+    ghost use Rattle.pb_proof.specs.engine.Line.PolState.{pol_automaton};
 
     type Event = Sequence<PolWord>;
 

@@ -1,8 +1,8 @@
 //! The line machines as one machine.
 
 ghost use Rattle.std.specs.Prelude.{◌≡◌};
-ghost use Rattle.pb_text.specs.Limits.{largest, top_of};
-ghost use Rattle.pb_proof.specs.Line.Machine.{line_first, IsCarried, IsEnded};
+ghost use Rattle.pb_text.specs.meaning.Limits.{largest, top_of};
+ghost use Rattle.pb_proof.specs.engine.Line.Machine.{line_first, IsCarried, IsEnded};
 
 use crate::line::LineMachine;
 use crate::line::claim::ClaimMachine;
@@ -73,7 +73,7 @@ pub fn line_first(alloc: Global, limits: Limits, kind: LineKind) -> LineMachine
 }
 
 impl Machine for LineMachine {
-    ghost use Rattle.pb_proof.specs.Line.Machine.{line_automaton};
+    ghost use Rattle.pb_proof.specs.engine.Line.Machine.{line_automaton};
 
     type Event = Statement;
 

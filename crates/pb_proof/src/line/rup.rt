@@ -1,8 +1,8 @@
 //! The machine for `rup`.
 
 ghost use Rattle.std.specs.Prelude.{◌≡◌, ◌-◌, ◌^◌, min};
-ghost use Rattle.pb_text.specs.Limits.{largest};
-ghost use Rattle.pb_proof.specs.Line.Rup.{rup_plan, rup_done, linear_of, units_in};
+ghost use Rattle.pb_text.specs.meaning.Limits.{largest};
+ghost use Rattle.pb_proof.specs.engine.Line.Rup.{rup_plan, rup_done, linear_of, units_in};
 
 mod end;
 mod phase;
@@ -24,8 +24,8 @@ pub(crate) struct RupMachine {
 }
 
 impl Model for RupMachine {
-    ghost use Rattle.pb_proof.specs.Line.Fields.{rup_state};
-    ghost use Rattle.pb_proof.specs.Line.Rup.{RupState, IsRupInOrder};
+    ghost use Rattle.pb_proof.specs.engine.Line.Fields.{rup_state};
+    ghost use Rattle.pb_proof.specs.engine.Line.Rup.{RupState, IsRupInOrder};
 
     ghost Value = { RupState };
 
@@ -80,8 +80,8 @@ fn units_in(linear: &Option<Linear>) -> usize
 }
 
 impl RupMachine {
-    ghost use Rattle.pb_text.specs.Automaton.{IsState, Pushes};
-    ghost use Rattle.pb_proof.specs.Line.Rup.{rup_automaton, rup_first, rup_plan};
+    ghost use Rattle.pb_text.specs.contract.Automaton.{IsState, Pushes};
+    ghost use Rattle.pb_proof.specs.engine.Line.Rup.{rup_automaton, rup_first, rup_plan};
 
     /// A machine at the start of its text. Creating it does not allocate.
     pub(crate) fn new(alloc: Global, limits: Limits) -> Self
@@ -147,8 +147,8 @@ impl RupMachine {
 
 impl RupMachine {
     ghost use Rattle.std.specs.Prelude.{◌≤◌, take, length};
-    ghost use Rattle.pb_text.specs.Automaton.{Goes, IsState, Runs};
-    ghost use Rattle.pb_proof.specs.Line.Rup.{rup_automaton, rup_plan};
+    ghost use Rattle.pb_text.specs.contract.Automaton.{Goes, IsState, Runs};
+    ghost use Rattle.pb_proof.specs.engine.Line.Rup.{rup_automaton, rup_plan};
 
     /// Gives a byte to the machine for sums. Returns whether the byte was taken.
     fn gives(&mut self, byte: u8) -> bool
@@ -236,7 +236,7 @@ impl RupMachine {
 }
 
 impl Machine for RupMachine {
-    ghost use Rattle.pb_proof.specs.Line.Rup.{rup_automaton};
+    ghost use Rattle.pb_proof.specs.engine.Line.Rup.{rup_automaton};
 
     type Event = Linear;
 

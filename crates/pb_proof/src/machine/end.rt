@@ -1,8 +1,8 @@
 //! Ends a statement in one go.
 
 ghost use Rattle.std.specs.Prelude.{◌≡◌};
-ghost use Rattle.pb_text.specs.Automaton.{Closes, IsState};
-ghost use Rattle.pb_proof.specs.Machine.State.{proofs};
+ghost use Rattle.pb_text.specs.contract.Automaton.{Closes, IsState};
+ghost use Rattle.pb_proof.specs.engine.Machine.State.{proofs};
 
 use crate::machine::phase::Phase;
 use crate::machine::transition::stage_behind;

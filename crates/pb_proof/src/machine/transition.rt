@@ -1,9 +1,9 @@
 //! What the machine for proofs does with a byte, given what it has read last.
 
 ghost use Rattle.std.specs.Prelude.{◌≡◌, ◌<◌, ◌≤◌, IfSome, None, length, take};
-ghost use Rattle.pb_proof.specs.Machine.Transition.{words_of, behind, meets, spell, step_keyword, enter, pass, between, plan};
-ghost use Rattle.pb_proof.specs.Machine.State.{is_within, is_complete, is_done, stage_behind, PhaseFits};
-ghost use Rattle.pb_proof.specs.Machine.Words.{IsRest, LacksRest};
+ghost use Rattle.pb_proof.specs.engine.Machine.Transition.{words_of, behind, meets, spell, step_keyword, enter, pass, between, plan};
+ghost use Rattle.pb_proof.specs.engine.Machine.State.{is_within, is_complete, is_done, stage_behind, PhaseFits};
+ghost use Rattle.pb_proof.specs.engine.Machine.Words.{IsRest, LacksRest};
 
 use crate::machine::phase::{Keyword, LineKind, Move, Phase, Stage};
 use pb_text::bytes::{is_blank, is_white};

@@ -15,7 +15,7 @@ pub struct ProofSoFar {
 }
 
 impl ProofSoFar {
-    ghost use Rattle.pb_proof.specs.Gather.{nothing};
+    ghost use Rattle.pb_proof.specs.contract.Gather.{nothing};
 
     /// The proof before any statement.
     pub fn new(alloc: Global) -> Self
@@ -32,7 +32,7 @@ impl ProofSoFar {
 }
 
 impl Gather for ProofSoFar {
-    ghost use Rattle.pb_proof.specs.Gather.{with, asks};
+    ghost use Rattle.pb_proof.specs.contract.Gather.{with, asks};
 
     type Event = Statement;
 

@@ -2,8 +2,8 @@
 
 ghost use Rattle.std.specs.Prelude.{◌≡◌, ◌+◌, ◌≤◌, ◌<◌, [], ◌∷◌, ◌++◌, length, drop, if◌then◌else◌};
 ghost use Rattle.std.specs.Fmt.{signed_decimal};
-ghost use Rattle.pb_text.specs.Writing.{Writes};
-ghost use Rattle.pb_proof.specs.Canonical.{literal_line, word_bytes, listed_bytes};
+ghost use Rattle.pb_text.specs.meaning.Writing.{Writes};
+ghost use Rattle.pb_proof.specs.meaning.Canonical.{literal_line, word_bytes, listed_bytes};
 
 use crate::piece::{Piece, ROOM};
 use crate::word::PolWord;

@@ -13,23 +13,23 @@ use Rattle.pb_replay.specs.declared.propagate.store.Store.{Store}
 use Rattle.pb_replay.specs.declared.propagate.store.kept.Kept.{Kept}
 use Rattle.pb_replay.specs.declared.propagate.clauses.Clauses.{Clauses}
 use Rattle.pb_replay.specs.declared.propagate.clauses.lists.Watch.{Watch}
-use Rattle.pb_replay.specs.Engine.Lists.{Shape, Puts, negation, has, says, open_sum, size}
-use Rattle.pb_replay.specs.Engine.Counts.{IsTidy, beside}
-use Rattle.pb_replay.specs.Engine.Fields.{shapes_of, kept_shape, IsEmpty}
-use Rattle.pb_replay.specs.Engine.Root.{IsRooted, IsSpare, HasOpen, HasTrue, HasVacated, HasLost, IsSameWatch}
-use Rattle.pb_replay.specs.Clauses.Truths.{flip, true_at, false_at}
-use Rattle.pb_replay.specs.Clauses.Links.{lists_of, list_at, watch_at}
-use Rattle.pb_replay.specs.Clauses.Runs.{AreReady, AreWalked}
-use Rattle.pb_replay.specs.Clauses.Shapes.{one_term, literal_at, clause_shape, slot_shape, joined, clauses_of, all_of}
-use Rattle.pb_replay.specs.Clauses.Walked.{walked_codes}
-use Rattle.pb_replay.proofs.Clauses.Linked.{lists-length}
-use Rattle.pb_replay.proofs.Clauses.Literals.{true-listed, false-listed, place-code, code-place}
-use Rattle.pb_replay.proofs.Clauses.Shapes.{joined-at, joined-length, two-open, shape-some}
-use Rattle.pb_replay.proofs.Clauses.Slots.{joined-cleared}
-use Rattle.pb_replay.proofs.Clauses.Truths.{flip-half}
-use Rattle.pb_replay.proofs.Engine.Values.{Agree}
-use Rattle.pb_replay.proofs.Root.Admitted.{no-watch}
-use Rattle.pb_replay.proofs.Root.Rooted.{IsUnused, derives-spare, unused-spare}
+use Rattle.pb_replay.specs.engine.Engine.Lists.{Shape, Puts, negation, has, says, open_sum, size}
+use Rattle.pb_replay.specs.engine.Engine.Counts.{IsTidy, beside}
+use Rattle.pb_replay.specs.engine.Engine.Fields.{shapes_of, kept_shape, IsEmpty}
+use Rattle.pb_replay.specs.engine.Engine.Root.{IsRooted, IsSpare, HasOpen, HasTrue, HasVacated, HasLost, IsSameWatch}
+use Rattle.pb_replay.specs.engine.Clauses.Truths.{flip, true_at, false_at}
+use Rattle.pb_replay.specs.engine.Clauses.Links.{lists_of, list_at, watch_at}
+use Rattle.pb_replay.specs.engine.Clauses.Runs.{AreReady, AreWalked}
+use Rattle.pb_replay.specs.engine.Clauses.Shapes.{one_term, literal_at, clause_shape, slot_shape, joined, clauses_of, all_of}
+use Rattle.pb_replay.specs.engine.Clauses.Walked.{walked_codes}
+use Rattle.pb_replay.proofs.lemmas.clauses.Linked.{lists-length}
+use Rattle.pb_replay.proofs.lemmas.clauses.Literals.{true-listed, false-listed, place-code, code-place}
+use Rattle.pb_replay.proofs.lemmas.clauses.Shapes.{joined-at, joined-length, two-open, shape-some}
+use Rattle.pb_replay.proofs.lemmas.clauses.Slots.{joined-cleared}
+use Rattle.pb_replay.proofs.lemmas.clauses.Truths.{flip-half}
+use Rattle.pb_replay.proofs.lemmas.engine.Values.{Agree}
+use Rattle.pb_replay.proofs.lemmas.root.Admitted.{no-watch}
+use Rattle.pb_replay.proofs.lemmas.root.Rooted.{IsUnused, derives-spare, unused-spare}
 
 -- a term of a clause is one of its literals, with coefficient 1
 clause-term : (codes : List ℕ) (l : NumberedLiteral) (c : ℕ) → Contains (map one_term codes) (record { literal = l; coefficient = c }) → (x : ℕ) × Contains codes x × (literal_at x ≡ l) × (c ≡ 1)

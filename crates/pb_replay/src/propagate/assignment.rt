@@ -2,7 +2,7 @@
 
 ghost use Rattle.std.specs.Prelude.{◌≡◌, ℕ, ◌+◌, ◌≤◌, ◌<◌, ◌++◌, ◌∷◌, [], Bool, None, true, false, length, take, sum_by, OnOk, OnErr, IfOk, slice_index_or};
 ghost use Rattle.pb_replay.specs.declared.numbered.NumberedLiteral.{NumberedLiteral};
-ghost use Rattle.pb_replay.specs.Engine.Lists.{has, says, vacancy, negation};
+ghost use Rattle.pb_replay.specs.engine.Engine.Lists.{has, says, vacancy, negation};
 
 use crate::numbered::NumberedLiteral;
 use std::alloc::{AllocError, Global};

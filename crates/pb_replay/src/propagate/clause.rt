@@ -1,8 +1,8 @@
 //! Constraints that are clauses.
 
 ghost use Rattle.std.specs.Prelude.{◌≡◌, ◌<◌, ◌^◌, All, map, true, false, IfOk};
-ghost use Rattle.pb_normal.specs.Form.{IsNormal};
-ghost use Rattle.pb_replay.specs.Clauses.Shapes.{IsLight, IsClause, code};
+ghost use Rattle.pb_normal.specs.meaning.Form.{IsNormal};
+ghost use Rattle.pb_replay.specs.engine.Clauses.Shapes.{IsLight, IsClause, code};
 
 use pb_normal::{Entry, Normal};
 use std::alloc::{AllocError, Global};

@@ -1,9 +1,9 @@
 //! Clauses by slots.
 
 ghost use Rattle.std.specs.Prelude.{◌≡◌, ℕ, ◌+◌, ◌*◌, ◌/◌, ◌<◌, ◌≤◌, ◌++◌, ◌∷◌, [], List, All, Bool, Option, length, slice_set, slice_index, true, false, OnOk, OnErr, IfOk};
-ghost use Rattle.pb_replay.specs.Clauses.Links.{lists_of, list_at, watch_at};
-ghost use Rattle.pb_replay.specs.Clauses.Runs.{AreReady, IsRunning};
-ghost use Rattle.pb_replay.specs.Engine.Root.{IsServed, HasOpen, IsSameWatch};
+ghost use Rattle.pb_replay.specs.engine.Clauses.Links.{lists_of, list_at, watch_at};
+ghost use Rattle.pb_replay.specs.engine.Clauses.Runs.{AreReady, IsRunning};
+ghost use Rattle.pb_replay.specs.engine.Engine.Root.{IsServed, HasOpen, IsSameWatch};
 
 pub mod lists;
 pub mod truth;

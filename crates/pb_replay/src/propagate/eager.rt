@@ -1,7 +1,7 @@
 //! The forms that may propagate with nothing assigned.
 
 ghost use Rattle.std.specs.Prelude.{◌≡◌, ℕ, ◌<◌, ◌+◌, ◌++◌, ◌∷◌, [], Some, length, slice_get, swap_remove, OnOk};
-ghost use Rattle.pb_replay.specs.Engine.Counts.{IsAbsent};
+ghost use Rattle.pb_replay.specs.engine.Engine.Counts.{IsAbsent};
 
 use std::alloc::{AllocError, Global};
 

@@ -5,21 +5,21 @@ pub mod root;
 pub mod visits;
 
 ghost use Rattle.std.specs.Prelude.{◌≡◌, ℕ, List, Option, Some, None, ◌+◌, ◌*◌, ◌<◌, ◌≤◌, ◌++◌, ◌∷◌, [], ◌⊎◌, true, false, All, length, filter, slice_index_or, slice_get, slice_set, sum_by, OnOk, OnErr, IfOk, IfSome, IfNone, map};
-ghost use Rattle.pb_normal.specs.Form.{Form};
-ghost use Rattle.pb_normal.specs.Rules.{negation_of};
+ghost use Rattle.pb_normal.specs.meaning.Form.{Form};
+ghost use Rattle.pb_normal.specs.meaning.Rules.{negation_of};
 ghost use Rattle.pb_replay.specs.declared.numbered.NumberedLiteral.{NumberedLiteral};
 ghost use Rattle.pb_replay.specs.declared.propagate.store.kept.Kept.{Kept};
-ghost use Rattle.pb_replay.specs.Engine.Live.{Standing, Live, Gives, terms_in, one_in};
-ghost use Rattle.pb_replay.specs.Engine.Lists.{has, negation, IsWithin};
-ghost use Rattle.pb_replay.specs.Engine.Counts.{IsCounted, beside, IsTidy, IsUndone, AreSingle};
-ghost use Rattle.pb_replay.specs.Engine.Fields.{shapes_of, forms_of, IsSound};
-ghost use Rattle.pb_replay.specs.Propagation.{With, MeetsConflict, IsCompletion, IsRup};
-ghost use Rattle.pb_replay.specs.Engine.Rest.{AreAtRest, IsAtRest, waits, IsRefuted, IsEnded};
-ghost use Rattle.pb_replay.specs.Engine.Root.{IsRooted, HasGained};
+ghost use Rattle.pb_replay.specs.engine.Engine.Live.{Standing, Live, Gives, terms_in, one_in};
+ghost use Rattle.pb_replay.specs.engine.Engine.Lists.{has, negation, IsWithin};
+ghost use Rattle.pb_replay.specs.engine.Engine.Counts.{IsCounted, beside, IsTidy, IsUndone, AreSingle};
+ghost use Rattle.pb_replay.specs.engine.Engine.Fields.{shapes_of, forms_of, IsSound};
+ghost use Rattle.pb_replay.specs.meaning.Propagation.{With, MeetsConflict, IsCompletion, IsRup};
+ghost use Rattle.pb_replay.specs.engine.Engine.Rest.{AreAtRest, IsAtRest, waits, IsRefuted, IsEnded};
+ghost use Rattle.pb_replay.specs.engine.Engine.Root.{IsRooted, HasGained};
 ghost use Rattle.pb_replay.specs.declared.propagate.store.Store.{Store};
 ghost use Rattle.pb_replay.specs.declared.propagate.clauses.Clauses.{Clauses};
-ghost use Rattle.pb_replay.specs.Clauses.Runs.{AreReady, IsRunning};
-ghost use Rattle.pb_replay.specs.Clauses.Shapes.{AreJoined, clauses_of, all_of};
+ghost use Rattle.pb_replay.specs.engine.Clauses.Runs.{AreReady, IsRunning};
+ghost use Rattle.pb_replay.specs.engine.Clauses.Shapes.{AreJoined, clauses_of, all_of};
 
 use crate::numbered::NumberedLiteral;
 use crate::propagate::assignment::Assignment;
@@ -56,15 +56,15 @@ pub struct Engine {
 }
 
 impl Model for Engine {
-    ghost use Rattle.pb_replay.specs.Engine.Live.{Standing};
+    ghost use Rattle.pb_replay.specs.engine.Engine.Live.{Standing};
 
     ghost Value = { Standing };
 
     ghost use Rattle.std.specs.Prelude.{◌≡◌, true, false, length};
-    ghost use Rattle.pb_replay.specs.Engine.Fields.{forms_of};
-    ghost use Rattle.pb_replay.specs.Engine.Rest.{IsAtRest};
-    ghost use Rattle.pb_replay.specs.Engine.Slots.{numbered, ArePlaced};
-    ghost use Rattle.pb_replay.specs.Engine.Root.{IsRooted};
+    ghost use Rattle.pb_replay.specs.engine.Engine.Fields.{forms_of};
+    ghost use Rattle.pb_replay.specs.engine.Engine.Rest.{IsAtRest};
+    ghost use Rattle.pb_replay.specs.engine.Engine.Slots.{numbered, ArePlaced};
+    ghost use Rattle.pb_replay.specs.engine.Engine.Root.{IsRooted};
 
     ghost view = { λ e. record { forms = numbered (forms_of e.store.kept.items) e.places.items; variables = e.store.variables; visits = e.run.visits; spent = e.spent } };
 

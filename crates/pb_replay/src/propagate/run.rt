@@ -3,15 +3,15 @@
 ghost use Rattle.std.specs.Prelude.{◌≡◌, ℕ, ◌≤◌, ◌+◌, ◌-◌, ◌*◌, ◌^◌, ◌<◌, ◌++◌, ◌∷◌, [], true, false, List, Bool, Option, All, filter, map, length, OnOk, IfOk, slice_index, slice_index_or, slice_set, sum, sum_by, Contains};
 ghost use Rattle.pb_replay.specs.declared.numbered.NumberedLiteral.{NumberedLiteral};
 ghost use Rattle.pb_replay.specs.declared.propagate.term.Term.{Term};
-ghost use Rattle.pb_replay.specs.Engine.Lists.{negation, has, size, Extends, Derives, Conflicts, Shape, IsSettled};
-ghost use Rattle.pb_replay.specs.Engine.Counts.{place, Grown, IsCalm, IsCounted, beside, rest_open, IsTidy, IsPaid, IsAbsent, Adopted, AreFound, AreSingle, IsUndone, AreCovered, spent};
-ghost use Rattle.pb_replay.specs.Engine.Rest.{waits};
-ghost use Rattle.pb_replay.specs.Engine.Fields.{shapes_of, entries_of, IsSound};
-ghost use Rattle.pb_replay.specs.Engine.Links.{terms_at, coefficient_at};
-ghost use Rattle.pb_replay.specs.Engine.Terms.{terms_of};
-ghost use Rattle.pb_replay.specs.Clauses.Runs.{AreReady, IsRunning, AreWalked, Grows};
-ghost use Rattle.pb_replay.specs.Clauses.Walked.{killed, falsified_code, walked_codes};
-ghost use Rattle.pb_replay.specs.Clauses.Shapes.{AreJoined, clauses_of, all_of};
+ghost use Rattle.pb_replay.specs.engine.Engine.Lists.{negation, has, size, Extends, Derives, Conflicts, Shape, IsSettled};
+ghost use Rattle.pb_replay.specs.engine.Engine.Counts.{place, Grown, IsCalm, IsCounted, beside, rest_open, IsTidy, IsPaid, IsAbsent, Adopted, AreFound, AreSingle, IsUndone, AreCovered, spent};
+ghost use Rattle.pb_replay.specs.engine.Engine.Rest.{waits};
+ghost use Rattle.pb_replay.specs.engine.Engine.Fields.{shapes_of, entries_of, IsSound};
+ghost use Rattle.pb_replay.specs.engine.Engine.Links.{terms_at, coefficient_at};
+ghost use Rattle.pb_replay.specs.engine.Engine.Terms.{terms_of};
+ghost use Rattle.pb_replay.specs.engine.Clauses.Runs.{AreReady, IsRunning, AreWalked, Grows};
+ghost use Rattle.pb_replay.specs.engine.Clauses.Walked.{killed, falsified_code, walked_codes};
+ghost use Rattle.pb_replay.specs.engine.Clauses.Shapes.{AreJoined, clauses_of, all_of};
 
 use crate::numbered::NumberedLiteral;
 use crate::propagate::assignment::Assignment;

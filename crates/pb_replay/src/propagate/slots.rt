@@ -1,10 +1,10 @@
 //! Forms take slots and leave them.
 
 ghost use Rattle.std.specs.Prelude.{◌≡◌, ℕ, ◌<◌, ◌++◌, ◌∷◌, ◌⊎◌, [], All, Some, None, true, false, length, filter, slice_get, slice_set, slice_index_or, swap_remove, IfSome, IfOk, OnOk, OnErr};
-ghost use Rattle.pb_replay.specs.Engine.Counts.{IsAbsent};
-ghost use Rattle.pb_replay.specs.Engine.Fields.{forms_of};
-ghost use Rattle.pb_replay.specs.Engine.Rest.{IsAtRest, waits};
-ghost use Rattle.pb_replay.specs.Engine.Root.{HasWidened, HasGained, HasVacated};
+ghost use Rattle.pb_replay.specs.engine.Engine.Counts.{IsAbsent};
+ghost use Rattle.pb_replay.specs.engine.Engine.Fields.{forms_of};
+ghost use Rattle.pb_replay.specs.engine.Engine.Rest.{IsAtRest, waits};
+ghost use Rattle.pb_replay.specs.engine.Engine.Root.{HasWidened, HasGained, HasVacated};
 
 use crate::propagate::clause::is_clause;
 use crate::propagate::clauses::Clauses;

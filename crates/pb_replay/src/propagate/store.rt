@@ -7,8 +7,8 @@ pub mod opened;
 
 ghost use Rattle.std.specs.Prelude.{◌≡◌, ℕ, ◌≤◌, ◌+◌, ◌-◌, ◌^◌, ◌<◌, length, min, slice_index_or};
 ghost use Rattle.pb_replay.specs.declared.propagate.term.Term.{Term};
-ghost use Rattle.pb_replay.specs.Engine.Terms.{terms_of};
-ghost use Rattle.pb_replay.specs.Engine.Fields.{entry_at};
+ghost use Rattle.pb_replay.specs.engine.Engine.Terms.{terms_of};
+ghost use Rattle.pb_replay.specs.engine.Engine.Fields.{entry_at};
 
 use crate::propagate::engine::visits::Visits;
 use crate::propagate::store::falling::Falling;

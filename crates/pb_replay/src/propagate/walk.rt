@@ -1,13 +1,13 @@
 //! Visits to the clauses in which a falsified literal is watched.
 
 ghost use Rattle.std.specs.Prelude.{◌≡◌, ℕ, ◌≤◌, ◌+◌, ◌*◌, ◌<◌, ◌++◌, ◌∷◌, [], true, false, List, Bool, Option, length, OnOk, IfOk, slice_index_or, sum};
-ghost use Rattle.pb_replay.specs.Engine.Lists.{Extends, Derives, Conflicts};
-ghost use Rattle.pb_replay.specs.Engine.Counts.{IsCounted, beside, IsTidy, AreFound, AreSingle, spent};
-ghost use Rattle.pb_replay.specs.Engine.Fields.{shapes_of, entries_of, IsSound};
-ghost use Rattle.pb_replay.specs.Clauses.Truths.{false_at};
-ghost use Rattle.pb_replay.specs.Clauses.Links.{lists_of, list_at};
-ghost use Rattle.pb_replay.specs.Clauses.Runs.{IsRunning, AreServed, AreWalked, Grows};
-ghost use Rattle.pb_replay.specs.Clauses.Shapes.{AreJoined, clauses_of, all_of, literal_at};
+ghost use Rattle.pb_replay.specs.engine.Engine.Lists.{Extends, Derives, Conflicts};
+ghost use Rattle.pb_replay.specs.engine.Engine.Counts.{IsCounted, beside, IsTidy, AreFound, AreSingle, spent};
+ghost use Rattle.pb_replay.specs.engine.Engine.Fields.{shapes_of, entries_of, IsSound};
+ghost use Rattle.pb_replay.specs.engine.Clauses.Truths.{false_at};
+ghost use Rattle.pb_replay.specs.engine.Clauses.Links.{lists_of, list_at};
+ghost use Rattle.pb_replay.specs.engine.Clauses.Runs.{IsRunning, AreServed, AreWalked, Grows};
+ghost use Rattle.pb_replay.specs.engine.Clauses.Shapes.{AreJoined, clauses_of, all_of, literal_at};
 
 use crate::numbered::NumberedLiteral;
 use crate::propagate::clauses::Clauses;

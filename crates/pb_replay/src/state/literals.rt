@@ -1,10 +1,10 @@
 //! Given literals by the numbers of their names.
 
 ghost use Rattle.std.specs.Prelude.{◌≡◌, ◌<◌, All, IfOk, OnOk, length};
-ghost use Rattle.pb_normal.specs.Names.{HasNames, with_names};
-ghost use Rattle.pb_replay.specs.Meaning.{IsFront};
-ghost use Rattle.pb_replay.specs.Replay.{numbered};
-ghost use Rattle.pb_replay.specs.Statements.{literal_names};
+ghost use Rattle.pb_normal.specs.meaning.Names.{HasNames, with_names};
+ghost use Rattle.pb_replay.specs.meaning.Meaning.{IsFront};
+ghost use Rattle.pb_replay.specs.meaning.Replay.{numbered};
+ghost use Rattle.pb_replay.specs.meaning.Statements.{literal_names};
 
 use crate::numbered::NumberedLiteral;
 use crate::state::find::number_of;

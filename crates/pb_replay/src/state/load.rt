@@ -1,12 +1,12 @@
 //! An instance as forms.
 
 ghost use Rattle.std.specs.Prelude.{◌≡◌, ◌<◌, ◌≤◌, ◌↔◌, option_map, All, OnOk, IfOk, IfErr, IsTrue, Err, Ok, ◌⊎◌};
-ghost use Rattle.pb_text.specs.Limits.{largest};
-ghost use Rattle.pb_normal.specs.Constraints.{Fits};
-ghost use Rattle.pb_normal.specs.Names.{with_names};
-ghost use Rattle.pb_normal.specs.Written.{names_of, magnitude};
-ghost use Rattle.pb_replay.specs.Problem.{FitsAll, Opened, objective_of};
-ghost use Rattle.pb_replay.specs.Kept.{IsFirst, problem_of};
+ghost use Rattle.pb_text.specs.meaning.Limits.{largest};
+ghost use Rattle.pb_normal.specs.meaning.Constraints.{Fits};
+ghost use Rattle.pb_normal.specs.meaning.Names.{with_names};
+ghost use Rattle.pb_normal.specs.meaning.Written.{names_of, magnitude};
+ghost use Rattle.pb_replay.specs.meaning.Problem.{FitsAll, Opened, objective_of};
+ghost use Rattle.pb_replay.specs.contract.Kept.{IsFirst, problem_of};
 
 use crate::fault::Fault;
 use crate::shared::share_each;

@@ -1,9 +1,9 @@
 //! The objective with a degree.
 
 ghost use Rattle.std.specs.Prelude.{◌≡◌, ◌⊎◌, IfOk, IfErr, OnOk, Ok, Err, Some, length};
-ghost use Rattle.pb_text.specs.Limits.{largest};
-ghost use Rattle.pb_replay.specs.Bounds.{HasObjective};
-ghost use Rattle.pb_replay.specs.Kept.{IsInside, IsProper, Keeps, problem_of};
+ghost use Rattle.pb_text.specs.meaning.Limits.{largest};
+ghost use Rattle.pb_replay.specs.engine.Bounds.{HasObjective};
+ghost use Rattle.pb_replay.specs.contract.Kept.{IsInside, IsProper, Keeps, problem_of};
 
 use crate::fault::Fault;
 use crate::state::Running;

@@ -1,11 +1,11 @@
 //! `BOUNDS`.
 
 ghost use Rattle.std.specs.Prelude.{◌≡◌, ◌<◌, ◌↔◌, All, IfOk, IfErr, IfSome, IsTrue, OnOk, Ok, Err, length, option_map, [], false, Option, ℤ};
-ghost use Rattle.pb_normal.specs.Form.{Form};
-ghost use Rattle.pb_replay.specs.Bounds.{IsBelow, IsNamed, IsReached, Lower, ObjectiveShown, Refutes, ShownAs, ShownReaches, Upper};
-ghost use Rattle.pb_replay.specs.Conclusions.{IsShownBy};
-ghost use Rattle.pb_replay.specs.Replay.{IsLive};
-ghost use Rattle.pb_replay.specs.Kept.{IsInside, IsLinked, IsProper, Keeps, HasNamed, problem_of};
+ghost use Rattle.pb_normal.specs.meaning.Form.{Form};
+ghost use Rattle.pb_replay.specs.engine.Bounds.{IsBelow, IsNamed, IsReached, Lower, ObjectiveShown, Refutes, ShownAs, ShownReaches, Upper};
+ghost use Rattle.pb_replay.specs.meaning.Conclusions.{IsShownBy};
+ghost use Rattle.pb_replay.specs.meaning.Replay.{IsLive};
+ghost use Rattle.pb_replay.specs.contract.Kept.{IsInside, IsLinked, IsProper, Keeps, HasNamed, problem_of};
 
 use crate::fault::Fault;
 use crate::numbered::NumberedLiteral;

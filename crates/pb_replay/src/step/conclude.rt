@@ -2,11 +2,11 @@
 
 ghost use Rattle.std.specs.Prelude.{◌≡◌, ◌<◌, All, Err, IfSome, IsSome, List, OnOk, Option, Some, [], length, option_map};
 ghost use Rattle.pb_sums.specs.declared.values.Literal.{Literal as Written};
-ghost use Rattle.pb_replay.specs.Bounds.{Both};
-ghost use Rattle.pb_replay.specs.Replay.{numbered};
-ghost use Rattle.pb_replay.specs.Kept.{Keeps, Goes, GoesAt, HasNamed, IsLinked, IsProper, IsReady, problem_of};
-ghost use Rattle.pb_text.specs.Limits.{largest, top_of};
-ghost use Rattle.pb_replay.specs.Statements.{MayWant, PassesFirst};
+ghost use Rattle.pb_replay.specs.engine.Bounds.{Both};
+ghost use Rattle.pb_replay.specs.meaning.Replay.{numbered};
+ghost use Rattle.pb_replay.specs.contract.Kept.{Keeps, Goes, GoesAt, HasNamed, IsLinked, IsProper, IsReady, problem_of};
+ghost use Rattle.pb_text.specs.meaning.Limits.{largest, top_of};
+ghost use Rattle.pb_replay.specs.meaning.Statements.{MayWant, PassesFirst};
 
 use crate::fault::Fault;
 use crate::numbered::NumberedLiteral;

@@ -1,12 +1,12 @@
 //! Whether a live constraint is a contradiction.
 
 ghost use Rattle.std.specs.Prelude.{◌≡◌, List, Err, None, Some, get_or, ◌<◌, IsTrue, ◌↔◌, length};
-ghost use Rattle.pb_normal.specs.Form.{Form};
-ghost use Rattle.pb_normal.specs.Rules.{IsContradiction};
-ghost use Rattle.pb_replay.specs.Conclusions.{has_contradiction, none_left};
-ghost use Rattle.pb_replay.specs.Answer.{gives};
-ghost use Rattle.pb_replay.specs.Replay.{Logged};
-ghost use Rattle.pb_replay.specs.Kept.{IsBest, state_of};
+ghost use Rattle.pb_normal.specs.meaning.Form.{Form};
+ghost use Rattle.pb_normal.specs.meaning.Rules.{IsContradiction};
+ghost use Rattle.pb_replay.specs.meaning.Conclusions.{has_contradiction, none_left};
+ghost use Rattle.pb_replay.specs.meaning.Answer.{gives};
+ghost use Rattle.pb_replay.specs.meaning.Replay.{Logged};
+ghost use Rattle.pb_replay.specs.contract.Kept.{IsBest, state_of};
 
 use crate::fault::Fault;
 use crate::propagate::engine::Engine;

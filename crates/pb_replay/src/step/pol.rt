@@ -1,19 +1,19 @@
 //! The words of `pol` on a stack of forms.
 
 ghost use Rattle.std.specs.Prelude.{◌≡◌, ℤ, ◌<◌, ◌≤◌, ◌+◌, ◌-◌, ◌∷◌, ◌++◌, ◌⊎◌, [], pos, ◌≤ℤ◌, All, length, reverse, unsigned_abs, OnOk, OnErr, IfOk, IfErr, IfSome, Ok, Err};
-ghost use Rattle.pb_text.specs.Limits.{largest, top_of};
+ghost use Rattle.pb_text.specs.meaning.Limits.{largest, top_of};
 ghost use Rattle.pb_proof.specs.declared.PolWord.TheVariants.{Id};
-ghost use Rattle.pb_proof.specs.Postfix.{IsPostfix, words as words_of};
-ghost use Rattle.pb_proof.specs.Values.{IsStatementValue, IsWord};
-ghost use Rattle.pb_normal.specs.Names.{HasNames, with_names};
-ghost use Rattle.pb_normal.specs.Rules.{IsSum, divided, multiplied, saturated, weakened};
-ghost use Rattle.pb_replay.specs.Answer.{some};
-ghost use Rattle.pb_replay.specs.Meaning.{IsFront};
-ghost use Rattle.pb_replay.specs.Replay.{IsLive, TreeForm, limited};
-ghost use Rattle.pb_replay.specs.Kept.{Keeps, Goes, IsLinked, IsReady};
-ghost use Rattle.pb_replay.specs.Stack.{Word};
-ghost use Rattle.pb_proof.specs.Leaving.{takes};
-ghost use Rattle.pb_replay.specs.Statements.{word_names};
+ghost use Rattle.pb_proof.specs.meaning.Postfix.{IsPostfix, words as words_of};
+ghost use Rattle.pb_proof.specs.contract.Values.{IsStatementValue, IsWord};
+ghost use Rattle.pb_normal.specs.meaning.Names.{HasNames, with_names};
+ghost use Rattle.pb_normal.specs.meaning.Rules.{IsSum, divided, multiplied, saturated, weakened};
+ghost use Rattle.pb_replay.specs.meaning.Answer.{some};
+ghost use Rattle.pb_replay.specs.meaning.Meaning.{IsFront};
+ghost use Rattle.pb_replay.specs.meaning.Replay.{IsLive, TreeForm, limited};
+ghost use Rattle.pb_replay.specs.contract.Kept.{Keeps, Goes, IsLinked, IsReady};
+ghost use Rattle.pb_replay.specs.engine.Stack.{Word};
+ghost use Rattle.pb_proof.specs.contract.Leaving.{takes};
+ghost use Rattle.pb_replay.specs.meaning.Statements.{word_names};
 
 use crate::fault::Fault;
 use crate::propagate::engine::Engine;

@@ -1,16 +1,16 @@
 //! `rup`.
 
 ghost use Rattle.std.specs.Prelude.{◌≡◌, ◌≤◌, ◌⊎◌, List, [], length, true, false, OnOk, IfOk, IfErr, Err};
-ghost use Rattle.pb_text.specs.Limits.{largest};
-ghost use Rattle.pb_normal.specs.Constraints.{Fits};
-ghost use Rattle.pb_normal.specs.Names.{with_names};
-ghost use Rattle.pb_normal.specs.Rules.{negation_of};
-ghost use Rattle.pb_normal.specs.Written.{names_of, IsSideOf};
+ghost use Rattle.pb_text.specs.meaning.Limits.{largest};
+ghost use Rattle.pb_normal.specs.meaning.Constraints.{Fits};
+ghost use Rattle.pb_normal.specs.meaning.Names.{with_names};
+ghost use Rattle.pb_normal.specs.meaning.Rules.{negation_of};
+ghost use Rattle.pb_normal.specs.meaning.Written.{names_of, IsSideOf};
 ghost use Rattle.pb_replay.specs.declared.numbered.NumberedLiteral.{NumberedLiteral};
-ghost use Rattle.pb_replay.specs.Engine.Live.{Live};
-ghost use Rattle.pb_replay.specs.Propagation.{IsCompletion, IsRup, MeetsConflict, With};
-ghost use Rattle.pb_replay.specs.Kept.{Adding, Keeps, Goes, HasNamed, IsInside, IsLinked, IsReady};
-ghost use Rattle.pb_replay.specs.Visits.{IsFew, Looks};
+ghost use Rattle.pb_replay.specs.engine.Engine.Live.{Live};
+ghost use Rattle.pb_replay.specs.meaning.Propagation.{IsCompletion, IsRup, MeetsConflict, With};
+ghost use Rattle.pb_replay.specs.contract.Kept.{Adding, Keeps, Goes, HasNamed, IsInside, IsLinked, IsReady};
+ghost use Rattle.pb_replay.specs.contract.Visits.{IsFew, Looks};
 
 use crate::fault::Fault;
 use crate::state::Running;

@@ -1,14 +1,14 @@
 //! `soli` and `solx`.
 
 ghost use Rattle.std.specs.Prelude.{◌≡◌, ◌<◌, ◌^◌, ◌⊎◌, All, IfOk, IfErr, IsSome, OnOk, Ok, Err, length, true, false, not, map, unsigned_abs, ℕ, pos, ◌-ℤ◌, [], List};
-ghost use Rattle.pb_replay.specs.Engine.Live.{Live, Gives};
-ghost use Rattle.pb_replay.specs.Propagation.{MeetsConflict, IsCompletion, on};
-ghost use Rattle.pb_replay.specs.Replay.{Completed, IsClause, Logged, numbered};
-ghost use Rattle.pb_replay.specs.Kept.{Keeps, Goes, GoesAt, Logs, HasNamed, IsBetter, IsInside, IsLinked, IsProper, IsReady, problem_of};
-ghost use Rattle.pb_text.specs.Limits.{largest, top_of};
-ghost use Rattle.pb_replay.specs.Statements.{PassesFirst, literal_names};
+ghost use Rattle.pb_replay.specs.engine.Engine.Live.{Live, Gives};
+ghost use Rattle.pb_replay.specs.meaning.Propagation.{MeetsConflict, IsCompletion, on};
+ghost use Rattle.pb_replay.specs.meaning.Replay.{Completed, IsClause, Logged, numbered};
+ghost use Rattle.pb_replay.specs.contract.Kept.{Keeps, Goes, GoesAt, Logs, HasNamed, IsBetter, IsInside, IsLinked, IsProper, IsReady, problem_of};
+ghost use Rattle.pb_text.specs.meaning.Limits.{largest, top_of};
+ghost use Rattle.pb_replay.specs.meaning.Statements.{PassesFirst, literal_names};
 ghost use Rattle.pb_sums.specs.declared.values.Literal.{Literal as Written};
-ghost use Rattle.pb_replay.specs.Bounds.{Demands};
+ghost use Rattle.pb_replay.specs.engine.Bounds.{Demands};
 ghost use Rattle.pb_replay.specs.declared.numbered.NumberedLiteral.{NumberedLiteral as ANumberedLiteral};
 
 use crate::fault::Fault;

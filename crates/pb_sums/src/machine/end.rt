@@ -1,9 +1,9 @@
 //! Ends a text at once.
 
 ghost use Rattle.std.specs.Prelude.{◌≡◌, None};
-ghost use Rattle.pb_text.specs.Automaton.{Closes, IsState};
-ghost use Rattle.pb_text.specs.Staying.{MayStay};
-ghost use Rattle.pb_sums.specs.State.{sums};
+ghost use Rattle.pb_text.specs.contract.Automaton.{Closes, IsState};
+ghost use Rattle.pb_text.specs.contract.Staying.{MayStay};
+ghost use Rattle.pb_sums.specs.engine.State.{sums};
 
 use crate::machine::{SumMachine, finish};
 use crate::phase::{Kind, Move};

@@ -1,20 +1,20 @@
 -- How a checker relates to the text that it was fed.
 use Rattle.std.specs.Prelude.{◌≡◌, ℕ, List, false, Option, Some, None, Result, Ok, Err}
-use Rattle.pb_text.specs.Limits.{largest, top_of}
-use Rattle.pb_text.specs.Feeding.{StandsAt, place_of, halt_of, is_complete}
-use Rattle.pb_text.specs.Reading.{Reads}
+use Rattle.pb_text.specs.meaning.Limits.{largest, top_of}
+use Rattle.pb_text.specs.contract.Feeding.{StandsAt, place_of, halt_of, is_complete}
+use Rattle.pb_text.specs.meaning.Reading.{Reads}
 use Rattle.pb_text.specs.declared.Limits.{Limits}
 use Rattle.pb_text.specs.declared.Spanned.{Spanned}
 use Rattle.pb_text.specs.declared.Feeder.{Feeder}
-use Rattle.pb_proof.specs.Proofs.{IsProof}
-use Rattle.pb_proof.specs.Machine.State.{ProofState, begin, proofs}
+use Rattle.pb_proof.specs.meaning.Proofs.{IsProof}
+use Rattle.pb_proof.specs.engine.Machine.State.{ProofState, begin, proofs}
 use Rattle.pb_proof.specs.declared.Statement.{Statement}
-use Rattle.pb_replay.specs.Problem.{Problem}
-use Rattle.pb_replay.specs.Replay.{State}
-use Rattle.pb_replay.specs.Kept.{Replaying}
-use Rattle.pb_replay.specs.Kept.{StandsFor}
+use Rattle.pb_replay.specs.meaning.Problem.{Problem}
+use Rattle.pb_replay.specs.meaning.Replay.{State}
+use Rattle.pb_replay.specs.contract.Kept.{Replaying}
+use Rattle.pb_replay.specs.contract.Kept.{StandsFor}
 use Rattle.pb_replay.specs.declared.fault.Fault.{Fault}
-use Rattle.pb_text.specs.Whole.{events_at}
+use Rattle.pb_text.specs.meaning.Whole.{events_at}
 use Rattle.pb_tool.specs.contract.Checks.{Checks, IsRefusedAt, KeepsNamesOf, LeadsTo, StepsTo, Rejects}
 use Rattle.pb_tool.specs.declared.commands.check.checker.CheckFault.{CheckFault}
 use Rattle.pb_tool.specs.declared.commands.check.checker.CheckFault.TheVariants.{Text, Step}

@@ -1,10 +1,10 @@
 -- What is ensured for any source, files included. It is what is ensured for a source whose bytes are known, with the
 -- bytes that the calls have given.
 use Rattle.std.specs.Prelude.{◌⊎◌, ℕ, Bool, true, false, List, Option, Result}
-use Rattle.pb_text.specs.Pulling.{OfGiven}
+use Rattle.pb_text.specs.meaning.Pulling.{OfGiven}
 use Rattle.pb_text.specs.declared.Limits.{Limits}
-use Rattle.pb_opb.specs.Canonical.{event_bytes}
-use Rattle.pb_proof.specs.Canonical.{statement_bytes}
+use Rattle.pb_opb.specs.contract.Canonical.{event_bytes}
+use Rattle.pb_proof.specs.meaning.Canonical.{statement_bytes}
 use Rattle.pb_tool.specs.meaning.Files.{AsksInProofText, IsProofText, TidiesProof}
 use Rattle.pb_tool.specs.contract.Show.{ShowsLines}
 use Rattle.pb_replay.specs.declared.verdict.Verdict.{Verdict}

@@ -1,20 +1,20 @@
 -- What a feed says of a checker.
 use Rattle.std.specs.Prelude.{◌≡◌, ◌≢◌, ◌≤◌, ℕ, List, [], ◌∷◌, ◌++◌, take, Bool, true, false, Option, Some, None, Result, Ok, Err}
 use Rattle.std.specs.List.{flat_map}
-use Rattle.pb_text.specs.Automaton.{MayAsk}
-use Rattle.pb_text.specs.Feeding.{place_of, is_complete}
-use Rattle.pb_text.specs.Limits.{largest, top_of}
-use Rattle.pb_text.specs.Reading.{HasOpen, IsFront}
-use Rattle.pb_text.specs.Spelling.{Item, bytes_of, place_after}
-use Rattle.pb_text.specs.Standing.{Counts}
+use Rattle.pb_text.specs.contract.Automaton.{MayAsk}
+use Rattle.pb_text.specs.contract.Feeding.{place_of, is_complete}
+use Rattle.pb_text.specs.meaning.Limits.{largest, top_of}
+use Rattle.pb_text.specs.meaning.Reading.{HasOpen, IsFront}
+use Rattle.pb_text.specs.meaning.Spelling.{Item, bytes_of, place_after}
+use Rattle.pb_text.specs.contract.Standing.{Counts}
 use Rattle.pb_text.specs.declared.Limits.{Limits}
 use Rattle.pb_text.specs.declared.Place.{Place}
 use Rattle.pb_text.specs.declared.place.Why.TheVariants.{Read, Memory}
-use Rattle.pb_proof.specs.Proofs.{IsProof}
-use Rattle.pb_proof.specs.Machine.State.{begin, proofs}
+use Rattle.pb_proof.specs.meaning.Proofs.{IsProof}
+use Rattle.pb_proof.specs.engine.Machine.State.{begin, proofs}
 use Rattle.pb_proof.specs.declared.Statement.{Statement}
-use Rattle.pb_replay.specs.Problem.{Problem}
-use Rattle.pb_replay.specs.Replay.{State}
+use Rattle.pb_replay.specs.meaning.Problem.{Problem}
+use Rattle.pb_replay.specs.meaning.Replay.{State}
 use Rattle.pb_replay.specs.declared.fault.Fault.{Fault}
 use Rattle.pb_tool.specs.contract.Checker.{Checking, ChecksSoFar}
 use Rattle.pb_tool.specs.contract.Checks.{Checks}

@@ -1,22 +1,22 @@
 -- What the parts of a check ensure: the replay of an instance, and its run through a proof.
 use Rattle.std.specs.Prelude.{◌≡◌, ◌⊎◌, ℕ, List, string_bytes, true, false, Option, Some, None, Result, Ok, Err}
-use Rattle.pb_text.specs.Limits.{largest, top_of}
-use Rattle.pb_text.specs.Pulling.{faults_with}
-use Rattle.pb_text.specs.Stopping.{IsAsking}
+use Rattle.pb_text.specs.meaning.Limits.{largest, top_of}
+use Rattle.pb_text.specs.meaning.Pulling.{faults_with}
+use Rattle.pb_text.specs.meaning.Stopping.{IsAsking}
 use Rattle.pb_text.specs.declared.Limits.{Limits}
 use Rattle.pb_text.specs.declared.Place.{Place}
 use Rattle.pb_opb.specs.declared.Instance.{Instance}
-use Rattle.pb_proof.specs.Proofs.{statements_of}
+use Rattle.pb_proof.specs.meaning.Proofs.{statements_of}
 use Rattle.pb_proof.specs.declared.Proof.{Proof}
 use Rattle.pb_proof.specs.declared.Statement.{Statement}
-use Rattle.pb_replay.specs.Problem.{FitsAll, Problem, Opened}
-use Rattle.pb_replay.specs.Replay.{State, first_state}
-use Rattle.pb_replay.specs.Kept.{Replaying}
-use Rattle.pb_replay.specs.Statements.{Outcome, Accepts, MayWantAt}
+use Rattle.pb_replay.specs.meaning.Problem.{FitsAll, Problem, Opened}
+use Rattle.pb_replay.specs.meaning.Replay.{State, first_state}
+use Rattle.pb_replay.specs.contract.Kept.{Replaying}
+use Rattle.pb_replay.specs.meaning.Statements.{Outcome, Accepts, MayWantAt}
 use Rattle.pb_replay.specs.declared.fault.Fault.{Fault}
 use Rattle.pb_replay.specs.declared.fault.Fault.TheVariants.{Memory as no_memory, Overflow as over, NotTotal}
 use Rattle.pb_replay.specs.declared.verdict.Verdict.{Verdict}
-use Rattle.pb_replay.specs.Kept.{StandsFor}
+use Rattle.pb_replay.specs.contract.Kept.{StandsFor}
 use Rattle.pb_tool.specs.contract.Checks.{KeepsNames}
 use Rattle.pb_tool.specs.meaning.Files.{AsksInProofText, IsProofFile}
 use Rattle.pb_tool.specs.meaning.Tidy.{IsInstanceFile, IsNoInstanceFile}

@@ -1,6 +1,6 @@
 -- What the last peek at a source has shown: its end, if it was read to the end, and else what stopped its reader.
 use Rattle.std.specs.Prelude.{◌≡◌, ℕ, Bool, true, Option, Result, Ok, Err}
-use Rattle.pb_text.specs.Stopping.{IsShown}
+use Rattle.pb_text.specs.meaning.Stopping.{IsShown}
 use Rattle.pb_tool.specs.declared.commands.check.checker.CheckFault.{CheckFault}
 use Rattle.pb_tool.specs.declared.commands.check.checker.CheckFault.TheVariants as check
 use Rattle.pb_tool.specs.declared.fault.ToolFault.{ToolFault}

@@ -1,13 +1,13 @@
 -- What `pb show` writes: a line for each statement that was read.
 use Rattle.std.specs.Prelude.{ℕ, ◌≤◌, List, [], ◌∷◌, ◌++◌, length, decimal, false, Option, Some, Result, Ok, Err}
 use Rattle.std.specs.List.{flat_map}
-use Rattle.pb_text.specs.Blank.{IsBlank, ReadsBlank}
-use Rattle.pb_text.specs.Pulling.{Took}
-use Rattle.pb_text.specs.Reading.{IsSpelled, byte_limit}
-use Rattle.pb_text.specs.PullsInARow.{TookAll, TookSoFar}
-use Rattle.pb_text.specs.Spelling.{Item, place_after}
-use Rattle.pb_text.specs.Stopping.{IsAsking}
-use Rattle.pb_text.specs.Writing.{Wrote, Broke}
+use Rattle.pb_text.specs.meaning.Blank.{IsBlank, ReadsBlank}
+use Rattle.pb_text.specs.meaning.Pulling.{Took}
+use Rattle.pb_text.specs.meaning.Reading.{IsSpelled, byte_limit}
+use Rattle.pb_text.specs.meaning.PullsInARow.{TookAll, TookSoFar}
+use Rattle.pb_text.specs.meaning.Spelling.{Item, place_after}
+use Rattle.pb_text.specs.meaning.Stopping.{IsAsking}
+use Rattle.pb_text.specs.meaning.Writing.{Wrote, Broke}
 use Rattle.pb_text.specs.declared.Place.{Place}
 use Rattle.pb_text.specs.declared.Spanned.{Spanned}
 use Rattle.pb_text.specs.declared.Stop.{Stop}

@@ -1,14 +1,14 @@
 -- What `pb tidy` reads of a text that it wrote.
 use Rattle.std.specs.Prelude.{◌≡◌, ℕ, ◌^◌, ◌<◌, false, List, [], length, Option, Some, Result, Ok, Err}
-use Rattle.pb_text.specs.Limits.{largest, top_of}
-use Rattle.pb_text.specs.Writing.{Wrote, Broke}
+use Rattle.pb_text.specs.meaning.Limits.{largest, top_of}
+use Rattle.pb_text.specs.meaning.Writing.{Wrote, Broke}
 use Rattle.pb_text.specs.declared.Limits.{Limits}
 use Rattle.pb_text.specs.declared.Stop.{Stop}
 use Rattle.pb_text.specs.declared.Why.{Why}
 use Rattle.pb_text.specs.declared.Why.TheVariants.{Byte, TooLarge, Ended, TooLong, Read, Memory}
-use Rattle.pb_opb.specs.Values.{IsInstanceValue}
+use Rattle.pb_opb.specs.meaning.Values.{IsInstanceValue}
 use Rattle.pb_opb.specs.declared.Instance.{Instance}
-use Rattle.pb_proof.specs.Values.{IsProofValue}
+use Rattle.pb_proof.specs.contract.Values.{IsProofValue}
 use Rattle.pb_proof.specs.declared.Proof.{Proof}
 use Rattle.pb_tool.specs.meaning.Files.{tidied_proof, BeginsWithP, IsProofFile, IsNoProofFile, TidiesFile}
 use Rattle.pb_tool.specs.meaning.Tidy.{tidied, IsInstanceFile, IsNoInstanceFile}

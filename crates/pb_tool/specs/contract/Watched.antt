@@ -1,18 +1,18 @@
 -- What a check shows a watch: a call for each statement of the proof, in order.
 use Rattle.std.specs.Prelude.{◌≡◌, ◌⊎◌, ℕ, List, [], ◌∷◌, ◌++◌, Bool, true, false, Option, Some, None, Result, Ok, Err}
-use Rattle.pb_text.specs.Limits.{largest, top_of}
-use Rattle.pb_text.specs.Pulling.{OfGiven}
-use Rattle.pb_text.specs.PullsInARow.{TookAll, TookSoFar}
+use Rattle.pb_text.specs.meaning.Limits.{largest, top_of}
+use Rattle.pb_text.specs.meaning.Pulling.{OfGiven}
+use Rattle.pb_text.specs.meaning.PullsInARow.{TookAll, TookSoFar}
 use Rattle.pb_text.specs.declared.Limits.{Limits}
 use Rattle.pb_text.specs.declared.Place.{Place}
 use Rattle.pb_text.specs.declared.Spanned.{Spanned}
 use Rattle.pb_text.specs.declared.Stop.{Stop}
 use Rattle.pb_opb.specs.declared.Instance.{Instance}
 use Rattle.pb_proof.specs.declared.Statement.{Statement}
-use Rattle.pb_replay.specs.Kept.{Replaying, StandsFor}
-use Rattle.pb_replay.specs.Problem.{Problem, Opened}
-use Rattle.pb_replay.specs.Replay.{State, first_state}
-use Rattle.pb_replay.specs.Statements.{Outcome}
+use Rattle.pb_replay.specs.contract.Kept.{Replaying, StandsFor}
+use Rattle.pb_replay.specs.meaning.Problem.{Problem, Opened}
+use Rattle.pb_replay.specs.meaning.Replay.{State, first_state}
+use Rattle.pb_replay.specs.meaning.Statements.{Outcome}
 use Rattle.pb_replay.specs.declared.fault.Fault.{Fault}
 use Rattle.pb_replay.specs.declared.fault.Fault.TheVariants.{Memory as no_memory, NotTotal}
 use Rattle.pb_replay.specs.declared.verdict.Verdict.{Verdict}

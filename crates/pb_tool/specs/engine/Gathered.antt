@@ -1,7 +1,7 @@
 -- A file whose statements are gathered one by one, and what is ensured for the text of these.
 use Rattle.std.specs.Prelude.{ℕ, Bool, List, Option, Result}
-use Rattle.pb_text.specs.Spelling.{Item}
-use Rattle.pb_text.specs.Whole.{IsWhole, ReadsWhole}
+use Rattle.pb_text.specs.meaning.Spelling.{Item}
+use Rattle.pb_text.specs.meaning.Whole.{IsWhole, ReadsWhole}
 use Rattle.pb_text.specs.declared.Stop.{Stop}
 use Rattle.pb_tool.specs.meaning.Tidy.{IsFile, IsRefused, TidiesAs}
 use Rattle.pb_tool.specs.declared.fault.ToolFault.{ToolFault}

@@ -1,7 +1,7 @@
 -- The text of an instance, built as its statements come.
 use Rattle.std.specs.Prelude.{◌≡◌, ℕ, Bool, true, false, List, [], ◌++◌, Option, Some, None}
-use Rattle.pb_opb.specs.Canonical.{event_bytes}
-use Rattle.pb_opb.specs.Values.{IsValueOf}
+use Rattle.pb_opb.specs.contract.Canonical.{event_bytes}
+use Rattle.pb_opb.specs.meaning.Values.{IsValueOf}
 use Rattle.pb_opb.specs.declared.Instance.{Instance}
 use Rattle.pb_opb.specs.declared.OpbEvent.{OpbEvent}
 use Rattle.pb_opb.specs.declared.OpbEvent.TheVariants.{Header, Objective}

@@ -1,7 +1,7 @@
 -- The text of a proof, built as its statements come.
 use Rattle.std.specs.Prelude.{◌≡◌, ℕ, List, ◌++◌}
-use Rattle.pb_proof.specs.Canonical.{statement_bytes}
-use Rattle.pb_proof.specs.Proofs.{IsProofOf}
+use Rattle.pb_proof.specs.meaning.Canonical.{statement_bytes}
+use Rattle.pb_proof.specs.meaning.Proofs.{IsProofOf}
 use Rattle.pb_proof.specs.declared.proof.Proof.{Proof}
 use Rattle.pb_proof.specs.declared.statement.Statement.{Statement}
 use Rattle.pb_proof.specs.declared.statement.Statement.TheVariants.{Header, F, Output, Conclude, End}

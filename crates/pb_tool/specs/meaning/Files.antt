@@ -1,14 +1,14 @@
 -- What `pb show` and `pb tidy` ensure for a file, which is a proof or an instance.
 use Rattle.std.specs.Prelude.{◌≡◌, ◌⊎◌, ℕ, Bool, true, false, List, [], ◌∷◌, ◌++◌, Option, Result, IfSome}
-use Rattle.pb_text.specs.Limits.{largest, top_of}
-use Rattle.pb_text.specs.Spelling.{Item}
+use Rattle.pb_text.specs.meaning.Limits.{largest, top_of}
+use Rattle.pb_text.specs.meaning.Spelling.{Item}
 use Rattle.pb_text.specs.declared.Limits.{Limits}
 use Rattle.pb_text.specs.declared.Stop.{Stop}
-use Rattle.pb_text.specs.Whole.{IsRead}
-use Rattle.pb_opb.specs.Canonical.{event_bytes}
-use Rattle.pb_proof.specs.Canonical.{proof_bytes, statement_bytes}
-use Rattle.pb_proof.specs.Proofs.{IsProof, IsProofOf}
-use Rattle.pb_proof.specs.Reading.{AsksInProof, ReadsProof}
+use Rattle.pb_text.specs.meaning.Whole.{IsRead}
+use Rattle.pb_opb.specs.contract.Canonical.{event_bytes}
+use Rattle.pb_proof.specs.meaning.Canonical.{proof_bytes, statement_bytes}
+use Rattle.pb_proof.specs.meaning.Proofs.{IsProof, IsProofOf}
+use Rattle.pb_proof.specs.meaning.Reading.{AsksInProof, ReadsProof}
 use Rattle.pb_proof.specs.declared.Proof.{Proof}
 use Rattle.pb_proof.specs.declared.Statement.{Statement}
 use Rattle.pb_tool.specs.contract.Show.{ShowsLines}

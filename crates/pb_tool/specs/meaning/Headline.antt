@@ -1,12 +1,12 @@
 -- What an accepted check means.
 use Rattle.std.specs.Prelude.{◌≡◌, ◌↔◌, ℕ, ◌-◌, ◌^◌, List, [], Bool, Option, Some, Result, Ok}
-use Rattle.pb_text.specs.Limits.{bits_of, top_of}
-use Rattle.pb_text.specs.Reading.{byte_limit}
+use Rattle.pb_text.specs.meaning.Limits.{bits_of, top_of}
+use Rattle.pb_text.specs.meaning.Reading.{byte_limit}
 use Rattle.pb_text.specs.declared.Limits.{Limits}
 use Rattle.pb_opb.specs.declared.Instance.{Instance}
 use Rattle.pb_proof.specs.declared.Proof.{Proof}
-use Rattle.pb_replay.specs.Problem.{Solves}
-use Rattle.pb_replay.specs.Meaning.{MeansWritten}
+use Rattle.pb_replay.specs.meaning.Problem.{Solves}
+use Rattle.pb_replay.specs.meaning.Meaning.{MeansWritten}
 use Rattle.pb_replay.specs.declared.verdict.Verdict.{Verdict}
 use Rattle.pb_replay.specs.declared.verdict.Verdict.TheVariants.{Unsat}
 use Rattle.pb_tool.specs.meaning.Decided.{AreVerified, IsDecided}

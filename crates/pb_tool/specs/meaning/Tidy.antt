@@ -1,21 +1,21 @@
 -- What `pb tidy` writes.
 use Rattle.std.specs.Prelude.{◌≡◌, ◌≤◌, length, ℕ, ◌==◌, Bool, true, false, cond, List, [], ◌∷◌, ◌++◌, Option, Some, None, Result, Ok, Err}
-use Rattle.pb_text.specs.Blank.{IsBlank, ReadsBlank}
-use Rattle.pb_text.specs.Limits.{largest, top_of}
-use Rattle.pb_text.specs.Pulling.{Took}
-use Rattle.pb_text.specs.Reading.{byte_limit}
-use Rattle.pb_text.specs.Spelling.{Item}
-use Rattle.pb_text.specs.Writing.{Wrote, Broke}
+use Rattle.pb_text.specs.meaning.Blank.{IsBlank, ReadsBlank}
+use Rattle.pb_text.specs.meaning.Limits.{largest, top_of}
+use Rattle.pb_text.specs.meaning.Pulling.{Took}
+use Rattle.pb_text.specs.meaning.Reading.{byte_limit}
+use Rattle.pb_text.specs.meaning.Spelling.{Item}
+use Rattle.pb_text.specs.meaning.Writing.{Wrote, Broke}
 use Rattle.pb_text.specs.declared.Limits.{Limits}
 use Rattle.pb_text.specs.declared.Spanned.{Spanned}
 use Rattle.pb_text.specs.declared.Stop.{Stop}
-use Rattle.pb_text.specs.Whole.{IsRead}
+use Rattle.pb_text.specs.meaning.Whole.{IsRead}
 use Rattle.pb_sums.specs.declared.Term.{Term}
 use Rattle.pb_sums.specs.declared.Linear.{Linear}
-use Rattle.pb_opb.specs.Canonical.{instance_bytes}
-use Rattle.pb_opb.specs.Instances.{IsInstance}
-use Rattle.pb_opb.specs.Reading.{AsksInInstance, ReadsInstance}
-use Rattle.pb_opb.specs.Values.{IsValueOf}
+use Rattle.pb_opb.specs.contract.Canonical.{instance_bytes}
+use Rattle.pb_opb.specs.meaning.Instances.{IsInstance}
+use Rattle.pb_opb.specs.meaning.Reading.{AsksInInstance, ReadsInstance}
+use Rattle.pb_opb.specs.meaning.Values.{IsValueOf}
 use Rattle.pb_opb.specs.declared.Instance.{Instance}
 use Rattle.pb_opb.specs.declared.OpbEvent.{OpbEvent}
 use Rattle.pb_tool.specs.contract.Normalised.{IsNormalised, Overflows}

@@ -1,7 +1,7 @@
 //! `pb check`: whether a proof of an instance is accepted, and what it shows.
 
 ghost use Rattle.std.specs.Prelude.{◌≡◌, ◌<◌, ◌^◌, Err, Result, unwrap_or, IfOk, IfSome};
-ghost use Rattle.pb_text.specs.Pulling.{OfGiven};
+ghost use Rattle.pb_text.specs.meaning.Pulling.{OfGiven};
 ghost use Rattle.pb_tool.specs.contract.Given.{ChecksGiven};
 ghost use Rattle.pb_tool.specs.meaning.Headline.{TrueOf, UnsatOf};
 ghost use Rattle.pb_tool.specs.contract.Runs.{faults_of_instance, faults_of_proof};

@@ -1,12 +1,12 @@
 //! `pb show`: the statements of a text, each with its position.
 
 ghost use Rattle.std.specs.Prelude.{◌≡◌, ◌<◌, ◌^◌, false, unwrap_or, IfSome};
-ghost use Rattle.pb_text.specs.Automaton.{Accepts, MayAsk};
-ghost use Rattle.pb_text.specs.Blank.{IsInReach};
-ghost use Rattle.pb_text.specs.Pulling.{OfGiven};
-ghost use Rattle.pb_text.specs.Writing.{Writes};
-ghost use Rattle.pb_opb.specs.Canonical.{event_bytes};
-ghost use Rattle.pb_proof.specs.Canonical.{statement_bytes};
+ghost use Rattle.pb_text.specs.contract.Automaton.{Accepts, MayAsk};
+ghost use Rattle.pb_text.specs.meaning.Blank.{IsInReach};
+ghost use Rattle.pb_text.specs.meaning.Pulling.{OfGiven};
+ghost use Rattle.pb_text.specs.meaning.Writing.{Writes};
+ghost use Rattle.pb_opb.specs.contract.Canonical.{event_bytes};
+ghost use Rattle.pb_proof.specs.meaning.Canonical.{statement_bytes};
 ghost use Rattle.pb_tool.specs.contract.Faults.{faults_reported};
 ghost use Rattle.pb_tool.specs.meaning.Files.{AsksInProofText, IsProofText, ShowsFile};
 ghost use Rattle.pb_tool.specs.contract.Given.{ShowsGiven};

@@ -1,8 +1,8 @@
 //! `pb tidy`: the canonical text of a file.
 
 ghost use Rattle.std.specs.Prelude.{◌≡◌, ◌<◌, ◌^◌, false, true, unwrap_or, IfSome};
-ghost use Rattle.pb_text.specs.Automaton.{Accepts, MayAsk};
-ghost use Rattle.pb_text.specs.Pulling.{OfGiven};
+ghost use Rattle.pb_text.specs.contract.Automaton.{Accepts, MayAsk};
+ghost use Rattle.pb_text.specs.meaning.Pulling.{OfGiven};
 ghost use Rattle.pb_tool.specs.contract.Faults.{faults_reported};
 ghost use Rattle.pb_tool.specs.meaning.Files.{TidiesFile, TidiesProof};
 ghost use Rattle.pb_tool.specs.engine.Gathered.{TidiesEach};

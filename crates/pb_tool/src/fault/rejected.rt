@@ -2,8 +2,8 @@
 
 ghost use Rattle.std.specs.Fmt.{signed_decimal};
 ghost use Rattle.std.specs.Prelude.{◌++◌, ◌∷◌, [], codes, decimal};
-ghost use Rattle.pb_text.specs.Writing.{Writes};
-ghost use Rattle.pb_text.specs.Reasons.{place_text};
+ghost use Rattle.pb_text.specs.meaning.Writing.{Writes};
+ghost use Rattle.pb_text.specs.contract.Reasons.{place_text};
 ghost use Rattle.pb_tool.specs.contract.Refusals.{refusal_text};
 
 use crate::fault::{Input, write_parts, write_place};

@@ -2,7 +2,7 @@ use Rattle.std.proofs.Common.{arith, ◌≡◌, ◌↔◌, ◌∙◌, ℕ, ◌+�
 use Rattle.std.specs.List.{flat_map}
 use Rattle.std.proofs.lemmas.Grind.{flat_map-append}
 use Rattle.std.proofs.lemmas.List.{append-nil, take_all, take_more}
-use Rattle.pb_text.specs.Reading.{byte_limit}
+use Rattle.pb_text.specs.meaning.Reading.{byte_limit}
 use Rattle.pb_replay.specs.declared.verdict.Verdict.{Verdict}
 use Rattle.pb_replay.specs.declared.verdict.Verdict.TheVariants.{Unsat}
 use Rattle.pb_tool.specs.contract.Pieces.{ChecksAt, MayGoOn, place_in}

@@ -1,7 +1,7 @@
 use Rattle.std.proofs.Common.{◌≡◌, None, Result, take}
 use Rattle.std.specs.List.{flat_map}
-use Rattle.pb_text.specs.Reading.{byte_limit}
-use Rattle.pb_replay.specs.Replay.{State}
+use Rattle.pb_text.specs.meaning.Reading.{byte_limit}
+use Rattle.pb_replay.specs.meaning.Replay.{State}
 use Rattle.pb_replay.specs.declared.fault.Fault.{Fault}
 use Rattle.pb_tool.specs.contract.Checker.{IsAt}
 use Rattle.pb_tool.specs.contract.Pieces.{ChecksAt, fault_of}

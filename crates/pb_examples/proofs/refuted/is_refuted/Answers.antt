@@ -1,7 +1,7 @@
 use Rattle.std.proofs.Common.{◌≡◌, ◌∙◌, ◌↔◌, None, Result, ℕ, List, Option, Some, Ok, Bor, Bool, IsTrue, ap, subst}
-use Rattle.pb_text.specs.Kept.{inner_of, shown_of}
-use Rattle.pb_text.specs.Over.{told}
-use Rattle.pb_text.specs.Reading.{byte_limit}
+use Rattle.pb_text.specs.contract.Kept.{inner_of, shown_of}
+use Rattle.pb_text.specs.contract.Over.{told}
+use Rattle.pb_text.specs.meaning.Reading.{byte_limit}
 use Rattle.pb_text.specs.declared.Limits.{Limits}
 use Rattle.pb_text.specs.declared.over.Over.{Over}
 use Rattle.pb_replay.specs.declared.verdict.Verdict.{Verdict}

@@ -1,17 +1,17 @@
 use Rattle.std.proofs.Common.{arith, ◌≡◌, ◌∙◌, None, ℕ, ◌-◌, ◌^◌, ◌<◌, List, [], ◌++◌, sym, Vec, Option, Some, Ok, Bor, ap, subst}
 use Rattle.std.specs.declared.alloc.Global.{Global}
-use Rattle.pb_text.specs.Kept.{inner_of, shown_of}
-use Rattle.pb_text.specs.Over.{told}
-use Rattle.pb_text.specs.Reading.{byte_limit}
-use Rattle.pb_text.specs.Spelling.{Item, bytes_of}
-use Rattle.pb_text.specs.Whole.{events_of}
+use Rattle.pb_text.specs.contract.Kept.{inner_of, shown_of}
+use Rattle.pb_text.specs.contract.Over.{told}
+use Rattle.pb_text.specs.meaning.Reading.{byte_limit}
+use Rattle.pb_text.specs.meaning.Spelling.{Item, bytes_of}
+use Rattle.pb_text.specs.meaning.Whole.{events_of}
 use Rattle.pb_text.specs.declared.Spanned.{Spanned}
 use Rattle.pb_text.specs.declared.over.Over.{Over}
-use Rattle.pb_opb.specs.Canonical.{instance_bytes}
-use Rattle.pb_opb.specs.Instances.{IsInstance}
-use Rattle.pb_opb.specs.Reading.{ReadsInstance}
-use Rattle.pb_opb.specs.Statements.{CanonicalInstance, InstanceValues}
-use Rattle.pb_opb.specs.Values.{IsValueOf}
+use Rattle.pb_opb.specs.contract.Canonical.{instance_bytes}
+use Rattle.pb_opb.specs.meaning.Instances.{IsInstance}
+use Rattle.pb_opb.specs.meaning.Reading.{ReadsInstance}
+use Rattle.pb_opb.specs.contract.Statements.{CanonicalInstance, InstanceValues}
+use Rattle.pb_opb.specs.meaning.Values.{IsValueOf}
 use Rattle.pb_opb.specs.declared.Instance.{Instance}
 use Rattle.pb_opb.specs.declared.OpbEvent.{OpbEvent}
 use Rattle.pb_examples.specs.Rewritten.{IsRewritten, IsTextOf}

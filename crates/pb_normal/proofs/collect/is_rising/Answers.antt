@@ -1,7 +1,7 @@
 use Rattle.std.proofs.Common.{◌≡◌, arith, refl}
-use Rattle.pb_normal.proofs.Collecting.{IsRising-read}
-use Rattle.pb_normal.proofs.Merging.{no_entry}
-use Rattle.pb_normal.proofs.Totals.{IsRising-from}
+use Rattle.pb_normal.proofs.lemmas.terms.Collecting.{IsRising-read}
+use Rattle.pb_normal.proofs.lemmas.terms.Merging.{no_entry}
+use Rattle.pb_normal.proofs.lemmas.terms.Totals.{IsRising-from}
 use Rattle.pb_normal.proofs.collect.is_rising.Goals as goal
 
 pub terms-preserved : goal.terms-preserved

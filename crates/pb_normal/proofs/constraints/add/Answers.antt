@@ -1,4 +1,4 @@
-use Rattle.pb_normal.proofs.Loaded.{second_loaded, second_names, second_after}
+use Rattle.pb_normal.proofs.lemmas.names.Loaded.{second_loaded, second_names, second_after}
 use Rattle.pb_normal.proofs.constraints.add.Goals as goal
 
 pub returns-in-Equal-clause-forms : goal.returns-in-Equal-clause-forms

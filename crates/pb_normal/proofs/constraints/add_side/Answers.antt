@@ -1,5 +1,5 @@
-use Rattle.pb_normal.proofs.Loaded.{after_all}
-use Rattle.pb_normal.proofs.Numbering.{OnErr-always}
+use Rattle.pb_normal.proofs.lemmas.names.Loaded.{after_all}
+use Rattle.pb_normal.proofs.lemmas.names.Numbering.{OnErr-always}
 use Rattle.pb_normal.proofs.constraints.add_side.Goals as goal
 
 pub returns-clause-forms : goal.returns-clause-forms

@@ -1,8 +1,8 @@
 use Rattle.std.proofs.Common.{arith, ap, Err}
-use Rattle.pb_text.specs.Limits.{largest}
-use Rattle.pb_normal.specs.Constraints.{Fits}
+use Rattle.pb_text.specs.meaning.Limits.{largest}
+use Rattle.pb_normal.specs.meaning.Constraints.{Fits}
 use Rattle.pb_normal.specs.declared.fault.NormalFault.{NormalFault}
-use Rattle.pb_normal.proofs.Loaded.{after_at, all_read, loaded_at, loaded_none, memory_alone}
+use Rattle.pb_normal.proofs.lemmas.names.Loaded.{after_at, all_read, loaded_at, loaded_none, memory_alone}
 use Rattle.pb_normal.proofs.constraints.load_tested.Goals as goal
 
 pub loop-constraint-init : goal.loop-constraint-init

@@ -1,5 +1,5 @@
 use Rattle.std.proofs.Common.{take}
-use Rattle.pb_normal.proofs.Loaded.{LoadedFrom}
+use Rattle.pb_normal.proofs.lemmas.names.Loaded.{LoadedFrom}
 use Rattle.pb_normal.proofs.constraints.load_tested.Given as goal
 
 -- the constraints so far are loaded

@@ -1,5 +1,5 @@
-use Rattle.pb_normal.proofs.Unique.{IsSum-unique, form-unique}
-use Rattle.pb_normal.proofs.WrittenForms.{IsFormOf-unique}
+use Rattle.pb_normal.proofs.lemmas.rules.Unique.{IsSum-unique, form-unique}
+use Rattle.pb_normal.proofs.lemmas.names.WrittenForms.{IsFormOf-unique}
 use Rattle.pb_normal.proofs.laws.forms_are_unique.Goals as goal
 
 pub returns-clause-sum : goal.returns-clause-sum

@@ -1,5 +1,5 @@
-use Rattle.pb_normal.proofs.Keeps.{Holds-alike}
-use Rattle.pb_normal.proofs.Maps.{total-le-each}
+use Rattle.pb_normal.proofs.lemmas.rules.Keeps.{Holds-alike}
+use Rattle.pb_normal.proofs.lemmas.terms.Maps.{total-le-each}
 use Rattle.pb_normal.proofs.laws.forms_hold_by_their_variables.Goals as goal
 
 pub returns-clause-alike : goal.returns-clause-alike

@@ -1,4 +1,4 @@
-use Rattle.pb_normal.proofs.Appearing.{front, named, distinct, present, in_turn}
+use Rattle.pb_normal.proofs.lemmas.names.Appearing.{front, named, distinct, present, in_turn}
 use Rattle.pb_normal.proofs.laws.names_keep_their_numbers.Goals as goal
 
 pub returns-clause-front : goal.returns-clause-front

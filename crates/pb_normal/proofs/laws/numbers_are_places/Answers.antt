@@ -1,5 +1,5 @@
-use Rattle.pb_normal.proofs.Numbering.{slice_get-number, number_in-below, number_in-get, number_in-append, has_name-append}
-use Rattle.pb_normal.proofs.WrittenForms.{HasNames-append}
+use Rattle.pb_normal.proofs.lemmas.names.Numbering.{slice_get-number, number_in-below, number_in-get, number_in-append, has_name-append}
+use Rattle.pb_normal.proofs.lemmas.names.WrittenForms.{HasNames-append}
 use Rattle.pb_normal.proofs.laws.numbers_are_places.Goals as goal
 
 pub returns-clause-found : goal.returns-clause-found

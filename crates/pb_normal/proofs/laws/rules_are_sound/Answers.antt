@@ -1,8 +1,8 @@
 use Rattle.std.proofs.Common.{arith}
-use Rattle.pb_normal.specs.Form.{true_at}
-use Rattle.pb_normal.proofs.Sums.{Holds-sum}
-use Rattle.pb_normal.proofs.Scales.{Holds-multiplied, Holds-saturated}
-use Rattle.pb_normal.proofs.Maps.{Holds-divided, Holds-weakened, Holds-negation, Holds-negation_back, total-le-each}
+use Rattle.pb_normal.specs.meaning.Form.{true_at}
+use Rattle.pb_normal.proofs.lemmas.rules.Sums.{Holds-sum}
+use Rattle.pb_normal.proofs.lemmas.rules.Scales.{Holds-multiplied, Holds-saturated}
+use Rattle.pb_normal.proofs.lemmas.terms.Maps.{Holds-divided, Holds-weakened, Holds-negation, Holds-negation_back, total-le-each}
 use Rattle.pb_normal.proofs.laws.rules_are_sound.Goals as goal
 
 pub returns-clause-sum : goal.returns-clause-sum

@@ -1,11 +1,11 @@
 use Rattle.std.proofs.Common.{arith, ◌≡◌, ◌∙◌, FitsSigned, to_z, of_z, rules}
 use Rattle.std.specs.Int.{w128}
 use Rattle.std.proofs.lemmas.Int.{to_z-of_z}
-use Rattle.pb_normal.specs.Names.{AfterFront}
-use Rattle.pb_normal.specs.Written.{names_of}
-use Rattle.pb_normal.proofs.Numbering.{Numbering-push, AfterFront-from, OnErr-always}
-use Rattle.pb_text.proofs.Lists.{take_read}
-use Rattle.pb_normal.proofs.WrittenForms.{magnitude-read}
+use Rattle.pb_normal.specs.meaning.Names.{AfterFront}
+use Rattle.pb_normal.specs.meaning.Written.{names_of}
+use Rattle.pb_normal.proofs.lemmas.names.Numbering.{Numbering-push, AfterFront-from, OnErr-always}
+use Rattle.pb_text.proofs.lemmas.text.Lists.{take_read}
+use Rattle.pb_normal.proofs.lemmas.names.WrittenForms.{magnitude-read}
 use Rattle.pb_normal.proofs.linear.numbered.Goals as goal
 
 pub returns-in_err-variable-clause-err : goal.returns-in_err-variable-clause-err

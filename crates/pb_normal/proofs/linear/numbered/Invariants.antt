@@ -1,5 +1,5 @@
 use Rattle.std.proofs.Common.{take}
-use Rattle.pb_normal.proofs.Numbering.{Numbering}
+use Rattle.pb_normal.proofs.lemmas.names.Numbering.{Numbering}
 use Rattle.pb_normal.proofs.linear.numbered.Given as goal
 
 abbrev pub invariant-loop-t : goal.invariant-loop-t

@@ -1,7 +1,7 @@
 use Rattle.std.proofs.Common.{arith, ◌≡◌, FitsSigned, to_z, of_z, rules}
 use Rattle.std.specs.Int.{w128}
 use Rattle.std.proofs.lemmas.Int.{to_z-of_z}
-use Rattle.pb_normal.proofs.WrittenForms.{magnitude-read, shift-side-le}
+use Rattle.pb_normal.proofs.lemmas.names.WrittenForms.{magnitude-read, shift-side-le}
 use Rattle.pb_normal.proofs.linear.shift_of.Goals as goal
 
 pub signed-coefficient-requires : goal.signed-coefficient-requires

@@ -1,6 +1,6 @@
 use Rattle.std.proofs.Common.{length, ◌+◌, ◌-◌, List}
 use Rattle.pb_normal.specs.declared.entry.Entry.{Entry}
-use Rattle.pb_normal.proofs.Merging.{Merging}
+use Rattle.pb_normal.proofs.lemmas.terms.Merging.{Merging}
 use Rattle.pb_normal.proofs.merge.cancelled.Given as goal
 
 abbrev pub invariant-merge : goal.invariant-merge

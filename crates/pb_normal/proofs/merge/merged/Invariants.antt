@@ -1,5 +1,5 @@
 use Rattle.std.proofs.Common.{length, ◌+◌, ◌-◌}
-use Rattle.pb_normal.proofs.Merging.{Merging}
+use Rattle.pb_normal.proofs.lemmas.terms.Merging.{Merging}
 use Rattle.pb_normal.proofs.merge.merged.Given as goal
 
 abbrev pub invariant-merge : goal.invariant-merge

@@ -1,7 +1,7 @@
 use Rattle.std.proofs.Common.{arith, refl}
-use Rattle.pb_normal.specs.Rules.{of_variable}
-use Rattle.pb_normal.proofs.Maps.{total-le-each}
-use Rattle.pb_normal.proofs.Merging.{total-read, no_entry}
+use Rattle.pb_normal.specs.meaning.Rules.{of_variable}
+use Rattle.pb_normal.proofs.lemmas.terms.Maps.{total-le-each}
+use Rattle.pb_normal.proofs.lemmas.terms.Merging.{total-read, no_entry}
 use Rattle.pb_normal.proofs.rules.coefficients_on.Goals as goal
 
 pub overflow_add-sum : goal.overflow_add-sum

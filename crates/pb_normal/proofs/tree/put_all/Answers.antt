@@ -1,7 +1,7 @@
 use Rattle.std.proofs.Common.{◌<◌, take, length, get_or, refl, arith}
 use Rattle.std.proofs.lemmas.List.{take-append-drop}
-use Rattle.pb_normal.proofs.Merging.{positive-read, no_entry}
-use Rattle.pb_normal.proofs.KeyedTerms.{Putting-fits, Putting-next, Putting-cancels}
+use Rattle.pb_normal.proofs.lemmas.terms.Merging.{positive-read, no_entry}
+use Rattle.pb_normal.proofs.lemmas.terms.KeyedTerms.{Putting-fits, Putting-next, Putting-cancels}
 use Rattle.pb_normal.proofs.tree.put_all.Goals as goal
 
 pub put-requires-clause-positive : goal.put-requires-clause-positive

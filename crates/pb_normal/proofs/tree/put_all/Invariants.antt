@@ -1,8 +1,8 @@
 use Rattle.std.proofs.Common.{take}
 use Rattle.std.specs.BTreeMap.{values}
-use Rattle.pb_normal.specs.Adds.{Adds}
-use Rattle.pb_normal.specs.Form.{IsRising}
-use Rattle.pb_normal.specs.Keyed.{IsKeyed}
+use Rattle.pb_normal.specs.engine.Adds.{Adds}
+use Rattle.pb_normal.specs.meaning.Form.{IsRising}
+use Rattle.pb_normal.specs.engine.Keyed.{IsKeyed}
 use Rattle.pb_normal.proofs.tree.put_all.Given as goal
 
 -- the terms so far are added

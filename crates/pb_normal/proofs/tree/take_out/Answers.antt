@@ -1,6 +1,6 @@
 use Rattle.std.proofs.Common.{sym, ◌∙◌}
-use Rattle.pb_normal.proofs.KeyedTerms.{IsKeyed-remove}
-use Rattle.pb_normal.proofs.Removals.{values-remove, dropped-none, dropped-some, size-some}
+use Rattle.pb_normal.proofs.lemmas.terms.KeyedTerms.{IsKeyed-remove}
+use Rattle.pb_normal.proofs.lemmas.terms.Removals.{values-remove, dropped-none, dropped-some, size-some}
 use Rattle.pb_normal.proofs.tree.take_out.Goals as goal
 
 pub returns-in-Some-clause-keyed : goal.returns-in-Some-clause-keyed

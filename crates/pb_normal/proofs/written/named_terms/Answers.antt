@@ -1,8 +1,8 @@
 use Rattle.std.proofs.Common.{arith, ◌≡◌, get_or, refl, pos, to_z}
 use Rattle.std.specs.Int.{w128}
 use Rattle.std.proofs.lemmas.Int.{fits_signed_from_abs, to_z_pos}
-use Rattle.pb_normal.proofs.Merging.{total-read, no_entry}
-use Rattle.pb_normal.proofs.Naming.{terms_push}
+use Rattle.pb_normal.proofs.lemmas.terms.Merging.{total-read, no_entry}
+use Rattle.pb_normal.proofs.lemmas.names.Naming.{terms_push}
 use Rattle.pb_normal.proofs.written.named_terms.Goals as goal
 
 pub overflow_cast-t : goal.overflow_cast-t

@@ -1,5 +1,5 @@
 use Rattle.std.proofs.Common.{◌≡◌, take, map}
-use Rattle.pb_normal.specs.Written.{term_of}
+use Rattle.pb_normal.specs.meaning.Written.{term_of}
 use Rattle.pb_normal.proofs.written.named_terms.Given as goal
 
 abbrev pub invariant-loop-t : goal.invariant-loop-t

@@ -1,6 +1,6 @@
-use Rattle.pb_text.proofs.FixedMarks as marks
-use Rattle.pb_opb.specs.State.{opb, begin}
-use Rattle.pb_opb.proofs.Bodies.{instance_each}
+use Rattle.pb_text.proofs.lemmas.text.FixedMarks as marks
+use Rattle.pb_opb.specs.engine.State.{opb, begin}
+use Rattle.pb_opb.proofs.lemmas.machine.Bodies.{instance_each}
 use Rattle.pb_opb.proofs.laws.fixed_marks.Goals as goal
 
 pub returns : goal.returns

@@ -1,4 +1,4 @@
-use Rattle.pb_opb.proofs.Larger.{instance_grows}
+use Rattle.pb_opb.proofs.lemmas.instances.Larger.{instance_grows}
 use Rattle.pb_opb.proofs.laws.larger_limits.Goals as goal
 
 pub returns : goal.returns

@@ -1,6 +1,6 @@
-use Rattle.pb_text.proofs.Deterministic.{no_front}
-use Rattle.pb_opb.specs.State.{opb, begin}
-use Rattle.pb_opb.proofs.Bodies.{instance_each, closes}
+use Rattle.pb_text.proofs.lemmas.text.Deterministic.{no_front}
+use Rattle.pb_opb.specs.engine.State.{opb, begin}
+use Rattle.pb_opb.proofs.lemmas.machine.Bodies.{instance_each, closes}
 use Rattle.pb_opb.proofs.laws.no_front.Goals as goal
 
 pub returns : goal.returns

@@ -1,8 +1,8 @@
-use Rattle.pb_text.specs.Automaton.{Accepts, MayAsk}
-use Rattle.pb_text.specs.Limits.{largest, top_of}
-use Rattle.pb_opb.specs.State.{opb, begin}
-use Rattle.pb_opb.proofs.Exactly.{read_exactly, stops_exactly}
-use Rattle.pb_opb.proofs.Gathered.{is_read, stops_in}
+use Rattle.pb_text.specs.contract.Automaton.{Accepts, MayAsk}
+use Rattle.pb_text.specs.meaning.Limits.{largest, top_of}
+use Rattle.pb_opb.specs.engine.State.{opb, begin}
+use Rattle.pb_opb.proofs.lemmas.machine.Exactly.{read_exactly, stops_exactly}
+use Rattle.pb_opb.proofs.lemmas.instances.Gathered.{is_read, stops_in}
 use Rattle.pb_opb.proofs.read.read_instance_within.Goals as goal
 
 pub returns-in-Ok-clause-reads : goal.returns-in-Ok-clause-reads

@@ -1,5 +1,5 @@
 use Rattle.std.proofs.Common.{arith}
-use Rattle.pb_opb.proofs.Meets.{comment_passes, comment_fails, comments_end}
+use Rattle.pb_opb.proofs.lemmas.instances.Meets.{comment_passes, comment_fails, comments_end}
 use Rattle.pb_opb.proofs.validity.are_comments.Goals as goal
 
 pub returns-then-not-comment_is_value : goal.returns-then-not-comment_is_value

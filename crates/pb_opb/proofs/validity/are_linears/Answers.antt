@@ -1,6 +1,6 @@
 use Rattle.std.proofs.Common.{arith}
-use Rattle.pb_text.specs.Limits.{largest}
-use Rattle.pb_opb.proofs.Meets.{linear_passes, linear_fails, linears_end}
+use Rattle.pb_text.specs.meaning.Limits.{largest}
+use Rattle.pb_opb.proofs.lemmas.instances.Meets.{linear_passes, linear_fails, linears_end}
 use Rattle.pb_opb.proofs.validity.are_linears.Goals as goal
 
 pub returns-then-not-linear_is_value : goal.returns-then-not-linear_is_value

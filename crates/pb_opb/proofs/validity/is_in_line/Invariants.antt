@@ -1,4 +1,4 @@
-use Rattle.pb_text.specs.Blank.{IsInLine}
+use Rattle.pb_text.specs.meaning.Blank.{IsInLine}
 use Rattle.std.proofs.Common.{take}
 use Rattle.pb_opb.proofs.validity.is_in_line.Given as goal
 

@@ -1,7 +1,7 @@
 use Rattle.std.proofs.Common.{refl}
-use Rattle.pb_text.proofs.Parts.{part_then, part_broke}
-use Rattle.pb_opb.specs.Canonical.{constraint_events}
-use Rattle.pb_opb.proofs.Texts.{objective_turn}
+use Rattle.pb_text.proofs.lemmas.text.Parts.{part_then, part_broke}
+use Rattle.pb_opb.specs.contract.Canonical.{constraint_events}
+use Rattle.pb_opb.proofs.lemmas.instances.Texts.{objective_turn}
 use Rattle.pb_opb.proofs.write.write_all.Goals as goal
 
 pub returns-in_err-write_comments : goal.returns-in_err-write_comments

@@ -1,6 +1,6 @@
 use Rattle.std.proofs.Common.{List, ℕ, subst, sym, rules}
-use Rattle.pb_text.specs.Writing.{Writes}
-use Rattle.pb_opb.proofs.Texts.{body_without, body_with}
+use Rattle.pb_text.specs.meaning.Writing.{Writes}
+use Rattle.pb_opb.proofs.lemmas.instances.Texts.{body_without, body_with}
 use Rattle.pb_opb.proofs.write.write_body.Goals as goal
 
 pub returns-in-None-2 : goal.returns-in-None-2

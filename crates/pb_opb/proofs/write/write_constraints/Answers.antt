@@ -1,11 +1,11 @@
 use Rattle.std.proofs.Common.{[], ◌∷◌, ◌++◌, refl, arith, subst, List, ℕ, ap, add-zero, sym}
-use Rattle.pb_text.specs.Writing.{Wrote}
-use Rattle.pb_text.proofs.Writing.{writes_nothing}
-use Rattle.pb_text.proofs.Parts.{part_then, part_broke, part_wrote}
-use Rattle.pb_sums.specs.Canonical.{linear_bytes}
-use Rattle.pb_opb.specs.Canonical.{in_order, constraint_events, comment_events}
-use Rattle.pb_opb.specs.Led.{led_lines}
-use Rattle.pb_opb.proofs.Texts.{constraint_turn, constraint_done, constraints_end}
+use Rattle.pb_text.specs.meaning.Writing.{Wrote}
+use Rattle.pb_text.proofs.lemmas.text.Writing.{writes_nothing}
+use Rattle.pb_text.proofs.lemmas.text.Parts.{part_then, part_broke, part_wrote}
+use Rattle.pb_sums.specs.contract.Canonical.{linear_bytes}
+use Rattle.pb_opb.specs.contract.Canonical.{in_order, constraint_events, comment_events}
+use Rattle.pb_opb.specs.engine.Led.{led_lines}
+use Rattle.pb_opb.proofs.lemmas.instances.Texts.{constraint_turn, constraint_done, constraints_end}
 use Rattle.pb_opb.proofs.write.write_constraints.Goals as goal
 
 pub loop-index-init : goal.loop-index-init

@@ -1,6 +1,6 @@
 use Rattle.std.proofs.Common.{refl, rules}
-use Rattle.pb_text.proofs.Parts.{part_then, part_broke}
-use Rattle.pb_opb.proofs.Texts.{objective_parts}
+use Rattle.pb_text.proofs.lemmas.text.Parts.{part_then, part_broke}
+use Rattle.pb_opb.proofs.lemmas.instances.Texts.{objective_parts}
 use Rattle.pb_opb.proofs.write.write_objective.Goals as goal
 
 pub returns-in_err-write_bytes : goal.returns-in_err-write_bytes

@@ -1,5 +1,5 @@
-use Rattle.pb_text.proofs.Deterministic.{no_front}
-use Rattle.pb_proof.specs.Machine.State.{proofs, begin}
+use Rattle.pb_text.proofs.lemmas.text.Deterministic.{no_front}
+use Rattle.pb_proof.specs.engine.Machine.State.{proofs, begin}
 use Rattle.pb_proof.proofs.lemmas.Machine.Exact.{reads_proofs, closes}
 use Rattle.pb_proof.proofs.laws.no_front.Goals as goal
 

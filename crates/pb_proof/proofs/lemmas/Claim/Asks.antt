@@ -2,17 +2,17 @@
 use Rattle.std.proofs.Common.{◌≡◌, ℕ, ◌+◌, ◌-◌, ◌*◌, Bool, true, false, ◌&&◌, List, [], ◌∷◌, ◌++◌, refl, sym, ap, subst, ◌∙◌, append_assoc, Some, None}
 use Rattle.std.proofs.lemmas.Bool.{false≢true, cond_both}
 use Rattle.std.specs.Prelude.{ℤ, nat_eq, nat_le, slice_index}
-use Rattle.pb_text.specs.Automaton.{Next, Go, End, Refuse, Reads}
-use Rattle.pb_text.specs.Classes.{is_blank, is_digit}
-use Rattle.pb_text.specs.Spelling.{Letter, bytes}
-use Rattle.pb_text.proofs.Languages.{bytes-append}
-use Rattle.pb_text.proofs.Walking.{Walks, fronts}
+use Rattle.pb_text.specs.contract.Automaton.{Next, Go, End, Refuse, Reads}
+use Rattle.pb_text.specs.meaning.Classes.{is_blank, is_digit}
+use Rattle.pb_text.specs.meaning.Spelling.{Letter, bytes}
+use Rattle.pb_text.proofs.lemmas.text.Languages.{bytes-append}
+use Rattle.pb_text.proofs.lemmas.machine.Walking.{Walks, fronts}
 use Rattle.pb_sums.specs.declared.Literal.{Literal}
-use Rattle.pb_proof.specs.Asking.{AsksShown, AsksClaim}
-use Rattle.pb_proof.specs.Line.Claim.{word_of, behind_word, behind_bound, spell, first_word, digits, begin_bound, colon, behind, between, after_bound, id_digits, after_id, plan}
-use Rattle.pb_proof.specs.Line.ClaimState.{ClaimState, claim_automaton, claim_first, showing_value, act, over, giving, asks}
-use Rattle.pb_proof.specs.Line.Literals.{LiteralsState, literals_automaton}
-use Rattle.pb_proof.specs.Lines.{inf_word}
+use Rattle.pb_proof.specs.meaning.Asking.{AsksShown, AsksClaim}
+use Rattle.pb_proof.specs.engine.Line.Claim.{word_of, behind_word, behind_bound, spell, first_word, digits, begin_bound, colon, behind, between, after_bound, id_digits, after_id, plan}
+use Rattle.pb_proof.specs.engine.Line.ClaimState.{ClaimState, claim_automaton, claim_first, showing_value, act, over, giving, asks}
+use Rattle.pb_proof.specs.engine.Line.Literals.{LiteralsState, literals_automaton}
+use Rattle.pb_proof.specs.meaning.Lines.{inf_word}
 use Rattle.pb_proof.specs.declared.conclusion.Bound.{Bound}
 use Rattle.pb_proof.specs.declared.conclusion.Bound.TheVariants.{Infinite}
 use Rattle.pb_proof.specs.declared.conclusion.Conclusion.{Conclusion}

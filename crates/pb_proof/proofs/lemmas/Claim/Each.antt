@@ -1,19 +1,19 @@
 -- The conclusion machine reads each conclusion.
 use Rattle.std.proofs.Common.{◌≡◌, ℕ, ◌<◌, Bool, true, List, [], ◌∷◌, ◌++◌, refl, sym, ap, subst, ◌∙◌}
 use Rattle.std.specs.Prelude.{IsTrue, ℤ, Option, Some, None}
-use Rattle.pb_text.specs.Automaton.{Go, Reads}
-use Rattle.pb_text.specs.Classes.{is_blank}
-use Rattle.pb_text.specs.Languages.{unmarked, Language, ◌⋅◌, Empty, Byte, Bytes, Blanks0, Blanks1}
-use Rattle.pb_text.specs.Numbers.{signed}
-use Rattle.pb_text.specs.Spelling.{Letter}
-use Rattle.pb_text.proofs.Languages.{inside, regroup, behind_it}
-use Rattle.pb_text.proofs.Walking.{Walks, longer, reads_behind}
-use Rattle.pb_text.proofs.ByteTests.{blank_digit}
+use Rattle.pb_text.specs.contract.Automaton.{Go, Reads}
+use Rattle.pb_text.specs.meaning.Classes.{is_blank}
+use Rattle.pb_text.specs.meaning.Languages.{unmarked, Language, ◌⋅◌, Empty, Byte, Bytes, Blanks0, Blanks1}
+use Rattle.pb_text.specs.meaning.Numbers.{signed}
+use Rattle.pb_text.specs.meaning.Spelling.{Letter}
+use Rattle.pb_text.proofs.lemmas.text.Languages.{inside, regroup, behind_it}
+use Rattle.pb_text.proofs.lemmas.machine.Walking.{Walks, longer, reads_behind}
+use Rattle.pb_text.proofs.lemmas.text.ByteTests.{blank_digit}
 use Rattle.pb_sums.specs.declared.Literal.{Literal}
-use Rattle.pb_proof.specs.Lines.{none_word, unsat_word, bounds_word, LineEnd, SpellsId, SpellsBound, SpellsShown, Shown, IdShown, SpellsClaim}
-use Rattle.pb_proof.specs.Line.Claim.{word_of, behind_word}
-use Rattle.pb_proof.specs.Line.ClaimState.{ClaimState, claim_automaton, claim_first, claim_last, claim_value, showing_value, giving, over}
-use Rattle.pb_proof.specs.Line.Literals.{LiteralsState, literals_automaton, literals_first, literals_last, SpellsJoined}
+use Rattle.pb_proof.specs.meaning.Lines.{none_word, unsat_word, bounds_word, LineEnd, SpellsId, SpellsBound, SpellsShown, Shown, IdShown, SpellsClaim}
+use Rattle.pb_proof.specs.engine.Line.Claim.{word_of, behind_word}
+use Rattle.pb_proof.specs.engine.Line.ClaimState.{ClaimState, claim_automaton, claim_first, claim_last, claim_value, showing_value, giving, over}
+use Rattle.pb_proof.specs.engine.Line.Literals.{LiteralsState, literals_automaton, literals_first, literals_last, SpellsJoined}
 use Rattle.pb_proof.specs.declared.conclusion.Bound.{Bound}
 use Rattle.pb_proof.specs.declared.conclusion.Conclusion.{Conclusion}
 use Rattle.pb_proof.specs.declared.conclusion.Conclusion.TheVariants.{NoClaim, Unsat, Sat, Bounds}

@@ -2,20 +2,20 @@
 use Rattle.std.proofs.Common.{◌≡◌, ℕ, ◌+◌, ◌-◌, ◌*◌, ◌<◌, ◌≤◌, Bool, true, false, ◌&&◌, List, [], ◌∷◌, ◌++◌, length, take, refl, sym, ap, subst, inl, inr, ◌∙◌}
 use Rattle.std.proofs.lemmas.Bool.{eqb-true, cond_both, and_parts}
 use Rattle.std.specs.Prelude.{ℤ, Some, None, nat_eq, nat_le, slice_index}
-use Rattle.pb_text.specs.Automaton.{Next, Go, End, Refuse, Reads}
-use Rattle.pb_text.specs.Classes.{is_blank, is_digit}
-use Rattle.pb_text.specs.Languages.{unmarked, digit, Language, ◌⋅◌, Empty, Byte, Bytes, Blanks0, Blanks1}
-use Rattle.pb_text.specs.Numbers.{Digits, Sign, signed}
-use Rattle.pb_text.specs.Spelling.{Letter, plain}
-use Rattle.pb_text.proofs.Languages.{grown, next, none_yet, inside, behind_it, regroup}
-use Rattle.pb_text.proofs.Numbers.{digits-grown, digits-one}
-use Rattle.pb_text.proofs.Walking.{Walks, walks_more, ends_walk, On, Keeps, told}
-use Rattle.pb_text.proofs.Letters.{as_unmarked, some_digit, word_grown, word_whole}
+use Rattle.pb_text.specs.contract.Automaton.{Next, Go, End, Refuse, Reads}
+use Rattle.pb_text.specs.meaning.Classes.{is_blank, is_digit}
+use Rattle.pb_text.specs.meaning.Languages.{unmarked, digit, Language, ◌⋅◌, Empty, Byte, Bytes, Blanks0, Blanks1}
+use Rattle.pb_text.specs.meaning.Numbers.{Digits, Sign, signed}
+use Rattle.pb_text.specs.meaning.Spelling.{Letter, plain}
+use Rattle.pb_text.proofs.lemmas.text.Languages.{grown, next, none_yet, inside, behind_it, regroup}
+use Rattle.pb_text.proofs.lemmas.numbers.Numbers.{digits-grown, digits-one}
+use Rattle.pb_text.proofs.lemmas.machine.Walking.{Walks, walks_more, ends_walk, On, Keeps, told}
+use Rattle.pb_text.proofs.lemmas.text.Letters.{as_unmarked, some_digit, word_grown, word_whole}
 use Rattle.pb_sums.specs.declared.Literal.{Literal}
-use Rattle.pb_proof.specs.Lines.{unsat_word, bounds_word, inf_word, Minus, SpellsId, SpellsBound, IdShown, SpellsClaim}
-use Rattle.pb_proof.specs.Line.Claim.{word_of, behind_word, behind_bound, spell, first_word, digits, begin_bound, colon, behind, between, after_bound, id_digits, after_id, plan, PhaseFits}
-use Rattle.pb_proof.specs.Line.ClaimState.{ClaimState, claim_automaton, claim_first, claim_at, giving, act, over, is_in_number}
-use Rattle.pb_proof.specs.Line.Literals.{LiteralsState, literals_automaton, literals_first, SpellsJoined}
+use Rattle.pb_proof.specs.meaning.Lines.{unsat_word, bounds_word, inf_word, Minus, SpellsId, SpellsBound, IdShown, SpellsClaim}
+use Rattle.pb_proof.specs.engine.Line.Claim.{word_of, behind_word, behind_bound, spell, first_word, digits, begin_bound, colon, behind, between, after_bound, id_digits, after_id, plan, PhaseFits}
+use Rattle.pb_proof.specs.engine.Line.ClaimState.{ClaimState, claim_automaton, claim_first, claim_at, giving, act, over, is_in_number}
+use Rattle.pb_proof.specs.engine.Line.Literals.{LiteralsState, literals_automaton, literals_first, SpellsJoined}
 use Rattle.pb_proof.specs.declared.conclusion.Bound.{Bound}
 use Rattle.pb_proof.specs.declared.conclusion.Bound.TheVariants.{Finite, Infinite}
 use Rattle.pb_proof.specs.declared.conclusion.Conclusion.{Conclusion}

@@ -3,16 +3,16 @@ use Rattle.std.proofs.Common.{◌≡◌, ℕ, ◌+◌, ◌-◌, ◌*◌, ◌<◌
 use Rattle.std.proofs.lemmas.Bool.{le-leb}
 use Rattle.std.proofs.lemmas.Bool.Decides.{nat_tests}
 use Rattle.std.specs.Prelude.{ℤ, None, nat_eq}
-use Rattle.pb_text.specs.Automaton.{Go}
-use Rattle.pb_text.specs.Classes.{is_digit}
-use Rattle.pb_text.specs.Languages.{unmarked}
-use Rattle.pb_text.specs.Numbers.{Digits, Number, signed}
-use Rattle.pb_text.specs.Spelling.{Letter, plain}
-use Rattle.pb_text.proofs.Walking.{Walks, Leads}
-use Rattle.pb_text.proofs.ByteTests.{digit_byte, digit_blank}
-use Rattle.pb_proof.specs.Lines.{inf_word, SpellsId, SpellsBound}
-use Rattle.pb_proof.specs.Line.Claim.{behind_bound, digits, after_bound, id_digits, after_id, is_within}
-use Rattle.pb_proof.specs.Line.ClaimState.{ClaimState, claim_automaton, act, is_in_number}
+use Rattle.pb_text.specs.contract.Automaton.{Go}
+use Rattle.pb_text.specs.meaning.Classes.{is_digit}
+use Rattle.pb_text.specs.meaning.Languages.{unmarked}
+use Rattle.pb_text.specs.meaning.Numbers.{Digits, Number, signed}
+use Rattle.pb_text.specs.meaning.Spelling.{Letter, plain}
+use Rattle.pb_text.proofs.lemmas.machine.Walking.{Walks, Leads}
+use Rattle.pb_text.proofs.lemmas.text.ByteTests.{digit_byte, digit_blank}
+use Rattle.pb_proof.specs.meaning.Lines.{inf_word, SpellsId, SpellsBound}
+use Rattle.pb_proof.specs.engine.Line.Claim.{behind_bound, digits, after_bound, id_digits, after_id, is_within}
+use Rattle.pb_proof.specs.engine.Line.ClaimState.{ClaimState, claim_automaton, act, is_in_number}
 use Rattle.pb_proof.specs.declared.conclusion.Bound.{Bound}
 use Rattle.pb_proof.specs.declared.conclusion.Bound.TheVariants.{Finite, Infinite}
 use Rattle.pb_proof.specs.declared.line.claim.phase.Owner.{Owner}
@@ -22,7 +22,7 @@ use Rattle.pb_proof.specs.declared.line.claim.phase.Phase.{Phase}
 use Rattle.pb_proof.specs.declared.line.claim.phase.Phase.TheVariants as phase
 use Rattle.pb_proof.specs.declared.line.claim.phase.Move.TheVariants.{To, Stop}
 use Rattle.pb_proof.proofs.lemmas.Claim.Walk.{at, Carries, Is, Follows, number_follows, Spelled, left_walk}
-use Rattle.pb_text.proofs.DigitWalks.{TakesDigits, digits_lead}
+use Rattle.pb_text.proofs.lemmas.numbers.DigitWalks.{TakesDigits, digits_lead}
 
 -- a digit differs from each byte that is not a digit
 digit-not : (d b : ℕ) → d < 10 → is_digit b ≡ false → nat_eq (48 + d) b ≡ false

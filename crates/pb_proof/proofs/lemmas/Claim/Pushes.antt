@@ -1,23 +1,23 @@
 -- A push of the conclusion machine does what its transition says.
 use Rattle.std.proofs.Common.{◌≡◌, ℕ, ◌-◌, ◌^◌, ◌<◌, ◌≤◌, false, ◌&&◌, List, IsTrue, refl, sym, ap, subst, arith, ◌∙◌}
 use Rattle.std.proofs.Math.Pow.{pow_mono}
-use Rattle.pb_text.specs.Automaton.{Next, Go, End, Refuse, Admits, is_large}
-use Rattle.pb_text.specs.Classes.{is_digit}
-use Rattle.pb_text.specs.Limits.{largest, top_of}
+use Rattle.pb_text.specs.contract.Automaton.{Next, Go, End, Refuse, Admits, is_large}
+use Rattle.pb_text.specs.meaning.Classes.{is_digit}
+use Rattle.pb_text.specs.meaning.Limits.{largest, top_of}
 use Rattle.pb_text.specs.declared.limits.Limits.{Limits}
-use Rattle.pb_text.proofs.Residual.{refuses}
-use Rattle.pb_text.proofs.Outcomes.{go_or_refuse, end_or_refuse}
+use Rattle.pb_text.proofs.lemmas.machine.Residual.{refuses}
+use Rattle.pb_text.proofs.lemmas.machine.Outcomes.{go_or_refuse, end_or_refuse}
 use Rattle.pb_sums.specs.declared.Literal.{Literal}
-use Rattle.pb_proof.specs.Line.Claim.{plan}
-use Rattle.pb_proof.specs.Line.ClaimState.{ClaimState, claim_automaton, claim_first, giving, act, over, asks, is_in_number, IsClaimInOrder}
-use Rattle.pb_proof.specs.Line.Literals.{LiteralsState, literals_automaton}
+use Rattle.pb_proof.specs.engine.Line.Claim.{plan}
+use Rattle.pb_proof.specs.engine.Line.ClaimState.{ClaimState, claim_automaton, claim_first, giving, act, over, asks, is_in_number, IsClaimInOrder}
+use Rattle.pb_proof.specs.engine.Line.Literals.{LiteralsState, literals_automaton}
 use Rattle.pb_proof.specs.declared.line.claim.phase.Showing.{Showing}
 use Rattle.pb_proof.specs.declared.line.claim.phase.Phase.TheVariants as phase
 use Rattle.pb_proof.specs.declared.line.claim.phase.Move.{Move}
 use Rattle.pb_proof.specs.declared.line.claim.phase.Move.TheVariants.{Give}
 use Rattle.pb_proof.proofs.lemmas.Claim.Steps.{goes, give_phase, idle_order}
 use Rattle.pb_proof.proofs.lemmas.Claim.Theorems.{claim_of_one}
-use Rattle.pb_text.proofs.OneText.{admits}
+use Rattle.pb_text.proofs.lemmas.machine.OneText.{admits}
 
 module _ (s : ClaimState) (h : IsClaimInOrder s) (b : ℕ) (x : Showing) (planned : plan s.limit s.top s.phase b ≡ Give x) where
   given : (n : Next LiteralsState (List Literal)) → literals_automaton.step s.literals b ≡ n → claim_automaton.step s b ≡ over s x n

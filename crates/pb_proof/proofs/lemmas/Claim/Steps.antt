@@ -2,15 +2,15 @@
 use Rattle.std.proofs.Common.{◌≡◌, ℕ, ◌+◌, ◌-◌, ◌*◌, ◌^◌, ◌<◌, ◌≤◌, Bool, true, false, cond, ◌&&◌, nat_eq, nat_le, length, refl, sym, ap, subst, arith}
 use Rattle.std.proofs.lemmas.Bool.{leb-true, false≢true, cond_both, and_parts}
 use Rattle.std.specs.Prelude.{ℤ, Some, None, slice_index, List}
-use Rattle.pb_text.specs.Automaton.{Next, Go, End, Refuse}
-use Rattle.pb_text.specs.Classes.{is_blank, is_digit}
-use Rattle.pb_text.specs.Numbers.{signed}
-use Rattle.pb_text.proofs.Letters.{further}
+use Rattle.pb_text.specs.contract.Automaton.{Next, Go, End, Refuse}
+use Rattle.pb_text.specs.meaning.Classes.{is_blank, is_digit}
+use Rattle.pb_text.specs.meaning.Numbers.{signed}
+use Rattle.pb_text.proofs.lemmas.text.Letters.{further}
 use Rattle.pb_sums.specs.declared.Literal.{Literal}
-use Rattle.pb_proof.specs.Lines.{inf_word}
-use Rattle.pb_proof.specs.Line.Claim.{word_of, behind_word, behind_bound, spell, first_word, digits, begin_bound, colon, behind, between, after_bound, id_digits, after_id, plan, is_within, is_done, PhaseFits}
-use Rattle.pb_proof.specs.Line.ClaimState.{ClaimState, claim_automaton, claim_at, claim_last, giving, act, over, is_in_number, spent, Holds, IsClaimInOrder}
-use Rattle.pb_proof.specs.Line.Literals.{LiteralsState, literals_automaton}
+use Rattle.pb_proof.specs.meaning.Lines.{inf_word}
+use Rattle.pb_proof.specs.engine.Line.Claim.{word_of, behind_word, behind_bound, spell, first_word, digits, begin_bound, colon, behind, between, after_bound, id_digits, after_id, plan, is_within, is_done, PhaseFits}
+use Rattle.pb_proof.specs.engine.Line.ClaimState.{ClaimState, claim_automaton, claim_at, claim_last, giving, act, over, is_in_number, spent, Holds, IsClaimInOrder}
+use Rattle.pb_proof.specs.engine.Line.Literals.{LiteralsState, literals_automaton}
 use Rattle.pb_proof.specs.declared.conclusion.Bound.{Bound}
 use Rattle.pb_proof.specs.declared.conclusion.Bound.TheVariants.{Finite, Infinite}
 use Rattle.pb_proof.specs.declared.conclusion.Conclusion.{Conclusion}

@@ -1,14 +1,14 @@
 -- The texts of conclusions, part by part.
 use Rattle.std.proofs.Common.{ℕ, true, List, [], ◌∷◌, refl}
 use Rattle.std.specs.Prelude.{ℤ, Option, Some, None}
-use Rattle.pb_text.specs.Languages.{Language, ◌⋅◌, Empty, Byte, Bytes, Blanks0, Blanks1}
-use Rattle.pb_text.specs.Spelling.{Letter}
-use Rattle.pb_text.proofs.Languages.{none_yet, regroup, regroup⁻¹, inside, behind_it}
-use Rattle.pb_sums.specs.Sums.{SpellsLiteral}
+use Rattle.pb_text.specs.meaning.Languages.{Language, ◌⋅◌, Empty, Byte, Bytes, Blanks0, Blanks1}
+use Rattle.pb_text.specs.meaning.Spelling.{Letter}
+use Rattle.pb_text.proofs.lemmas.text.Languages.{none_yet, regroup, regroup⁻¹, inside, behind_it}
+use Rattle.pb_sums.specs.meaning.Sums.{SpellsLiteral}
 use Rattle.pb_sums.specs.declared.Literal.{Literal}
-use Rattle.pb_proof.specs.Lines.{none_word, unsat_word, sat_word, bounds_word, LineEnd, Listed, SpellsId, SpellsBound, SpellsShown, IdShown, SpellsConclusion, SpellsClaim}
-use Rattle.pb_proof.specs.Line.ClaimState.{showing_value, claim_value}
-use Rattle.pb_proof.specs.Line.Literals.{SpellsJoined}
+use Rattle.pb_proof.specs.meaning.Lines.{none_word, unsat_word, sat_word, bounds_word, LineEnd, Listed, SpellsId, SpellsBound, SpellsShown, IdShown, SpellsConclusion, SpellsClaim}
+use Rattle.pb_proof.specs.engine.Line.ClaimState.{showing_value, claim_value}
+use Rattle.pb_proof.specs.engine.Line.Literals.{SpellsJoined}
 use Rattle.pb_proof.specs.declared.conclusion.Bound.{Bound}
 use Rattle.pb_proof.specs.declared.line.claim.phase.Owner.{Owner}
 use Rattle.pb_proof.specs.declared.line.claim.phase.Owner.TheVariants as owner

@@ -2,15 +2,15 @@
 use Rattle.std.proofs.Common.{◌≡◌, ℕ, zero, suc, ◌<◌, ◌≤◌, Bool, true, false, List, [], ◌∷◌, ◌++◌, drop, refl, inl, inr, ◌⊎◌, sym, ap, subst, arith, ◌↔◌}
 use Rattle.std.proofs.lemmas.Bool.{false≢true}
 use Rattle.std.specs.Prelude.{ℤ, Option, Some, None}
-use Rattle.pb_text.specs.Automaton.{Go, Reads, IsState}
-use Rattle.pb_text.specs.Languages.{unmarked}
-use Rattle.pb_text.specs.Numbers.{signed}
-use Rattle.pb_text.specs.Spelling.{Letter, plain}
-use Rattle.pb_text.proofs.Walking.{Walks, reads_behind}
-use Rattle.pb_proof.specs.Lines.{none_word, inf_word, SpellsClaim}
-use Rattle.pb_proof.specs.Line.Claim.{word_of, behind_word, behind_bound, is_within, is_done, PhaseFits}
-use Rattle.pb_proof.specs.Line.ClaimState.{ClaimState, claim_automaton, claim_at, claim_first, claim_last, claim_value, showing_value, kept, spent, act, Holds, IsClaimInOrder}
-use Rattle.pb_proof.specs.Line.Literals.{LiteralsState, literals_automaton, literals_first, IsLiteralsInOrder}
+use Rattle.pb_text.specs.contract.Automaton.{Go, Reads, IsState}
+use Rattle.pb_text.specs.meaning.Languages.{unmarked}
+use Rattle.pb_text.specs.meaning.Numbers.{signed}
+use Rattle.pb_text.specs.meaning.Spelling.{Letter, plain}
+use Rattle.pb_text.proofs.lemmas.machine.Walking.{Walks, reads_behind}
+use Rattle.pb_proof.specs.meaning.Lines.{none_word, inf_word, SpellsClaim}
+use Rattle.pb_proof.specs.engine.Line.Claim.{word_of, behind_word, behind_bound, is_within, is_done, PhaseFits}
+use Rattle.pb_proof.specs.engine.Line.ClaimState.{ClaimState, claim_automaton, claim_at, claim_first, claim_last, claim_value, showing_value, kept, spent, act, Holds, IsClaimInOrder}
+use Rattle.pb_proof.specs.engine.Line.Literals.{LiteralsState, literals_automaton, literals_first, IsLiteralsInOrder}
 use Rattle.pb_proof.specs.declared.conclusion.Bound.{Bound}
 use Rattle.pb_proof.specs.declared.conclusion.Bound.TheVariants.{Infinite}
 use Rattle.pb_proof.specs.declared.conclusion.Conclusion.{Conclusion}
@@ -32,8 +32,8 @@ use Rattle.pb_proof.proofs.lemmas.Claim.Parts.{before_opens, spaced_opens, infin
 use Rattle.pb_proof.proofs.lemmas.Claim.Steps.{goes, ends, not_done, done_stops, no_number, nothing_spent}
 use Rattle.pb_proof.proofs.lemmas.Claim.Walk.{at, word_left, word_leads, id_steps}
 use Rattle.pb_proof.proofs.lemmas.Literals.Theorems.{literals_of_one}
-use Rattle.pb_text.proofs.OneText.{IsOfOne, reads_last, is_state}
-use Rattle.pb_text.proofs.Living.{ReadsOn, reads_before}
+use Rattle.pb_text.proofs.lemmas.machine.OneText.{IsOfOne, reads_last, is_state}
+use Rattle.pb_text.proofs.lemmas.machine.Living.{ReadsOn, reads_before}
 
 abbrev last : ClaimState → ClaimState
 last s = claim_last s.limit s.top

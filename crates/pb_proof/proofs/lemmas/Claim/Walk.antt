@@ -5,15 +5,15 @@ use Rattle.std.proofs.lemmas.List.{length-take-le, append-nil}
 use Rattle.std.proofs.lemmas.Bool.Decides.{nat_tests}
 use Rattle.std.specs.Prelude.{IsTrue, Some, None, nat_eq, slice_index}
 use Rattle.std.proofs.lemmas.Bool.{eq-eqb}
-use Rattle.pb_text.specs.Automaton.{Go}
-use Rattle.pb_text.specs.Classes.{is_blank, is_digit}
-use Rattle.pb_text.specs.Languages.{Language, ◌⋅◌, Bytes}
-use Rattle.pb_text.specs.Numbers.{signed}
-use Rattle.pb_text.specs.Spelling.{Letter, plain}
-use Rattle.pb_text.proofs.Walking.{Walks, Leads, walks_then}
-use Rattle.pb_text.proofs.ByteTests.{blank_digit}
-use Rattle.pb_proof.specs.Line.Claim.{word_of, behind_word, behind_bound, spell, digits, colon, behind, between, after_bound, after_id, plan, is_within}
-use Rattle.pb_proof.specs.Line.ClaimState.{ClaimState, claim_automaton, claim_at, claim_last, claim_value, act}
+use Rattle.pb_text.specs.contract.Automaton.{Go}
+use Rattle.pb_text.specs.meaning.Classes.{is_blank, is_digit}
+use Rattle.pb_text.specs.meaning.Languages.{Language, ◌⋅◌, Bytes}
+use Rattle.pb_text.specs.meaning.Numbers.{signed}
+use Rattle.pb_text.specs.meaning.Spelling.{Letter, plain}
+use Rattle.pb_text.proofs.lemmas.machine.Walking.{Walks, Leads, walks_then}
+use Rattle.pb_text.proofs.lemmas.text.ByteTests.{blank_digit}
+use Rattle.pb_proof.specs.engine.Line.Claim.{word_of, behind_word, behind_bound, spell, digits, colon, behind, between, after_bound, after_id, plan, is_within}
+use Rattle.pb_proof.specs.engine.Line.ClaimState.{ClaimState, claim_automaton, claim_at, claim_last, claim_value, act}
 use Rattle.pb_proof.specs.declared.conclusion.Bound.{Bound}
 use Rattle.pb_proof.specs.declared.conclusion.Bound.TheVariants.{Finite}
 use Rattle.pb_proof.specs.declared.line.claim.phase.Word.{Word}

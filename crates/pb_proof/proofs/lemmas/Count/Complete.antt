@@ -2,18 +2,18 @@
 use Rattle.std.proofs.Common.{◌≡◌, ℕ, ◌+◌, ◌*◌, ◌<◌, ◌≤◌, List, refl, sym, ap, subst, arith, ◌∙◌}
 use Rattle.std.proofs.lemmas.Bool.{le-leb}
 use Rattle.std.specs.Prelude.{IsTrue, Option, Some, None}
-use Rattle.pb_text.specs.Automaton.{Go, Reads}
-use Rattle.pb_text.specs.Classes.{is_blank}
-use Rattle.pb_text.specs.Languages.{Blanks1}
-use Rattle.pb_text.specs.Numbers.{Count}
-use Rattle.pb_text.specs.Spelling.{Letter}
-use Rattle.pb_text.proofs.Walking.{Leads, leads_then, reads_behind}
-use Rattle.pb_proof.specs.Lines.{SpellsCount}
-use Rattle.pb_proof.specs.Line.Count.{at, count_automaton, counting, count_last, act, plan, digits}
+use Rattle.pb_text.specs.contract.Automaton.{Go, Reads}
+use Rattle.pb_text.specs.meaning.Classes.{is_blank}
+use Rattle.pb_text.specs.meaning.Languages.{Blanks1}
+use Rattle.pb_text.specs.meaning.Numbers.{Count}
+use Rattle.pb_text.specs.meaning.Spelling.{Letter}
+use Rattle.pb_text.proofs.lemmas.machine.Walking.{Leads, leads_then, reads_behind}
+use Rattle.pb_proof.specs.meaning.Lines.{SpellsCount}
+use Rattle.pb_proof.specs.engine.Line.Count.{at, count_automaton, counting, count_last, act, plan, digits}
 use Rattle.pb_proof.specs.declared.line.byte_kind.NumberByte.TheVariants.{Blank, Digit}
 use Rattle.pb_proof.specs.declared.line.count.phase.CountPhase.{CountPhase}
 use Rattle.pb_proof.specs.declared.line.count.phase.CountPhase.TheVariants.{Start, Gap, Digits, Tail, Closing}
-use Rattle.pb_text.proofs.DigitWalks.{TakesDigits, digits_lead}
+use Rattle.pb_text.proofs.lemmas.numbers.DigitWalks.{TakesDigits, digits_lead}
 use Rattle.pb_proof.proofs.lemmas.Line.ByteKinds.{number_blank, number_digit}
 use Rattle.pb_proof.proofs.lemmas.Line.Ends.{TakesBlanks, Feeds, MayEnd, blanks1_lead, line_reads}
 

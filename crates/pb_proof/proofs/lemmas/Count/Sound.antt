@@ -2,18 +2,18 @@
 use Rattle.std.proofs.Common.{◌≡◌, ℕ, ◌+◌, ◌*◌, ◌≤◌, true, false, List, [], ◌∷◌, ◌++◌, refl, ◌∙◌}
 use Rattle.std.proofs.lemmas.Bool.{leb-true, cond_both}
 use Rattle.std.specs.Prelude.{IsTrue, nat_le, Option, Some, None}
-use Rattle.pb_text.proofs.Languages.{grown, next, behind_it, nil_first}
-use Rattle.pb_text.proofs.Numbers.{digits-grown, digits-one}
-use Rattle.pb_text.specs.Automaton.{Next}
-use Rattle.pb_text.specs.Classes.{is_blank}
-use Rattle.pb_text.specs.Languages.{Language, ◌⋅◌, Empty, Blanks1}
-use Rattle.pb_text.specs.Numbers.{Digits as DigitsOf, Count}
-use Rattle.pb_text.specs.Spelling.{Letter}
-use Rattle.pb_text.proofs.Walking.{On, Keeps}
-use Rattle.pb_text.proofs.Letters.{as_digit}
-use Rattle.pb_proof.specs.Lines.{LineEnd, SpellsCount}
-use Rattle.pb_proof.specs.Line.Count.{CountState, count_automaton, act, plan, digits, behind, is_in_number}
-use Rattle.pb_proof.specs.Line.ByteKind.{number_byte}
+use Rattle.pb_text.proofs.lemmas.text.Languages.{grown, next, behind_it, nil_first}
+use Rattle.pb_text.proofs.lemmas.numbers.Numbers.{digits-grown, digits-one}
+use Rattle.pb_text.specs.contract.Automaton.{Next}
+use Rattle.pb_text.specs.meaning.Classes.{is_blank}
+use Rattle.pb_text.specs.meaning.Languages.{Language, ◌⋅◌, Empty, Blanks1}
+use Rattle.pb_text.specs.meaning.Numbers.{Digits as DigitsOf, Count}
+use Rattle.pb_text.specs.meaning.Spelling.{Letter}
+use Rattle.pb_text.proofs.lemmas.machine.Walking.{On, Keeps}
+use Rattle.pb_text.proofs.lemmas.text.Letters.{as_digit}
+use Rattle.pb_proof.specs.meaning.Lines.{LineEnd, SpellsCount}
+use Rattle.pb_proof.specs.engine.Line.Count.{CountState, count_automaton, act, plan, digits, behind, is_in_number}
+use Rattle.pb_proof.specs.engine.Line.ByteKind.{number_byte}
 use Rattle.pb_proof.specs.declared.line.byte_kind.NumberByte.{NumberByte}
 use Rattle.pb_proof.specs.declared.line.byte_kind.NumberByte.TheVariants.{Blank, Digit, Semicolon, Feed}
 use Rattle.pb_proof.specs.declared.line.count.phase.CountPhase.{CountPhase}

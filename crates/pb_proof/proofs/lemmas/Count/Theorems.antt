@@ -2,14 +2,14 @@
 use Rattle.std.proofs.Common.{◌≡◌, ℕ, ◌+◌, ◌*◌, ◌^◌, ◌<◌, true, false, List, [], ◌∷◌, refl, sym, ap, subst, arith, ◌↔◌}
 use Rattle.std.proofs.lemmas.Bool.{leb-true, cond_both}
 use Rattle.std.specs.Prelude.{nat_le, Option, Some, None}
-use Rattle.pb_text.specs.Automaton.{Next, Go, End, Refuse, Reads, IsState}
-use Rattle.pb_text.specs.Languages.{unmarked}
-use Rattle.pb_text.specs.Spelling.{Letter}
-use Rattle.pb_text.proofs.Walking.{told}
-use Rattle.pb_text.proofs.Outcomes.{one_state}
-use Rattle.pb_proof.specs.Lines.{SpellsCount}
-use Rattle.pb_proof.specs.Line.Count.{CountState, at, count_automaton, counting, count_last, act, plan, digits, behind, is_midway, is_done, PhaseFits, MoveFits, IsCountInOrder}
-use Rattle.pb_proof.specs.Line.ByteKind.{number_byte}
+use Rattle.pb_text.specs.contract.Automaton.{Next, Go, End, Refuse, Reads, IsState}
+use Rattle.pb_text.specs.meaning.Languages.{unmarked}
+use Rattle.pb_text.specs.meaning.Spelling.{Letter}
+use Rattle.pb_text.proofs.lemmas.machine.Walking.{told}
+use Rattle.pb_text.proofs.lemmas.machine.Outcomes.{one_state}
+use Rattle.pb_proof.specs.meaning.Lines.{SpellsCount}
+use Rattle.pb_proof.specs.engine.Line.Count.{CountState, at, count_automaton, counting, count_last, act, plan, digits, behind, is_midway, is_done, PhaseFits, MoveFits, IsCountInOrder}
+use Rattle.pb_proof.specs.engine.Line.ByteKind.{number_byte}
 use Rattle.pb_proof.specs.declared.line.byte_kind.NumberByte.{NumberByte}
 use Rattle.pb_proof.specs.declared.line.byte_kind.NumberByte.TheVariants.{Blank, Digit, Semicolon, Feed}
 use Rattle.pb_proof.specs.declared.line.count.phase.CountPhase.{CountPhase}
@@ -18,8 +18,8 @@ use Rattle.pb_proof.specs.declared.line.count.phase.CountMove.{CountMove}
 use Rattle.pb_proof.specs.declared.line.count.phase.CountMove as move
 use Rattle.pb_proof.proofs.lemmas.Count.Complete.{reads_each}
 use Rattle.pb_proof.proofs.lemmas.Count.Sound.{Front, Whole, keeps_front}
-use Rattle.pb_text.proofs.OneText.{IsOfOne, reads_last, is_state}
-use Rattle.pb_text.proofs.Living.{ReadsOn}
+use Rattle.pb_text.proofs.lemmas.machine.OneText.{IsOfOne, reads_last, is_state}
+use Rattle.pb_text.proofs.lemmas.machine.Living.{ReadsOn}
 
 abbrev N : Type 0
 N = Next CountState (Option ℕ)

@@ -2,11 +2,11 @@
 use Rattle.std.proofs.Common.{◌≡◌, ℕ, ◌+◌, ◌-◌, ◌*◌, ◌<◌, ◌≤◌, ◌^◌, true, false, List, [], ◌∷◌, length, refl, subst, ap, arith, ◌∙◌}
 use Rattle.std.proofs.lemmas.Bool.{le-leb}
 use Rattle.std.specs.Prelude.{IsTrue, ℤ}
-use Rattle.pb_text.specs.Automaton.{Go, Runs}
-use Rattle.pb_text.specs.Classes.{is_digit}
-use Rattle.pb_text.specs.Digits.{value_from}
-use Rattle.pb_text.proofs.DigitValues.{AreDigits, value-grows}
-use Rattle.pb_proof.specs.Line.Ids.{ids_automaton, ids_at, act, plan, digits, begins_id}
+use Rattle.pb_text.specs.contract.Automaton.{Go, Runs}
+use Rattle.pb_text.specs.meaning.Classes.{is_digit}
+use Rattle.pb_text.specs.contract.Digits.{value_from}
+use Rattle.pb_text.proofs.lemmas.numbers.DigitValues.{AreDigits, value-grows}
+use Rattle.pb_proof.specs.engine.Line.Ids.{ids_automaton, ids_at, act, plan, digits, begins_id}
 use Rattle.pb_proof.specs.declared.line.byte_kind.NumberByte.TheVariants as kind
 use Rattle.pb_proof.specs.declared.line.ids.phase.IdsPhase.{IdsPhase}
 use Rattle.pb_proof.specs.declared.line.ids.phase.IdsPhase.TheVariants.{Gap, Between, Digits}

@@ -2,22 +2,22 @@
 use Rattle.std.proofs.Common.{◌≡◌, ℕ, ◌+◌, ◌*◌, ◌<◌, ◌≤◌, Bool, true, false, cond, List, [], ◌∷◌, ◌++◌, refl, sym, ap, subst, arith, append_assoc, ◌∙◌}
 use Rattle.std.proofs.lemmas.Bool.{le-leb}
 use Rattle.std.specs.Prelude.{IsTrue, ℤ, nat_eq}
-use Rattle.pb_text.specs.Automaton.{Go, End, Reads}
-use Rattle.pb_text.specs.Classes.{is_blank}
-use Rattle.pb_text.specs.Languages.{◌⋅◌, Blanks1}
-use Rattle.pb_text.specs.Numbers.{signed, Digits as DigitsOf}
-use Rattle.pb_text.specs.Spelling.{Letter}
-use Rattle.pb_text.proofs.Walking.{Walks, walks_then, reads_behind}
-use Rattle.pb_proof.specs.Lines.{LineEnd, Listed, SpellsId, SpellsIds, Minus as Sign}
-use Rattle.pb_proof.specs.Line.Ids.{IdsState, ids_automaton, ids_at, ids_first, ids_last, step, act, digits, behind}
-use Rattle.pb_proof.specs.Line.ByteKind.{number_byte}
+use Rattle.pb_text.specs.contract.Automaton.{Go, End, Reads}
+use Rattle.pb_text.specs.meaning.Classes.{is_blank}
+use Rattle.pb_text.specs.meaning.Languages.{◌⋅◌, Blanks1}
+use Rattle.pb_text.specs.meaning.Numbers.{signed, Digits as DigitsOf}
+use Rattle.pb_text.specs.meaning.Spelling.{Letter}
+use Rattle.pb_text.proofs.lemmas.machine.Walking.{Walks, walks_then, reads_behind}
+use Rattle.pb_proof.specs.meaning.Lines.{LineEnd, Listed, SpellsId, SpellsIds, Minus as Sign}
+use Rattle.pb_proof.specs.engine.Line.Ids.{IdsState, ids_automaton, ids_at, ids_first, ids_last, step, act, digits, behind}
+use Rattle.pb_proof.specs.engine.Line.ByteKind.{number_byte}
 use Rattle.pb_proof.specs.declared.line.byte_kind.NumberByte.{NumberByte}
 use Rattle.pb_proof.specs.declared.line.byte_kind.NumberByte.TheVariants as kind
 use Rattle.pb_proof.specs.declared.line.ids.phase.IdsPhase.{IdsPhase}
 use Rattle.pb_proof.specs.declared.line.ids.phase.IdsPhase.TheVariants.{Gap, Between, Minus, Digits, Closing}
 use Rattle.pb_proof.specs.declared.line.ids.phase.IdsMove.{IdsMove}
 use Rattle.pb_proof.specs.declared.line.ids.phase.IdsMove.TheVariants as move
-use Rattle.pb_text.proofs.DigitWalks.{TakesDigits, digits_lead}
+use Rattle.pb_text.proofs.lemmas.numbers.DigitWalks.{TakesDigits, digits_lead}
 use Rattle.pb_proof.proofs.lemmas.Line.ByteKinds.{number_blank, number_digit}
 use Rattle.pb_proof.proofs.lemmas.Line.Ends.{TakesBlanks, MayEnd, blanks1_lead, line_reads, listed_walks}
 use Rattle.pb_proof.proofs.lemmas.NumberTests.{not_zero}

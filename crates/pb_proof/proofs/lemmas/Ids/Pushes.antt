@@ -1,17 +1,17 @@
 -- A push of the ids machine does what its transition says.
 use Rattle.std.proofs.Common.{◌≡◌, ℕ, ◌<◌, ◌^◌, true, List, sym, ap, ◌∙◌}
 use Rattle.std.specs.Prelude.{IsTrue, ℤ}
-use Rattle.pb_text.specs.Automaton.{Refuse, Admits, IsState}
-use Rattle.pb_text.proofs.Outcomes.{go_or_refuse, end_or_refuse}
-use Rattle.pb_text.proofs.Booleans.{never}
-use Rattle.pb_proof.specs.Line.Ids.{ids_automaton, ids_at, act, plan, keeps, is_midway, PhaseFits, IsIdsInOrder}
-use Rattle.pb_proof.specs.Line.ByteKind.{number_byte}
+use Rattle.pb_text.specs.contract.Automaton.{Refuse, Admits, IsState}
+use Rattle.pb_text.proofs.lemmas.machine.Outcomes.{go_or_refuse, end_or_refuse}
+use Rattle.pb_text.proofs.lemmas.text.Booleans.{never}
+use Rattle.pb_proof.specs.engine.Line.Ids.{ids_automaton, ids_at, act, plan, keeps, is_midway, PhaseFits, IsIdsInOrder}
+use Rattle.pb_proof.specs.engine.Line.ByteKind.{number_byte}
 use Rattle.pb_proof.specs.declared.line.byte_kind.NumberByte.{NumberByte}
 use Rattle.pb_proof.specs.declared.line.ids.phase.IdsPhase.{IdsPhase}
 use Rattle.pb_proof.specs.declared.line.ids.phase.IdsMove.{IdsMove}
 use Rattle.pb_proof.specs.declared.line.ids.phase.IdsMove.TheVariants as move
 use Rattle.pb_proof.proofs.lemmas.Ids.Theorems.{ids_of_one, ids_is_state}
-use Rattle.pb_text.proofs.OneText.{admits}
+use Rattle.pb_text.proofs.lemmas.machine.OneText.{admits}
 
 kept_acts : (top : ℕ) (ids : List ℤ) (m : IdsMove) → keeps m ≡ true → act top ids m ≡ Refuse → ⊥
 kept_acts top ids (move.Keep p id) h e = go_or_refuse _ e

@@ -3,17 +3,17 @@ use Rattle.std.proofs.Common.{◌≡◌, ℕ, ◌+◌, ◌*◌, ◌<◌, ◌≤�
 use Rattle.std.proofs.lemmas.Bool.{leb-true, cond_both}
 use Rattle.std.proofs.lemmas.List.{length-append}
 use Rattle.std.specs.Prelude.{ℤ, nat_le, nat_eq}
-use Rattle.pb_text.proofs.Languages.{grown, next, regroup, none_yet, behind_it}
-use Rattle.pb_text.proofs.Numbers.{digits-grown, digits-one}
-use Rattle.pb_text.specs.Automaton.{Next}
-use Rattle.pb_text.specs.Languages.{Language, ◌⋅◌, Empty, Blanks1}
-use Rattle.pb_text.specs.Numbers.{signed, Digits as DigitsOf}
-use Rattle.pb_text.specs.Spelling.{Letter}
-use Rattle.pb_text.proofs.Walking.{On, Keeps}
-use Rattle.pb_text.proofs.Letters.{as_unmarked, as_digit}
-use Rattle.pb_proof.specs.Lines.{Listed, SpellsId, SpellsIds, Minus as Sign}
-use Rattle.pb_proof.specs.Line.Ids.{IdsState, ids_automaton, act, plan, digits, before, behind}
-use Rattle.pb_proof.specs.Line.ByteKind.{number_byte}
+use Rattle.pb_text.proofs.lemmas.text.Languages.{grown, next, regroup, none_yet, behind_it}
+use Rattle.pb_text.proofs.lemmas.numbers.Numbers.{digits-grown, digits-one}
+use Rattle.pb_text.specs.contract.Automaton.{Next}
+use Rattle.pb_text.specs.meaning.Languages.{Language, ◌⋅◌, Empty, Blanks1}
+use Rattle.pb_text.specs.meaning.Numbers.{signed, Digits as DigitsOf}
+use Rattle.pb_text.specs.meaning.Spelling.{Letter}
+use Rattle.pb_text.proofs.lemmas.machine.Walking.{On, Keeps}
+use Rattle.pb_text.proofs.lemmas.text.Letters.{as_unmarked, as_digit}
+use Rattle.pb_proof.specs.meaning.Lines.{Listed, SpellsId, SpellsIds, Minus as Sign}
+use Rattle.pb_proof.specs.engine.Line.Ids.{IdsState, ids_automaton, act, plan, digits, before, behind}
+use Rattle.pb_proof.specs.engine.Line.ByteKind.{number_byte}
 use Rattle.pb_proof.specs.declared.line.byte_kind.NumberByte.{NumberByte}
 use Rattle.pb_proof.specs.declared.line.byte_kind.NumberByte.TheVariants as kind
 use Rattle.pb_proof.specs.declared.line.ids.phase.IdsPhase.{IdsPhase}

@@ -3,27 +3,27 @@ use Rattle.std.proofs.Common.{◌≡◌, ℕ, ◌+◌, ◌-◌, ◌*◌, ◌<◌
 use Rattle.std.proofs.lemmas.Bool.{false≢true, cond_both}
 use Rattle.std.specs.Prelude.{IsTrue, ℤ, nat_eq, nat_le}
 use Rattle.std.proofs.Math.Bool.{or-false}
-use Rattle.pb_text.specs.Classes.{is_blank, is_digit, is_letter, is_name_byte}
-use Rattle.pb_text.specs.Languages.{digit, Language, ◌⋅◌, Bytes, Each}
-use Rattle.pb_text.specs.Numbers.{Digits as DigitsOf}
-use Rattle.pb_text.specs.Spelling.{Letter, bytes}
-use Rattle.pb_text.proofs.Languages.{bytes-plain, bytes-append}
-use Rattle.pb_text.proofs.Walking.{Walks, fronts}
-use Rattle.pb_text.proofs.ByteTests.{digit_byte, blank_digit, letter_name}
-use Rattle.pb_sums.specs.Asking.{EndsIn, AsksLiteral}
-use Rattle.pb_sums.specs.State.{SumState, sums}
-use Rattle.pb_sums.specs.Sums.{literal_bytes}
+use Rattle.pb_text.specs.meaning.Classes.{is_blank, is_digit, is_letter, is_name_byte}
+use Rattle.pb_text.specs.meaning.Languages.{digit, Language, ◌⋅◌, Bytes, Each}
+use Rattle.pb_text.specs.meaning.Numbers.{Digits as DigitsOf}
+use Rattle.pb_text.specs.meaning.Spelling.{Letter, bytes}
+use Rattle.pb_text.proofs.lemmas.text.Languages.{bytes-plain, bytes-append}
+use Rattle.pb_text.proofs.lemmas.machine.Walking.{Walks, fronts}
+use Rattle.pb_text.proofs.lemmas.text.ByteTests.{digit_byte, blank_digit, letter_name}
+use Rattle.pb_sums.specs.meaning.Asking.{EndsIn, AsksLiteral}
+use Rattle.pb_sums.specs.engine.State.{SumState, sums}
+use Rattle.pb_sums.specs.meaning.Sums.{literal_bytes}
 use Rattle.pb_sums.specs.declared.Literal.{Literal}
 use Rattle.pb_sums.specs.declared.Part as part
 use Rattle.pb_sums.specs.declared.Spaces.TheVariants.{Blank as BlankSpaces}
-use Rattle.pb_sums.proofs.Asked.{ends_nothing, ends_behind, asks_behind, at_name, sums_asked, first_asks_nothing, first_further}
-use Rattle.pb_sums.proofs.LiteralFronts.{IsFirst}
-use Rattle.pb_proof.specs.Asking.{EndsNumber}
-use Rattle.pb_proof.specs.Line.Rup.{RupState, rup_automaton, rup_first, rup_asks, rup_plan}
-use Rattle.pb_proof.specs.Line.Ids.{IdsState, ids_automaton, ids_first, plan, digits, before, keeps}
-use Rattle.pb_proof.specs.Line.Literals.{LiteralsState, literals_automaton, literals_first, adds, is_more}
-use Rattle.pb_proof.specs.Line.Literals as literals
-use Rattle.pb_proof.specs.Line.ByteKind.{number_byte, name_byte}
+use Rattle.pb_sums.proofs.lemmas.machine.Asked.{ends_nothing, ends_behind, asks_behind, at_name, sums_asked, first_asks_nothing, first_further}
+use Rattle.pb_sums.proofs.lemmas.machine.LiteralFronts.{IsFirst}
+use Rattle.pb_proof.specs.meaning.Asking.{EndsNumber}
+use Rattle.pb_proof.specs.engine.Line.Rup.{RupState, rup_automaton, rup_first, rup_asks, rup_plan}
+use Rattle.pb_proof.specs.engine.Line.Ids.{IdsState, ids_automaton, ids_first, plan, digits, before, keeps}
+use Rattle.pb_proof.specs.engine.Line.Literals.{LiteralsState, literals_automaton, literals_first, adds, is_more}
+use Rattle.pb_proof.specs.engine.Line.Literals as literals
+use Rattle.pb_proof.specs.engine.Line.ByteKind.{number_byte, name_byte}
 use Rattle.pb_proof.specs.declared.line.rup.phase.RupPhase.{RupPhase}
 use Rattle.pb_proof.specs.declared.line.rup.phase.RupPhase.TheVariants as rup
 use Rattle.pb_proof.specs.declared.line.ids.phase.IdsPhase.{IdsPhase}

@@ -3,9 +3,9 @@ use Rattle.std.proofs.Common.{◌≡◌, ℕ, ◌+◌, ◌-◌, ◌<◌, ◌≤�
 use Rattle.std.proofs.lemmas.Bool.{eqb-true, cond_both}
 use Rattle.std.proofs.lemmas.Bool.Decides.{nat_tests}
 use Rattle.std.specs.Prelude.{IsTrue, nat_eq}
-use Rattle.pb_text.specs.Classes.{is_blank, is_digit, is_letter, is_name_byte}
-use Rattle.pb_text.proofs.ByteTests.{digit_byte, digit_blank, digit_of, name_high, letter_name}
-use Rattle.pb_proof.specs.Line.ByteKind.{number_byte, name_byte}
+use Rattle.pb_text.specs.meaning.Classes.{is_blank, is_digit, is_letter, is_name_byte}
+use Rattle.pb_text.proofs.lemmas.text.ByteTests.{digit_byte, digit_blank, digit_of, name_high, letter_name}
+use Rattle.pb_proof.specs.engine.Line.ByteKind.{number_byte, name_byte}
 use Rattle.pb_proof.specs.declared.line.byte_kind.NumberByte.{NumberByte}
 use Rattle.pb_proof.specs.declared.line.byte_kind.NumberByte as number
 use Rattle.pb_proof.specs.declared.line.byte_kind.NameByte.{NameByte}

@@ -2,14 +2,14 @@
 use Rattle.std.proofs.Common.{◌≡◌, ℕ, true, false, List, [], ◌∷◌, ◌++◌, refl, ap, subst, inl, inr, sym, ◌∙◌, append_assoc}
 use Rattle.std.proofs.lemmas.List.{append-nil}
 use Rattle.std.specs.Prelude.{IsTrue}
-use Rattle.pb_text.proofs.Languages.{grown, next, none_yet, regroup, regroup3, behind_it, many-grown, some-one, some-grown, some-many}
-use Rattle.pb_text.specs.Automaton.{Automaton, Go, End, Reads}
-use Rattle.pb_text.specs.Classes.{is_blank}
-use Rattle.pb_text.specs.Languages.{unmarked, Language, ◌⋅◌, Empty, Byte, Bytes, Each, Blanks0, Blanks1}
-use Rattle.pb_text.specs.Spelling.{Letter}
-use Rattle.pb_text.proofs.Walking.{Walks, Leads, walks_then, reads_behind, longer}
-use Rattle.pb_text.proofs.Letters.{as_unmarked}
-use Rattle.pb_proof.specs.Lines.{Feed, LineEnd, Listed}
+use Rattle.pb_text.proofs.lemmas.text.Languages.{grown, next, none_yet, regroup, regroup3, behind_it, many-grown, some-one, some-grown, some-many}
+use Rattle.pb_text.specs.contract.Automaton.{Automaton, Go, End, Reads}
+use Rattle.pb_text.specs.meaning.Classes.{is_blank}
+use Rattle.pb_text.specs.meaning.Languages.{unmarked, Language, ◌⋅◌, Empty, Byte, Bytes, Each, Blanks0, Blanks1}
+use Rattle.pb_text.specs.meaning.Spelling.{Letter}
+use Rattle.pb_text.proofs.lemmas.machine.Walking.{Walks, Leads, walks_then, reads_behind, longer}
+use Rattle.pb_text.proofs.lemmas.text.Letters.{as_unmarked}
+use Rattle.pb_proof.specs.meaning.Lines.{Feed, LineEnd, Listed}
 
 module _ {S E : Type 0} (m : Automaton S E) where
   -- A blank leads from `s` to `gap`, and further blanks stay there.

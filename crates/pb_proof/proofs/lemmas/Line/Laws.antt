@@ -1,17 +1,17 @@
 -- What holds of the machines that read the text after the first word of a statement.
 use Rattle.std.proofs.Common.{◌≡◌, ℕ, ◌<◌, ◌^◌, false, List, refl, sym, subst}
-use Rattle.pb_text.specs.Automaton.{Reads, IsState}
-use Rattle.pb_text.specs.Spelling.{Letter}
-use Rattle.pb_sums.proofs.States.{first_is_state}
+use Rattle.pb_text.specs.contract.Automaton.{Reads, IsState}
+use Rattle.pb_text.specs.meaning.Spelling.{Letter}
+use Rattle.pb_sums.proofs.lemmas.machine.States.{first_is_state}
 use Rattle.pb_sums.specs.declared.Spaces.TheVariants.{Blank}
 use Rattle.pb_sums.specs.declared.Part as part
-use Rattle.pb_proof.specs.Line.Machine.{line_automaton, line_first, SpellsRest}
-use Rattle.pb_proof.specs.Line.Count.{count_automaton, counting, count_last}
-use Rattle.pb_proof.specs.Line.PolState.{pol_automaton, pol_first, pol_last}
-use Rattle.pb_proof.specs.Line.Rup.{rup_automaton, rup_first, rup_last}
-use Rattle.pb_proof.specs.Line.Literals.{literals_automaton, literals_first, literals_last}
-use Rattle.pb_proof.specs.Line.Ids.{ids_automaton, ids_first, ids_last}
-use Rattle.pb_proof.specs.Line.ClaimState.{claim_automaton, claim_first, claim_last}
+use Rattle.pb_proof.specs.engine.Line.Machine.{line_automaton, line_first, SpellsRest}
+use Rattle.pb_proof.specs.engine.Line.Count.{count_automaton, counting, count_last}
+use Rattle.pb_proof.specs.engine.Line.PolState.{pol_automaton, pol_first, pol_last}
+use Rattle.pb_proof.specs.engine.Line.Rup.{rup_automaton, rup_first, rup_last}
+use Rattle.pb_proof.specs.engine.Line.Literals.{literals_automaton, literals_first, literals_last}
+use Rattle.pb_proof.specs.engine.Line.Ids.{ids_automaton, ids_first, ids_last}
+use Rattle.pb_proof.specs.engine.Line.ClaimState.{claim_automaton, claim_first, claim_last}
 use Rattle.pb_proof.specs.declared.line.LineMachine.{LineMachine}
 use Rattle.pb_proof.specs.declared.line.LineMachine as line
 use Rattle.pb_proof.specs.declared.machine.phase.LineKind.{LineKind}
@@ -27,7 +27,7 @@ use Rattle.pb_proof.proofs.lemmas.Pol.States.{of_one}
 use Rattle.pb_proof.proofs.lemmas.Literals.Theorems.{literals_of_one, literals_reads, literals_is_state}
 use Rattle.pb_proof.proofs.lemmas.Ids.Theorems.{ids_of_one, ids_reads, ids_is_state}
 use Rattle.pb_proof.proofs.lemmas.Claim.Theorems.{claim_of_one, claim_reads, claim_is_state}
-use Rattle.pb_text.proofs.Living.{BeginsAtOnce}
+use Rattle.pb_text.proofs.lemmas.machine.Living.{BeginsAtOnce}
 
 pub count_carries : Carries count_automaton line_automaton line.TheVariants.Count statement.TheVariants.F
 count_carries = record { step = λ s b. refl; done = λ s. refl; begun = λ s. refl; in_number = λ s. refl; asks = λ s b. refl; kept = λ s. refl; spent = λ s. refl }

@@ -2,15 +2,15 @@
 use Rattle.std.proofs.Common.{◌≡◌, ℕ, List, [], ◌∷◌, ◌++◌, refl, ap, ap₂, sym, ◌∙◌, append_assoc, Option, Some, None}
 use Rattle.std.specs.Fmt.{signed_decimal}
 use Rattle.std.specs.Prelude.{ℤ, decimal}
-use Rattle.pb_text.specs.Languages.{unmarked}
-use Rattle.pb_text.specs.Spelling.{Letter, plain, digits_of, bytes}
-use Rattle.pb_text.proofs.Languages.{bytes-append, bytes-plain, bytes-digits}
-use Rattle.pb_sums.specs.Canonical.{space, degree_text, literal_text, linear_text, linear_bytes}
-use Rattle.pb_sums.specs.Sums.{literal_bytes}
+use Rattle.pb_text.specs.meaning.Languages.{unmarked}
+use Rattle.pb_text.specs.meaning.Spelling.{Letter, plain, digits_of, bytes}
+use Rattle.pb_text.proofs.lemmas.text.Languages.{bytes-append, bytes-plain, bytes-digits}
+use Rattle.pb_sums.specs.contract.Canonical.{space, degree_text, literal_text, linear_text, linear_bytes}
+use Rattle.pb_sums.specs.meaning.Sums.{literal_bytes}
 use Rattle.pb_sums.specs.declared.values.Literal.{Literal}
-use Rattle.pb_sums.proofs.CanonicalLaws.{bytes-linear, bytes-degree}
-use Rattle.pb_proof.specs.Lines.{pseudo_word, proof_word, version_word, two_word, f_word, pol_word, rup_word, soli_word, solx_word, del_word, id_word, output_word, conclusion_word, end_word, none_word, unsat_word, sat_word, bounds_word, inf_word}
-use Rattle.pb_proof.specs.Canonical.{literal_line, word_bytes, listed_bytes, bound_bytes, id_shown_bytes, shown_bytes, claim_bytes, statement_bytes}
+use Rattle.pb_sums.proofs.lemmas.values.CanonicalLaws.{bytes-linear, bytes-degree}
+use Rattle.pb_proof.specs.meaning.Lines.{pseudo_word, proof_word, version_word, two_word, f_word, pol_word, rup_word, soli_word, solx_word, del_word, id_word, output_word, conclusion_word, end_word, none_word, unsat_word, sat_word, bounds_word, inf_word}
+use Rattle.pb_proof.specs.meaning.Canonical.{literal_line, word_bytes, listed_bytes, bound_bytes, id_shown_bytes, shown_bytes, claim_bytes, statement_bytes}
 use Rattle.pb_proof.specs.declared.word.PolWord.{PolWord}
 use Rattle.pb_proof.specs.declared.word.PolWord.TheVariants.{Id, Axiom, Add, Multiply, Divide, Saturate, Weaken}
 use Rattle.pb_proof.specs.declared.conclusion.Bound.{Bound}

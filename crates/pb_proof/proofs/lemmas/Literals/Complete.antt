@@ -2,16 +2,16 @@
 use Rattle.std.proofs.Common.{◌≡◌, ℕ, Bool, true, false, List, [], ◌∷◌, ◌++◌, map, refl, sym, ap, subst, inl, inr, append_assoc, ◌∙◌}
 use Rattle.std.proofs.lemmas.List.{append-nil}
 use Rattle.std.specs.Prelude.{IsTrue}
-use Rattle.pb_text.specs.Automaton.{Go, End, Reads}
-use Rattle.pb_text.specs.Classes.{is_blank, is_letter, is_name_byte}
-use Rattle.pb_text.specs.Languages.{unmarked, ◌⋅◌, Each, Blanks0, Blanks1}
-use Rattle.pb_text.specs.Spelling.{Letter}
-use Rattle.pb_text.proofs.Walking.{Walks, walks_then, reads_behind}
-use Rattle.pb_sums.specs.Sums.{SpellsLiteral}
+use Rattle.pb_text.specs.contract.Automaton.{Go, End, Reads}
+use Rattle.pb_text.specs.meaning.Classes.{is_blank, is_letter, is_name_byte}
+use Rattle.pb_text.specs.meaning.Languages.{unmarked, ◌⋅◌, Each, Blanks0, Blanks1}
+use Rattle.pb_text.specs.meaning.Spelling.{Letter}
+use Rattle.pb_text.proofs.lemmas.machine.Walking.{Walks, walks_then, reads_behind}
+use Rattle.pb_sums.specs.meaning.Sums.{SpellsLiteral}
 use Rattle.pb_sums.specs.declared.Literal.{Literal}
-use Rattle.pb_proof.specs.Lines.{LineEnd, Listed}
-use Rattle.pb_proof.specs.Line.Literals.{LiteralsState, SpellsJoined, literals_automaton, literals_at, literals_first, literals_last, literal, step}
-use Rattle.pb_proof.specs.Line.ByteKind.{name_byte}
+use Rattle.pb_proof.specs.meaning.Lines.{LineEnd, Listed}
+use Rattle.pb_proof.specs.engine.Line.Literals.{LiteralsState, SpellsJoined, literals_automaton, literals_at, literals_first, literals_last, literal, step}
+use Rattle.pb_proof.specs.engine.Line.ByteKind.{name_byte}
 use Rattle.pb_proof.specs.declared.line.byte_kind.NameByte.{NameByte}
 use Rattle.pb_proof.specs.declared.line.byte_kind.NameByte.TheVariants as kind
 use Rattle.pb_proof.specs.declared.line.literals.phase.LiteralsPhase.TheVariants.{Gap, Negation, First, More, Closing}

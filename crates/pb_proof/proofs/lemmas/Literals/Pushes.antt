@@ -2,19 +2,19 @@
 use Rattle.std.proofs.Common.{◌≡◌, ℕ, ◌+◌, ◌-◌, ◌^◌, ◌<◌, min, take, get_or, Bool, true, ◌||◌, List, [], length, sym, ap, ◌∙◌}
 use Rattle.std.proofs.lemmas.List.{take_more}
 use Rattle.std.specs.Prelude.{IsTrue}
-use Rattle.pb_text.specs.Automaton.{Go, Refuse, Admits, IsState}
-use Rattle.pb_text.proofs.Outcomes.{go_or_refuse, end_or_refuse}
-use Rattle.pb_text.proofs.Booleans.{never}
+use Rattle.pb_text.specs.contract.Automaton.{Go, Refuse, Admits, IsState}
+use Rattle.pb_text.proofs.lemmas.machine.Outcomes.{go_or_refuse, end_or_refuse}
+use Rattle.pb_text.proofs.lemmas.text.Booleans.{never}
 use Rattle.pb_sums.specs.declared.Literal.{Literal}
-use Rattle.pb_sums.proofs.Counts.{counted}
-use Rattle.pb_proof.specs.Line.Literals.{literals_automaton, literals_at, flushed, act, plan, adds, is_more, is_midway, units, IsLiteralsInOrder}
-use Rattle.pb_proof.specs.Line.ByteKind.{name_byte}
+use Rattle.pb_sums.proofs.lemmas.machine.Counts.{counted}
+use Rattle.pb_proof.specs.engine.Line.Literals.{literals_automaton, literals_at, flushed, act, plan, adds, is_more, is_midway, units, IsLiteralsInOrder}
+use Rattle.pb_proof.specs.engine.Line.ByteKind.{name_byte}
 use Rattle.pb_proof.specs.declared.line.byte_kind.NameByte.{NameByte}
 use Rattle.pb_proof.specs.declared.line.literals.phase.LiteralsPhase.{LiteralsPhase}
 use Rattle.pb_proof.specs.declared.line.literals.phase.LiteralsMove.{LiteralsMove}
 use Rattle.pb_proof.specs.declared.line.literals.phase.LiteralsMove.TheVariants as move
 use Rattle.pb_proof.proofs.lemmas.Literals.Theorems.{literals_of_one, literals_is_state, units_append}
-use Rattle.pb_text.proofs.OneText.{admits}
+use Rattle.pb_text.proofs.lemmas.machine.OneText.{admits}
 
 abbrev IsTaken : LiteralsMove → Type 0
 IsTaken move.Stop = ⊥

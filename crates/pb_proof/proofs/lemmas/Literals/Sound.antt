@@ -1,20 +1,20 @@
 -- What the literals machine has read in each of its states.
 use Rattle.std.proofs.Common.{◌≡◌, ℕ, Bool, true, false, cond, List, [], ◌∷◌, ◌++◌, refl, sym, ap, subst, ◌∙◌}
 use Rattle.std.specs.Prelude.{IsTrue}
-use Rattle.pb_text.proofs.Languages.{grown, next, regroup3, none_yet, behind_it, nil_first}
-use Rattle.pb_text.specs.Automaton.{Next}
-use Rattle.pb_text.specs.Classes.{is_blank}
-use Rattle.pb_text.specs.Languages.{unmarked, Language, ◌⋅◌, Empty, Byte, Blanks0, Blanks1}
-use Rattle.pb_text.specs.Spelling.{Letter}
-use Rattle.pb_text.proofs.Walking.{On, Keeps}
-use Rattle.pb_text.proofs.Letters.{as_unmarked}
-use Rattle.pb_text.proofs.ByteTests.{letter_name}
-use Rattle.pb_sums.specs.Sums.{SpellsLiteral}
+use Rattle.pb_text.proofs.lemmas.text.Languages.{grown, next, regroup3, none_yet, behind_it, nil_first}
+use Rattle.pb_text.specs.contract.Automaton.{Next}
+use Rattle.pb_text.specs.meaning.Classes.{is_blank}
+use Rattle.pb_text.specs.meaning.Languages.{unmarked, Language, ◌⋅◌, Empty, Byte, Blanks0, Blanks1}
+use Rattle.pb_text.specs.meaning.Spelling.{Letter}
+use Rattle.pb_text.proofs.lemmas.machine.Walking.{On, Keeps}
+use Rattle.pb_text.proofs.lemmas.text.Letters.{as_unmarked}
+use Rattle.pb_text.proofs.lemmas.text.ByteTests.{letter_name}
+use Rattle.pb_sums.specs.meaning.Sums.{SpellsLiteral}
 use Rattle.pb_sums.specs.declared.Literal.{Literal}
-use Rattle.pb_sums.proofs.LiteralFronts.{FirstOf, LiteralOf}
-use Rattle.pb_proof.specs.Lines.{LineEnd, Listed}
-use Rattle.pb_proof.specs.Line.Literals.{LiteralsState, SpellsJoined, literals_automaton, literal, flushed, act, plan, behind, before}
-use Rattle.pb_proof.specs.Line.ByteKind.{name_byte}
+use Rattle.pb_sums.proofs.lemmas.machine.LiteralFronts.{FirstOf, LiteralOf}
+use Rattle.pb_proof.specs.meaning.Lines.{LineEnd, Listed}
+use Rattle.pb_proof.specs.engine.Line.Literals.{LiteralsState, SpellsJoined, literals_automaton, literal, flushed, act, plan, behind, before}
+use Rattle.pb_proof.specs.engine.Line.ByteKind.{name_byte}
 use Rattle.pb_proof.specs.declared.line.byte_kind.NameByte.{NameByte}
 use Rattle.pb_proof.specs.declared.line.byte_kind.NameByte.TheVariants as kind
 use Rattle.pb_proof.specs.declared.line.literals.phase.LiteralsPhase.{LiteralsPhase}

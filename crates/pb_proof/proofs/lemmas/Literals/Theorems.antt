@@ -2,16 +2,16 @@
 use Rattle.std.proofs.Common.{◌≡◌, ℕ, ◌+◌, ◌-◌, ◌^◌, ◌≤◌, Bool, true, false, cond, List, [], ◌∷◌, ◌++◌, length, refl, sym, ap, subst, arith, ◌↔◌}
 use Rattle.std.proofs.Math.Nat.{min-le_left}
 use Rattle.std.proofs.lemmas.List.{length-append}
-use Rattle.pb_text.specs.Automaton.{Next, Go, End, Refuse, Reads, IsState}
-use Rattle.pb_text.specs.Languages.{unmarked}
-use Rattle.pb_text.specs.Spelling.{Letter}
-use Rattle.pb_text.proofs.Walking.{told}
-use Rattle.pb_text.proofs.Outcomes.{one_state}
-use Rattle.pb_text.proofs.Booleans.{never}
+use Rattle.pb_text.specs.contract.Automaton.{Next, Go, End, Refuse, Reads, IsState}
+use Rattle.pb_text.specs.meaning.Languages.{unmarked}
+use Rattle.pb_text.specs.meaning.Spelling.{Letter}
+use Rattle.pb_text.proofs.lemmas.machine.Walking.{told}
+use Rattle.pb_text.proofs.lemmas.machine.Outcomes.{one_state}
+use Rattle.pb_text.proofs.lemmas.text.Booleans.{never}
 use Rattle.pb_sums.specs.declared.Literal.{Literal}
-use Rattle.pb_sums.proofs.Counts.{to-grows, begin-grows, add-grows}
-use Rattle.pb_proof.specs.Line.Literals.{LiteralsState, SpellsJoined, literals_automaton, literals_at, literals_first, literals_last, literal, flushed, act, plan, behind, before, is_midway, is_begun, is_done, units, in_hand, ready, all_units, IsLiteralsInOrder}
-use Rattle.pb_proof.specs.Line.ByteKind.{name_byte}
+use Rattle.pb_sums.proofs.lemmas.machine.Counts.{to-grows, begin-grows, add-grows}
+use Rattle.pb_proof.specs.engine.Line.Literals.{LiteralsState, SpellsJoined, literals_automaton, literals_at, literals_first, literals_last, literal, flushed, act, plan, behind, before, is_midway, is_begun, is_done, units, in_hand, ready, all_units, IsLiteralsInOrder}
+use Rattle.pb_proof.specs.engine.Line.ByteKind.{name_byte}
 use Rattle.pb_proof.specs.declared.line.byte_kind.NameByte.{NameByte}
 use Rattle.pb_proof.specs.declared.line.byte_kind.NameByte.TheVariants as kind
 use Rattle.pb_proof.specs.declared.line.literals.phase.LiteralsPhase.{LiteralsPhase}
@@ -20,8 +20,8 @@ use Rattle.pb_proof.specs.declared.line.literals.phase.LiteralsMove.{LiteralsMov
 use Rattle.pb_proof.specs.declared.line.literals.phase.LiteralsMove as move
 use Rattle.pb_proof.proofs.lemmas.Literals.Complete.{reads_each}
 use Rattle.pb_proof.proofs.lemmas.Literals.Sound.{Front, Whole, keeps_front}
-use Rattle.pb_text.proofs.OneText.{IsOfOne, reads_last, is_state}
-use Rattle.pb_text.proofs.Living.{ReadsOn}
+use Rattle.pb_text.proofs.lemmas.machine.OneText.{IsOfOne, reads_last, is_state}
+use Rattle.pb_text.proofs.lemmas.machine.Living.{ReadsOn}
 
 abbrev N : Type 0
 N = Next LiteralsState (List Literal)

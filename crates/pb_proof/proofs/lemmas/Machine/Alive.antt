@@ -4,14 +4,14 @@ use Rattle.std.proofs.Math.Seq.{split_at}
 use Rattle.std.proofs.lemmas.List.{length-take-le}
 use Rattle.std.proofs.lemmas.Bool.{eqb-true}
 use Rattle.std.specs.Prelude.{nat_eq, slice_index}
-use Rattle.pb_text.specs.Automaton.{Accepts, IsState}
-use Rattle.pb_text.specs.Languages.{unmarked, Blanks1, Byte}
-use Rattle.pb_text.specs.Spelling.{Letter, Item, plain}
-use Rattle.pb_proof.specs.Line.Machine.{line_automaton, line_first}
-use Rattle.pb_proof.specs.Lines.{none_word, conclusion_word, f_word}
-use Rattle.pb_proof.specs.Machine.Transition.{words_of, behind}
-use Rattle.pb_proof.specs.Order.{IsOrdered}
-use Rattle.pb_proof.specs.Machine.State.{ProofState, proofs, at, idle, giving, stage_behind, act, PhaseFits, HasGaps, Holds, IsInOrder}
+use Rattle.pb_text.specs.contract.Automaton.{Accepts, IsState}
+use Rattle.pb_text.specs.meaning.Languages.{unmarked, Blanks1, Byte}
+use Rattle.pb_text.specs.meaning.Spelling.{Letter, Item, plain}
+use Rattle.pb_proof.specs.engine.Line.Machine.{line_automaton, line_first}
+use Rattle.pb_proof.specs.meaning.Lines.{none_word, conclusion_word, f_word}
+use Rattle.pb_proof.specs.engine.Machine.Transition.{words_of, behind}
+use Rattle.pb_proof.specs.meaning.Order.{IsOrdered}
+use Rattle.pb_proof.specs.engine.Machine.State.{ProofState, proofs, at, idle, giving, stage_behind, act, PhaseFits, HasGaps, Holds, IsInOrder}
 use Rattle.pb_proof.specs.declared.conclusion.Conclusion.TheVariants.{NoClaim}
 use Rattle.pb_proof.specs.declared.line.LineMachine.{LineMachine}
 use Rattle.pb_proof.specs.declared.machine.phase.Keyword.{Keyword}
@@ -25,7 +25,7 @@ use Rattle.pb_proof.specs.declared.machine.phase.Phase.TheVariants as phase
 use Rattle.pb_proof.specs.declared.statement.Statement.{Statement}
 use Rattle.pb_proof.specs.declared.statement.Statement as statement
 use Rattle.pb_proof.proofs.lemmas.Line.Laws.{line_begins, line_fresh, line_first_state}
-use Rattle.pb_text.proofs.Living.{IsAlive, before, final, accepted, ReadsOn, reads_on}
+use Rattle.pb_text.proofs.lemmas.machine.Living.{IsAlive, before, final, accepted, ReadsOn, reads_on}
 use Rattle.pb_proof.proofs.lemmas.Machine.Complete.{spelt, header_end, output_end, step_on, step_last, given_reads, meets_any}
 use Rattle.pb_proof.proofs.lemmas.Machine.Exact.{no_gap}
 use Rattle.pb_proof.proofs.lemmas.Machine.Orders.{ordered_each}

@@ -2,26 +2,26 @@
 use Rattle.std.proofs.Common.{◌≡◌, ℕ, Bool, true, false, List, [], ◌∷◌, ◌++◌, refl, sym, ap, subst, ◌∙◌, Some, None}
 use Rattle.std.proofs.lemmas.Bool.{false≢true}
 use Rattle.std.specs.Prelude.{IsTrue, nat_eq}
-use Rattle.pb_text.specs.Asking.{AsksOnly}
-use Rattle.pb_text.specs.Automaton.{Next, Go, End, Refuse, Reads, MayAsk}
-use Rattle.pb_text.specs.Spelling.{Letter, bytes}
-use Rattle.pb_text.proofs.Asked as asked
-use Rattle.pb_text.proofs.Languages.{bytes-append}
-use Rattle.pb_text.proofs.Walking.{Walks, reads_behind, fronts}
-use Rattle.pb_text.proofs.Booleans.{never}
-use Rattle.pb_proof.specs.Asking.{AsksBehind, FirstWord, Asks}
-use Rattle.pb_proof.specs.Line.ClaimState.{claim_first}
-use Rattle.pb_proof.specs.Line.Count.{counting}
-use Rattle.pb_proof.specs.Line.Rup.{rup_first}
-use Rattle.pb_proof.specs.Line.Ids.{ids_first}
-use Rattle.pb_proof.specs.Line.Machine.{line_automaton, line_first, SpellsRest}
-use Rattle.pb_proof.specs.Line.Literals.{literals_first}
-use Rattle.pb_proof.specs.Machine.Transition.{plan}
-use Rattle.pb_proof.specs.Order.{stage_after}
-use Rattle.pb_proof.specs.Line.PolState.{pol_first}
-use Rattle.pb_proof.specs.Proofs.{IsProof}
-use Rattle.pb_proof.specs.Machine.State as state
-use Rattle.pb_proof.specs.Machine.State.{ProofState, proofs, begin, at, idle, giving, act, over, step_line, asks, is_within}
+use Rattle.pb_text.specs.meaning.Asking.{AsksOnly}
+use Rattle.pb_text.specs.contract.Automaton.{Next, Go, End, Refuse, Reads, MayAsk}
+use Rattle.pb_text.specs.meaning.Spelling.{Letter, bytes}
+use Rattle.pb_text.proofs.lemmas.machine.Asked as asked
+use Rattle.pb_text.proofs.lemmas.text.Languages.{bytes-append}
+use Rattle.pb_text.proofs.lemmas.machine.Walking.{Walks, reads_behind, fronts}
+use Rattle.pb_text.proofs.lemmas.text.Booleans.{never}
+use Rattle.pb_proof.specs.meaning.Asking.{AsksBehind, FirstWord, Asks}
+use Rattle.pb_proof.specs.engine.Line.ClaimState.{claim_first}
+use Rattle.pb_proof.specs.engine.Line.Count.{counting}
+use Rattle.pb_proof.specs.engine.Line.Rup.{rup_first}
+use Rattle.pb_proof.specs.engine.Line.Ids.{ids_first}
+use Rattle.pb_proof.specs.engine.Line.Machine.{line_automaton, line_first, SpellsRest}
+use Rattle.pb_proof.specs.engine.Line.Literals.{literals_first}
+use Rattle.pb_proof.specs.engine.Machine.Transition.{plan}
+use Rattle.pb_proof.specs.meaning.Order.{stage_after}
+use Rattle.pb_proof.specs.engine.Line.PolState.{pol_first}
+use Rattle.pb_proof.specs.meaning.Proofs.{IsProof}
+use Rattle.pb_proof.specs.engine.Machine.State as state
+use Rattle.pb_proof.specs.engine.Machine.State.{ProofState, proofs, begin, at, idle, giving, act, over, step_line, asks, is_within}
 use Rattle.pb_proof.specs.declared.line.LineMachine.{LineMachine}
 use Rattle.pb_proof.specs.declared.machine.phase.Move.{Move}
 use Rattle.pb_proof.specs.declared.machine.phase.Move.TheVariants.{To, Begin, Give, EndHeader, EndOutput, EndProof, Stop}

@@ -5,17 +5,17 @@ use Rattle.std.proofs.Math.Seq.{get_or-append_seam}
 use Rattle.std.proofs.lemmas.Bool.Decides.{nat_tests}
 use Rattle.std.proofs.lemmas.List.{append-nil}
 use Rattle.std.specs.Prelude.{IsTrue, nat_eq, slice_index}
-use Rattle.pb_text.specs.Automaton.{Go, Reads}
-use Rattle.pb_text.specs.Classes.{is_blank}
-use Rattle.pb_text.specs.Languages.{unmarked, Language, ◌⋅◌, Byte, Each, Blanks1}
-use Rattle.pb_text.specs.Spelling.{Letter, plain}
-use Rattle.pb_text.proofs.Walking.{Walks, walks_then, walks_more, ends_walk, reads_behind, same_first, longer}
-use Rattle.pb_text.proofs.Booleans.{never}
-use Rattle.pb_proof.specs.Line.Machine.{line_automaton, line_first, SpellsRest}
-use Rattle.pb_proof.specs.Lines.{Feed, LineEnd, SpellsStatement}
-use Rattle.pb_proof.specs.Machine.Transition.{words_of, sol_word, behind, meets, spell, plan}
-use Rattle.pb_proof.specs.Order.{stage_of, stage_after}
-use Rattle.pb_proof.specs.Machine.State.{ProofState, proofs, at, idle, giving, stage_behind, over, act}
+use Rattle.pb_text.specs.contract.Automaton.{Go, Reads}
+use Rattle.pb_text.specs.meaning.Classes.{is_blank}
+use Rattle.pb_text.specs.meaning.Languages.{unmarked, Language, ◌⋅◌, Byte, Each, Blanks1}
+use Rattle.pb_text.specs.meaning.Spelling.{Letter, plain}
+use Rattle.pb_text.proofs.lemmas.machine.Walking.{Walks, walks_then, walks_more, ends_walk, reads_behind, same_first, longer}
+use Rattle.pb_text.proofs.lemmas.text.Booleans.{never}
+use Rattle.pb_proof.specs.engine.Line.Machine.{line_automaton, line_first, SpellsRest}
+use Rattle.pb_proof.specs.meaning.Lines.{Feed, LineEnd, SpellsStatement}
+use Rattle.pb_proof.specs.engine.Machine.Transition.{words_of, sol_word, behind, meets, spell, plan}
+use Rattle.pb_proof.specs.meaning.Order.{stage_of, stage_after}
+use Rattle.pb_proof.specs.engine.Machine.State.{ProofState, proofs, at, idle, giving, stage_behind, over, act}
 use Rattle.pb_proof.specs.declared.line.LineMachine.{LineMachine}
 use Rattle.pb_proof.specs.declared.machine.phase.Keyword.{Keyword}
 use Rattle.pb_proof.specs.declared.machine.phase.Keyword.TheVariants as keyword

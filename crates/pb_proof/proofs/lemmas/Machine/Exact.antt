@@ -2,18 +2,18 @@
 use Rattle.std.proofs.Common.{◌≡◌, ℕ, true, false, List, [], ◌∷◌, ◌++◌, refl, sym, ap, subst, ◌↔◌}
 use Rattle.std.proofs.lemmas.List.Elements.{All-nil, All-cons, All-head, All-tail}
 use Rattle.std.specs.Prelude.{IsTrue, All}
-use Rattle.pb_text.specs.Automaton.{Refuse, Accepts}
-use Rattle.pb_text.specs.Spelling.{Item}
-use Rattle.pb_text.specs.Whole.{events_of}
-use Rattle.pb_proof.specs.Lines.{SpellsStatement}
-use Rattle.pb_proof.specs.Machine.Transition.{plan}
-use Rattle.pb_proof.specs.Order.{stage_of, stage_after, GapAt, IsOrdered}
-use Rattle.pb_text.proofs.Deterministic.{one_spelling}
-use Rattle.pb_text.proofs.Booleans.{never}
-use Rattle.pb_proof.specs.Formats.{OneProof}
-use Rattle.pb_text.specs.Blank.{Nothing}
-use Rattle.pb_proof.specs.Proofs.{IsGap, IsStep, statements_of, AreSpelled, BeginsAtOnce, IsProof}
-use Rattle.pb_proof.specs.Machine.State.{ProofState, proofs, begin, act, is_done}
+use Rattle.pb_text.specs.contract.Automaton.{Refuse, Accepts}
+use Rattle.pb_text.specs.meaning.Spelling.{Item}
+use Rattle.pb_text.specs.meaning.Whole.{events_of}
+use Rattle.pb_proof.specs.meaning.Lines.{SpellsStatement}
+use Rattle.pb_proof.specs.engine.Machine.Transition.{plan}
+use Rattle.pb_proof.specs.meaning.Order.{stage_of, stage_after, GapAt, IsOrdered}
+use Rattle.pb_text.proofs.lemmas.text.Deterministic.{one_spelling}
+use Rattle.pb_text.proofs.lemmas.text.Booleans.{never}
+use Rattle.pb_proof.specs.contract.Formats.{OneProof}
+use Rattle.pb_text.specs.meaning.Blank.{Nothing}
+use Rattle.pb_proof.specs.meaning.Proofs.{IsGap, IsStep, statements_of, AreSpelled, BeginsAtOnce, IsProof}
+use Rattle.pb_proof.specs.engine.Machine.State.{ProofState, proofs, begin, act, is_done}
 use Rattle.pb_proof.specs.declared.conclusion.Conclusion.{Conclusion}
 use Rattle.pb_proof.specs.declared.proof.Proof.{Proof}
 use Rattle.pb_proof.specs.declared.machine.phase.Stage.{Stage}

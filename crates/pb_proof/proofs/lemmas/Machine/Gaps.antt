@@ -4,16 +4,16 @@ use Rattle.std.proofs.Common.{◌≡◌, ℕ, Bool, true, false, cond, not, ◌&
 use Rattle.std.proofs.lemmas.List.{append-nil}
 use Rattle.std.specs.Prelude.{nat_eq, slice_index}
 use Rattle.std.proofs.Math.Bool.{or-true}
-use Rattle.pb_text.specs.Automaton.{Next, Go, End, Refuse, Skips, Reads}
-use Rattle.pb_text.specs.Blank.{IsBlank, Nothing, in_comment}
-use Rattle.pb_text.specs.Classes.{is_white}
-use Rattle.pb_text.specs.Spelling.{Letter}
-use Rattle.pb_text.proofs.Blanks.{blank_passes, in_comment-snoc, IsBlank-snoc, passes_at}
-use Rattle.pb_text.proofs.Booleans.{never}
-use Rattle.pb_text.proofs.ByteTests.{white_each}
-use Rattle.pb_proof.specs.Machine.Transition.{enter, between, pass, spell, meets, words_of, behind, step_keyword}
-use Rattle.pb_proof.specs.Proofs.{IsGap}
-use Rattle.pb_proof.specs.Machine.State.{ProofState, proofs, at, idle, act, is_within, HasGaps}
+use Rattle.pb_text.specs.contract.Automaton.{Next, Go, End, Refuse, Skips, Reads}
+use Rattle.pb_text.specs.meaning.Blank.{IsBlank, Nothing, in_comment}
+use Rattle.pb_text.specs.meaning.Classes.{is_white}
+use Rattle.pb_text.specs.meaning.Spelling.{Letter}
+use Rattle.pb_text.proofs.lemmas.text.Blanks.{blank_passes, in_comment-snoc, IsBlank-snoc, passes_at}
+use Rattle.pb_text.proofs.lemmas.text.Booleans.{never}
+use Rattle.pb_text.proofs.lemmas.text.ByteTests.{white_each}
+use Rattle.pb_proof.specs.engine.Machine.Transition.{enter, between, pass, spell, meets, words_of, behind, step_keyword}
+use Rattle.pb_proof.specs.meaning.Proofs.{IsGap}
+use Rattle.pb_proof.specs.engine.Machine.State.{ProofState, proofs, at, idle, act, is_within, HasGaps}
 use Rattle.pb_proof.specs.declared.machine.phase.Keyword.{Keyword}
 use Rattle.pb_proof.specs.declared.machine.phase.Keyword.TheVariants as keyword
 use Rattle.pb_proof.specs.declared.machine.phase.Stage.{Stage}

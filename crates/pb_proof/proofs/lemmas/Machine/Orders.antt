@@ -1,12 +1,12 @@
 -- What the proof machine accepts from a stage is the statements in order.
 use Rattle.std.proofs.Common.{◌≡◌, ℕ, true, false, List, [], ◌∷◌, refl, sym, ap, subst, ◌∙◌}
-use Rattle.pb_text.specs.Automaton.{Next, Go, End, Refuse, Skips, Reads, Accepts}
-use Rattle.pb_text.specs.Spelling.{Item, Letter}
-use Rattle.pb_text.proofs.Booleans.{never}
-use Rattle.pb_text.proofs.Outcomes.{refuse_or_go, refuse_or_end}
-use Rattle.pb_proof.specs.Machine.Transition.{enter}
-use Rattle.pb_proof.specs.Order.{stage_of, stage_after, GapAt, IsOrdered}
-use Rattle.pb_proof.specs.Machine.State.{ProofState, proofs, idle, act, is_complete}
+use Rattle.pb_text.specs.contract.Automaton.{Next, Go, End, Refuse, Skips, Reads, Accepts}
+use Rattle.pb_text.specs.meaning.Spelling.{Item, Letter}
+use Rattle.pb_text.proofs.lemmas.text.Booleans.{never}
+use Rattle.pb_text.proofs.lemmas.machine.Outcomes.{refuse_or_go, refuse_or_end}
+use Rattle.pb_proof.specs.engine.Machine.Transition.{enter}
+use Rattle.pb_proof.specs.meaning.Order.{stage_of, stage_after, GapAt, IsOrdered}
+use Rattle.pb_proof.specs.engine.Machine.State.{ProofState, proofs, idle, act, is_complete}
 use Rattle.pb_proof.specs.declared.machine.phase.Stage.{Stage}
 use Rattle.pb_proof.specs.declared.machine.phase.Stage.TheVariants.{Opening, Formula, Steps, Claim, Closing, Complete}
 use Rattle.pb_proof.specs.declared.machine.phase.Move.{Move}

@@ -4,19 +4,19 @@ use Rattle.std.proofs.Math.Seq.{take-suc}
 use Rattle.std.proofs.lemmas.Bool.{eqb-true, cond_both, and_parts}
 use Rattle.std.proofs.lemmas.List.{take_all}
 use Rattle.std.specs.Prelude.{nat_eq, slice_index}
-use Rattle.pb_text.specs.Automaton.{Next, Go, End, Refuse, Reads}
-use Rattle.pb_text.specs.Classes.{is_blank, is_white}
-use Rattle.pb_text.specs.Languages.{Language, ◌⋅◌, Bytes}
-use Rattle.pb_text.specs.Spelling.{Letter, plain}
-use Rattle.pb_text.proofs.Languages.{grown, none_yet}
-use Rattle.pb_text.proofs.Walking.{Walks, walks_more, ends_walk, On, Keeps, told}
-use Rattle.pb_text.proofs.Booleans.{never}
-use Rattle.pb_text.proofs.Letters.{as_unmarked, further}
-use Rattle.pb_proof.specs.Line.Machine.{line_automaton, line_first, SpellsRest}
-use Rattle.pb_proof.specs.Lines.{f_word, pol_word, rup_word, soli_word, solx_word, conclusion_word, SpellsStatement}
-use Rattle.pb_proof.specs.Machine.Transition.{words_of, sol_word, behind, meets, spell, step_keyword, enter, pass, between, plan}
-use Rattle.pb_proof.specs.Order.{stage_of, stage_after}
-use Rattle.pb_proof.specs.Machine.State.{ProofState, proofs, idle, stage_behind, over, step_line, act, asked}
+use Rattle.pb_text.specs.contract.Automaton.{Next, Go, End, Refuse, Reads}
+use Rattle.pb_text.specs.meaning.Classes.{is_blank, is_white}
+use Rattle.pb_text.specs.meaning.Languages.{Language, ◌⋅◌, Bytes}
+use Rattle.pb_text.specs.meaning.Spelling.{Letter, plain}
+use Rattle.pb_text.proofs.lemmas.text.Languages.{grown, none_yet}
+use Rattle.pb_text.proofs.lemmas.machine.Walking.{Walks, walks_more, ends_walk, On, Keeps, told}
+use Rattle.pb_text.proofs.lemmas.text.Booleans.{never}
+use Rattle.pb_text.proofs.lemmas.text.Letters.{as_unmarked, further}
+use Rattle.pb_proof.specs.engine.Line.Machine.{line_automaton, line_first, SpellsRest}
+use Rattle.pb_proof.specs.meaning.Lines.{f_word, pol_word, rup_word, soli_word, solx_word, conclusion_word, SpellsStatement}
+use Rattle.pb_proof.specs.engine.Machine.Transition.{words_of, sol_word, behind, meets, spell, step_keyword, enter, pass, between, plan}
+use Rattle.pb_proof.specs.meaning.Order.{stage_of, stage_after}
+use Rattle.pb_proof.specs.engine.Machine.State.{ProofState, proofs, idle, stage_behind, over, step_line, act, asked}
 use Rattle.pb_proof.specs.declared.line.LineMachine.{LineMachine}
 use Rattle.pb_proof.specs.declared.machine.phase.Keyword.{Keyword}
 use Rattle.pb_proof.specs.declared.machine.phase.Keyword.TheVariants as keyword

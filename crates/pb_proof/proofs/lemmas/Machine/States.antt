@@ -3,13 +3,13 @@ use Rattle.std.proofs.Common.{◌≡◌, ℕ, ◌+◌, ◌-◌, ◌<◌, ◌≤�
 use Rattle.std.specs.Prelude.{IsTrue, nat_eq, slice_index}
 use Rattle.std.proofs.lemmas.Bool.{cond_both}
 use Rattle.std.proofs.lemmas.Option.{same_Some}
-use Rattle.pb_text.specs.Automaton.{Next, Go, End, Refuse, Admits, IsState}
-use Rattle.pb_text.specs.Classes.{is_blank, is_white}
-use Rattle.pb_text.proofs.Residual.{refuses}
-use Rattle.pb_text.proofs.Booleans.{never}
-use Rattle.pb_proof.specs.Line.Machine.{line_automaton, line_first}
-use Rattle.pb_proof.specs.Machine.Transition.{words_of, behind, meets, spell, step_keyword, enter, pass, between, plan}
-use Rattle.pb_proof.specs.Machine.State.{ProofState, proofs, at, idle, giving, stage_behind, over, step_line, act, asked, asks, is_within, is_done, is_complete, HasGaps, PhaseFits, Holds, IsInOrder}
+use Rattle.pb_text.specs.contract.Automaton.{Next, Go, End, Refuse, Admits, IsState}
+use Rattle.pb_text.specs.meaning.Classes.{is_blank, is_white}
+use Rattle.pb_text.proofs.lemmas.machine.Residual.{refuses}
+use Rattle.pb_text.proofs.lemmas.text.Booleans.{never}
+use Rattle.pb_proof.specs.engine.Line.Machine.{line_automaton, line_first}
+use Rattle.pb_proof.specs.engine.Machine.Transition.{words_of, behind, meets, spell, step_keyword, enter, pass, between, plan}
+use Rattle.pb_proof.specs.engine.Machine.State.{ProofState, proofs, at, idle, giving, stage_behind, over, step_line, act, asked, asks, is_within, is_done, is_complete, HasGaps, PhaseFits, Holds, IsInOrder}
 use Rattle.pb_proof.specs.declared.line.LineMachine.{LineMachine}
 use Rattle.pb_proof.specs.declared.machine.phase.Keyword.{Keyword}
 use Rattle.pb_proof.specs.declared.machine.phase.Keyword.TheVariants as keyword
@@ -22,8 +22,8 @@ use Rattle.pb_proof.specs.declared.machine.phase.Move.{Move}
 use Rattle.pb_proof.specs.declared.machine.phase.Move.TheVariants as move
 use Rattle.pb_proof.specs.declared.statement.Statement.{Statement}
 use Rattle.pb_proof.proofs.lemmas.Line.Laws.{line_begins, line_fresh, line_first_state}
-use Rattle.pb_text.proofs.Letters.{further}
-use Rattle.pb_text.proofs.Living.{admits_before, admits_final, admitted_on}
+use Rattle.pb_text.proofs.lemmas.text.Letters.{further}
+use Rattle.pb_text.proofs.lemmas.machine.Living.{admits_before, admits_final, admitted_on}
 use Rattle.pb_proof.proofs.lemmas.Machine.Alive.{live, reading_alive, stage_accepts, example}
 use Rattle.pb_proof.proofs.lemmas.Machine.Exact.{closes}
 use Rattle.pb_proof.proofs.lemmas.Spaced.{some_byte}

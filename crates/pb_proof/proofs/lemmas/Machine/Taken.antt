@@ -1,16 +1,16 @@
 -- A run of the line machine is a run of the proof machine.
 -- A run of the sum machine is a run of the `rup` machine.
 use Rattle.std.proofs.Common.{◌≡◌, ℕ, zero, suc, ◌<◌, ◌≤◌, false, List, [], ◌∷◌, length, take, get_or, refl, sym, ap, ap₂, subst, arith, ◌∙◌, Option, Some}
-use Rattle.pb_text.specs.Classes.{is_blank}
-use Rattle.pb_text.specs.Automaton.{Next, Go, End, Refuse, Pushes, Runs}
+use Rattle.pb_text.specs.meaning.Classes.{is_blank}
+use Rattle.pb_text.specs.contract.Automaton.{Next, Go, End, Refuse, Pushes, Runs}
 use Rattle.pb_text.specs.declared.machine.Push.{Push}
 use Rattle.pb_text.specs.declared.machine.Push.TheVariants as push
-use Rattle.pb_sums.specs.State.{SumState, sums}
+use Rattle.pb_sums.specs.engine.State.{SumState, sums}
 use Rattle.pb_sums.specs.declared.Linear.{Linear}
 use Rattle.pb_sums.specs.declared.SumEvent.{SumEvent}
-use Rattle.pb_proof.specs.Line.Rup.{RupState, rup_automaton, rup_plan, rup_act, rup_over, IsRupInOrder}
-use Rattle.pb_proof.specs.Line.Machine.{line_automaton}
-use Rattle.pb_proof.specs.Machine.State.{ProofState, proofs, giving, over, Holds, IsInOrder}
+use Rattle.pb_proof.specs.engine.Line.Rup.{RupState, rup_automaton, rup_plan, rup_act, rup_over, IsRupInOrder}
+use Rattle.pb_proof.specs.engine.Line.Machine.{line_automaton}
+use Rattle.pb_proof.specs.engine.Machine.State.{ProofState, proofs, giving, over, Holds, IsInOrder}
 use Rattle.pb_proof.specs.declared.line.rup.phase.RupPhase.TheVariants.{Gap as GapRup, Inside as InsideRup}
 use Rattle.pb_proof.specs.declared.line.rup.phase.RupMove.TheVariants.{Give}
 use Rattle.pb_proof.specs.declared.line.LineMachine.{LineMachine}

@@ -3,12 +3,12 @@ use Rattle.std.proofs.Common.{◌≡◌, ℕ, suc, ◌+◌, ◌<◌, false, List
 use Rattle.std.proofs.Math.Seq.{drop-cons, take-length}
 use Rattle.std.proofs.lemmas.List.{take-append-drop, length-take-le}
 use Rattle.std.specs.Cmp.Lexicographic.{pointwise, bytes_decides}
-use Rattle.pb_text.specs.Automaton.{Go, IsState, Runs}
-use Rattle.pb_text.proofs.Booleans.{never}
-use Rattle.pb_proof.specs.Line.Machine.{line_first}
-use Rattle.pb_proof.specs.Machine.Transition.{words_of, behind}
-use Rattle.pb_proof.specs.Machine.State.{ProofState, proofs, at, giving, act, PhaseFits, Holds, IsInOrder}
-use Rattle.pb_proof.specs.Machine.Words.{IsRest, LacksRest}
+use Rattle.pb_text.specs.contract.Automaton.{Go, IsState, Runs}
+use Rattle.pb_text.proofs.lemmas.text.Booleans.{never}
+use Rattle.pb_proof.specs.engine.Line.Machine.{line_first}
+use Rattle.pb_proof.specs.engine.Machine.Transition.{words_of, behind}
+use Rattle.pb_proof.specs.engine.Machine.State.{ProofState, proofs, at, giving, act, PhaseFits, Holds, IsInOrder}
+use Rattle.pb_proof.specs.engine.Machine.Words.{IsRest, LacksRest}
 use Rattle.pb_proof.specs.declared.machine.phase.Keyword.{Keyword}
 use Rattle.pb_proof.specs.declared.machine.phase.LineKind.{LineKind}
 use Rattle.pb_proof.specs.declared.machine.phase.Phase.{Phase}

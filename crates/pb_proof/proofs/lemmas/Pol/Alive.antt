@@ -2,9 +2,9 @@
 use Rattle.std.proofs.Common.{◌≡◌, ℕ, zero, suc, ◌+◌, ◌-◌, ◌*◌, ◌<◌, Bool, true, false, cond, List, [], ◌∷◌, ◌++◌, refl, sym, ap, subst, arith, ◌∙◌}
 use Rattle.std.proofs.lemmas.Bool.{le-leb, true≢false}
 use Rattle.std.specs.Prelude.{pos, neg_ℤ, nat_le, Some}
-use Rattle.pb_text.specs.Automaton.{End}
-use Rattle.pb_proof.specs.Line.Pol.{act, close, held_number, held_name, changed, counted, bound, is_done}
-use Rattle.pb_proof.specs.Line.PolState.{PolState, pol_automaton, over}
+use Rattle.pb_text.specs.contract.Automaton.{End}
+use Rattle.pb_proof.specs.engine.Line.Pol.{act, close, held_number, held_name, changed, counted, bound, is_done}
+use Rattle.pb_proof.specs.engine.Line.PolState.{PolState, pol_automaton, over}
 use Rattle.pb_proof.specs.declared.word.PolWord.{PolWord}
 use Rattle.pb_proof.specs.declared.word.PolWord.TheVariants as word
 use Rattle.pb_proof.specs.declared.line.pol.phase.Held.{Held}
@@ -19,7 +19,7 @@ use Rattle.pb_proof.specs.declared.line.pol.phase.Move.TheVariants as move
 use Rattle.pb_proof.proofs.lemmas.Pol.Covers.{state, as_gap}
 use Rattle.pb_proof.proofs.lemmas.Pol.Fronts.{NotLarge, bound_of_id}
 use Rattle.pb_proof.proofs.lemmas.Pol.Walks.{takes_blanks}
-use Rattle.pb_text.proofs.Living.{ReadsOn, reads_before}
+use Rattle.pb_text.proofs.lemmas.machine.Living.{ReadsOn, reads_before}
 use Rattle.pb_proof.proofs.lemmas.NumberTests.{not_zero}
 
 abbrev pub Alive : PolState → Type 0

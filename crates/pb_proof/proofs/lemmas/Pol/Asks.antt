@@ -3,16 +3,16 @@ use Rattle.std.proofs.Common.{◌≡◌, ℕ, ◌+◌, ◌*◌, Bool, true, fals
 use Rattle.std.proofs.lemmas.Bool.{false≢true, cond_both, and_parts}
 use Rattle.std.proofs.lemmas.Bool.Decides.{nat_tests}
 use Rattle.std.specs.Prelude.{IsTrue, nat_eq, nat_le}
-use Rattle.pb_text.specs.Classes.{is_blank, is_digit, is_letter, is_name_byte}
-use Rattle.pb_text.specs.Languages.{Language, ◌⋅◌, Blanks1}
-use Rattle.pb_text.specs.Spelling.{Letter, bytes}
-use Rattle.pb_text.proofs.Walking.{Walks, fronts}
-use Rattle.pb_sums.specs.Asking.{EndsIn}
-use Rattle.pb_sums.proofs.Asked.{ends_nothing, at_name, name_further, first_further}
-use Rattle.pb_sums.proofs.LiteralFronts.{FirstOf, LiteralOf}
-use Rattle.pb_proof.specs.Asking.{AsksWord}
-use Rattle.pb_proof.specs.Line.Pol.{plan, read, next, next_word, next_large, star, late, blank, semicolon, feed, close, number, signed, role_of, bound, kind_of, is_letter_kind, is_name_kind, may_be_name, counted, adds, wants, Closing}
-use Rattle.pb_proof.specs.Line.PolState.{PolState, pol_automaton, pol_first}
+use Rattle.pb_text.specs.meaning.Classes.{is_blank, is_digit, is_letter, is_name_byte}
+use Rattle.pb_text.specs.meaning.Languages.{Language, ◌⋅◌, Blanks1}
+use Rattle.pb_text.specs.meaning.Spelling.{Letter, bytes}
+use Rattle.pb_text.proofs.lemmas.machine.Walking.{Walks, fronts}
+use Rattle.pb_sums.specs.meaning.Asking.{EndsIn}
+use Rattle.pb_sums.proofs.lemmas.machine.Asked.{ends_nothing, at_name, name_further, first_further}
+use Rattle.pb_sums.proofs.lemmas.machine.LiteralFronts.{FirstOf, LiteralOf}
+use Rattle.pb_proof.specs.meaning.Asking.{AsksWord}
+use Rattle.pb_proof.specs.engine.Line.Pol.{plan, read, next, next_word, next_large, star, late, blank, semicolon, feed, close, number, signed, role_of, bound, kind_of, is_letter_kind, is_name_kind, may_be_name, counted, adds, wants, Closing}
+use Rattle.pb_proof.specs.engine.Line.PolState.{PolState, pol_automaton, pol_first}
 use Rattle.pb_proof.specs.declared.word.PolWord.{PolWord}
 use Rattle.pb_proof.specs.declared.line.pol.phase.Kind.{Kind}
 use Rattle.pb_proof.specs.declared.line.pol.phase.Kind.TheVariants as kind

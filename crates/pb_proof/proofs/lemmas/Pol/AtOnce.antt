@@ -4,15 +4,15 @@ use Rattle.std.proofs.lemmas.Bool.{eqb-true, le-leb, and_parts}
 use Rattle.std.specs.Option.{is_some}
 use Rattle.std.specs.Prelude.{IsTrue, nat_eq, nat_le, cond}
 use Rattle.std.proofs.lemmas.Option.{same_Some}
-use Rattle.pb_text.specs.Automaton.{Go, IsState, Runs}
-use Rattle.pb_text.specs.Classes.{is_digit}
-use Rattle.pb_text.specs.Digits.{value_from}
-use Rattle.pb_text.proofs.DigitValues.{AreDigits, value-grows}
-use Rattle.pb_text.proofs.Running.{runs_more}
-use Rattle.pb_proof.specs.Line.IdPrefix.{IsSpacedId}
-use Rattle.pb_proof.specs.Line.Pol.{plan, number, bound, kind_of, changed, counted, held_number}
-use Rattle.pb_proof.specs.Line.PolFront.{held_before, held_operator, operator}
-use Rattle.pb_proof.specs.Line.PolState.{PolState, pol_automaton}
+use Rattle.pb_text.specs.contract.Automaton.{Go, IsState, Runs}
+use Rattle.pb_text.specs.meaning.Classes.{is_digit}
+use Rattle.pb_text.specs.contract.Digits.{value_from}
+use Rattle.pb_text.proofs.lemmas.numbers.DigitValues.{AreDigits, value-grows}
+use Rattle.pb_text.proofs.lemmas.machine.Running.{runs_more}
+use Rattle.pb_proof.specs.engine.Line.IdPrefix.{IsSpacedId}
+use Rattle.pb_proof.specs.engine.Line.Pol.{plan, number, bound, kind_of, changed, counted, held_number}
+use Rattle.pb_proof.specs.engine.Line.PolFront.{held_before, held_operator, operator}
+use Rattle.pb_proof.specs.engine.Line.PolState.{PolState, pol_automaton}
 use Rattle.pb_proof.specs.declared.word.PolWord.{PolWord}
 use Rattle.pb_proof.specs.declared.word.PolWord.TheVariants.{Id}
 use Rattle.pb_proof.specs.declared.line.pol.phase.Kind.{Kind}

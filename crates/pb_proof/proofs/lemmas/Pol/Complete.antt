@@ -2,15 +2,15 @@
 use Rattle.std.proofs.Common.{◌≡◌, ℕ, zero, suc, ◌-◌, ◌<◌, ◌≤◌, Bool, true, false, cond, List, [], ◌∷◌, ◌++◌, refl, sym, ap, subst, arith, append_assoc, append-nil, ◌∙◌}
 use Rattle.std.proofs.lemmas.Bool.{le-leb}
 use Rattle.std.specs.Prelude.{pos, neg_ℤ, nat_le, ℤ, Some}
-use Rattle.pb_text.specs.Automaton.{Go, Reads}
-use Rattle.pb_text.specs.Languages.{unmarked, ◌⋅◌, Byte, Bytes, Blanks1}
-use Rattle.pb_text.specs.Numbers.{Digits}
-use Rattle.pb_text.specs.Spelling.{Letter, plain}
-use Rattle.pb_text.proofs.Walking.{Walks, walks_then, reads_behind, longer}
-use Rattle.pb_sums.specs.Sums.{IsName, SpellsLiteral}
-use Rattle.pb_proof.specs.Lines.{LineEnd, Listed, Factor, SpellsId, SpellsWord, SpellsWords}
-use Rattle.pb_proof.specs.Line.Pol.{act, close, held_number, held_name, changed, counted, turned, with_last}
-use Rattle.pb_proof.specs.Line.PolState.{PolState, pol_automaton, pol_first, pol_last, over}
+use Rattle.pb_text.specs.contract.Automaton.{Go, Reads}
+use Rattle.pb_text.specs.meaning.Languages.{unmarked, ◌⋅◌, Byte, Bytes, Blanks1}
+use Rattle.pb_text.specs.meaning.Numbers.{Digits}
+use Rattle.pb_text.specs.meaning.Spelling.{Letter, plain}
+use Rattle.pb_text.proofs.lemmas.machine.Walking.{Walks, walks_then, reads_behind, longer}
+use Rattle.pb_sums.specs.meaning.Sums.{IsName, SpellsLiteral}
+use Rattle.pb_proof.specs.meaning.Lines.{LineEnd, Listed, Factor, SpellsId, SpellsWord, SpellsWords}
+use Rattle.pb_proof.specs.engine.Line.Pol.{act, close, held_number, held_name, changed, counted, turned, with_last}
+use Rattle.pb_proof.specs.engine.Line.PolState.{PolState, pol_automaton, pol_first, pol_last, over}
 use Rattle.pb_proof.specs.declared.word.PolWord.{PolWord}
 use Rattle.pb_proof.specs.declared.word.PolWord.TheVariants as word
 use Rattle.pb_proof.specs.declared.line.pol.phase.Held.{Held}

@@ -1,10 +1,10 @@
 -- A state that reads everything that another one reads.
 use Rattle.std.proofs.Common.{◌≡◌, ℕ, Bool, true, false, cond, ◌&&◌, List, [], ◌∷◌, refl, sym, subst, ◌∙◌}
 use Rattle.std.specs.Prelude.{nat_eq, Some}
-use Rattle.pb_text.specs.Automaton.{Automaton, Next, Go, End, Refuse, Reads}
-use Rattle.pb_text.specs.Spelling.{Letter}
-use Rattle.pb_proof.specs.Line.Pol.{work, act, plan, close, blank, semicolon, feed, changed, counted, may_be_name, is_name_kind, kind_of}
-use Rattle.pb_proof.specs.Line.PolState.{PolState, pol_automaton, over}
+use Rattle.pb_text.specs.contract.Automaton.{Automaton, Next, Go, End, Refuse, Reads}
+use Rattle.pb_text.specs.meaning.Spelling.{Letter}
+use Rattle.pb_proof.specs.engine.Line.Pol.{work, act, plan, close, blank, semicolon, feed, changed, counted, may_be_name, is_name_kind, kind_of}
+use Rattle.pb_proof.specs.engine.Line.PolState.{PolState, pol_automaton, over}
 use Rattle.pb_proof.specs.declared.word.PolWord.{PolWord}
 use Rattle.pb_proof.specs.declared.line.pol.phase.Kind.{Kind}
 use Rattle.pb_proof.specs.declared.line.pol.phase.Kind.TheVariants as kind

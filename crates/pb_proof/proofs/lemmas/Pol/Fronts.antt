@@ -2,15 +2,15 @@
 use Rattle.std.proofs.Common.{◌≡◌, ℕ, zero, suc, ◌-◌, ◌<◌, ◌≤◌, true, false, List, [], ◌∷◌, ◌++◌, refl, sym, ap, subst, arith, append_assoc, ◌∙◌}
 use Rattle.std.specs.Prelude.{pos}
 use Rattle.std.proofs.Math.Nat.{le-max_left, le-max_right}
-use Rattle.pb_text.specs.Languages.{Language, ◌⋅◌, Byte, Bytes, Blanks1}
-use Rattle.pb_text.specs.Numbers.{Digits}
-use Rattle.pb_text.specs.Spelling.{Letter}
-use Rattle.pb_text.proofs.Languages.{regroup3}
-use Rattle.pb_sums.specs.Sums.{IsName}
-use Rattle.pb_sums.proofs.LiteralFronts.{FirstOf, LiteralOf}
-use Rattle.pb_proof.specs.Lines.{Listed, SpellsWord, SpellsWords}
-use Rattle.pb_proof.specs.Line.Pol.{bound, with_last}
-use Rattle.pb_proof.specs.Line.PolState.{PolState}
+use Rattle.pb_text.specs.meaning.Languages.{Language, ◌⋅◌, Byte, Bytes, Blanks1}
+use Rattle.pb_text.specs.meaning.Numbers.{Digits}
+use Rattle.pb_text.specs.meaning.Spelling.{Letter}
+use Rattle.pb_text.proofs.lemmas.text.Languages.{regroup3}
+use Rattle.pb_sums.specs.meaning.Sums.{IsName}
+use Rattle.pb_sums.proofs.lemmas.machine.LiteralFronts.{FirstOf, LiteralOf}
+use Rattle.pb_proof.specs.meaning.Lines.{Listed, SpellsWord, SpellsWords}
+use Rattle.pb_proof.specs.engine.Line.Pol.{bound, with_last}
+use Rattle.pb_proof.specs.engine.Line.PolState.{PolState}
 use Rattle.pb_proof.specs.declared.word.PolWord.{PolWord}
 use Rattle.pb_proof.specs.declared.word.PolWord.TheVariants.{Id, Axiom, Multiply}
 use Rattle.pb_proof.specs.declared.line.pol.phase.Held.{Held}

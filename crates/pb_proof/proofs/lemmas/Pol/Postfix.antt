@@ -1,7 +1,7 @@
 -- Postfix words determine their expression, and leave one. Offered to other crates.
 use Rattle.std.proofs.Common.{◌≡◌, ℕ, zero, suc, List, [], ◌∷◌, ◌++◌, refl, sym, ap, ◌∙◌, subst, arith}
-use Rattle.pb_proof.specs.Leaving.{Leaves, WordsTell, WordsLeaveOne}
-use Rattle.pb_proof.specs.Postfix.{Tree, Constraint, True, Sum, Times, Divided, Saturated, Weakened, words}
+use Rattle.pb_proof.specs.contract.Leaving.{Leaves, WordsTell, WordsLeaveOne}
+use Rattle.pb_proof.specs.meaning.Postfix.{Tree, Constraint, True, Sum, Times, Divided, Saturated, Weakened, words}
 use Rattle.pb_proof.specs.declared.word.PolWord.{PolWord}
 use Rattle.pb_proof.specs.declared.word.PolWord.TheVariants.{Id, Axiom, Add, Multiply, Divide, Saturate, Weaken}
 use Rattle.pb_proof.proofs.lemmas.Pol.Trees.{Counts, postfix_counts, counts_postfix}

@@ -1,14 +1,14 @@
 -- A push does what its transition says.
 use Rattle.std.proofs.Common.{◌≡◌, ℕ, ◌<◌, Bool, true, false, ◌&&◌, List, [], refl, sym, ap, subst, ◌∙◌}
 use Rattle.std.specs.Prelude.{IsTrue, if◌then◌else◌}
-use Rattle.pb_text.specs.Automaton.{Next, End, Refuse, Admits, IsState, Pushes}
-use Rattle.pb_text.specs.Classes.{is_digit}
+use Rattle.pb_text.specs.contract.Automaton.{Next, End, Refuse, Admits, IsState, Pushes}
+use Rattle.pb_text.specs.meaning.Classes.{is_digit}
 use Rattle.pb_text.specs.declared.machine.Push.{Push}
 use Rattle.pb_text.specs.declared.machine.Push.TheVariants as push
-use Rattle.pb_text.proofs.Booleans.{never}
-use Rattle.pb_text.proofs.Outcomes.{go_or_refuse, end_or_refuse}
-use Rattle.pb_proof.specs.Line.Pol.{act, plan, kind_of, wants, is_midway, is_in_number}
-use Rattle.pb_proof.specs.Line.PolState.{PolState, pol_automaton, over, IsPolInOrder}
+use Rattle.pb_text.proofs.lemmas.text.Booleans.{never}
+use Rattle.pb_text.proofs.lemmas.machine.Outcomes.{go_or_refuse, end_or_refuse}
+use Rattle.pb_proof.specs.engine.Line.Pol.{act, plan, kind_of, wants, is_midway, is_in_number}
+use Rattle.pb_proof.specs.engine.Line.PolState.{PolState, pol_automaton, over, IsPolInOrder}
 use Rattle.pb_proof.specs.declared.word.PolWord.{PolWord}
 use Rattle.pb_proof.specs.declared.line.pol.phase.Kind.{Kind}
 use Rattle.pb_proof.specs.declared.line.pol.phase.Phase.{Phase}

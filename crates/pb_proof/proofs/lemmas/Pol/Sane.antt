@@ -2,11 +2,11 @@
 use Rattle.std.proofs.Common.{◌≡◌, ℕ, ◌+◌, ◌*◌, ◌≤◌, Bool, true, false, cond, ◌&&◌, List, [], ◌∷◌, ◌++◌, length, refl, sym, subst, arith, length-append}
 use Rattle.std.specs.Prelude.{pos, neg_ℤ, nat_eq, nat_le, Some, None}
 use Rattle.std.proofs.lemmas.Bool.{false≢true, true≢false}
-use Rattle.pb_text.specs.Automaton.{Go, End}
-use Rattle.pb_text.proofs.Outcomes.{one_state, one_end, go_or_end, refuse_or_go, refuse_or_end, end_or_go}
-use Rattle.pb_proof.specs.Line.Pol.{Work, work, act, plan, read, next, next_word, late, blank, semicolon, feed, close, held_number, number, signed, role_of, bound, is_letter_kind, is_name_kind, may_be_name, is_midway, is_done, adds, changed, counted, turned, with_last, finished}
-use Rattle.pb_proof.specs.Line.Pol as pol
-use Rattle.pb_proof.specs.Line.PolState.{word_units, units, in_hand, ready, all_units}
+use Rattle.pb_text.specs.contract.Automaton.{Go, End}
+use Rattle.pb_text.proofs.lemmas.machine.Outcomes.{one_state, one_end, go_or_end, refuse_or_go, refuse_or_end, end_or_go}
+use Rattle.pb_proof.specs.engine.Line.Pol.{Work, work, act, plan, read, next, next_word, late, blank, semicolon, feed, close, held_number, number, signed, role_of, bound, is_letter_kind, is_name_kind, may_be_name, is_midway, is_done, adds, changed, counted, turned, with_last, finished}
+use Rattle.pb_proof.specs.engine.Line.Pol as pol
+use Rattle.pb_proof.specs.engine.Line.PolState.{word_units, units, in_hand, ready, all_units}
 use Rattle.pb_proof.specs.declared.word.PolWord.{PolWord}
 use Rattle.pb_proof.specs.declared.word.PolWord.TheVariants as word
 use Rattle.pb_proof.specs.declared.line.pol.phase.Kind.{Kind}

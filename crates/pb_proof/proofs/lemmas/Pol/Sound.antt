@@ -3,20 +3,20 @@ use Rattle.std.proofs.Common.{◌≡◌, ℕ, zero, suc, ◌+◌, ◌-◌, ◌*�
 use Rattle.std.proofs.lemmas.Bool.{eqb-true, leb-true, and_parts, false≢true}
 use Rattle.std.proofs.lemmas.Bool.Decides.{nat_tests}
 use Rattle.std.specs.Prelude.{IsTrue, pos, neg_ℤ, nat_eq, nat_le, Some, None}
-use Rattle.pb_text.specs.Automaton.{Next, Reads}
-use Rattle.pb_text.specs.Classes.{is_blank, is_name_byte}
-use Rattle.pb_text.specs.Languages.{unmarked, Language, ◌⋅◌, Byte, Bytes, Blanks0, Blanks1}
-use Rattle.pb_text.specs.Numbers.{Digits}
-use Rattle.pb_text.specs.Spelling.{Letter, plain}
-use Rattle.pb_text.proofs.Languages.{grown, next as next_part, regroup, regroup3, inside}
-use Rattle.pb_text.proofs.Numbers.{digits-grown, digits-one}
-use Rattle.pb_text.proofs.Walking.{On, Keeps, told}
-use Rattle.pb_text.proofs.Letters.{as_unmarked, as_digit}
-use Rattle.pb_sums.proofs.LiteralFronts.{FirstOf, LiteralOf}
-use Rattle.pb_proof.specs.Lines.{LineEnd, SpellsWord, SpellsWords}
-use Rattle.pb_proof.specs.Line.Pol.{work, act, plan, read, next, next_word, next_large, star, late, blank, semicolon, feed, close, close_number, held_number, close_lone, held_name, number, signed, role_of, bound, kind_of, is_letter_kind, is_name_kind, may_be_name, changed, counted, turned, with_last}
-use Rattle.pb_proof.specs.Line.Pol as pol
-use Rattle.pb_proof.specs.Line.PolState.{PolState, pol_automaton, pol_first, over}
+use Rattle.pb_text.specs.contract.Automaton.{Next, Reads}
+use Rattle.pb_text.specs.meaning.Classes.{is_blank, is_name_byte}
+use Rattle.pb_text.specs.meaning.Languages.{unmarked, Language, ◌⋅◌, Byte, Bytes, Blanks0, Blanks1}
+use Rattle.pb_text.specs.meaning.Numbers.{Digits}
+use Rattle.pb_text.specs.meaning.Spelling.{Letter, plain}
+use Rattle.pb_text.proofs.lemmas.text.Languages.{grown, next as next_part, regroup, regroup3, inside}
+use Rattle.pb_text.proofs.lemmas.numbers.Numbers.{digits-grown, digits-one}
+use Rattle.pb_text.proofs.lemmas.machine.Walking.{On, Keeps, told}
+use Rattle.pb_text.proofs.lemmas.text.Letters.{as_unmarked, as_digit}
+use Rattle.pb_sums.proofs.lemmas.machine.LiteralFronts.{FirstOf, LiteralOf}
+use Rattle.pb_proof.specs.meaning.Lines.{LineEnd, SpellsWord, SpellsWords}
+use Rattle.pb_proof.specs.engine.Line.Pol.{work, act, plan, read, next, next_word, next_large, star, late, blank, semicolon, feed, close, close_number, held_number, close_lone, held_name, number, signed, role_of, bound, kind_of, is_letter_kind, is_name_kind, may_be_name, changed, counted, turned, with_last}
+use Rattle.pb_proof.specs.engine.Line.Pol as pol
+use Rattle.pb_proof.specs.engine.Line.PolState.{PolState, pol_automaton, pol_first, over}
 use Rattle.pb_proof.specs.declared.word.PolWord.{PolWord}
 use Rattle.pb_proof.specs.declared.word.PolWord.TheVariants as word
 use Rattle.pb_proof.specs.declared.line.pol.phase.Kind.{Kind}

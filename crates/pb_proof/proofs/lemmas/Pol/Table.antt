@@ -1,8 +1,8 @@
 -- Examples of what the `pol` machine does with each kind of line.
 use Rattle.std.proofs.Common.{◌≡◌, ℕ, suc, ◌-◌, ◌^◌, Bool, true, false, List, [], ◌∷◌, ◌++◌, refl}
 use Rattle.std.specs.Prelude.{codes}
-use Rattle.pb_text.specs.Automaton.{Next, Go, End, Refuse, is_large}
-use Rattle.pb_proof.specs.Line.PolState.{PolState, pol_first, pol_automaton}
+use Rattle.pb_text.specs.contract.Automaton.{Next, Go, End, Refuse, is_large}
+use Rattle.pb_proof.specs.engine.Line.PolState.{PolState, pol_first, pol_automaton}
 use Rattle.pb_proof.specs.declared.word.PolWord.{PolWord}
 
 -- The machine reads a line through its line feed, reads it as a prefix, or rejects the byte at an offset.

@@ -1,7 +1,7 @@
 -- A count of units that stays at its maximum.
 use Rattle.std.proofs.Common.{◌≡◌, ℕ, ◌+◌, ◌-◌, ◌^◌, ◌<◌, min, take, get_or, length, List, sym, ap, arith, ◌∙◌}
 use Rattle.std.proofs.lemmas.List.{take_more}
-use Rattle.pb_proof.specs.Line.PolState.{word_units, units}
+use Rattle.pb_proof.specs.engine.Line.PolState.{word_units, units}
 use Rattle.pb_proof.specs.declared.word.PolWord.{PolWord}
 use Rattle.pb_proof.proofs.lemmas.Pol.Sane.{units_append}
 

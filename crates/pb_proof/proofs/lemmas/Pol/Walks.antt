@@ -2,16 +2,16 @@
 use Rattle.std.proofs.Common.{◌≡◌, ℕ, ◌+◌, ◌*◌, ◌≤◌, Bool, true, false, cond, ◌&&◌, List, [], ◌∷◌, ◌++◌, refl, ap, subst, arith, append_assoc, append-nil, ◌∙◌}
 use Rattle.std.proofs.lemmas.Bool.{le-leb, false≢true}
 use Rattle.std.specs.Prelude.{IsTrue, nat_le, Some}
-use Rattle.pb_text.specs.Automaton.{Go}
-use Rattle.pb_text.specs.Classes.{is_name_byte}
-use Rattle.pb_text.specs.Languages.{Each}
-use Rattle.pb_text.specs.Numbers.{Digits}
-use Rattle.pb_text.specs.Spelling.{Letter, plain}
-use Rattle.pb_text.proofs.Walking.{Walks}
-use Rattle.pb_text.proofs.DigitWalks.{digits_lead}
-use Rattle.pb_sums.specs.Sums.{IsName}
-use Rattle.pb_proof.specs.Line.Pol.{act, plan, close, blank, changed, counted, bound, may_be_name, is_letter_kind, is_name_kind, role_of, kind_of}
-use Rattle.pb_proof.specs.Line.PolState.{PolState, pol_automaton, over}
+use Rattle.pb_text.specs.contract.Automaton.{Go}
+use Rattle.pb_text.specs.meaning.Classes.{is_name_byte}
+use Rattle.pb_text.specs.meaning.Languages.{Each}
+use Rattle.pb_text.specs.meaning.Numbers.{Digits}
+use Rattle.pb_text.specs.meaning.Spelling.{Letter, plain}
+use Rattle.pb_text.proofs.lemmas.machine.Walking.{Walks}
+use Rattle.pb_text.proofs.lemmas.numbers.DigitWalks.{digits_lead}
+use Rattle.pb_sums.specs.meaning.Sums.{IsName}
+use Rattle.pb_proof.specs.engine.Line.Pol.{act, plan, close, blank, changed, counted, bound, may_be_name, is_letter_kind, is_name_kind, role_of, kind_of}
+use Rattle.pb_proof.specs.engine.Line.PolState.{PolState, pol_automaton, over}
 use Rattle.pb_proof.specs.declared.word.PolWord.{PolWord}
 use Rattle.pb_proof.specs.declared.line.pol.phase.Kind.{Kind}
 use Rattle.pb_proof.specs.declared.line.pol.phase.Kind.TheVariants as kind

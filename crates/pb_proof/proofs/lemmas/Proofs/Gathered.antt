@@ -1,15 +1,15 @@
 -- Statements of a proof that are collected one by one are that proof.
 use Rattle.std.proofs.Common.{◌≡◌, ◌↔◌, ℕ, List, [], ◌∷◌, ◌++◌, refl, sym, ap, ◌∙◌, append_assoc, append-nil, All}
-use Rattle.pb_text.proofs.Unkept as stopped
+use Rattle.pb_text.proofs.lemmas.source.Unkept as stopped
 use Rattle.std.proofs.lemmas.List.Elements.{All-head, All-tail}
-use Rattle.pb_text.specs.Spelling.{Item}
-use Rattle.pb_text.specs.Whole.{gathered, events_of, IsRead, IsWhole, MayHold, StopsIn}
+use Rattle.pb_text.specs.meaning.Spelling.{Item}
+use Rattle.pb_text.specs.meaning.Whole.{gathered, events_of, IsRead, IsWhole, MayHold, StopsIn}
 use Rattle.pb_text.specs.declared.Spanned.{Spanned}
 use Rattle.pb_text.specs.declared.Stop.{Stop}
-use Rattle.pb_text.proofs.Formats as formats
-use Rattle.pb_proof.specs.Gather.{with, asks, MayKeep, nothing}
-use Rattle.pb_proof.specs.Proofs.{IsStep, statements_of, IsProof, IsProofOf}
-use Rattle.pb_proof.specs.Reading.{AsksInProof}
+use Rattle.pb_text.proofs.lemmas.text.Formats as formats
+use Rattle.pb_proof.specs.contract.Gather.{with, asks, MayKeep, nothing}
+use Rattle.pb_proof.specs.meaning.Proofs.{IsStep, statements_of, IsProof, IsProofOf}
+use Rattle.pb_proof.specs.meaning.Reading.{AsksInProof}
 use Rattle.pb_proof.specs.declared.read.gather.ProofSoFar.{ProofSoFar}
 use Rattle.pb_proof.specs.declared.proof.Proof.{Proof}
 use Rattle.pb_proof.specs.declared.statement.Statement.{Statement}

@@ -2,19 +2,19 @@
 use Rattle.std.proofs.Common.{ℕ, ◌≤◌, List, [], ◌∷◌, arith, refl}
 use Rattle.std.proofs.lemmas.List.Elements.{All-nil, All-cons, All-head, All-tail}
 use Rattle.std.specs.Prelude.{ℤ, Option, Some, None}
-use Rattle.pb_text.specs.Languages.{Language, ◌⋅◌, Byte, Bytes, Blanks0, Blanks1}
-use Rattle.pb_text.specs.Numbers.{Count}
-use Rattle.pb_text.specs.Spelling.{Item, Letter}
-use Rattle.pb_text.proofs.Languages.{inside, behind_it}
-use Rattle.pb_text.proofs.Numbers.{number-within}
-use Rattle.pb_sums.specs.Sums.{SpellsLinear}
+use Rattle.pb_text.specs.meaning.Languages.{Language, ◌⋅◌, Byte, Bytes, Blanks0, Blanks1}
+use Rattle.pb_text.specs.meaning.Numbers.{Count}
+use Rattle.pb_text.specs.meaning.Spelling.{Item, Letter}
+use Rattle.pb_text.proofs.lemmas.text.Languages.{inside, behind_it}
+use Rattle.pb_text.proofs.lemmas.numbers.Numbers.{number-within}
+use Rattle.pb_sums.specs.meaning.Sums.{SpellsLinear}
 use Rattle.pb_sums.specs.declared.Linear.{Linear}
 use Rattle.pb_sums.specs.declared.Spaces.TheVariants.{Blank}
 use Rattle.pb_sums.specs.declared.Part as part
 use Rattle.pb_sums.specs.declared.SumEvent as sum
-use Rattle.pb_sums.proofs.Larger.{spells_larger}
-use Rattle.pb_proof.specs.Lines.{Feed, LineEnd, Listed, SpellsId, Factor, SpellsBound, Shown, IdShown, SpellsWord, SpellsConclusion, SpellsCount, SpellsRup, SpellsStatement, rup_word, f_word, conclusion_word, unsat_word, bounds_word}
-use Rattle.pb_proof.specs.Proofs.{IsGap, AreSpelled, BeginsAtOnce, IsProof}
+use Rattle.pb_sums.proofs.lemmas.values.Larger.{spells_larger}
+use Rattle.pb_proof.specs.meaning.Lines.{Feed, LineEnd, Listed, SpellsId, Factor, SpellsBound, Shown, IdShown, SpellsWord, SpellsConclusion, SpellsCount, SpellsRup, SpellsStatement, rup_word, f_word, conclusion_word, unsat_word, bounds_word}
+use Rattle.pb_proof.specs.meaning.Proofs.{IsGap, AreSpelled, BeginsAtOnce, IsProof}
 use Rattle.pb_proof.specs.declared.word.PolWord.{PolWord}
 use Rattle.pb_proof.specs.declared.word.PolWord.TheVariants.{Id, Axiom, Add, Multiply, Divide, Saturate, Weaken}
 use Rattle.pb_proof.specs.declared.conclusion.Bound.{Bound}

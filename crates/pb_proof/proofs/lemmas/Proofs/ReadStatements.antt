@@ -4,16 +4,16 @@ use Rattle.std.proofs.lemmas.Bool.{false≢true, lt-leb, leb-false}
 use Rattle.std.proofs.lemmas.List.{append-nil}
 use Rattle.std.proofs.lemmas.List.Elements.{All-nil, All-cons, All-head, All-tail}
 use Rattle.std.specs.Prelude.{nat_le}
-use Rattle.pb_text.specs.Reading.{ended_within, IsUnderWay, IsSpelled}
-use Rattle.pb_text.specs.Spelling.{Item, bytes, place_after, marks_since, marks_of}
-use Rattle.pb_text.specs.Whole.{events_at, events_of}
+use Rattle.pb_text.specs.meaning.Reading.{ended_within, IsUnderWay, IsSpelled}
+use Rattle.pb_text.specs.meaning.Spelling.{Item, bytes, place_after, marks_since, marks_of}
+use Rattle.pb_text.specs.meaning.Whole.{events_at, events_of}
 use Rattle.pb_text.specs.declared.Place.{Place}
 use Rattle.pb_text.specs.declared.Spanned.{Spanned}
-use Rattle.pb_text.proofs.Short.{place_after-offset}
-use Rattle.pb_text.proofs.Wholes.{marks_events}
-use Rattle.pb_proof.specs.Proofs.{IsProof}
-use Rattle.pb_proof.specs.Values.{IsStatementValue}
-use Rattle.pb_proof.specs.ValueLaws.{BeginProof, ReadStatements}
+use Rattle.pb_text.proofs.lemmas.text.Short.{place_after-offset}
+use Rattle.pb_text.proofs.lemmas.source.Wholes.{marks_events}
+use Rattle.pb_proof.specs.meaning.Proofs.{IsProof}
+use Rattle.pb_proof.specs.contract.Values.{IsStatementValue}
+use Rattle.pb_proof.specs.contract.ValueLaws.{BeginProof, ReadStatements}
 use Rattle.pb_proof.specs.declared.statement.Statement.{Statement}
 use Rattle.pb_proof.proofs.lemmas.Proofs.Values.{events_values, proof_values}
 

@@ -2,16 +2,16 @@
 use Rattle.std.proofs.Common.{◌≡◌, ℕ, ◌<◌, ◌^◌, List, [], ◌∷◌, ◌++◌, map, refl, ap, sym, ◌∙◌, append_assoc, All}
 use Rattle.std.proofs.lemmas.List.{map-append}
 use Rattle.std.proofs.lemmas.List.Elements.{All-nil, All-cons, All-head, All-tail, All-append, All-map, All-weaker}
-use Rattle.pb_text.specs.Spelling.{Item, letters_of, bytes_of}
-use Rattle.pb_text.specs.Whole.{events_of}
-use Rattle.pb_text.proofs.Languages.{bytes-append}
-use Rattle.pb_proof.specs.Lines.{SpellsStatement}
-use Rattle.pb_text.specs.Blank.{Nothing}
-use Rattle.pb_proof.specs.Proofs.{IsGap, IsStep, statements_of, AreSpelled}
-use Rattle.pb_proof.specs.Values.{IsStatementValue, IsProofValue}
-use Rattle.pb_proof.specs.Canonical.{statement_bytes, lines, proof_bytes}
-use Rattle.pb_proof.specs.Line.Ended.{ended_lines}
-use Rattle.pb_proof.specs.ValueLaws.{CanonicalProof}
+use Rattle.pb_text.specs.meaning.Spelling.{Item, letters_of, bytes_of}
+use Rattle.pb_text.specs.meaning.Whole.{events_of}
+use Rattle.pb_text.proofs.lemmas.text.Languages.{bytes-append}
+use Rattle.pb_proof.specs.meaning.Lines.{SpellsStatement}
+use Rattle.pb_text.specs.meaning.Blank.{Nothing}
+use Rattle.pb_proof.specs.meaning.Proofs.{IsGap, IsStep, statements_of, AreSpelled}
+use Rattle.pb_proof.specs.contract.Values.{IsStatementValue, IsProofValue}
+use Rattle.pb_proof.specs.meaning.Canonical.{statement_bytes, lines, proof_bytes}
+use Rattle.pb_proof.specs.engine.Line.Ended.{ended_lines}
+use Rattle.pb_proof.specs.contract.ValueLaws.{CanonicalProof}
 use Rattle.pb_proof.specs.declared.proof.Proof.{Proof}
 use Rattle.pb_proof.specs.declared.statement.Statement.{Statement}
 use Rattle.pb_proof.specs.declared.statement.Statement.TheVariants.{Header, F, Pol, Rup, Soli, Solx, Delete, Output, Conclude, End}

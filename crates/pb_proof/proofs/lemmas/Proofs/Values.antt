@@ -3,18 +3,18 @@ use Rattle.std.proofs.Common.{◌≡◌, ℕ, zero, suc, ◌<◌, ◌≤◌, Lis
 use Rattle.std.specs.Prelude.{ℤ}
 use Rattle.std.proofs.lemmas.Int.{ints}
 use Rattle.std.proofs.lemmas.List.Elements.{All-nil, All-cons, All-head, All-tail}
-use Rattle.pb_text.specs.Languages.{Language}
-use Rattle.pb_text.specs.Numbers.{signed}
-use Rattle.pb_text.specs.Spelling.{Letter, Item}
-use Rattle.pb_text.specs.Whole.{events_of}
-use Rattle.pb_sums.specs.Sums.{IsName, SpellsLiteral}
+use Rattle.pb_text.specs.meaning.Languages.{Language}
+use Rattle.pb_text.specs.meaning.Numbers.{signed}
+use Rattle.pb_text.specs.meaning.Spelling.{Letter, Item}
+use Rattle.pb_text.specs.meaning.Whole.{events_of}
+use Rattle.pb_sums.specs.meaning.Sums.{IsName, SpellsLiteral}
 use Rattle.pb_sums.specs.declared.values.Literal.{Literal}
 use Rattle.pb_sums.specs.declared.grammar.Spaces.TheVariants.{Blank}
-use Rattle.pb_sums.proofs.Within.{number-within, linear-within}
-use Rattle.pb_proof.specs.Lines.{Listed, SpellsId, Factor, SpellsBound, Shown, IdShown, SpellsWord, SpellsConclusion, SpellsStatement}
-use Rattle.pb_proof.specs.Proofs.{IsGap, IsStep, statements_of}
-use Rattle.pb_proof.specs.Values.{IfGiven, IsId, IsFactor, AreLiterals, IsBound, IsWord, IsConclusion, IsStatementValue, IsProofValue}
-use Rattle.pb_proof.specs.ValueLaws.{StatementValues, ProofValues, OneValue}
+use Rattle.pb_sums.proofs.lemmas.values.Within.{number-within, linear-within}
+use Rattle.pb_proof.specs.meaning.Lines.{Listed, SpellsId, Factor, SpellsBound, Shown, IdShown, SpellsWord, SpellsConclusion, SpellsStatement}
+use Rattle.pb_proof.specs.meaning.Proofs.{IsGap, IsStep, statements_of}
+use Rattle.pb_proof.specs.contract.Values.{IfGiven, IsId, IsFactor, AreLiterals, IsBound, IsWord, IsConclusion, IsStatementValue, IsProofValue}
+use Rattle.pb_proof.specs.contract.ValueLaws.{StatementValues, ProofValues, OneValue}
 use Rattle.pb_proof.specs.declared.word.PolWord.{PolWord}
 use Rattle.pb_proof.specs.declared.word.PolWord.TheVariants.{Id, Axiom, Add, Multiply, Divide, Saturate, Weaken}
 use Rattle.pb_proof.specs.declared.conclusion.Bound.{Bound}

@@ -2,17 +2,17 @@
 use Rattle.std.proofs.Common.{◌≡◌, ℕ, true, false, List, [], ◌∷◌, ◌++◌, refl, sym, ap, subst, ◌∙◌, ◌↔◌}
 use Rattle.std.proofs.lemmas.Bool.{eqb-true, cond_both, false_from_ne_true}
 use Rattle.std.specs.Prelude.{IsTrue, nat_eq, Option, Some, None}
-use Rattle.pb_text.specs.Automaton.{Next, Go, End, Refuse, Reads}
-use Rattle.pb_text.specs.Classes.{is_blank}
-use Rattle.pb_text.specs.Languages.{Language, ◌⋅◌, Blanks0, Blanks1}
-use Rattle.pb_text.specs.Spelling.{Letter}
-use Rattle.pb_text.proofs.Languages.{grown, none_yet}
-use Rattle.pb_text.proofs.Walking.{Walks, walks_then, walks_more, ends_walk, reads_behind, On, Keeps, told}
-use Rattle.pb_text.proofs.Booleans.{never}
-use Rattle.pb_text.proofs.ByteTests.{blank_each}
-use Rattle.pb_text.proofs.Outcomes.{refuse_or_go, refuse_or_end}
-use Rattle.pb_sums.specs.State.{SumState, sums}
-use Rattle.pb_sums.specs.Sums.{SpellsLinear, Spells, allows}
+use Rattle.pb_text.specs.contract.Automaton.{Next, Go, End, Refuse, Reads}
+use Rattle.pb_text.specs.meaning.Classes.{is_blank}
+use Rattle.pb_text.specs.meaning.Languages.{Language, ◌⋅◌, Blanks0, Blanks1}
+use Rattle.pb_text.specs.meaning.Spelling.{Letter}
+use Rattle.pb_text.proofs.lemmas.text.Languages.{grown, none_yet}
+use Rattle.pb_text.proofs.lemmas.machine.Walking.{Walks, walks_then, walks_more, ends_walk, reads_behind, On, Keeps, told}
+use Rattle.pb_text.proofs.lemmas.text.Booleans.{never}
+use Rattle.pb_text.proofs.lemmas.text.ByteTests.{blank_each}
+use Rattle.pb_text.proofs.lemmas.machine.Outcomes.{refuse_or_go, refuse_or_end}
+use Rattle.pb_sums.specs.engine.State.{SumState, sums}
+use Rattle.pb_sums.specs.meaning.Sums.{SpellsLinear, Spells, allows}
 use Rattle.pb_sums.specs.declared.Linear.{Linear}
 use Rattle.pb_sums.specs.declared.Relation.{Relation}
 use Rattle.pb_sums.specs.declared.Relation.TheVariants.{AtLeast, Equal}
@@ -20,10 +20,10 @@ use Rattle.pb_sums.specs.declared.Spaces.TheVariants.{Blank}
 use Rattle.pb_sums.specs.declared.Part as part
 use Rattle.pb_sums.specs.declared.SumEvent.{SumEvent}
 use Rattle.pb_sums.specs.declared.SumEvent as sum
-use Rattle.pb_sums.proofs.Links.{reads_grammar}
-use Rattle.pb_sums.proofs.States.{goes-midway}
-use Rattle.pb_proof.specs.Line.Rup.{RupState, rup_automaton, rup_first, rup_last, sum_first, sum_last, rup_plan, rup_act, rup_over, linear_of, rup_finish}
-use Rattle.pb_proof.specs.Lines.{SpellsRup}
+use Rattle.pb_sums.proofs.lemmas.machine.Links.{reads_grammar}
+use Rattle.pb_sums.proofs.lemmas.machine.States.{goes-midway}
+use Rattle.pb_proof.specs.engine.Line.Rup.{RupState, rup_automaton, rup_first, rup_last, sum_first, sum_last, rup_plan, rup_act, rup_over, linear_of, rup_finish}
+use Rattle.pb_proof.specs.meaning.Lines.{SpellsRup}
 use Rattle.pb_proof.specs.declared.line.rup.phase.RupPhase.{RupPhase}
 use Rattle.pb_proof.specs.declared.line.rup.phase.RupPhase.TheVariants.{Start, Gap, Inside, Tail, Done}
 use Rattle.pb_proof.specs.declared.line.rup.phase.RupMove.{RupMove}

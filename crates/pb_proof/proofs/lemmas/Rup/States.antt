@@ -2,14 +2,14 @@
 use Rattle.std.proofs.Common.{◌≡◌, ℕ, ◌+◌, ◌≤◌, Bool, true, false, cond, List, [], ◌++◌, refl, sym, ap, subst, ◌∙◌, arith, ◌&&◌}
 use Rattle.std.specs.Prelude.{IsTrue, nat_eq, Option, Some, None}
 use Rattle.std.proofs.lemmas.Bool.{cond_both}
-use Rattle.pb_text.specs.Automaton.{Next, Go, End, Refuse, Accepts, Admits, IsState, is_large}
-use Rattle.pb_text.specs.Classes.{is_blank, is_digit}
-use Rattle.pb_text.specs.Spelling.{Item}
-use Rattle.pb_text.proofs.Residual.{refuses}
-use Rattle.pb_text.proofs.Walking.{reads_behind}
-use Rattle.pb_text.proofs.Booleans.{never}
-use Rattle.pb_sums.specs.Machine.{Work, Outcome, act, flushed, plan, kind, letter_at, is_numeric}
-use Rattle.pb_sums.specs.State.{SumState, sums, over, units}
+use Rattle.pb_text.specs.contract.Automaton.{Next, Go, End, Refuse, Accepts, Admits, IsState, is_large}
+use Rattle.pb_text.specs.meaning.Classes.{is_blank, is_digit}
+use Rattle.pb_text.specs.meaning.Spelling.{Item}
+use Rattle.pb_text.proofs.lemmas.machine.Residual.{refuses}
+use Rattle.pb_text.proofs.lemmas.machine.Walking.{reads_behind}
+use Rattle.pb_text.proofs.lemmas.text.Booleans.{never}
+use Rattle.pb_sums.specs.engine.Machine.{Work, Outcome, act, flushed, plan, kind, letter_at, is_numeric}
+use Rattle.pb_sums.specs.engine.State.{SumState, sums, over, units}
 use Rattle.pb_sums.specs.declared.Linear.{Linear}
 use Rattle.pb_sums.specs.declared.values.Term.{Term}
 use Rattle.pb_sums.specs.declared.phase.Phase as sum_phase
@@ -17,15 +17,15 @@ use Rattle.pb_sums.specs.declared.phase.Move.{Move}
 use Rattle.pb_sums.specs.declared.phase.Move.TheVariants as move
 use Rattle.pb_sums.specs.declared.SumEvent.{SumEvent}
 use Rattle.pb_sums.specs.declared.SumEvent as sum
-use Rattle.pb_sums.proofs.Counts.{flushed-units}
-use Rattle.pb_sums.proofs.Links.{reads_something, midway-not-done}
-use Rattle.pb_sums.proofs.States.{goes-midway, ended-last}
-use Rattle.pb_proof.specs.Line.Rup.{RupState, rup_automaton, rup_first, sum_first, rup_plan, rup_act, rup_over, rup_finish, rup_midway, rup_done, rup_in_number, rup_asks, linear_of, RupHolds, IsRupInOrder}
+use Rattle.pb_sums.proofs.lemmas.machine.Counts.{flushed-units}
+use Rattle.pb_sums.proofs.lemmas.machine.Links.{reads_something, midway-not-done}
+use Rattle.pb_sums.proofs.lemmas.machine.States.{goes-midway, ended-last}
+use Rattle.pb_proof.specs.engine.Line.Rup.{RupState, rup_automaton, rup_first, sum_first, rup_plan, rup_act, rup_over, rup_finish, rup_midway, rup_done, rup_in_number, rup_asks, linear_of, RupHolds, IsRupInOrder}
 use Rattle.pb_proof.specs.declared.line.rup.phase.RupPhase.{RupPhase}
 use Rattle.pb_proof.specs.declared.line.rup.phase.RupPhase.TheVariants.{Start, Gap, Inside, Tail, Done}
 use Rattle.pb_proof.specs.declared.line.rup.phase.RupMove.{RupMove}
 use Rattle.pb_proof.specs.declared.line.rup.phase.RupMove.TheVariants.{To, Give, Finish, Stop}
-use Rattle.pb_text.proofs.Living.{IsAlive, before, final, accepted, admits_before}
+use Rattle.pb_text.proofs.lemmas.machine.Living.{IsAlive, before, final, accepted, admits_before}
 use Rattle.pb_proof.proofs.lemmas.Rup.Reads.{given_walks}
 
 -- The constraint that the sum machine gives has at most as many units as that machine had.

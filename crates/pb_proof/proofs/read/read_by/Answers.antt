@@ -1,5 +1,5 @@
-use Rattle.pb_text.specs.Automaton.{Accepts, MayAsk}
-use Rattle.pb_text.specs.Limits.{largest, top_of}
+use Rattle.pb_text.specs.contract.Automaton.{Accepts, MayAsk}
+use Rattle.pb_text.specs.meaning.Limits.{largest, top_of}
 use Rattle.pb_proof.proofs.lemmas.Proofs.Gathered.{is_read, stops_in}
 use Rattle.pb_proof.proofs.read.read_by.Goals as goal
 

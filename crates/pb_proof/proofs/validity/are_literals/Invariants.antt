@@ -1,5 +1,5 @@
 use Rattle.std.proofs.Common.{take}
-use Rattle.pb_proof.specs.Values.{AreLiterals}
+use Rattle.pb_proof.specs.contract.Values.{AreLiterals}
 use Rattle.pb_proof.proofs.validity.are_literals.Given as goal
 
 abbrev pub invariant-loop-literal : goal.invariant-loop-literal

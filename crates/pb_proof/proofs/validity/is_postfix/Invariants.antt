@@ -1,5 +1,5 @@
 use Rattle.std.proofs.Common.{drop, ◌↔◌, ◌≤◌}
-use Rattle.pb_proof.specs.Postfix.{IsPostfix}
+use Rattle.pb_proof.specs.meaning.Postfix.{IsPostfix}
 use Rattle.pb_proof.proofs.lemmas.Pol.Finished.{Leads}
 use Rattle.pb_proof.proofs.validity.is_postfix.Given as goal
 

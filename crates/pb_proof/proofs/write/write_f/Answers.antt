@@ -1,6 +1,6 @@
-use Rattle.pb_text.proofs.Parts.{part_then, part_broke}
+use Rattle.pb_text.proofs.lemmas.text.Parts.{part_then, part_broke}
 use Rattle.std.proofs.Common.{ap, ℕ, Option}
-use Rattle.pb_proof.specs.Canonical.{statement_bytes}
+use Rattle.pb_proof.specs.meaning.Canonical.{statement_bytes}
 use Rattle.pb_proof.specs.declared.statement.Statement.TheVariants.{F}
 use Rattle.pb_proof.proofs.write.write_f.Goals as goal
 

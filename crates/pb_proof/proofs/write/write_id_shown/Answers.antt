@@ -1,9 +1,9 @@
-use Rattle.pb_text.proofs.Parts.{part_then, part_broke}
+use Rattle.pb_text.proofs.lemmas.text.Parts.{part_then, part_broke}
 use Rattle.std.proofs.Common.{ap, rules}
 use mir.Val.{SFits}
 use Rattle.std.specs.Int.{w64}
 use Rattle.std.proofs.lemmas.Int.{to_z-of_z}
-use Rattle.pb_proof.specs.Canonical.{id_shown_bytes}
+use Rattle.pb_proof.specs.meaning.Canonical.{id_shown_bytes}
 use Rattle.pb_proof.proofs.write.write_id_shown.Goals as goal
 
 pub returns-in_err-write_bytes-in-Some : goal.returns-in_err-write_bytes-in-Some

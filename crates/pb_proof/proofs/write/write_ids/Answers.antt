@@ -3,9 +3,9 @@ use mir.Val.{SFits}
 use Rattle.std.specs.Int.{w64}
 use Rattle.std.specs.Fmt.{signed_decimal}
 use Rattle.std.proofs.lemmas.Int.{to_z-of_z}
-use Rattle.pb_text.specs.Writing.{Wrote}
-use Rattle.pb_text.proofs.Writing.{writes_nothing}
-use Rattle.pb_text.proofs.Parts.{part_then, part_broke, part_wrote}
+use Rattle.pb_text.specs.meaning.Writing.{Wrote}
+use Rattle.pb_text.proofs.lemmas.text.Writing.{writes_nothing}
+use Rattle.pb_text.proofs.lemmas.text.Parts.{part_then, part_broke, part_wrote}
 use Rattle.pb_proof.proofs.lemmas.Written.{listed_none, listed_more, listed_at}
 use Rattle.pb_proof.proofs.write.write_ids.Goals as goal
 

@@ -1,6 +1,6 @@
-use Rattle.pb_text.proofs.Parts.{part_then, part_broke}
+use Rattle.pb_text.proofs.lemmas.text.Parts.{part_then, part_broke}
 use Rattle.std.proofs.Common.{ap}
-use Rattle.pb_proof.specs.Canonical.{shown_bytes}
+use Rattle.pb_proof.specs.meaning.Canonical.{shown_bytes}
 use Rattle.pb_proof.proofs.write.write_shown.Goals as goal
 
 pub returns-in_err-write_bytes-in-Some : goal.returns-in_err-write_bytes-in-Some

@@ -1,7 +1,7 @@
 //! What the machine for conclusions does with a byte, given what it has read last.
 
 ghost use Rattle.std.specs.Prelude.{◌≡◌, ℕ, ◌<◌, ◌≤◌, ◌^◌, length, Bool};
-ghost use Rattle.pb_proof.specs.Line.Claim.{word_of, behind_word, spell, first_word, digits, begin_bound, behind_bound, colon, behind, between, after_bound, id_digits, after_id, plan, is_within, is_done, is_in_digits, PhaseFits, MoveFits};
+ghost use Rattle.pb_proof.specs.engine.Line.Claim.{word_of, behind_word, spell, first_word, digits, begin_bound, behind_bound, colon, behind, between, after_bound, id_digits, after_id, plan, is_within, is_done, is_in_digits, PhaseFits, MoveFits};
 
 use crate::conclusion::Bound;
 use crate::line::claim::phase::{Claim, Move, Owner, Phase, Showing, Side, Word};

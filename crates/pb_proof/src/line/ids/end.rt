@@ -1,8 +1,8 @@
 //! Ends the line of ids.
 
 ghost use Rattle.std.specs.Prelude.{◌≡◌, ℤ, List};
-ghost use Rattle.pb_text.specs.Automaton.{Closes, IsState};
-ghost use Rattle.pb_proof.specs.Line.Ids.{ids_automaton};
+ghost use Rattle.pb_text.specs.contract.Automaton.{Closes, IsState};
+ghost use Rattle.pb_proof.specs.engine.Line.Ids.{ids_automaton};
 
 use crate::line::classes::number_byte;
 use crate::line::ids::phase::{IdsMove, IdsPhase};

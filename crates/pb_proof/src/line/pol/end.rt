@@ -1,8 +1,8 @@
 //! Ends the line of a `pol`.
 
 ghost use Rattle.std.specs.Prelude.{◌≡◌};
-ghost use Rattle.pb_text.specs.Automaton.{Closes, IsState};
-ghost use Rattle.pb_proof.specs.Line.PolState.{pol_automaton};
+ghost use Rattle.pb_text.specs.contract.Automaton.{Closes, IsState};
+ghost use Rattle.pb_proof.specs.engine.Line.PolState.{pol_automaton};
 
 use crate::line::pol::PolMachine;
 use crate::line::pol::kind::kind_of;

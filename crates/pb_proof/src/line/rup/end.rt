@@ -1,8 +1,8 @@
 //! Ends the line of a `rup`.
 
 ghost use Rattle.std.specs.Prelude.{◌≡◌};
-ghost use Rattle.pb_text.specs.Automaton.{Closes};
-ghost use Rattle.pb_proof.specs.Line.Rup.{rup_automaton, rup_plan};
+ghost use Rattle.pb_text.specs.contract.Automaton.{Closes};
+ghost use Rattle.pb_proof.specs.engine.Line.Rup.{rup_automaton, rup_plan};
 
 use crate::line::rup::phase::{RupMove, RupPhase};
 use crate::line::rup::{RupMachine, rup_plan};

@@ -1,5 +1,5 @@
-use Rattle.pb_replay.proofs.lemmas.Examples.{short-accepted, other-accepted}
-use Rattle.pb_replay.proofs.lemmas.Worked.{logged-verified, shown-verified, best-verified}
+use Rattle.pb_replay.proofs.lemmas.examples.Examples.{short-accepted, other-accepted}
+use Rattle.pb_replay.proofs.lemmas.examples.Worked.{logged-verified, shown-verified, best-verified}
 use Rattle.pb_replay.proofs.laws.some_proofs_are_accepted.Goals as goal
 
 pub returns-clause-sum : goal.returns-clause-sum

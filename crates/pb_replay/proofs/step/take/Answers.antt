@@ -1,6 +1,6 @@
 use Rattle.std.proofs.Common.{rules, ◌≡◌}
-use Rattle.pb_proof.specs.Order.{stage_of}
-use Rattle.pb_replay.proofs.lemmas.Rups.{came-counted}
+use Rattle.pb_proof.specs.meaning.Order.{stage_of}
+use Rattle.pb_replay.proofs.lemmas.rules.Rups.{came-counted}
 use Rattle.pb_replay.proofs.step.take.Goals as goal
 
 pub returns-clause-comes : goal.returns-clause-comes

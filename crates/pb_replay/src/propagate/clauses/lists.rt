@@ -1,7 +1,7 @@
 //! The two watches of each clause, and for each literal the list of the watches on it.
 
 ghost use Rattle.std.specs.Prelude.{◌≡◌, ℕ, ◌+◌, ◌-◌, ◌<◌, ◌++◌, ◌∷◌, [], true, false, length, slice_get, slice_set, slice_index_or, swap_remove, OnOk, IfOk, IfSome, IfNone, Some};
-ghost use Rattle.pb_replay.specs.Clauses.Links.{lists_of, list_at, watch_at, AreLinked, Remains};
+ghost use Rattle.pb_replay.specs.engine.Clauses.Links.{lists_of, list_at, watch_at, AreLinked, Remains};
 
 use std::alloc::AllocError;
 

@@ -1,7 +1,7 @@
 //! Truth values of coded literals. A literal's code is twice its variable, plus 1 if it is negated.
 
 ghost use Rattle.std.specs.Prelude.{◌≡◌, ◌⊎◌, ◌*◌, ◌<◌, ◌+◌, ◌^◌, true, false, length};
-ghost use Rattle.pb_replay.specs.Clauses.Truths.{flip, true_at, false_at};
+ghost use Rattle.pb_replay.specs.engine.Clauses.Truths.{flip, true_at, false_at};
 
 /// The other of the two watches of a clause.
 pub fn opposite(code: usize) -> usize

@@ -1,9 +1,9 @@
 //! A visit to one watch of a falsified literal.
 
 ghost use Rattle.std.specs.Prelude.{◌≡◌, ℕ, ◌+◌, ◌*◌, ◌-◌, ◌^◌, ◌<◌, ◌≤◌, ◌⊎◌, ◌++◌, ◌∷◌, [], List, Bool, Option, true, false, All, length, min, sum, slice_get, slice_index_or, OnOk, IfOk, Some};
-ghost use Rattle.pb_replay.specs.Clauses.Truths.{false_at, true_at};
-ghost use Rattle.pb_replay.specs.Clauses.Links.{lists_of, list_at, watch_at, AreLinked, Remains};
-ghost use Rattle.pb_replay.specs.Clauses.Runs.{IsRunning, AreServed, AreWalked, Grows, HasFound, index_after};
+ghost use Rattle.pb_replay.specs.engine.Clauses.Truths.{false_at, true_at};
+ghost use Rattle.pb_replay.specs.engine.Clauses.Links.{lists_of, list_at, watch_at, AreLinked, Remains};
+ghost use Rattle.pb_replay.specs.engine.Clauses.Runs.{IsRunning, AreServed, AreWalked, Grows, HasFound, index_after};
 
 use crate::propagate::clauses::Clauses;
 use crate::propagate::clauses::lists::{Watch, put_in, take_out};

@@ -1,13 +1,13 @@
 //! A question that continues from the root.
 
 ghost use Rattle.std.specs.Prelude.{◌≡◌, ℕ, List, All, ◌≤◌, ◌+◌, ◌*◌, ◌<◌, ◌++◌, ◌∷◌, [], length, sum_by, OnOk, OnErr, IfOk};
-ghost use Rattle.pb_replay.specs.Engine.Lists.{Shape};
-ghost use Rattle.pb_replay.specs.Engine.Forms.{IsKeptAs};
-ghost use Rattle.pb_replay.specs.Engine.Fields.{shapes_of, forms_of, IsSound};
-ghost use Rattle.pb_replay.specs.Engine.Slots.{numbered, ArePlaced};
-ghost use Rattle.pb_replay.specs.Engine.Root.{IsRooted, IsAnswered};
-ghost use Rattle.pb_replay.specs.Clauses.Runs.{AreReady};
-ghost use Rattle.pb_replay.specs.Clauses.Shapes.{AreJoined, clauses_of, all_of};
+ghost use Rattle.pb_replay.specs.engine.Engine.Lists.{Shape};
+ghost use Rattle.pb_replay.specs.engine.Engine.Forms.{IsKeptAs};
+ghost use Rattle.pb_replay.specs.engine.Engine.Fields.{shapes_of, forms_of, IsSound};
+ghost use Rattle.pb_replay.specs.engine.Engine.Slots.{numbered, ArePlaced};
+ghost use Rattle.pb_replay.specs.engine.Engine.Root.{IsRooted, IsAnswered};
+ghost use Rattle.pb_replay.specs.engine.Clauses.Runs.{AreReady};
+ghost use Rattle.pb_replay.specs.engine.Clauses.Shapes.{AreJoined, clauses_of, all_of};
 
 use crate::propagate::clauses::Clauses;
 use crate::propagate::engine::root::{Root, back, lay};

@@ -3,13 +3,13 @@
 ghost use Rattle.std.specs.Prelude.{◌≡◌, ℕ, List, Bool, Option, ◌≤◌, ◌+◌, ◌*◌, ◌<◌, ◌++◌, ◌∷◌, ◌↔◌, [], true, false, length, take, slice_get, slice_set, slice_index_or, Some, OnOk, IfOk};
 ghost use Rattle.pb_replay.specs.declared.propagate.store.Store.{Store};
 ghost use Rattle.pb_replay.specs.declared.propagate.clauses.Clauses.{Clauses};
-ghost use Rattle.pb_replay.specs.Engine.Lists.{Shape, open_sum};
-ghost use Rattle.pb_replay.specs.Engine.Counts.{Grown, IsCalm, IsUndone};
-ghost use Rattle.pb_replay.specs.Engine.Fields.{shapes_of, forms_of, IsSound};
-ghost use Rattle.pb_replay.specs.Engine.Rest.{IsAtRest};
-ghost use Rattle.pb_replay.specs.Engine.Root.{IsRooted, HasGained, HasReached, HasLost, IsSpare};
-ghost use Rattle.pb_replay.specs.Clauses.Runs.{AreReady, IsRunning};
-ghost use Rattle.pb_replay.specs.Clauses.Shapes.{AreJoined, clauses_of, all_of};
+ghost use Rattle.pb_replay.specs.engine.Engine.Lists.{Shape, open_sum};
+ghost use Rattle.pb_replay.specs.engine.Engine.Counts.{Grown, IsCalm, IsUndone};
+ghost use Rattle.pb_replay.specs.engine.Engine.Fields.{shapes_of, forms_of, IsSound};
+ghost use Rattle.pb_replay.specs.engine.Engine.Rest.{IsAtRest};
+ghost use Rattle.pb_replay.specs.engine.Engine.Root.{IsRooted, HasGained, HasReached, HasLost, IsSpare};
+ghost use Rattle.pb_replay.specs.engine.Clauses.Runs.{AreReady, IsRunning};
+ghost use Rattle.pb_replay.specs.engine.Clauses.Shapes.{AreJoined, clauses_of, all_of};
 
 use crate::propagate::assignment::Assignment;
 use crate::propagate::clauses::Clauses;

@@ -1,8 +1,8 @@
 //! A form with its terms in order of falling coefficient.
 
 ghost use Rattle.std.specs.Prelude.{◌≡◌, ℕ, List, ◌<◌, ◌^◌, true, All, IfOk, length, map, sum_by, slice_index_or, IsPermutation};
-ghost use Rattle.pb_replay.specs.Engine.Forms.{entry_of, as_term, entries_in, picked, IsPlaced, AreAll};
-ghost use Rattle.pb_replay.specs.Engine.Counts.{AreFalling};
+ghost use Rattle.pb_replay.specs.engine.Engine.Forms.{entry_of, as_term, entries_in, picked, IsPlaced, AreAll};
+ghost use Rattle.pb_replay.specs.engine.Engine.Counts.{AreFalling};
 
 use crate::numbered::NumberedLiteral;
 use crate::propagate::term::{Rank, Term};
@@ -113,9 +113,9 @@ fn order_of(alloc: Global, entries: &[Entry]) -> Result<Vec<usize>, AllocError>
 impl Falling {
     ghost use Rattle.std.specs.Prelude.{◌≡◌, ◌<◌, [], Some, None, IfOk, IfSome, IfNone, is_some, length, map, IsPermutation, slice_index_or};
     ghost use Rattle.pb_replay.specs.declared.propagate.term.Term.{Term};
-    ghost use Rattle.pb_replay.specs.Engine.Forms.{entry_of};
-    ghost use Rattle.pb_replay.specs.Engine.Counts.{AreFalling};
-    ghost use Rattle.pb_replay.specs.Engine.Terms.{terms_of};
+    ghost use Rattle.pb_replay.specs.engine.Engine.Forms.{entry_of};
+    ghost use Rattle.pb_replay.specs.engine.Engine.Counts.{AreFalling};
+    ghost use Rattle.pb_replay.specs.engine.Engine.Terms.{terms_of};
 
     /// No form.
     pub fn none(alloc: Global) -> Falling

@@ -2,8 +2,8 @@
 
 ghost use Rattle.std.specs.Prelude.{◌≡◌, ℕ, ◌+◌, ◌<◌, ◌≤◌, ◌^◌, false, true, length, sum_by, slice_index_or};
 ghost use Rattle.pb_replay.specs.declared.propagate.term.Term.{Term};
-ghost use Rattle.pb_replay.specs.Engine.Counts.{AreFalling, IsCalm};
-ghost use Rattle.pb_replay.specs.Engine.Terms.{terms_of};
+ghost use Rattle.pb_replay.specs.engine.Engine.Counts.{AreFalling, IsCalm};
+ghost use Rattle.pb_replay.specs.engine.Engine.Terms.{terms_of};
 
 use crate::propagate::store::falling::Falling;
 

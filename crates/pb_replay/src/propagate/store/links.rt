@@ -4,16 +4,16 @@ ghost use Rattle.std.specs.Prelude.{◌≡◌, ℕ, List, All, Some, None, map, 
 ghost use Rattle.pb_replay.specs.declared.propagate.term.Term.{Term};
 ghost use Rattle.pb_replay.specs.declared.propagate.store.Occurrence.{Occurrence};
 ghost use Rattle.pb_replay.specs.declared.propagate.store.kept.Kept.{Kept};
-ghost use Rattle.pb_replay.specs.Engine.Lists.{Shape};
-ghost use Rattle.pb_replay.specs.Engine.Counts.{AreFalling, IsCalm, place};
-ghost use Rattle.pb_replay.specs.Engine.Forms.{IsKeptAs};
-ghost use Rattle.pb_replay.specs.Engine.Terms.{terms_of};
-ghost use Rattle.pb_replay.specs.Engine.Fields.{kept_shape, shapes_of, forms_of, spots_of, lists_of, entries_of, IsSound, HasEntered, HasFilled, IsEmpty, IsUnlisted};
-ghost use Rattle.pb_replay.specs.Engine.Links.{IsLinked, Moved, cut, terms_at};
-ghost use Rattle.pb_normal.specs.Form.{IsNormal};
-ghost use Rattle.pb_replay.specs.Clauses.Links.{list_at, watch_at};
-ghost use Rattle.pb_replay.specs.Clauses.Runs.{AreReady};
-ghost use Rattle.pb_replay.specs.Clauses.Shapes.{IsClause, clauses_of, code};
+ghost use Rattle.pb_replay.specs.engine.Engine.Lists.{Shape};
+ghost use Rattle.pb_replay.specs.engine.Engine.Counts.{AreFalling, IsCalm, place};
+ghost use Rattle.pb_replay.specs.engine.Engine.Forms.{IsKeptAs};
+ghost use Rattle.pb_replay.specs.engine.Engine.Terms.{terms_of};
+ghost use Rattle.pb_replay.specs.engine.Engine.Fields.{kept_shape, shapes_of, forms_of, spots_of, lists_of, entries_of, IsSound, HasEntered, HasFilled, IsEmpty, IsUnlisted};
+ghost use Rattle.pb_replay.specs.engine.Engine.Links.{IsLinked, Moved, cut, terms_at};
+ghost use Rattle.pb_normal.specs.meaning.Form.{IsNormal};
+ghost use Rattle.pb_replay.specs.engine.Clauses.Links.{list_at, watch_at};
+ghost use Rattle.pb_replay.specs.engine.Clauses.Runs.{AreReady};
+ghost use Rattle.pb_replay.specs.engine.Clauses.Shapes.{IsClause, clauses_of, code};
 
 use crate::numbered::NumberedLiteral;
 use crate::propagate::clause::codes_of;

@@ -2,9 +2,9 @@
 
 ghost use Rattle.std.specs.Prelude.{◌≡◌, ◌≤◌, ◌<◌, ◌^◌, true, false, List, length, sum_by};
 ghost use Rattle.pb_replay.specs.declared.numbered.NumberedLiteral.{NumberedLiteral};
-ghost use Rattle.pb_replay.specs.Engine.Lists.{negation, has, says, open_part, open_sum, AreInside};
-ghost use Rattle.pb_replay.specs.Engine.Root.{HasTrue};
-ghost use Rattle.pb_replay.specs.Engine.Terms.{terms_of};
+ghost use Rattle.pb_replay.specs.engine.Engine.Lists.{negation, has, says, open_part, open_sum, AreInside};
+ghost use Rattle.pb_replay.specs.engine.Engine.Root.{HasTrue};
+ghost use Rattle.pb_replay.specs.engine.Engine.Terms.{terms_of};
 
 use crate::numbered::NumberedLiteral;
 use crate::propagate::store::falling::Falling;

@@ -1,4 +1,4 @@
-use Rattle.pb_sums.proofs.Larger.{spells_larger}
+use Rattle.pb_sums.proofs.lemmas.values.Larger.{spells_larger}
 use Rattle.pb_sums.proofs.laws.larger_limits.Goals as goal
 
 pub returns : goal.returns

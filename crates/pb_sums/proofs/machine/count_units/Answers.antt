@@ -1,5 +1,5 @@
 use Rattle.std.proofs.Common.{◌+◌, ◌-◌, ◌^◌, min, length, ap, ◌∙◌, arith}
-use Rattle.pb_sums.proofs.Counts.{count_more}
+use Rattle.pb_sums.proofs.lemmas.machine.Counts.{count_more}
 use Rattle.pb_sums.proofs.machine.count_units.Goals as goal
 
 pub loop-term-preserved : goal.loop-term-preserved

@@ -1,5 +1,5 @@
 use Rattle.std.proofs.Common.{◌≡◌, ◌-◌, ◌^◌, min, take}
-use Rattle.pb_sums.specs.State.{units}
+use Rattle.pb_sums.specs.engine.State.{units}
 use Rattle.pb_sums.proofs.machine.count_units.Given as goal
 
 abbrev pub invariant-loop-term : goal.invariant-loop-term

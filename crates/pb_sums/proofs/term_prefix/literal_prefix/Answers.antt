@@ -1,9 +1,9 @@
 use Rattle.std.proofs.Common.{◌≡◌, ◌≤◌, length, take, get_or, sym, ap, ◌∙◌, arith}
 use Rattle.std.proofs.lemmas.List.{length-take-le, get_or-take}
-use Rattle.pb_text.specs.Classes.{is_letter}
-use Rattle.pb_sums.proofs.Shorts.{name_utf8}
-use Rattle.pb_sums.specs.Prefix.{behind}
-use Rattle.pb_sums.proofs.TermParts.{literal_runs}
+use Rattle.pb_text.specs.meaning.Classes.{is_letter}
+use Rattle.pb_sums.proofs.lemmas.values.Shorts.{name_utf8}
+use Rattle.pb_sums.specs.engine.Prefix.{behind}
+use Rattle.pb_sums.proofs.lemmas.prefixes.TermParts.{literal_runs}
 use Rattle.pb_sums.proofs.term_prefix.literal_prefix.Goals as goal
 
 pub short_front-name-requires-clause-text : goal.short_front-name-requires-clause-text

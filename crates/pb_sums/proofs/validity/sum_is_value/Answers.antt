@@ -1,6 +1,6 @@
 use Rattle.std.proofs.Common.{arith}
-use Rattle.pb_text.specs.Limits.{largest}
-use Rattle.pb_sums.proofs.Elements.{one_passes, one_fails}
+use Rattle.pb_text.specs.meaning.Limits.{largest}
+use Rattle.pb_sums.proofs.lemmas.values.Elements.{one_passes, one_fails}
 use Rattle.pb_sums.proofs.validity.sum_is_value.Goals as goal
 
 pub returns-then-not-term_is_value : goal.returns-then-not-term_is_value

@@ -1,6 +1,6 @@
 use Rattle.std.proofs.Common.{ℕ, List, ◌++◌, ◌∷◌, length, drop, arith, sym, ap, append_assoc, ◌∙◌}
-use Rattle.pb_sums.specs.Canonical.{term_bytes, further_bytes}
-use Rattle.pb_sums.proofs.Written.{further_past, further_from}
+use Rattle.pb_sums.specs.contract.Canonical.{term_bytes, further_bytes}
+use Rattle.pb_sums.proofs.lemmas.values.Written.{further_past, further_from}
 use Rattle.pb_sums.proofs.write.put_further.Goals as goal
 
 pub loop-left-init : goal.loop-left-init

@@ -1,7 +1,7 @@
 use Rattle.std.proofs.Common.{◌≡◌, ◌++◌, take, drop, append-nil}
-use Rattle.pb_text.proofs.Parts.{part_then, part_broke}
-use Rattle.pb_sums.specs.Canonical.{further_bytes}
-use Rattle.pb_sums.proofs.Written.{further_split}
+use Rattle.pb_text.proofs.lemmas.text.Parts.{part_then, part_broke}
+use Rattle.pb_sums.specs.contract.Canonical.{further_bytes}
+use Rattle.pb_sums.proofs.lemmas.values.Written.{further_split}
 use Rattle.pb_sums.proofs.write.write_batch.Goals as goal
 
 pub returns-in_err-write_each : goal.returns-in_err-write_each

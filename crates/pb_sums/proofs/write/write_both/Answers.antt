@@ -1,5 +1,5 @@
 use Rattle.std.proofs.Common.{List, ℕ, ◌++◌, ap, sym}
-use Rattle.pb_text.proofs.Parts.{part_then}
+use Rattle.pb_text.proofs.lemmas.text.Parts.{part_then}
 use Rattle.pb_sums.proofs.write.write_both.Goals as goal
 
 pub returns : goal.returns

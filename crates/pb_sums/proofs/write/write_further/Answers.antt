@@ -1,10 +1,10 @@
 use Rattle.std.proofs.Common.{◌≡◌, ℕ, List, [], ◌++◌, refl, sym, ap, subst, append_assoc, ◌∙◌}
-use Rattle.pb_text.specs.Writing.{Wrote}
-use Rattle.pb_text.proofs.Writing.{writes_nothing}
-use Rattle.pb_text.proofs.Parts.{part_then, part_broke, part_wrote}
-use Rattle.pb_sums.specs.Canonical.{further_bytes}
+use Rattle.pb_text.specs.meaning.Writing.{Wrote}
+use Rattle.pb_text.proofs.lemmas.text.Writing.{writes_nothing}
+use Rattle.pb_text.proofs.lemmas.text.Parts.{part_then, part_broke, part_wrote}
+use Rattle.pb_sums.specs.contract.Canonical.{further_bytes}
 use Rattle.pb_sums.specs.declared.values.Term.{Term}
-use Rattle.pb_sums.proofs.Written.{further_none, further-append}
+use Rattle.pb_sums.proofs.lemmas.values.Written.{further_none, further-append}
 use Rattle.pb_sums.proofs.write.write_further.Goals as goal
 
 pub loop-rest-init : goal.loop-rest-init

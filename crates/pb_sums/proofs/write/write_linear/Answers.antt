@@ -2,9 +2,9 @@ use Rattle.std.proofs.Common.{◌≡◌, ◌<◌, ◌++◌, ◌∷◌, List, ℕ
 use mir.Val.{SFits}
 use Rattle.std.specs.Int.{w128}
 use Rattle.std.proofs.lemmas.Int.{ints, to_z-of_z}
-use Rattle.pb_text.proofs.Parts.{part_then, part_broke}
-use Rattle.pb_sums.specs.Canonical.{sum_bytes, linear_bytes}
-use Rattle.pb_sums.proofs.Written.{head_front, head_none, head_some}
+use Rattle.pb_text.proofs.lemmas.text.Parts.{part_then, part_broke}
+use Rattle.pb_sums.specs.contract.Canonical.{sum_bytes, linear_bytes}
+use Rattle.pb_sums.proofs.lemmas.values.Written.{head_front, head_none, head_some}
 use Rattle.pb_sums.proofs.write.write_linear.Goals as goal
 use Rattle.pb_sums.proofs.write.write_linear.Goals.{then-not-is_empty, else-not-is_empty}
 

@@ -1,7 +1,7 @@
 use Rattle.std.proofs.Common.{arith}
 use Rattle.std.proofs.lemmas.List.{take_rest}
-use Rattle.pb_text.proofs.Parts.{part_then, part_broke}
-use Rattle.pb_sums.proofs.Written.{sum_parts}
+use Rattle.pb_text.proofs.lemmas.text.Parts.{part_then, part_broke}
+use Rattle.pb_sums.proofs.lemmas.values.Written.{sum_parts}
 use Rattle.pb_sums.proofs.write.write_sum.Goals as goal
 
 pub returns-in_err-write_term-in-len1-up : goal.returns-in_err-write_term-in-len1-up

@@ -1,10 +1,10 @@
 use Rattle.std.proofs.Common.{rules, ◌≡◌, ◌||◌, ◌&&◌, not, ℕ, List, [], ◌∷◌, ◌++◌, Bool, nat_eq, sym, ap, ◌∙◌, refl, arith, length-append}
-use Rattle.pb_text.specs.Classes.{is_white}
-use Rattle.pb_text.specs.Spelling.{place_next}
-use Rattle.pb_text.specs.Blank.{Nothing, passes, in_comment}
+use Rattle.pb_text.specs.meaning.Classes.{is_white}
+use Rattle.pb_text.specs.meaning.Spelling.{place_next}
+use Rattle.pb_text.specs.meaning.Blank.{Nothing, passes, in_comment}
 use Rattle.pb_text.specs.declared.place.Place.{Place}
-use Rattle.pb_text.proofs.Pulled.{lost_byte, given_byte, seen_byte}
-use Rattle.pb_text.proofs.Blanks.{IsBlank-snoc, in_comment-snoc, place_from-snoc, next_within}
+use Rattle.pb_text.proofs.lemmas.source.Pulled.{lost_byte, given_byte, seen_byte}
+use Rattle.pb_text.proofs.lemmas.text.Blanks.{IsBlank-snoc, in_comment-snoc, place_from-snoc, next_within}
 use Rattle.pb_text.proofs.blank.rest_is_blank.Goals as goal
 
 pub loop-byte-init : goal.loop-byte-init

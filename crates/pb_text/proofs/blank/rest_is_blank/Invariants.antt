@@ -1,6 +1,6 @@
 use Rattle.std.proofs.Common.{◌≡◌, ◌+◌, ◌-◌, ◌^◌, ◌≤◌, ℕ, List, ◌++◌, length}
-use Rattle.pb_text.specs.Blank.{IsBlank, in_comment, place_from}
-use Rattle.pb_text.specs.Source.{Lost}
+use Rattle.pb_text.specs.meaning.Blank.{IsBlank, in_comment, place_from}
+use Rattle.pb_text.specs.contract.Source.{Lost}
 use Rattle.pb_text.proofs.blank.rest_is_blank.Given as goal
 
 -- what was taken so far is blank

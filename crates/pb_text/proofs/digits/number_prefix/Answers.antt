@@ -1,5 +1,5 @@
 use Rattle.std.proofs.Common.{sym, ◌∙◌}
-use Rattle.pb_text.proofs.DigitValues.{value_on, digits_on}
+use Rattle.pb_text.proofs.lemmas.numbers.DigitValues.{value_on, digits_on}
 use Rattle.pb_text.proofs.digits.number_prefix.Goals as goal
 
 pub loop-i-preserved : goal.loop-i-preserved

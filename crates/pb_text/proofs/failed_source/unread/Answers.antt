@@ -1,4 +1,4 @@
-use Rattle.pb_text.proofs.NothingRead.{reads_nothing}
+use Rattle.pb_text.proofs.lemmas.source.NothingRead.{reads_nothing}
 use Rattle.pb_text.proofs.failed_source.unread.Goals as goal
 
 pub returns-clause-reads : goal.returns-clause-reads

@@ -1,4 +1,4 @@
-use Rattle.pb_text.proofs.FixedMarks.{fixed_marks}
+use Rattle.pb_text.proofs.lemmas.text.FixedMarks.{fixed_marks}
 use Rattle.pb_text.proofs.laws.fixed_marks.Goals as goal
 
 pub returns : goal.returns

@@ -1,7 +1,7 @@
 use Rattle.std.specs.Prelude.{refl}
-use Rattle.pb_text.specs.Feeding.{is_complete}
-use Rattle.pb_text.specs.Spelling.{bytes}
-use Rattle.pb_text.proofs.Told.{stands_reads}
+use Rattle.pb_text.specs.contract.Feeding.{is_complete}
+use Rattle.pb_text.specs.meaning.Spelling.{bytes}
+use Rattle.pb_text.proofs.lemmas.feeder.Told.{stands_reads}
 use Rattle.pb_text.proofs.laws.standing_is_reading.Goals as goal
 
 pub returns : goal.returns

@@ -1,10 +1,10 @@
 use Rattle.std.proofs.Common.{refl, append_assoc, ◌++◌, ◌∙◌, ap, append-nil, subst, Option, None, Some}
-use Rattle.pb_text.specs.Standing.{Stands}
+use Rattle.pb_text.specs.contract.Standing.{Stands}
 use Rattle.pb_text.specs.declared.place.Place.{Place}
 use Rattle.pb_text.specs.declared.place.Stop.{Stop}
-use Rattle.pb_text.proofs.Begin.{stands_failed}
-use Rattle.pb_text.proofs.Drawn.{draws_poured, draws_join}
-use Rattle.pb_text.proofs.Pulled.{seen_after}
+use Rattle.pb_text.proofs.lemmas.feeder.Begin.{stands_failed}
+use Rattle.pb_text.proofs.lemmas.source.Drawn.{draws_poured, draws_join}
+use Rattle.pb_text.proofs.lemmas.source.Pulled.{seen_after}
 use Rattle.pb_text.proofs.next_event.draw.Goals as goal
 
 pub returns-in-Ok-Some-clause-draws : goal.returns-in-Ok-Some-clause-draws

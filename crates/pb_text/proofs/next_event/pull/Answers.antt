@@ -1,8 +1,8 @@
 use Rattle.std.proofs.Common.{◌≡◌, ◌∙◌, [], sym, refl, append-nil, None, Some, Ok, Err, true, arith}
-use Rattle.pb_text.proofs.Begin.{stands_more}
-use Rattle.pb_text.proofs.Drawn.{draws_none, draws_join, pulls_event, pulls_stop}
-use Rattle.pb_text.proofs.Pulled.{lost_nothing, seen_after}
-use Rattle.pb_text.proofs.PullsInARow.{row}
+use Rattle.pb_text.proofs.lemmas.feeder.Begin.{stands_more}
+use Rattle.pb_text.proofs.lemmas.source.Drawn.{draws_none, draws_join, pulls_event, pulls_stop}
+use Rattle.pb_text.proofs.lemmas.source.Pulled.{lost_nothing, seen_after}
+use Rattle.pb_text.proofs.lemmas.source.PullsInARow.{row}
 use Rattle.pb_text.proofs.next_event.pull.Goals as goal
 
 pub returns-in-Some-clause-pulls : goal.returns-in-Some-clause-pulls

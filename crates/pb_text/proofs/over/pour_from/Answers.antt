@@ -1,7 +1,7 @@
 use Rattle.std.proofs.Common.{[], take, subst, sym, arith, append-nil, length-take-le}
 use Rattle.std.specs.Io.BufRead.{FillKeeps}
 use Rattle.std.proofs.BufReadLemmas.{Consumes_shown}
-use Rattle.pb_text.proofs.Pulled.{lost_kept, lost_consumed}
+use Rattle.pb_text.proofs.lemmas.source.Pulled.{lost_kept, lost_consumed}
 use Rattle.pb_text.proofs.over.pour_from.Goals as goal
 
 pub returns-in-Ok-clause-pours : goal.returns-in-Ok-clause-pours

@@ -1,7 +1,7 @@
 use Rattle.std.proofs.Common.{ap, ◌∙◌, ℕ, None}
-use Rattle.pb_text.specs.Automaton.{Accepts, MayAsk}
-use Rattle.pb_text.specs.Pulling.{faults_after}
-use Rattle.pb_text.proofs.Overs.{reads_told}
+use Rattle.pb_text.specs.contract.Automaton.{Accepts, MayAsk}
+use Rattle.pb_text.specs.meaning.Pulling.{faults_after}
+use Rattle.pb_text.proofs.lemmas.source.Overs.{reads_told}
 use Rattle.pb_text.proofs.reader.read_from.Goals as goal
 
 pub returns-clause-reads : goal.returns-clause-reads

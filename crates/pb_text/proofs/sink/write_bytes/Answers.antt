@@ -1,4 +1,4 @@
-use Rattle.pb_text.proofs.Writing.{piece_taken}
+use Rattle.pb_text.proofs.lemmas.text.Writing.{piece_taken}
 use Rattle.pb_text.proofs.sink.write_bytes.Goals as goal
 
 pub loop-rest-preserved : goal.loop-rest-preserved

@@ -1,5 +1,5 @@
 use Rattle.std.proofs.Common.{◌≡◌, ℕ, List, ◌++◌, length}
-use Rattle.pb_text.specs.Writing.{Wrote}
+use Rattle.pb_text.specs.meaning.Writing.{Wrote}
 use Rattle.pb_text.proofs.sink.write_bytes.Given as goal
 
 -- what is no longer in the rest was written

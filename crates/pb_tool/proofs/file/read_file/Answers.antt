@@ -1,5 +1,5 @@
-use Rattle.pb_text.specs.Automaton.{Accepts, MayAsk}
-use Rattle.pb_text.specs.Whole.{IsWhole, ReadsWhole}
+use Rattle.pb_text.specs.contract.Automaton.{Accepts, MayAsk}
+use Rattle.pb_text.specs.meaning.Whole.{IsWhole, ReadsWhole}
 use Rattle.pb_tool.specs.meaning.Tidy.IsRefused.{InText, InRest}
 use Rattle.pb_tool.proofs.lemmas.file.GivenBytes.{file_then_blank, given_file, given_stray, used_of}
 use Rattle.pb_tool.proofs.lemmas.file.PassedOn.{passed_on}

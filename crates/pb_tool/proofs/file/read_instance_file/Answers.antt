@@ -1,7 +1,7 @@
-use Rattle.pb_text.specs.Limits.{largest, top_of}
-use Rattle.pb_text.specs.Whole.{IsRead}
-use Rattle.pb_opb.specs.Reading.{ReadsInstance}
-use Rattle.pb_opb.specs.Values.{IsValueOf}
+use Rattle.pb_text.specs.meaning.Limits.{largest, top_of}
+use Rattle.pb_text.specs.meaning.Whole.{IsRead}
+use Rattle.pb_opb.specs.meaning.Reading.{ReadsInstance}
+use Rattle.pb_opb.specs.meaning.Values.{IsValueOf}
 use Rattle.pb_tool.specs.meaning.Tidy.{IsInstanceText}
 use Rattle.pb_tool.specs.meaning.Tidy.IsRefused.{InText, InRest}
 use Rattle.pb_tool.proofs.lemmas.file.GivenBytes.{file_then_blank, given_file, given_stray, used_of}

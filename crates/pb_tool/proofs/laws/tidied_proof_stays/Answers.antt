@@ -1,9 +1,9 @@
 use Rattle.std.proofs.Common.{[], ◌∷◌, ◌∙◌, inr, refl, sym}
-use Rattle.pb_text.specs.Limits.{largest, top_of}
-use Rattle.pb_proof.specs.Canonical.{proof_bytes}
-use Rattle.pb_proof.specs.Proofs.{IsProofOf}
+use Rattle.pb_text.specs.meaning.Limits.{largest, top_of}
+use Rattle.pb_proof.specs.meaning.Canonical.{proof_bytes}
+use Rattle.pb_proof.specs.meaning.Proofs.{IsProofOf}
 use Rattle.pb_tool.specs.meaning.Files.{tidied_proof, IsProofText}
-use Rattle.pb_text.proofs.Numbers.{largest_small}
+use Rattle.pb_text.proofs.lemmas.numbers.Numbers.{largest_small}
 use Rattle.pb_tool.proofs.lemmas.tidy.ReadBack.{faultless, read_alone}
 use Rattle.pb_tool.proofs.laws.tidied_proof_stays.Goals as goal
 

@@ -1,10 +1,10 @@
 use Rattle.std.proofs.Common.{ℕ, List, ◌∷◌, ◌≡◌, ◌∙◌, ◌++◌, ap, refl, sym}
-use Rattle.pb_text.specs.Limits.{largest, top_of}
-use Rattle.pb_opb.specs.Canonical.{instance_bytes}
-use Rattle.pb_opb.specs.Values.{IsValueOf}
+use Rattle.pb_text.specs.meaning.Limits.{largest, top_of}
+use Rattle.pb_opb.specs.contract.Canonical.{instance_bytes}
+use Rattle.pb_opb.specs.meaning.Values.{IsValueOf}
 use Rattle.pb_opb.specs.declared.Instance.{Instance}
 use Rattle.pb_tool.specs.meaning.Tidy.{tidied, IsInstanceText}
-use Rattle.pb_text.proofs.Numbers.{largest_small}
+use Rattle.pb_text.proofs.lemmas.numbers.Numbers.{largest_small}
 use Rattle.pb_tool.proofs.lemmas.tidy.ReadBack.{faultless, read_alone, written}
 use Rattle.pb_tool.proofs.laws.tidied_text_stays.Goals as goal
 

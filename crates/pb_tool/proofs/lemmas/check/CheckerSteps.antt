@@ -1,14 +1,14 @@
 -- The state of a checker after a feed and a step.
 use Rattle.std.proofs.Common.{◌≡◌, ℕ, ◌+◌, ◌-◌, List, [], ◌∷◌, ◌++◌, length, take, drop, ◌<◌, if◌then◌else◌, Bool, true, false, Option, Some, None, Result, Ok, Err, refl, sym, ap, ◌∙◌, subst, append-nil, append_assoc, take-append-drop, All, ◌⊎◌, inl, inr}
 use Rattle.std.proofs.lemmas.List.Elements.{All-head, All-tail}
-use Rattle.pb_text.specs.Limits.{largest, top_of}
-use Rattle.pb_text.specs.Automaton.{Accepts as AcceptsBytes}
-use Rattle.pb_text.specs.Feeding.{StandsAt, FeedsOnce, place_of, halt_of, is_complete}
-use Rattle.pb_text.specs.SpentBytes.{end_of}
-use Rattle.pb_text.specs.Reading.{Reads, Explains, IsSpelled}
-use Rattle.pb_text.specs.Spelling.{Item, bytes}
-use Rattle.pb_text.specs.Standing.{Counts, Halts, Waits, IsOpen as IsOpenText}
-use Rattle.pb_text.specs.Whole.{events_at, events_of}
+use Rattle.pb_text.specs.meaning.Limits.{largest, top_of}
+use Rattle.pb_text.specs.contract.Automaton.{Accepts as AcceptsBytes}
+use Rattle.pb_text.specs.contract.Feeding.{StandsAt, FeedsOnce, place_of, halt_of, is_complete}
+use Rattle.pb_text.specs.engine.SpentBytes.{end_of}
+use Rattle.pb_text.specs.meaning.Reading.{Reads, Explains, IsSpelled}
+use Rattle.pb_text.specs.meaning.Spelling.{Item, bytes}
+use Rattle.pb_text.specs.contract.Standing.{Counts, Halts, Waits, IsOpen as IsOpenText}
+use Rattle.pb_text.specs.meaning.Whole.{events_at, events_of}
 use Rattle.pb_text.specs.declared.Fed.{Fed}
 use Rattle.pb_text.specs.declared.Limits.{Limits}
 use Rattle.pb_text.specs.declared.Place.{Place}
@@ -16,28 +16,28 @@ use Rattle.pb_text.specs.declared.Spanned.{Spanned}
 use Rattle.pb_text.specs.declared.Stop.{Stop}
 use Rattle.pb_text.specs.declared.place.Why.{Why}
 use Rattle.pb_text.specs.declared.place.Why.TheVariants as reason
-use Rattle.pb_text.proofs.Formats as formats
-use Rattle.pb_text.proofs.Spans.{all_rest, front_parts}
-use Rattle.pb_proof.specs.Formats.{ReadsProofs}
-use Rattle.pb_proof.specs.Proofs.{IsProof}
-use Rattle.pb_proof.specs.Machine.State.{ProofState, begin, proofs}
-use Rattle.pb_proof.specs.ValueLaws.{ReadStatements}
-use Rattle.pb_proof.specs.Values.{IsStatementValue}
+use Rattle.pb_text.proofs.lemmas.text.Formats as formats
+use Rattle.pb_text.proofs.lemmas.text.Spans.{all_rest, front_parts}
+use Rattle.pb_proof.specs.contract.Formats.{ReadsProofs}
+use Rattle.pb_proof.specs.meaning.Proofs.{IsProof}
+use Rattle.pb_proof.specs.engine.Machine.State.{ProofState, begin, proofs}
+use Rattle.pb_proof.specs.contract.ValueLaws.{ReadStatements}
+use Rattle.pb_proof.specs.contract.Values.{IsStatementValue}
 use Rattle.pb_proof.specs.declared.Proof.{Proof}
 use Rattle.pb_proof.specs.declared.Statement.{Statement}
 use Rattle.pb_proof.specs.declared.Statement.TheVariants.{Header, F, Output, Conclude, End}
 use Rattle.pb_proof.specs.declared.Stage.{Stage}
-use Rattle.pb_replay.specs.Laws.{WholeProofsConclude}
-use Rattle.pb_replay.specs.Problem.{Problem}
-use Rattle.pb_replay.specs.Meaning.{IsFront, IsSound}
-use Rattle.pb_replay.specs.Replay.{State}
-use Rattle.pb_replay.specs.Kept.{Replaying, StandsFor, StepsAs, verdict_at, verdict_in}
-use Rattle.pb_replay.specs.Statements.{Outcome, Accepts, MayWantAt}
+use Rattle.pb_replay.specs.contract.Laws.{WholeProofsConclude}
+use Rattle.pb_replay.specs.meaning.Problem.{Problem}
+use Rattle.pb_replay.specs.meaning.Meaning.{IsFront, IsSound}
+use Rattle.pb_replay.specs.meaning.Replay.{State}
+use Rattle.pb_replay.specs.contract.Kept.{Replaying, StandsFor, StepsAs, verdict_at, verdict_in}
+use Rattle.pb_replay.specs.meaning.Statements.{Outcome, Accepts, MayWantAt}
 use Rattle.pb_replay.specs.declared.fault.Fault.{Fault}
 use Rattle.pb_replay.specs.declared.fault.Fault.TheVariants.{Memory, NotTotal}
 use Rattle.pb_replay.specs.declared.verdict.Verdict.{Verdict}
 use Rattle.std.specs.Prelude.{IsSome, not, is_some}
-use Rattle.pb_text.proofs.Wholes.{marks_events}
+use Rattle.pb_text.proofs.lemmas.source.Wholes.{marks_events}
 use Rattle.pb_tool.specs.contract.Checker.{Checking, ProofFeeder, IsAt, IsAccepting, ChecksSoFar, StepsFrom, TextsAreRead}
 use Rattle.pb_tool.specs.contract.Checks.{Checks, IsReplayed, KeepsNames, KeepsNamesOf, LeadsTo, StepsTo, Rejects}
 use Rattle.pb_tool.specs.contract.Pieces.{AnyCutting, bytes_to, ChecksAt, ChecksOnce, MayGoOn, IsNoReadFault, FeedsInTurn, AllocatesAt, joined, fault_of, is_whole, place_in}

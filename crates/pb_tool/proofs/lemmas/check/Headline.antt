@@ -1,18 +1,18 @@
 -- What is verified is true of the instance as it is written.
 use Rattle.std.proofs.Common.{◌≡◌, ℕ, List, [], ◌∷◌, ◌++◌, Option, Some, Ok, ap, ◌∙◌, subst, All}
 use Rattle.std.proofs.lemmas.List.Elements.{All-nil, All-cons, All-head, All-tail}
-use Rattle.pb_text.specs.Limits.{largest, top_of}
-use Rattle.pb_text.specs.Spelling.{Item}
-use Rattle.pb_text.specs.Pulling.{OfGiven}
-use Rattle.pb_text.specs.Whole.{events_of}
-use Rattle.pb_proof.specs.Lines.{SpellsStatement}
-use Rattle.pb_proof.specs.Proofs.{IsGap, statements_of}
-use Rattle.pb_proof.specs.ValueLaws.{StatementValues}
-use Rattle.pb_proof.specs.Values.{IsStatementValue}
+use Rattle.pb_text.specs.meaning.Limits.{largest, top_of}
+use Rattle.pb_text.specs.meaning.Spelling.{Item}
+use Rattle.pb_text.specs.meaning.Pulling.{OfGiven}
+use Rattle.pb_text.specs.meaning.Whole.{events_of}
+use Rattle.pb_proof.specs.meaning.Lines.{SpellsStatement}
+use Rattle.pb_proof.specs.meaning.Proofs.{IsGap, statements_of}
+use Rattle.pb_proof.specs.contract.ValueLaws.{StatementValues}
+use Rattle.pb_proof.specs.contract.Values.{IsStatementValue}
 use Rattle.pb_proof.specs.declared.Proof.{Proof}
 use Rattle.pb_proof.specs.declared.Statement.{Statement}
 use Rattle.pb_text.specs.declared.Limits.{Limits}
-use Rattle.pb_replay.specs.Laws.{VerdictsMean}
+use Rattle.pb_replay.specs.contract.Laws.{VerdictsMean}
 use Rattle.pb_replay.specs.declared.verdict.Verdict.{Verdict}
 use Rattle.pb_replay.specs.declared.verdict.Verdict.TheVariants.{Unsat}
 use Rattle.pb_tool.specs.contract.Given.{ChecksGiven}

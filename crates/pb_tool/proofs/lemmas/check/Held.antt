@@ -2,24 +2,24 @@
 use Rattle.std.proofs.Common.{◌≡◌, ℕ, ◌+◌, ◌-◌, ◌≤◌, List, [], ◌∷◌, ◌++◌, length, nat_le, Bool, true, false, Option, None, Result, refl, sym, ap, ◌∙◌, append_assoc, append-nil, length-append, arith}
 use Rattle.std.proofs.lemmas.Bool.{cond-true, cond_both, le-leb}
 use Rattle.std.proofs.lemmas.List.{length-map}
-use Rattle.pb_text.specs.Limits.{largest, top_of}
-use Rattle.pb_text.specs.Feeding.{StandsAt, HoldsFew, place_of, is_complete}
-use Rattle.pb_text.specs.Reading.{Answers, open_bytes}
-use Rattle.pb_text.specs.Spelling.{Letter, Item, bytes, bytes_of, letters_of, marks_since, place_after, plain}
+use Rattle.pb_text.specs.meaning.Limits.{largest, top_of}
+use Rattle.pb_text.specs.contract.Feeding.{StandsAt, HoldsFew, place_of, is_complete}
+use Rattle.pb_text.specs.meaning.Reading.{Answers, open_bytes}
+use Rattle.pb_text.specs.meaning.Spelling.{Letter, Item, bytes, bytes_of, letters_of, marks_since, place_after, plain}
 use Rattle.pb_text.specs.declared.Limits.{Limits}
 use Rattle.pb_text.specs.declared.Place.{Place}
 use Rattle.pb_text.specs.declared.Spanned.{Spanned}
-use Rattle.pb_text.proofs.Languages.{bytes-append}
-use Rattle.pb_text.proofs.Lists.{length-bytes}
-use Rattle.pb_text.proofs.Short.{place_after-offset}
-use Rattle.pb_text.proofs.Wholes.{same_front}
-use Rattle.pb_proof.specs.Formats.{NoFront, ReadsProofs}
-use Rattle.pb_proof.specs.Proofs.{IsProof}
-use Rattle.pb_proof.specs.Machine.State.{ProofState, begin}
+use Rattle.pb_text.proofs.lemmas.text.Languages.{bytes-append}
+use Rattle.pb_text.proofs.lemmas.text.Lists.{length-bytes}
+use Rattle.pb_text.proofs.lemmas.text.Short.{place_after-offset}
+use Rattle.pb_text.proofs.lemmas.source.Wholes.{same_front}
+use Rattle.pb_proof.specs.contract.Formats.{NoFront, ReadsProofs}
+use Rattle.pb_proof.specs.meaning.Proofs.{IsProof}
+use Rattle.pb_proof.specs.engine.Machine.State.{ProofState, begin}
 use Rattle.pb_proof.specs.declared.Statement.{Statement}
-use Rattle.pb_replay.specs.Problem.{Problem}
-use Rattle.pb_replay.specs.Replay.{State}
-use Rattle.pb_replay.specs.Kept.{Replaying}
+use Rattle.pb_replay.specs.meaning.Problem.{Problem}
+use Rattle.pb_replay.specs.meaning.Replay.{State}
+use Rattle.pb_replay.specs.contract.Kept.{Replaying}
 use Rattle.pb_replay.specs.declared.fault.Fault.{Fault}
 use Rattle.pb_tool.specs.contract.Checker.{ProofFeeder, ChecksSoFar, TextsAreRead}
 use Rattle.pb_tool.specs.contract.Pieces.{EndsStatement, HoldsOpen}

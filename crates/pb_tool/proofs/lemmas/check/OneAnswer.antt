@@ -3,27 +3,27 @@ use Rattle.std.proofs.Common.{◌≡◌, ◌≢◌, ◌↔◌, ℕ, List, [], �
 use Rattle.std.proofs.lemmas.Option.{same_Some}
 use Rattle.std.specs.Prelude.{String, string_bytes}
 use Rattle.std.specs.declared.alloc.Global.{Global}
-use Rattle.pb_text.specs.Limits.{largest, top_of}
-use Rattle.pb_text.specs.Reading.{HasFixedMarks, IsSpelled}
-use Rattle.pb_text.specs.Spelling.{Item}
-use Rattle.pb_text.specs.Whole.{events_at, events_of}
+use Rattle.pb_text.specs.meaning.Limits.{largest, top_of}
+use Rattle.pb_text.specs.meaning.Reading.{HasFixedMarks, IsSpelled}
+use Rattle.pb_text.specs.meaning.Spelling.{Item}
+use Rattle.pb_text.specs.meaning.Whole.{events_at, events_of}
 use Rattle.pb_text.specs.declared.Limits.{Limits}
 use Rattle.pb_text.specs.declared.Place.{Place}
 use Rattle.pb_text.specs.declared.Spanned.{Spanned}
 use Rattle.pb_text.specs.declared.Stop.{Stop}
-use Rattle.pb_text.specs.Whole.{IsRead, Reading, Keeping}
-use Rattle.pb_opb.specs.Values.{IsValueOf}
+use Rattle.pb_text.specs.meaning.Whole.{IsRead, Reading, Keeping}
+use Rattle.pb_opb.specs.meaning.Values.{IsValueOf}
 use Rattle.pb_opb.specs.declared.Instance.{Instance}
-use Rattle.pb_proof.specs.Proofs.{IsProofOf, statements_of}
+use Rattle.pb_proof.specs.meaning.Proofs.{IsProofOf, statements_of}
 use Rattle.pb_proof.specs.declared.Proof.{Proof}
 use Rattle.pb_proof.specs.declared.Statement.{Statement}
-use Rattle.pb_replay.specs.Problem.{Problem, Opened}
-use Rattle.pb_replay.specs.Replay.{State, first_state}
-use Rattle.pb_replay.specs.Statements.{Accepts}
+use Rattle.pb_replay.specs.meaning.Problem.{Problem, Opened}
+use Rattle.pb_replay.specs.meaning.Replay.{State, first_state}
+use Rattle.pb_replay.specs.meaning.Statements.{Accepts}
 use Rattle.pb_replay.specs.declared.fault.Fault.{Fault}
 use Rattle.pb_replay.specs.declared.fault.Fault.TheVariants.{Memory as no_memory, Overflow as over}
 use Rattle.pb_replay.specs.declared.verdict.Verdict.{Verdict}
-use Rattle.pb_opb.proofs.OneValue.{same_value}
+use Rattle.pb_opb.proofs.lemmas.instances.OneValue.{same_value}
 use Rattle.pb_tool.specs.meaning.Decided.{AnswersExactly, AreVerified, IsDecided, IsOfText, IsSame, OneAnswer}
 use Rattle.pb_tool.specs.meaning.Files.{IsProofFile, IsProofText}
 use Rattle.pb_tool.specs.contract.Show.{IsSpelling}
@@ -35,7 +35,7 @@ use Rattle.pb_tool.specs.declared.fault.ToolFault.{ToolFault}
 use Rattle.pb_tool.specs.declared.fault.ToolFault.TheVariants.{Text, Open, Overflow, Memory, Write, Step}
 use Rattle.pb_tool.specs.declared.fault.Input.TheVariants.{File, Instance as of_instance, Proof as of_proof}
 use Rattle.pb_tool.proofs.lemmas.check.OneOutcome.{Passed, no_step, one_state, one_step}
-use Rattle.pb_text.proofs.Results.{ok_or_err, same_ok}
+use Rattle.pb_text.proofs.lemmas.text.Results.{ok_or_err, same_ok}
 use Rattle.pb_tool.proofs.lemmas.check.CheckerSteps.{spelled_events}
 use Rattle.pb_tool.proofs.lemmas.check.OneRead.{OneSpelling, NoneGoesOn, marks_begin, one_spelled, reached_before, so_far_before, so_far_reached, spelling_reached, way_reached}
 use Rattle.pb_tool.proofs.lemmas.check.OneRejection.{Refusal, AtStop, all_taken, at_rest, no_refusal, one_refusal}

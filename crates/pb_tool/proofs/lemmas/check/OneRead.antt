@@ -2,15 +2,15 @@
 use Rattle.std.proofs.Common.{◌≡◌, ◌⊎◌, inl, inr, ℕ, ◌<◌, ◌≤◌, List, [], ◌∷◌, ◌++◌, length, nat_le, Bool, true, false, IsTrue, Option, None, refl, sym, ap, ◌∙◌, subst, append-nil, append_assoc, arith, length-append, le-leb}
 use Rattle.std.proofs.lemmas.Bool.{cond-false, cond-true, lt-leb}
 use Rattle.std.proofs.lemmas.Bool.Decides.{leb_tells}
-use Rattle.pb_text.specs.Classes.{is_digit}
-use Rattle.pb_text.specs.Reading.{AreShort, EndsInNumber, Explains, HasFixedMarks, IsBad, IsFull, IsFront, IsSpelled, IsUnderWay, Overruns, Reads, byte_limit, ended_within}
-use Rattle.pb_text.specs.Spelling.{Item, bytes, bytes_of, letters_of, marks_of, marks_since, plain}
+use Rattle.pb_text.specs.meaning.Classes.{is_digit}
+use Rattle.pb_text.specs.meaning.Reading.{AreShort, EndsInNumber, Explains, HasFixedMarks, IsBad, IsFull, IsFront, IsSpelled, IsUnderWay, Overruns, Reads, byte_limit, ended_within}
+use Rattle.pb_text.specs.meaning.Spelling.{Item, bytes, bytes_of, letters_of, marks_of, marks_since, plain}
 use Rattle.pb_text.specs.declared.Place.{Place}
 use Rattle.pb_text.specs.declared.Spanned.{Spanned}
 use Rattle.pb_text.specs.declared.Why.{Why}
 use Rattle.pb_text.specs.declared.Why.TheVariants.{Byte, TooLarge, Ended, TooLong, Read, Memory}
-use Rattle.pb_text.proofs.Languages.{bytes-append, bytes-plain}
-use Rattle.pb_text.proofs.Short.{place_after-offset}
+use Rattle.pb_text.proofs.lemmas.text.Languages.{bytes-append, bytes-plain}
+use Rattle.pb_text.proofs.lemmas.text.Short.{place_after-offset}
 use Rattle.pb_tool.specs.meaning.Decided.{IsOfText}
 use Rattle.pb_tool.proofs.lemmas.check.Prefixes.{begins_with, after_prefix, one_prefix, same_rest}
 

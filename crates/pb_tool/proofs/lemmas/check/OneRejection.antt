@@ -1,14 +1,14 @@
 -- A text, with the rest after it, is rejected in one way or not at all.
 use Rattle.std.proofs.Common.{◌≡◌, ℕ, List, [], ◌++◌, length, Option, Some, Err, sym, ap, ◌∙◌, subst, arith, append-nil, length-append}
-use Rattle.pb_text.specs.Blank.{IsBlank, IsStray, ReadsBlank, place_from}
-use Rattle.pb_text.specs.Pulling.{Took}
-use Rattle.pb_text.specs.Reading.{Explains, IsSpelled, IsUnderWay}
-use Rattle.pb_text.specs.Spelling.{Item, place_after}
+use Rattle.pb_text.specs.meaning.Blank.{IsBlank, IsStray, ReadsBlank, place_from}
+use Rattle.pb_text.specs.meaning.Pulling.{Took}
+use Rattle.pb_text.specs.meaning.Reading.{Explains, IsSpelled, IsUnderWay}
+use Rattle.pb_text.specs.meaning.Spelling.{Item, place_after}
 use Rattle.pb_text.specs.declared.Place.{Place}
 use Rattle.pb_text.specs.declared.Spanned.{Spanned}
 use Rattle.pb_text.specs.declared.Stop.{Stop}
 use Rattle.pb_text.specs.declared.Why.{Why}
-use Rattle.pb_text.proofs.Short.{place_after-offset}
+use Rattle.pb_text.proofs.lemmas.text.Short.{place_after-offset}
 use Rattle.pb_tool.specs.meaning.Decided.{IsOfText}
 use Rattle.pb_tool.specs.contract.Show.{IsSpelling}
 use Rattle.pb_tool.proofs.lemmas.check.Prefixes.{same_rest}

@@ -1,42 +1,42 @@
 -- What a run of a replay through the statements of a source ensures.
 use Rattle.std.proofs.Common.{◌≡◌, ◌⊎◌, ℕ, List, [], ◌∷◌, ◌++◌, Bool, true, false, Option, Some, None, Result, Ok, Err, refl, sym, ap, ◌∙◌, subst, inl, inr}
-use Rattle.pb_text.specs.Limits.{largest, top_of}
-use Rattle.pb_text.specs.Automaton.{Accepts as AcceptsBytes, MayAsk}
-use Rattle.pb_text.specs.Reading.{Reads}
-use Rattle.pb_text.specs.PullsInARow.{TookAll, TookSoFar}
-use Rattle.pb_text.specs.Spelling.{Item}
-use Rattle.pb_text.specs.Stopping.{IsAsking}
+use Rattle.pb_text.specs.meaning.Limits.{largest, top_of}
+use Rattle.pb_text.specs.contract.Automaton.{Accepts as AcceptsBytes, MayAsk}
+use Rattle.pb_text.specs.meaning.Reading.{Reads}
+use Rattle.pb_text.specs.meaning.PullsInARow.{TookAll, TookSoFar}
+use Rattle.pb_text.specs.meaning.Spelling.{Item}
+use Rattle.pb_text.specs.meaning.Stopping.{IsAsking}
 use Rattle.pb_text.specs.declared.Limits.{Limits}
 use Rattle.pb_text.specs.declared.Place.{Place}
 use Rattle.pb_text.specs.declared.Spanned.{Spanned}
 use Rattle.pb_text.specs.declared.Stop.{Stop}
-use Rattle.pb_proof.specs.Formats.{ReadsProofs}
-use Rattle.pb_proof.specs.Machine.State.{begin, proofs}
-use Rattle.pb_proof.specs.ValueLaws.{ReadStatements}
-use Rattle.pb_proof.specs.Values.{IsStatementValue}
+use Rattle.pb_proof.specs.contract.Formats.{ReadsProofs}
+use Rattle.pb_proof.specs.engine.Machine.State.{begin, proofs}
+use Rattle.pb_proof.specs.contract.ValueLaws.{ReadStatements}
+use Rattle.pb_proof.specs.contract.Values.{IsStatementValue}
 use Rattle.pb_proof.specs.declared.Statement.{Statement}
 use Rattle.pb_proof.specs.declared.Stage.{Stage}
 use Rattle.pb_proof.specs.declared.Stage.TheVariants.{Opening, Formula, Steps, Claim, Closing, Complete}
-use Rattle.pb_replay.specs.Laws.{WholeProofsConclude}
-use Rattle.pb_replay.specs.Problem.{Problem}
-use Rattle.pb_replay.specs.Meaning.{IsFront, IsSound}
-use Rattle.pb_replay.specs.Replay.{State}
-use Rattle.pb_replay.specs.Kept.{Replaying, verdict_at, verdict_in}
-use Rattle.pb_replay.specs.Statements.{Outcome, Accepts, MayWantAt}
+use Rattle.pb_replay.specs.contract.Laws.{WholeProofsConclude}
+use Rattle.pb_replay.specs.meaning.Problem.{Problem}
+use Rattle.pb_replay.specs.meaning.Meaning.{IsFront, IsSound}
+use Rattle.pb_replay.specs.meaning.Replay.{State}
+use Rattle.pb_replay.specs.contract.Kept.{Replaying, verdict_at, verdict_in}
+use Rattle.pb_replay.specs.meaning.Statements.{Outcome, Accepts, MayWantAt}
 use Rattle.pb_replay.specs.declared.fault.Fault.{Fault}
 use Rattle.pb_replay.specs.declared.fault.Fault.TheVariants as fault
 use Rattle.pb_replay.specs.declared.verdict.Verdict.{Verdict}
 use Rattle.pb_tool.specs.contract.Checker.{IsAt, StepsFrom}
-use Rattle.pb_text.specs.Whole.{events_at}
+use Rattle.pb_text.specs.meaning.Whole.{events_at}
 use Rattle.pb_tool.specs.contract.Checks.{KeepsNames, Rejects, StepsTo}
-use Rattle.pb_replay.specs.Kept.{StandsFor}
+use Rattle.pb_replay.specs.contract.Kept.{StandsFor}
 use Rattle.pb_tool.specs.meaning.Files.{AsksInProofText, IsProofText}
 use Rattle.pb_tool.specs.contract.Runs.{RunsProof, faults_of_text}
 use Rattle.pb_tool.specs.contract.Seen.{SawText}
 use Rattle.pb_tool.specs.meaning.Verified.{IsAccepted}
 use Rattle.pb_tool.specs.declared.commands.check.checker.CheckFault.{CheckFault}
 use Rattle.pb_tool.specs.declared.commands.check.checker.CheckFault.TheVariants as check
-use Rattle.pb_text.proofs.Unkept.{asking_to}
+use Rattle.pb_text.proofs.lemmas.source.Unkept.{asking_to}
 use Rattle.pb_tool.proofs.lemmas.check.CheckerSteps.{TellsOld, accepts_more, failed, last_is_value, proofs_read, shown_at, there}
 use Rattle.pb_tool.proofs.lemmas.show.ShownStatements.{all_to, so_far_to}
 

@@ -1,21 +1,21 @@
 -- The calls that a watch gets for the statements of a proof.
 use Rattle.std.proofs.Common.{◌≡◌, ◌⊎◌, ℕ, List, [], ◌∷◌, ◌++◌, Bool, true, false, Option, Some, None, Result, Ok, Err, refl, sym, ap, ◌∙◌, subst, inl, inr, string_bytes, append_assoc}
-use Rattle.pb_text.specs.Limits.{largest, top_of}
-use Rattle.pb_text.specs.Pulling.{OfGiven}
-use Rattle.pb_text.specs.PullsInARow.{TookAll, TookSoFar}
-use Rattle.pb_text.specs.Stopping.{IsAsking}
+use Rattle.pb_text.specs.meaning.Limits.{largest, top_of}
+use Rattle.pb_text.specs.meaning.Pulling.{OfGiven}
+use Rattle.pb_text.specs.meaning.PullsInARow.{TookAll, TookSoFar}
+use Rattle.pb_text.specs.meaning.Stopping.{IsAsking}
 use Rattle.pb_text.specs.declared.Limits.{Limits}
 use Rattle.pb_text.specs.declared.Place.{Place}
 use Rattle.pb_text.specs.declared.Spanned.{Spanned}
 use Rattle.pb_text.specs.declared.Stop.{Stop}
-use Rattle.pb_text.proofs.Wholes.{given_both}
-use Rattle.pb_proof.specs.Formats.{ReadsProofs}
+use Rattle.pb_text.proofs.lemmas.source.Wholes.{given_both}
+use Rattle.pb_proof.specs.contract.Formats.{ReadsProofs}
 use Rattle.pb_proof.specs.declared.Statement.{Statement}
-use Rattle.pb_replay.specs.Kept.{Replaying, StandsFor}
-use Rattle.pb_replay.specs.Meaning.{IsFront}
-use Rattle.pb_replay.specs.Problem.{Problem}
-use Rattle.pb_replay.specs.Replay.{State, first_state}
-use Rattle.pb_replay.specs.Statements.{Outcome}
+use Rattle.pb_replay.specs.contract.Kept.{Replaying, StandsFor}
+use Rattle.pb_replay.specs.meaning.Meaning.{IsFront}
+use Rattle.pb_replay.specs.meaning.Problem.{Problem}
+use Rattle.pb_replay.specs.meaning.Replay.{State, first_state}
+use Rattle.pb_replay.specs.meaning.Statements.{Outcome}
 use Rattle.pb_replay.specs.declared.fault.Fault.{Fault}
 use Rattle.pb_replay.specs.declared.fault.Fault.TheVariants.{Memory as no_memory, NotTotal}
 use Rattle.pb_replay.specs.declared.verdict.Verdict.{Verdict}

@@ -4,22 +4,22 @@ use Rattle.std.specs.Prelude.{IfSome, unwrap_or, ◌^◌}
 use Rattle.std.proofs.Math.Dec.{eqb}
 use Rattle.std.proofs.lemmas.Bool.Decides.{eqb_tells}
 use Rattle.std.specs.Io.KnownBytes.{Keeps}
-use Rattle.pb_text.specs.NothingRead.{ReadsNothing, first_fault}
-use Rattle.pb_text.specs.Pulling.{Took}
-use Rattle.pb_text.specs.PullsInARow.{TookAll, TookSoFar}
-use Rattle.pb_text.specs.Spelling.{Item}
+use Rattle.pb_text.specs.contract.NothingRead.{ReadsNothing, first_fault}
+use Rattle.pb_text.specs.meaning.Pulling.{Took}
+use Rattle.pb_text.specs.meaning.PullsInARow.{TookAll, TookSoFar}
+use Rattle.pb_text.specs.meaning.Spelling.{Item}
 use Rattle.pb_text.specs.declared.Limits.{Limits}
 use Rattle.pb_text.specs.declared.Place.{Place}
 use Rattle.pb_text.specs.declared.Spanned.{Spanned}
 use Rattle.pb_text.specs.declared.Stop.{Stop}
-use Rattle.pb_text.specs.Whole.{IsRead, ReadsValue, Reading}
-use Rattle.pb_text.proofs.Writing.{writes_nothing}
-use Rattle.pb_opb.specs.Canonical.{event_bytes}
-use Rattle.pb_opb.specs.Gather as opb_keeping
-use Rattle.pb_opb.specs.Values.{IsValueOf}
-use Rattle.pb_proof.specs.Canonical.{statement_bytes}
-use Rattle.pb_proof.specs.Gather as veri_keeping
-use Rattle.pb_proof.specs.Proofs.{IsProof, IsProofOf}
+use Rattle.pb_text.specs.meaning.Whole.{IsRead, ReadsValue, Reading}
+use Rattle.pb_text.proofs.lemmas.text.Writing.{writes_nothing}
+use Rattle.pb_opb.specs.contract.Canonical.{event_bytes}
+use Rattle.pb_opb.specs.meaning.Gather as opb_keeping
+use Rattle.pb_opb.specs.meaning.Values.{IsValueOf}
+use Rattle.pb_proof.specs.meaning.Canonical.{statement_bytes}
+use Rattle.pb_proof.specs.contract.Gather as veri_keeping
+use Rattle.pb_proof.specs.meaning.Proofs.{IsProof, IsProofOf}
 use Rattle.pb_tool.specs.meaning.Files.{tidied_proof, MayBeProof, MayBeInstance, AsksInProofText, IsProofText, ShowsFile, TidiesFile, TidiesProof}
 use Rattle.pb_tool.specs.contract.Show.{IsSpelling, IsRefusedAfter, InText, InRest, ShowsLines}
 use Rattle.pb_tool.specs.meaning.Tidy.{tidied, AsksInInstanceText, IsFile, IsInstanceText, IsRefused, Tidies, TidiesAs}

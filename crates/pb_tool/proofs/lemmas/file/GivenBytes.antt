@@ -1,22 +1,22 @@
 -- What is ensured for the bytes that the calls of a source have given.
 use Rattle.std.proofs.Common.{◌≡◌, ℕ, ◌<◌, ◌≤◌, ◌+◌, ◌++◌, length, false, List, [], Option, Some, Result, Ok, Err, inl, inr, refl, sym, ap, subst, ◌∙◌, append_assoc, append-nil}
 use Rattle.std.proofs.lemmas.List.{append_cancel_right}
-use Rattle.pb_text.specs.Blank.{IsBlank, ReadsBlank}
-use Rattle.pb_text.specs.Reading.{byte_limit}
-use Rattle.pb_text.specs.NothingRead.{ReadsNothing, first_fault}
-use Rattle.pb_text.specs.Pulling.{OfGiven, Took}
-use Rattle.pb_text.specs.Spelling.{place_after}
+use Rattle.pb_text.specs.meaning.Blank.{IsBlank, ReadsBlank}
+use Rattle.pb_text.specs.meaning.Reading.{byte_limit}
+use Rattle.pb_text.specs.contract.NothingRead.{ReadsNothing, first_fault}
+use Rattle.pb_text.specs.meaning.Pulling.{OfGiven, Took}
+use Rattle.pb_text.specs.meaning.Spelling.{place_after}
 use Rattle.pb_text.specs.declared.Limits.{Limits}
 use Rattle.pb_text.specs.declared.Spanned.{Spanned}
 use Rattle.pb_text.specs.declared.Stop.{Stop}
-use Rattle.pb_text.proofs.PullsInARow.{took_join}
-use Rattle.pb_text.proofs.Wholes.{given_both}
+use Rattle.pb_text.proofs.lemmas.source.PullsInARow.{took_join}
+use Rattle.pb_text.proofs.lemmas.source.Wholes.{given_both}
 use Rattle.pb_tool.specs.meaning.Files.{tidied_proof, AsksInProofText, IsProofText, TidiesProof}
 use Rattle.pb_tool.specs.contract.Given.{ShowsGiven, TidiesGiven}
-use Rattle.pb_opb.specs.Canonical.{event_bytes}
-use Rattle.pb_proof.specs.Canonical.{statement_bytes}
-use Rattle.pb_proof.specs.Gather.{MayKeep}
-use Rattle.pb_proof.specs.Proofs.{IsProofOf}
+use Rattle.pb_opb.specs.contract.Canonical.{event_bytes}
+use Rattle.pb_proof.specs.meaning.Canonical.{statement_bytes}
+use Rattle.pb_proof.specs.contract.Gather.{MayKeep}
+use Rattle.pb_proof.specs.meaning.Proofs.{IsProofOf}
 use Rattle.pb_tool.specs.contract.Show.{ShowsLines}
 use Rattle.pb_tool.specs.meaning.Tidy.{AsksInInstanceText, IsFile, IsInstanceText, IsRefused, Tidies}
 use Rattle.pb_tool.specs.meaning.Tidy.IsRefused.{InRest}

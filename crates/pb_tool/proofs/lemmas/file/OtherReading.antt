@@ -1,6 +1,6 @@
 -- What was written and why, if each reading is also a reading of another kind.
 use Rattle.std.proofs.Common.{◌≡◌, ℕ, List, Option, Result, Ok, Err, subst}
-use Rattle.pb_text.specs.Writing.{Wrote, Broke}
+use Rattle.pb_text.specs.meaning.Writing.{Wrote, Broke}
 use Rattle.pb_text.specs.declared.Stop.{Stop}
 use Rattle.pb_tool.specs.meaning.Tidy.{IsStopped, WritesText}
 use Rattle.pb_tool.specs.declared.fault.ToolFault.{ToolFault}

@@ -1,24 +1,24 @@
 -- Statements that are shown one after another, for the bytes that the calls of a source have given.
 use Rattle.std.proofs.Common.{◌≡◌, ℕ, List, [], ◌∷◌, ◌++◌, length, true, false, Option, Some, None, Result, Ok, Err, refl, sym, ap, ◌∙◌, subst, append_assoc, length-append, arith}
 use Rattle.std.proofs.lemmas.List.{append_cancel_right}
-use Rattle.pb_text.specs.Automaton.{Accepts}
-use Rattle.pb_text.specs.Feeding.{StandsAt, place_of, halt_of, stop_of, is_complete}
-use Rattle.pb_text.specs.Pulling.{OfGiven, Pulls}
-use Rattle.pb_text.specs.Stopping.{IsAsking}
-use Rattle.pb_text.specs.PullsInARow.{PullsOn, TookAll, TookSoFar}
-use Rattle.pb_text.specs.Spelling.{Item}
-use Rattle.pb_text.specs.Writing.{Wrote, Broke}
+use Rattle.pb_text.specs.contract.Automaton.{Accepts}
+use Rattle.pb_text.specs.contract.Feeding.{StandsAt, place_of, halt_of, stop_of, is_complete}
+use Rattle.pb_text.specs.meaning.Pulling.{OfGiven, Pulls}
+use Rattle.pb_text.specs.meaning.Stopping.{IsAsking}
+use Rattle.pb_text.specs.meaning.PullsInARow.{PullsOn, TookAll, TookSoFar}
+use Rattle.pb_text.specs.meaning.Spelling.{Item}
+use Rattle.pb_text.specs.meaning.Writing.{Wrote, Broke}
 use Rattle.pb_text.specs.declared.Feeder.{Feeder}
 use Rattle.pb_text.specs.declared.Machine.{Ghosts}
 use Rattle.pb_text.specs.declared.Place.{Place}
 use Rattle.pb_text.specs.declared.Spanned.{Spanned}
 use Rattle.pb_text.specs.declared.Stop.{Stop}
-use Rattle.pb_text.proofs.PullsInARow.{row}
+use Rattle.pb_text.proofs.lemmas.source.PullsInARow.{row}
 use Rattle.pb_tool.specs.contract.Show.{shown, shown_line, EndsAt, InText, ShowsLines}
 use Rattle.pb_tool.specs.declared.fault.ToolFault.{ToolFault}
 use Rattle.pb_tool.specs.declared.fault.ToolFault.TheVariants.{Text, Write}
 use Rattle.pb_tool.specs.declared.fault.Input.TheVariants.{File}
-use Rattle.pb_text.proofs.Wholes.{given_both}
+use Rattle.pb_text.proofs.lemmas.source.Wholes.{given_both}
 use Rattle.pb_tool.proofs.lemmas.show.ShownStatements.{shows_end}
 
 -- The feeder began with this machine and has not stopped. It was fed what the calls have given since a history.

@@ -1,21 +1,21 @@
 -- Statements that are shown one after another.
 use Rattle.std.proofs.Common.{◌≡◌, ℕ, ◌+◌, ◌-◌, ◌^◌, ◌<◌, ◌≤◌, List, [], ◌∷◌, ◌++◌, length, Bool, true, false, Option, Some, None, Result, Ok, Err, refl, sym, ap, ◌∙◌, subst, append-nil, arith, length-append}
 use Rattle.std.proofs.lemmas.Grind.{flat_map-append}
-use Rattle.pb_text.specs.Blank.{ReadsBlank}
-use Rattle.pb_text.specs.Feeding.{StandsAt, place_of, halt_of}
-use Rattle.pb_text.specs.Pulling.{Took}
-use Rattle.pb_text.specs.Reading.{IsSpelled, Reads, byte_limit}
-use Rattle.pb_text.specs.PullsInARow.{HasPulled, TookAll, TookSoFar}
-use Rattle.pb_text.specs.Spelling.{Item, place_after}
+use Rattle.pb_text.specs.meaning.Blank.{ReadsBlank}
+use Rattle.pb_text.specs.contract.Feeding.{StandsAt, place_of, halt_of}
+use Rattle.pb_text.specs.meaning.Pulling.{Took}
+use Rattle.pb_text.specs.meaning.Reading.{IsSpelled, Reads, byte_limit}
+use Rattle.pb_text.specs.meaning.PullsInARow.{HasPulled, TookAll, TookSoFar}
+use Rattle.pb_text.specs.meaning.Spelling.{Item, place_after}
 use Rattle.pb_text.specs.declared.Place.{Place}
 use Rattle.pb_text.specs.declared.Spanned.{Spanned}
 use Rattle.pb_text.specs.declared.Stop.{Stop}
 use Rattle.pb_text.specs.declared.Feeder.{Feeder}
 use Rattle.pb_text.specs.declared.Machine.{Ghosts}
-use Rattle.pb_text.specs.Writing.{Wrote}
-use Rattle.pb_text.proofs.PullsInARow.{took_join}
-use Rattle.pb_text.proofs.Short.{place_after-offset}
-use Rattle.pb_text.proofs.Unkept.{asking_to}
+use Rattle.pb_text.specs.meaning.Writing.{Wrote}
+use Rattle.pb_text.proofs.lemmas.source.PullsInARow.{took_join}
+use Rattle.pb_text.proofs.lemmas.text.Short.{place_after-offset}
+use Rattle.pb_text.proofs.lemmas.source.Unkept.{asking_to}
 use Rattle.pb_tool.specs.contract.Show.{shown_line, shown, EndsAt, IsSpelling, IsRefusedAfter, InText, InRest, ShowsLines}
 use Rattle.pb_tool.specs.declared.fault.ToolFault.{ToolFault}
 use Rattle.pb_tool.specs.declared.fault.ToolFault.TheVariants.{Text, Open, Overflow, Memory, Write, Step}

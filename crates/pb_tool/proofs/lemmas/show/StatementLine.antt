@@ -1,7 +1,7 @@
 -- The line that shows a statement.
 use Rattle.std.proofs.Common.{◌≡◌, ℕ, List, [], ◌∷◌, ◌++◌, decimal, sym, ap, ◌∙◌, append_assoc}
 use Rattle.pb_text.specs.declared.Spanned.{Spanned}
-use Rattle.pb_sums.specs.Canonical.{place_bytes}
+use Rattle.pb_sums.specs.contract.Canonical.{place_bytes}
 use Rattle.pb_tool.specs.contract.Show.{line_of, shown_line}
 
 -- a line is a position and what follows it

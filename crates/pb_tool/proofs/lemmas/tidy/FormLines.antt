@@ -7,14 +7,14 @@ use Rattle.pb_sums.specs.declared.Term.{Term}
 use Rattle.pb_sums.specs.declared.Linear.{Linear}
 use Rattle.pb_opb.specs.declared.OpbEvent.TheVariants.{Constraint}
 use Rattle.pb_normal.specs.declared.Side.{Side}
-use Rattle.pb_normal.specs.Constraints.{AreFormsOf, Fits, constraint_names, sides_in, with_sides}
-use Rattle.pb_normal.specs.Form.{Form}
-use Rattle.pb_normal.specs.Names.{AreDistinct, HasNames, with_name, with_names}
-use Rattle.pb_normal.specs.Written.{linear_of, names_of}
-use Rattle.pb_normal.proofs.Appearing.{front, named, distinct, in_turn, written_alike}
-use Rattle.pb_normal.proofs.Loaded.{are_named, forms_more, forms_then}
-use Rattle.pb_text.proofs.Lists.{take_read}
-use Rattle.pb_normal.proofs.WrittenForms.{HasNames-append}
+use Rattle.pb_normal.specs.meaning.Constraints.{AreFormsOf, Fits, constraint_names, sides_in, with_sides}
+use Rattle.pb_normal.specs.meaning.Form.{Form}
+use Rattle.pb_normal.specs.meaning.Names.{AreDistinct, HasNames, with_name, with_names}
+use Rattle.pb_normal.specs.meaning.Written.{linear_of, names_of}
+use Rattle.pb_normal.proofs.lemmas.names.Appearing.{front, named, distinct, in_turn, written_alike}
+use Rattle.pb_normal.proofs.lemmas.names.Loaded.{are_named, forms_more, forms_then}
+use Rattle.pb_text.proofs.lemmas.text.Lists.{take_read}
+use Rattle.pb_normal.proofs.lemmas.names.WrittenForms.{HasNames-append}
 use Rattle.pb_tool.specs.engine.InstanceText.{line}
 use Rattle.pb_tool.specs.contract.Normalised.{SomePasses}
 use Rattle.pb_tool.specs.engine.NormalText.{AreLines, form_lines}

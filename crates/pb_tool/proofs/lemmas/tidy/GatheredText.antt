@@ -1,11 +1,11 @@
 -- A file whose statements are gathered is one with a value, if what they are gathered to has the value.
 use Rattle.std.proofs.Common.{◌≡◌, ◌↔◌, ℕ, List, Bool, IsTrue, Option, Result, refl, sym, subst}
-use Rattle.pb_text.specs.Spelling.{Item}
-use Rattle.pb_text.specs.Whole.{gathered, events_of, IsRead, IsWhole, MayHold, ReadsValue, ReadsWhole}
+use Rattle.pb_text.specs.meaning.Spelling.{Item}
+use Rattle.pb_text.specs.meaning.Whole.{gathered, events_of, IsRead, IsWhole, MayHold, ReadsValue, ReadsWhole}
 use Rattle.pb_text.specs.declared.Spanned.{Spanned}
 use Rattle.pb_text.specs.declared.Stop.{Stop}
-use Rattle.pb_text.proofs.Formats as formats
-use Rattle.pb_text.proofs.Unkept.{stops_in}
+use Rattle.pb_text.proofs.lemmas.text.Formats as formats
+use Rattle.pb_text.proofs.lemmas.source.Unkept.{stops_in}
 use Rattle.pb_tool.specs.meaning.Tidy.{IsFile, IsRefused, TidiesAs}
 use Rattle.pb_tool.specs.meaning.Tidy.IsRefused.{InText, InRest}
 use Rattle.pb_tool.specs.declared.fault.ToolFault.{ToolFault}

@@ -1,15 +1,15 @@
 -- The text of an instance whose statements are gathered one by one is its canonical text.
 use Rattle.std.proofs.Common.{◌≡◌, ◌↔◌, ℕ, suc, zero, List, [], ◌∷◌, ◌++◌, Bool, true, false, IsTrue, Option, None, Result, refl, sym, ap, ap₂, ◌∙◌, append_assoc, append-nil}
-use Rattle.pb_text.specs.Limits.{largest, top_of}
-use Rattle.pb_text.specs.Spelling.{Item, Letter}
-use Rattle.pb_text.specs.Whole.{gathered, events_of}
+use Rattle.pb_text.specs.meaning.Limits.{largest, top_of}
+use Rattle.pb_text.specs.meaning.Spelling.{Item, Letter}
+use Rattle.pb_text.specs.meaning.Whole.{gathered, events_of}
 use Rattle.pb_text.specs.declared.Limits.{Limits}
-use Rattle.pb_opb.specs.Gather.{MayKeep}
-use Rattle.pb_opb.specs.Instances.{IsBegun, IsInstance}
-use Rattle.pb_opb.specs.Values.{IsValueOf}
+use Rattle.pb_opb.specs.meaning.Gather.{MayKeep}
+use Rattle.pb_opb.specs.meaning.Instances.{IsBegun, IsInstance}
+use Rattle.pb_opb.specs.meaning.Values.{IsValueOf}
 use Rattle.pb_opb.specs.declared.OpbEvent.{OpbEvent}
 use Rattle.pb_opb.specs.declared.OpbEvent.TheVariants.{Header, Comment, Objective, Constraint}
-use Rattle.pb_opb.proofs.Counted.{IsEntry, IsCounted, counted}
+use Rattle.pb_opb.proofs.lemmas.instances.Counted.{IsEntry, IsCounted, counted}
 use Rattle.pb_tool.specs.engine.Gathered.{TidiesEach}
 use Rattle.pb_tool.specs.engine.InstanceText.{line, line_if, with, asks, text_of, IsInstanceTextOf}
 use Rattle.pb_tool.specs.meaning.Tidy.{tidied, AsksInInstanceText, IsInstanceText, Tidies}

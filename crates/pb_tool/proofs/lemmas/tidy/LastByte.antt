@@ -4,8 +4,8 @@ use Rattle.std.specs.List.{AllByRecursion}
 use Rattle.std.proofs.lemmas.Bool.{cond-false, cond-true}
 use Rattle.pb_sums.specs.declared.Term.{Term}
 use Rattle.pb_sums.specs.declared.Linear.{Linear}
-use Rattle.pb_sums.specs.Canonical.{head_bytes}
-use Rattle.pb_opb.specs.Canonical.{header_bytes, event_bytes, lines, objective_events, constraint_events, comment_events, due, in_order, body_events, instance_bytes}
+use Rattle.pb_sums.specs.contract.Canonical.{head_bytes}
+use Rattle.pb_opb.specs.contract.Canonical.{header_bytes, event_bytes, lines, objective_events, constraint_events, comment_events, due, in_order, body_events, instance_bytes}
 use Rattle.pb_opb.specs.declared.OpbEvent.{OpbEvent}
 use Rattle.pb_opb.specs.declared.OpbEvent.TheVariants.{Objective, Constraint}
 use Rattle.pb_opb.specs.declared.Instance.{Instance}

@@ -3,25 +3,25 @@ use Rattle.std.proofs.Common.{◌≡◌, ◌↔◌, ℕ, List, [], ◌∷◌, �
 use Rattle.std.specs.List.{flat_map}
 use Rattle.std.proofs.lemmas.List.{length-map}
 use Rattle.std.proofs.lemmas.List.Folds.{flat_map-map}
-use Rattle.pb_text.specs.Limits.{largest, top_of}
-use Rattle.pb_text.specs.Spelling.{Item}
-use Rattle.pb_text.specs.Whole.{gathered, events_of}
+use Rattle.pb_text.specs.meaning.Limits.{largest, top_of}
+use Rattle.pb_text.specs.meaning.Spelling.{Item}
+use Rattle.pb_text.specs.meaning.Whole.{gathered, events_of}
 use Rattle.pb_text.specs.declared.Limits.{Limits}
 use Rattle.pb_text.specs.declared.Stop.{Stop}
 use Rattle.pb_sums.specs.declared.Term.{Term}
 use Rattle.pb_sums.specs.declared.Linear.{Linear}
-use Rattle.pb_opb.specs.Canonical.{header_bytes, lines, objective_events, constraint_events, in_order, body_events, instance_bytes}
-use Rattle.pb_opb.specs.Gather.{MayKeep}
-use Rattle.pb_opb.specs.Instances.{IsBegun}
-use Rattle.pb_opb.proofs.Counted.{counted}
-use Rattle.pb_opb.specs.Values.{IsValueOf, last_or, objectives_in, constraints_in}
+use Rattle.pb_opb.specs.contract.Canonical.{header_bytes, lines, objective_events, constraint_events, in_order, body_events, instance_bytes}
+use Rattle.pb_opb.specs.meaning.Gather.{MayKeep}
+use Rattle.pb_opb.specs.meaning.Instances.{IsBegun}
+use Rattle.pb_opb.proofs.lemmas.instances.Counted.{counted}
+use Rattle.pb_opb.specs.meaning.Values.{IsValueOf, last_or, objectives_in, constraints_in}
 use Rattle.pb_opb.specs.declared.Instance.{Instance}
 use Rattle.pb_opb.specs.declared.OpbEvent.{OpbEvent}
 use Rattle.pb_opb.specs.declared.OpbEvent.TheVariants.{Header, Comment, Objective, Constraint}
-use Rattle.pb_normal.specs.Constraints.{AreFormsOf, constraint_names, sides_in}
-use Rattle.pb_normal.specs.Names.{with_names}
-use Rattle.pb_normal.specs.Written.{linear_of, names_of}
-use Rattle.pb_replay.specs.Problem.{names_in, objective_of}
+use Rattle.pb_normal.specs.meaning.Constraints.{AreFormsOf, constraint_names, sides_in}
+use Rattle.pb_normal.specs.meaning.Names.{with_names}
+use Rattle.pb_normal.specs.meaning.Written.{linear_of, names_of}
+use Rattle.pb_replay.specs.meaning.Problem.{names_in, objective_of}
 use Rattle.pb_tool.specs.contract.Faults.{faults_reported}
 use Rattle.pb_tool.specs.engine.Gathered.{IsGathered, IsNotGathered}
 use Rattle.pb_tool.specs.engine.InstanceText.{line, line_if}

@@ -7,15 +7,15 @@ use Rattle.pb_sums.specs.declared.Linear.{Linear}
 use Rattle.pb_sums.specs.declared.Relation.{Relation}
 use Rattle.pb_sums.specs.declared.Relation.TheVariants.{AtLeast, Equal}
 use Rattle.pb_opb.specs.declared.Instance.{Instance}
-use Rattle.pb_normal.proofs.WrittenForms.{same_forms}
+use Rattle.pb_normal.proofs.lemmas.names.WrittenForms.{same_forms}
 use Rattle.pb_normal.specs.declared.Side.{Side}
 use Rattle.pb_normal.specs.declared.Side.TheVariants.{AtLeast as least, AtMost as most}
-use Rattle.pb_normal.specs.Constraints.{AreFormsOf, constraint_names, sides_in, with_sides}
-use Rattle.pb_normal.specs.Form.{Form}
-use Rattle.pb_normal.specs.Names.{AreDistinct, HasNames, with_names}
-use Rattle.pb_normal.specs.Written.{names_of, linear_of, HoldsWritten, IsFormOf, IsSideOf, SameAsForm, SameAsForms}
-use Rattle.pb_normal.proofs.Appearing.{names_split}
-use Rattle.pb_replay.specs.Problem.{Solves, names_in, objective_of}
+use Rattle.pb_normal.specs.meaning.Constraints.{AreFormsOf, constraint_names, sides_in, with_sides}
+use Rattle.pb_normal.specs.meaning.Form.{Form}
+use Rattle.pb_normal.specs.meaning.Names.{AreDistinct, HasNames, with_names}
+use Rattle.pb_normal.specs.meaning.Written.{names_of, linear_of, HoldsWritten, IsFormOf, IsSideOf, SameAsForm, SameAsForms}
+use Rattle.pb_normal.proofs.lemmas.names.Appearing.{names_split}
+use Rattle.pb_replay.specs.meaning.Problem.{Solves, names_in, objective_of}
 use Rattle.pb_tool.specs.contract.Normalised.{AreLoaded, IsNormalised}
 
 -- each constraint holds

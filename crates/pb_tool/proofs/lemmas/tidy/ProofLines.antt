@@ -1,14 +1,14 @@
 -- The text of a proof whose statements are gathered one by one is its canonical text.
 use Rattle.std.proofs.Common.{◌≡◌, ◌↔◌, ℕ, List, [], ◌∷◌, ◌++◌, Option, Result, refl, sym, ap, ◌∙◌, append_assoc, append-nil, All}
-use Rattle.pb_text.specs.Spelling.{Item}
-use Rattle.pb_text.specs.Whole.{gathered, events_of}
+use Rattle.pb_text.specs.meaning.Spelling.{Item}
+use Rattle.pb_text.specs.meaning.Whole.{gathered, events_of}
 use Rattle.pb_text.specs.declared.Limits.{Limits}
 use Rattle.std.specs.List.{flat_map}
 use Rattle.std.proofs.lemmas.Grind.{flat_map-append}
 use Rattle.std.proofs.lemmas.List.Elements.{All-head, All-tail}
-use Rattle.pb_proof.specs.Gather.{asks, MayKeep}
-use Rattle.pb_proof.specs.Canonical.{statement_bytes, lines}
-use Rattle.pb_proof.specs.Proofs.{IsStep, statements_of, IsProofOf}
+use Rattle.pb_proof.specs.contract.Gather.{asks, MayKeep}
+use Rattle.pb_proof.specs.meaning.Canonical.{statement_bytes, lines}
+use Rattle.pb_proof.specs.meaning.Proofs.{IsStep, statements_of, IsProofOf}
 use Rattle.pb_proof.specs.declared.Proof.{Proof}
 use Rattle.pb_proof.specs.declared.Statement.{Statement}
 use Rattle.pb_proof.specs.declared.Statement.TheVariants.{Header, F, Pol, Rup, Soli, Solx, Delete, Output, Conclude, End}

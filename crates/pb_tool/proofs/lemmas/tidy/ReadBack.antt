@@ -1,17 +1,17 @@
 -- What is read of a canonical text, with or without a line feed after it.
 use Rattle.std.proofs.Common.{◌≡◌, ◌≢◌, ◌⊎◌, inl, inr, ℕ, ◌<◌, ◌≤◌, ◌^◌, List, [], ◌∷◌, ◌++◌, length, Bool, true, false, cond, Option, Some, Err, refl, sym, ap, ◌∙◌, subst, append-nil, append_assoc, arith, length-append}
-use Rattle.pb_text.specs.Blank.{ReadsBlank, IsStray, passes}
-use Rattle.pb_text.specs.Pulling.{Took}
-use Rattle.pb_text.specs.Reading.{Explains, IsBad, IsFull, IsUnderWay, Overruns, Reads, byte_limit}
-use Rattle.pb_text.specs.Spelling.{Item, bytes_of, marks_of, place_after}
-use Rattle.pb_text.specs.Whole.{IsRead, ReadsValue, Reading, Keeping}
+use Rattle.pb_text.specs.meaning.Blank.{ReadsBlank, IsStray, passes}
+use Rattle.pb_text.specs.meaning.Pulling.{Took}
+use Rattle.pb_text.specs.meaning.Reading.{Explains, IsBad, IsFull, IsUnderWay, Overruns, Reads, byte_limit}
+use Rattle.pb_text.specs.meaning.Spelling.{Item, bytes_of, marks_of, place_after}
+use Rattle.pb_text.specs.meaning.Whole.{IsRead, ReadsValue, Reading, Keeping}
 use Rattle.pb_text.specs.declared.Place.{Place}
 use Rattle.pb_text.specs.declared.Spanned.{Spanned}
 use Rattle.pb_text.specs.declared.Stop.{Stop}
 use Rattle.pb_text.specs.declared.Why.{Why}
 use Rattle.pb_text.specs.declared.Why.TheVariants.{Byte, TooLarge, Ended, TooLong, Read, Memory}
-use Rattle.pb_text.proofs.Short.{place_after-offset}
-use Rattle.pb_opb.specs.Canonical.{instance_bytes}
+use Rattle.pb_text.proofs.lemmas.text.Short.{place_after-offset}
+use Rattle.pb_opb.specs.contract.Canonical.{instance_bytes}
 use Rattle.pb_opb.specs.declared.Instance.{Instance}
 use Rattle.pb_tool.specs.contract.Stays.{IsOutside}
 use Rattle.pb_tool.specs.meaning.Tidy.{ends_in_feed, tidied, IsFile, IsRefused}

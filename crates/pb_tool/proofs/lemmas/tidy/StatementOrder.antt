@@ -2,18 +2,18 @@
 use Rattle.std.proofs.Common.{◌≡◌, ℕ, suc, zero, ◌+◌, ◌≤◌, List, [], ◌∷◌, ◌++◌, take, drop, Bool, true, false, cond, nat_le, Option, Some, None, refl, sym, ap, ap₂, subst, ◌∙◌, append_assoc, append-nil, ◌<◌, arith}
 use Rattle.std.specs.List.{flat_map}
 use Rattle.std.proofs.lemmas.Bool.{both_ways, leb-false, leb-true}
-use Rattle.pb_text.specs.Spelling.{Item, Letter}
-use Rattle.pb_text.specs.Whole.{gathered, events_of}
+use Rattle.pb_text.specs.meaning.Spelling.{Item, Letter}
+use Rattle.pb_text.specs.meaning.Whole.{gathered, events_of}
 use Rattle.pb_sums.specs.declared.Term.{Term}
 use Rattle.pb_sums.specs.declared.Linear.{Linear}
-use Rattle.pb_opb.proofs.Kept.{told}
-use Rattle.pb_opb.specs.Canonical.{header_bytes, event_bytes, lines, objective_events, constraint_events, comment_events, due, in_order, body_events, instance_bytes}
-use Rattle.pb_opb.specs.Values.{IsValueOf, last_or, objectives_in, constraints_in, comments_in, comment_at}
+use Rattle.pb_opb.proofs.lemmas.instances.Kept.{told}
+use Rattle.pb_opb.specs.contract.Canonical.{header_bytes, event_bytes, lines, objective_events, constraint_events, comment_events, due, in_order, body_events, instance_bytes}
+use Rattle.pb_opb.specs.meaning.Values.{IsValueOf, last_or, objectives_in, constraints_in, comments_in, comment_at}
 use Rattle.pb_opb.specs.declared.Instance.{Instance}
 use Rattle.pb_opb.specs.declared.Comment as comment
 use Rattle.pb_opb.specs.declared.OpbEvent.{OpbEvent}
 use Rattle.pb_opb.specs.declared.OpbEvent.TheVariants.{Header, Comment, Objective, Constraint}
-use Rattle.pb_opb.proofs.Counted.{IsEntry, IsCounted}
+use Rattle.pb_opb.proofs.lemmas.instances.Counted.{IsEntry, IsCounted}
 use Rattle.pb_tool.specs.engine.InstanceText.{line}
 use Rattle.pb_tool.specs.meaning.Tidy.{is_bare, tidied}
 use Rattle.pb_tool.proofs.lemmas.tidy.LastByte.{tidied_bare, tidied_more}

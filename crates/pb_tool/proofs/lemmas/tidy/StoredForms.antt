@@ -3,10 +3,10 @@ use Rattle.std.proofs.Common.{◌≡◌, ℕ, List, [], ◌∷◌, ◌++◌, Opt
 use Rattle.std.proofs.lemmas.Grind.{flat_map-append}
 use Rattle.pb_sums.specs.declared.Term.{Term}
 use Rattle.pb_sums.specs.declared.Linear.{Linear}
-use Rattle.pb_opb.specs.Values.{last_or, variables_in, objectives_in, constraints_in}
+use Rattle.pb_opb.specs.meaning.Values.{last_or, variables_in, objectives_in, constraints_in}
 use Rattle.pb_opb.specs.declared.OpbEvent.{OpbEvent}
 use Rattle.pb_opb.specs.declared.OpbEvent.TheVariants.{Header, Comment, Objective, Constraint}
-use Rattle.pb_normal.specs.Written.{names_of}
+use Rattle.pb_normal.specs.meaning.Written.{names_of}
 use Rattle.pb_tool.specs.engine.NormalText.{AreMade, IsNoted, as_statement, names_at, names_on}
 use Rattle.pb_tool.specs.declared.commands.tidy.normal_text.Forms.{Forms}
 

@@ -1,20 +1,20 @@
 -- What `tidy` does of a text that it wrote.
 use Rattle.std.proofs.Common.{◌≡◌, ◌^◌, ℕ, false, List, [], ◌++◌, length, Option, Some, None, Result, Ok, Err, inl, inr, sym, ap, ◌∙◌, subst}
 use Rattle.std.specs.Io.KnownBytes.{Appends}
-use Rattle.pb_text.specs.Limits.{largest, top_of}
-use Rattle.pb_text.specs.Writing.{Wrote, Broke}
+use Rattle.pb_text.specs.meaning.Limits.{largest, top_of}
+use Rattle.pb_text.specs.meaning.Writing.{Wrote, Broke}
 use Rattle.pb_text.specs.declared.Limits.{Limits}
 use Rattle.pb_text.specs.declared.Spanned.{Spanned}
 use Rattle.pb_text.specs.declared.Stop.{Stop}
 use Rattle.pb_text.specs.declared.Why.{Why}
-use Rattle.pb_text.specs.Whole.{IsRead}
-use Rattle.pb_opb.specs.Reading.{ReadsInstance}
-use Rattle.pb_opb.specs.Statements.{InstanceValues}
-use Rattle.pb_opb.specs.Values.{IsValueOf}
+use Rattle.pb_text.specs.meaning.Whole.{IsRead}
+use Rattle.pb_opb.specs.meaning.Reading.{ReadsInstance}
+use Rattle.pb_opb.specs.contract.Statements.{InstanceValues}
+use Rattle.pb_opb.specs.meaning.Values.{IsValueOf}
 use Rattle.pb_opb.specs.declared.Instance.{Instance}
-use Rattle.pb_proof.specs.Proofs.{IsProofOf}
-use Rattle.pb_proof.specs.Reading.{ReadsProof}
-use Rattle.pb_proof.specs.ValueLaws.{ProofValues}
+use Rattle.pb_proof.specs.meaning.Proofs.{IsProofOf}
+use Rattle.pb_proof.specs.meaning.Reading.{ReadsProof}
+use Rattle.pb_proof.specs.contract.ValueLaws.{ProofValues}
 use Rattle.pb_proof.specs.declared.Proof.{Proof}
 use Rattle.pb_tool.specs.meaning.Files.{tidied_proof, IsProofFile, IsProofText, TidiesFile}
 use Rattle.pb_tool.specs.contract.Stays.{HasNoFault, IsOutside, IsProofWithin, IsReadAsInstance, IsReadAsProof, IsInstanceWithin, ProofHasNoFault, ProofStaysAsIs, StaysAsIs, WroteAgain}

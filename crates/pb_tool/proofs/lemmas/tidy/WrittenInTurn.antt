@@ -4,8 +4,8 @@ use Rattle.std.specs.Borrow.{Bor}
 use Rattle.std.specs.List.{flat_map}
 use Rattle.std.proofs.lemmas.Grind.{flat_map-append}
 use Rattle.pb_text.specs.declared.source.Failed.{Failed}
-use Rattle.pb_text.specs.Writing.{Wrote, Broke, Writes}
-use Rattle.pb_text.proofs.Parts.{part_then, part_broke}
+use Rattle.pb_text.specs.meaning.Writing.{Wrote, Broke, Writes}
+use Rattle.pb_text.proofs.lemmas.text.Parts.{part_then, part_broke}
 
 module _ {S : Type 0} (contents : S → Option (List ℕ)) (faults : S → ℕ) where
   -- all texts of a list, if those before one were written and that one was written in part

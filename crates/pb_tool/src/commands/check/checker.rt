@@ -1,9 +1,9 @@
 //! Checks a proof whose text comes in pieces of any size.
 
 ghost use Rattle.std.specs.Prelude.{◌≡◌, ◌<◌, ℕ, Err, Result, Some, length};
-ghost use Rattle.pb_replay.specs.Replay.{State};
+ghost use Rattle.pb_replay.specs.meaning.Replay.{State};
 ghost use Rattle.pb_replay.specs.declared.fault.Fault.{Fault as AFault};
-ghost use Rattle.pb_replay.specs.Meaning.{IsFront};
+ghost use Rattle.pb_replay.specs.meaning.Meaning.{IsFront};
 ghost use Rattle.pb_tool.specs.contract.Checker.{IsAt, TextsAreRead};
 ghost use Rattle.pb_tool.specs.contract.Faults.{check_fault_text};
 
@@ -74,13 +74,13 @@ impl Model for Checker {
 }
 
 impl Checker {
-    ghost use Rattle.pb_text.specs.Feeding.{state_of};
-    ghost use Rattle.pb_proof.specs.Machine.State.{proofs};
+    ghost use Rattle.pb_text.specs.contract.Feeding.{state_of};
+    ghost use Rattle.pb_proof.specs.engine.Machine.State.{proofs};
     ghost use Rattle.std.specs.Prelude.{◌+◌, ◌<◌, ◌≤◌, ◌++◌, [], ℕ, OnOk, List, None, Some, Err, IfErr, IfOk, IfSome, length, slice_get, unwrap_or, true, ◌^◌};
     ghost use Rattle.std.specs.Option.{option_copied};
-    ghost use Rattle.pb_text.specs.Blank.{IsInReach};
+    ghost use Rattle.pb_text.specs.meaning.Blank.{IsInReach};
     ghost use Rattle.pb_text.specs.declared.Limits.{Limits};
-    ghost use Rattle.pb_replay.specs.Problem.{Problem};
+    ghost use Rattle.pb_replay.specs.meaning.Problem.{Problem};
     ghost use Rattle.pb_tool.specs.contract.Checks.{Ends};
     ghost use Rattle.pb_tool.specs.contract.Pieces.{ChecksAt, ChecksOnce, EndsStatement, HoldsOpen, MayGoOn, IsNoReadFault, AllocatesAt, bytes_gone, fault_in, fault_of, is_whole, place_in};
     ghost use Rattle.pb_tool.specs.declared.commands.check.checker.CheckFault.{CheckFault as ACheckFault};

@@ -1,7 +1,7 @@
 //! The instance of a check, and the replay that begins with it.
 
 ghost use Rattle.std.specs.Prelude.{◌≡◌, ◌<◌, Err, Result, IfErr, IfOk};
-ghost use Rattle.pb_text.specs.Pulling.{OfGiven};
+ghost use Rattle.pb_text.specs.meaning.Pulling.{OfGiven};
 ghost use Rattle.pb_tool.specs.contract.Runs.{IsNoReplay, IsReplayOf, faults_of_instance};
 ghost use Rattle.pb_tool.specs.contract.Seen.{SawInstance};
 

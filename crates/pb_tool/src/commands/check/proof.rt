@@ -1,10 +1,10 @@
 //! The proof of a check: its statements, one after another, and what is reported of a rejected one.
 
 ghost use Rattle.std.specs.Prelude.{◌≡◌, ◌<◌, Err, None, Result, string_bytes, get_or, [], IfErr, IfOk, OnErr, ℕ};
-ghost use Rattle.pb_text.specs.Blank.{IsInReach};
-ghost use Rattle.pb_text.specs.Pulling.{OfGiven};
-ghost use Rattle.pb_replay.specs.Replay.{State};
-ghost use Rattle.pb_replay.specs.Kept.{StandsFor};
+ghost use Rattle.pb_text.specs.meaning.Blank.{IsInReach};
+ghost use Rattle.pb_text.specs.meaning.Pulling.{OfGiven};
+ghost use Rattle.pb_replay.specs.meaning.Replay.{State};
+ghost use Rattle.pb_replay.specs.contract.Kept.{StandsFor};
 ghost use Rattle.pb_tool.specs.contract.Runs.{IsReportedAs, Replays, RunsProof, faults_of_proof, faults_of_text};
 ghost use Rattle.pb_tool.specs.contract.Seen.{SawProof, SawText};
 ghost use Rattle.pb_tool.specs.meaning.Verified.{IsReported};

@@ -1,11 +1,11 @@
 //! One statement of a proof: the step of the replay, and what a watch sees of it.
 
 ghost use Rattle.std.specs.Prelude.{◌≡◌, ◌<◌, ℕ, Err, Result, length};
-ghost use Rattle.pb_text.specs.Limits.{largest, top_of};
-ghost use Rattle.pb_proof.specs.Values.{IsStatementValue};
-ghost use Rattle.pb_replay.specs.Replay.{State};
+ghost use Rattle.pb_text.specs.meaning.Limits.{largest, top_of};
+ghost use Rattle.pb_proof.specs.contract.Values.{IsStatementValue};
+ghost use Rattle.pb_replay.specs.meaning.Replay.{State};
 ghost use Rattle.pb_replay.specs.declared.fault.Fault.{Fault as AFault};
-ghost use Rattle.pb_replay.specs.Meaning.{IsFront};
+ghost use Rattle.pb_replay.specs.meaning.Meaning.{IsFront};
 ghost use Rattle.pb_tool.specs.contract.Checker.{IsAt, StepsFrom};
 ghost use Rattle.pb_tool.specs.contract.Watched.{call_for};
 

@@ -1,8 +1,8 @@
 //! The line of a verdict.
 
 ghost use Rattle.std.specs.Prelude.{◌≡◌};
-ghost use Rattle.pb_text.specs.Writing.{Writes};
-ghost use Rattle.pb_proof.specs.Canonical.{bound_bytes};
+ghost use Rattle.pb_text.specs.meaning.Writing.{Writes};
+ghost use Rattle.pb_proof.specs.meaning.Canonical.{bound_bytes};
 ghost use Rattle.pb_tool.specs.meaning.Verified.{verdict_line};
 
 use crate::fault::write_parts;

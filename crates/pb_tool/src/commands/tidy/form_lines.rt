@@ -1,11 +1,11 @@
 //! The normal forms of constraints, as the lines that are written for them.
 
 ghost use Rattle.std.specs.Prelude.{◌≡◌, ◌<◌, ◌+◌, ◌∷◌, ◌++◌, [], List, All, IfOk, OnOk, length};
-ghost use Rattle.pb_text.specs.Limits.{largest};
-ghost use Rattle.pb_normal.specs.Constraints.{AreFormsOf, Fits, constraint_names, sides_in};
-ghost use Rattle.pb_normal.specs.Form.{Form};
-ghost use Rattle.pb_normal.specs.Names.{with_names};
-ghost use Rattle.pb_normal.specs.Written.{linear_of, names_of};
+ghost use Rattle.pb_text.specs.meaning.Limits.{largest};
+ghost use Rattle.pb_normal.specs.meaning.Constraints.{AreFormsOf, Fits, constraint_names, sides_in};
+ghost use Rattle.pb_normal.specs.meaning.Form.{Form};
+ghost use Rattle.pb_normal.specs.meaning.Names.{with_names};
+ghost use Rattle.pb_normal.specs.meaning.Written.{linear_of, names_of};
 ghost use Rattle.pb_opb.specs.declared.OpbEvent.TheVariants.{Constraint};
 ghost use Rattle.pb_tool.specs.engine.InstanceText.{line};
 ghost use Rattle.pb_tool.specs.engine.NormalText.{form_lines};

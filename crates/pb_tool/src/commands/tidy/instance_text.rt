@@ -1,7 +1,7 @@
 //! The text of an instance, built as its statements come.
 
 ghost use Rattle.std.specs.Prelude.{◌≡◌, ◌++◌, None, OnErr, OnOk};
-ghost use Rattle.pb_text.specs.Writing.{Writes};
+ghost use Rattle.pb_text.specs.meaning.Writing.{Writes};
 ghost use Rattle.pb_tool.specs.engine.InstanceText.{line, line_if, text_of};
 
 use crate::canonical::{Canonical, write_line};

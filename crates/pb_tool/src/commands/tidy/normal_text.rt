@@ -1,10 +1,10 @@
 //! The normal form of an instance, built as its statements come.
 
 ghost use Rattle.std.specs.Prelude.{◌≡◌, ◌++◌, ◌∷◌, [], List, ℕ, false};
-ghost use Rattle.pb_text.specs.Limits.{largest};
-ghost use Rattle.pb_text.specs.Writing.{Writes};
+ghost use Rattle.pb_text.specs.meaning.Limits.{largest};
+ghost use Rattle.pb_text.specs.meaning.Writing.{Writes};
 ghost use Rattle.pb_sums.specs.declared.Linear.{Linear as Written};
-ghost use Rattle.pb_normal.specs.Written.{names_of};
+ghost use Rattle.pb_normal.specs.meaning.Written.{names_of};
 ghost use Rattle.pb_opb.specs.declared.Instance.{Instance};
 ghost use Rattle.pb_opb.specs.declared.OpbEvent.TheVariants.{Header};
 ghost use Rattle.pb_tool.specs.engine.InstanceText.{line, line_if};

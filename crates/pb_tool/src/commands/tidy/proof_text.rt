@@ -1,7 +1,7 @@
 //! The text of a proof, built as its statements come.
 
 ghost use Rattle.std.specs.Prelude.{◌≡◌, ◌++◌, OnErr, OnOk};
-ghost use Rattle.pb_text.specs.Writing.{Writes};
+ghost use Rattle.pb_text.specs.meaning.Writing.{Writes};
 ghost use Rattle.pb_tool.specs.engine.ProofText.{after_steps, before_steps, line, text_of};
 
 use crate::canonical::{Canonical, write_line};
@@ -77,7 +77,7 @@ impl Canonical for ProofText {
 }
 
 impl Gather for ProofText {
-    ghost use Rattle.pb_proof.specs.Gather.{asks};
+    ghost use Rattle.pb_proof.specs.contract.Gather.{asks};
     ghost use Rattle.pb_tool.specs.engine.ProofText.{with};
 
     type Event = Statement;

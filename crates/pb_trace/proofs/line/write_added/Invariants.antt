@@ -1,5 +1,5 @@
 use Rattle.std.proofs.Common.{◌≤◌, ◌-◌, length}
-use Rattle.pb_text.specs.Writing.{Wrote}
+use Rattle.pb_text.specs.meaning.Writing.{Wrote}
 use Rattle.pb_trace.specs.Traced.{added_bytes}
 use Rattle.pb_trace.proofs.line.write_added.Given as goal
 

@@ -2,7 +2,7 @@ use Rattle.std.proofs.Common.{ap, rules}
 use mir.Val.{SFits}
 use Rattle.std.specs.Int.{w128}
 use Rattle.std.proofs.lemmas.Int.{to_z-of_z}
-use Rattle.pb_text.proofs.Parts.{part_then, part_broke}
+use Rattle.pb_text.proofs.lemmas.text.Parts.{part_then, part_broke}
 use Rattle.pb_trace.specs.Traced.{best_bytes}
 use Rattle.pb_trace.proofs.line.write_best.Goals as goal
 

@@ -1,5 +1,5 @@
 use Rattle.std.proofs.Common.{◌≡◌, take}
-use Rattle.pb_text.specs.Writing.{Wrote}
+use Rattle.pb_text.specs.meaning.Writing.{Wrote}
 use Rattle.pb_trace.specs.Traced.{deleted_bytes, live_in, without_all}
 use Rattle.pb_trace.proofs.line.write_deleted.Given as goal
 

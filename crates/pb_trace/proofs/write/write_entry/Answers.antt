@@ -1,5 +1,5 @@
 use Rattle.std.proofs.Common.{refl}
-use Rattle.pb_text.proofs.Parts.{part_then, part_broke}
+use Rattle.pb_text.proofs.lemmas.text.Parts.{part_then, part_broke}
 use Rattle.std.specs.Int.{w128}
 use Rattle.std.proofs.lemmas.Int.{to_z_pos}
 use Rattle.pb_trace.proofs.Shown.{entry_parts}

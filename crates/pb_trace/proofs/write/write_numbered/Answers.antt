@@ -1,6 +1,6 @@
 use Rattle.std.proofs.Common.{Bool, ap}
-use Rattle.pb_text.proofs.Parts.{part_then, part_broke}
-use Rattle.pb_sums.specs.Sums.{literal_bytes}
+use Rattle.pb_text.proofs.lemmas.text.Parts.{part_then, part_broke}
+use Rattle.pb_sums.specs.meaning.Sums.{literal_bytes}
 use Rattle.pb_trace.specs.Changes.{name_shown}
 use Rattle.pb_trace.proofs.write.write_numbered.Goals as goal
 

@@ -1,9 +1,9 @@
 use Rattle.std.proofs.Common.{arith, ◌≡◌}
-use Rattle.pb_normal.specs.Form.{total, each}
-use Rattle.pb_normal.specs.Rules.{IsSum}
-use Rattle.pb_normal.proofs.Faults.{overflow-Memory, overflow-Ok}
-use Rattle.pb_normal.proofs.Measures.{IsSum-measured, SumPasses-not}
-use Rattle.pb_normal.proofs.Sums.{Holds-sum}
+use Rattle.pb_normal.specs.meaning.Form.{total, each}
+use Rattle.pb_normal.specs.meaning.Rules.{IsSum}
+use Rattle.pb_normal.proofs.lemmas.rules.Faults.{overflow-Memory, overflow-Ok}
+use Rattle.pb_normal.proofs.lemmas.rules.Measures.{IsSum-measured, SumPasses-not}
+use Rattle.pb_normal.proofs.lemmas.rules.Sums.{Holds-sum}
 use Rattle.pb_normal.proofs.form.Normal.add.Goals as goal
 
 pub returns-in_err-terms-clause-overflow : goal.returns-in_err-terms-clause-overflow

@@ -1,6 +1,6 @@
 use Rattle.std.proofs.Common.{rules, ◌<◌}
-use Rattle.pb_normal.specs.Form.{Form}
-use Rattle.pb_normal.proofs.Maps.{IsNormal-divided, Holds-divided}
+use Rattle.pb_normal.specs.meaning.Form.{Form}
+use Rattle.pb_normal.proofs.lemmas.terms.Maps.{IsNormal-divided, Holds-divided}
 use Rattle.pb_normal.proofs.form.Normal.divide.Goals as goal
 
 pub invariant_of-result : goal.invariant_of-result

@@ -1,8 +1,8 @@
 use Rattle.std.proofs.Common.{arith, rules, ◌+◌, ◌≤◌, unsigned_abs, FitsSigned}
 use Rattle.std.specs.Int.{w128}
-use Rattle.pb_text.specs.Limits.{largest}
-use Rattle.pb_normal.specs.Written.{magnitude}
-use Rattle.pb_normal.proofs.WrittenForms.{total-raw, magnitude-side, shift-side-le, Collected, Collected-from, size-Collected, IsNormal-Collected, IsWithin-Collected, IsSideOf-Collected, SameSolutions-side}
+use Rattle.pb_text.specs.meaning.Limits.{largest}
+use Rattle.pb_normal.specs.meaning.Written.{magnitude}
+use Rattle.pb_normal.proofs.lemmas.names.WrittenForms.{total-raw, magnitude-side, shift-side-le, Collected, Collected-from, size-Collected, IsNormal-Collected, IsWithin-Collected, IsSideOf-Collected, SameSolutions-side}
 use Rattle.pb_normal.proofs.form.Normal.from_linear.Goals as goal
 
 pub collected-requires : goal.collected-requires

@@ -1,6 +1,6 @@
 use Rattle.std.proofs.Common.{◌≡◌, ◌+◌, drop}
-use Rattle.pb_normal.specs.Form.{total, true_at}
-use Rattle.pb_normal.specs.Rules.{assignment}
+use Rattle.pb_normal.specs.meaning.Form.{total, true_at}
+use Rattle.pb_normal.specs.meaning.Rules.{assignment}
 use Rattle.pb_normal.proofs.form.Normal.holds.Given as goal
 
 abbrev pub invariant-loop-t : goal.invariant-loop-t

@@ -1,8 +1,8 @@
 use Rattle.std.proofs.Common.{ap}
-use Rattle.pb_normal.specs.Form.{Form}
+use Rattle.pb_normal.specs.meaning.Form.{Form}
 use Rattle.std.proofs.lemmas.Slice.Eq.{slice_eq-Decides}
-use Rattle.pb_normal.proofs.Unique.{same_form}
-use Rattle.pb_normal.proofs.Entries.{entry-Decides}
+use Rattle.pb_normal.proofs.lemmas.rules.Unique.{same_form}
+use Rattle.pb_normal.proofs.lemmas.terms.Entries.{entry-Decides}
 use Rattle.pb_normal.proofs.form.Normal.is_same.Goals as goal
 
 pub returns-then-self-other : goal.returns-then-self-other

@@ -1,5 +1,5 @@
 use Rattle.std.proofs.Common.{◌<◌, ℕ, IsTrue, ltb, ◌↔◌, rules, tests}
-use Rattle.pb_normal.proofs.Measures.{SumIsContradiction-measured}
+use Rattle.pb_normal.proofs.lemmas.rules.Measures.{SumIsContradiction-measured}
 use Rattle.pb_normal.proofs.form.Normal.refutes.Goals as goal
 
 tells : (a b : ℕ) → IsTrue (ltb a b) ↔ (a < b)

@@ -1,5 +1,5 @@
-use Rattle.pb_normal.specs.Form.{Form}
-use Rattle.pb_normal.proofs.Scales.{IsNormal-saturated, Holds-saturated}
+use Rattle.pb_normal.specs.meaning.Form.{Form}
+use Rattle.pb_normal.proofs.lemmas.rules.Scales.{IsNormal-saturated, Holds-saturated}
 use Rattle.pb_normal.proofs.form.Normal.saturate.Goals as goal
 
 pub invariant_of-result : goal.invariant_of-result

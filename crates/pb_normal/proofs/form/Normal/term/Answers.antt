@@ -3,7 +3,7 @@ use Rattle.std.specs.Int.{w128}
 use Rattle.std.proofs.lemmas.Int.{fits_signed_from_abs, to_z_pos, ints}
 use Rattle.std.proofs.lemmas.List.{take-append-drop}
 use Rattle.std.proofs.lemmas.Option.{slice_get-get_or}
-use Rattle.pb_normal.proofs.Merging.{total-read, positive-read}
+use Rattle.pb_normal.proofs.lemmas.terms.Merging.{total-read, positive-read}
 use Rattle.pb_normal.proofs.form.Normal.term.Goals as goal
 
 pub overflow_cast-result : goal.overflow_cast-result

@@ -1,5 +1,5 @@
-use Rattle.pb_normal.specs.Form.{Form}
-use Rattle.pb_normal.proofs.Maps.{IsNormal-weakened, Holds-weakened}
+use Rattle.pb_normal.specs.meaning.Form.{Form}
+use Rattle.pb_normal.proofs.lemmas.terms.Maps.{IsNormal-weakened, Holds-weakened}
 use Rattle.pb_normal.proofs.form.Normal.weaken.Goals as goal
 
 pub invariant_of-result : goal.invariant_of-result

@@ -3,9 +3,9 @@ use Rattle.std.specs.Str.{bytes_eq}
 use Rattle.std.specs.List.{list_any}
 use Rattle.std.specs.String.{string_bytes, string_eq}
 use Rattle.std.proofs.lemmas.Slice.Eq.{bytes_eq-Decides}
-use Rattle.pb_normal.specs.Names.{has_name}
-use Rattle.pb_normal.proofs.Numbering.{AreDistinct-push, number_in-position, with_name-has}
-use Rattle.pb_normal.proofs.Positions.{position-map, list_any-map, map-inserted, position-inserted, slice_get-position}
+use Rattle.pb_normal.specs.meaning.Names.{has_name}
+use Rattle.pb_normal.proofs.lemmas.names.Numbering.{AreDistinct-push, number_in-position, with_name-has}
+use Rattle.pb_normal.proofs.lemmas.terms.Positions.{position-map, list_any-map, map-inserted, position-inserted, slice_get-position}
 use Rattle.pb_normal.proofs.names.Names.number.Goals as goal
 
 pub returns-in-Some-clause-names : goal.returns-in-Some-clause-names

@@ -2,8 +2,8 @@ use Rattle.std.proofs.Common.{◌≡◌, ◌∙◌, sym, map}
 use Rattle.std.specs.List.{position}
 use Rattle.std.specs.Str.{bytes_eq}
 use Rattle.std.specs.String.{string_bytes}
-use Rattle.pb_normal.proofs.Numbering.{position-number}
-use Rattle.pb_normal.proofs.Positions.{position-map, named_at}
+use Rattle.pb_normal.proofs.lemmas.names.Numbering.{position-number}
+use Rattle.pb_normal.proofs.lemmas.terms.Positions.{position-map, named_at}
 use Rattle.pb_normal.proofs.names.Names.number_of.Goals as goal
 
 place : (c : goal.After-get_index_of) → c.get_index_of.result ≡ position (bytes_eq c.args.name.now) (map string_bytes c.self.inside.set.keys)

@@ -1,4 +1,4 @@
-use Rattle.pb_normal.proofs.Sums.{IsSum-swapped}
+use Rattle.pb_normal.proofs.lemmas.rules.Sums.{IsSum-swapped}
 use Rattle.pb_normal.proofs.sum.Sum.add.Goals as goal
 
 pub returns-then-len-clause-sum : goal.returns-then-len-clause-sum

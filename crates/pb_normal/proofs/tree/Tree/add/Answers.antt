@@ -1,9 +1,9 @@
 use Rattle.std.proofs.Common.{◌≡◌, ◌+◌, ◌-◌, ◌*◌, arith, inl, inr}
 use Rattle.std.specs.BTreeMap.{values}
-use Rattle.pb_normal.specs.Form.{Form, total, each}
-use Rattle.pb_normal.specs.Rules.{IsSum, Passes}
-use Rattle.pb_normal.proofs.Totals.{size-Adds}
-use Rattle.pb_normal.proofs.Sums.{IsSum-from}
+use Rattle.pb_normal.specs.meaning.Form.{Form, total, each}
+use Rattle.pb_normal.specs.meaning.Rules.{IsSum, Passes}
+use Rattle.pb_normal.proofs.lemmas.terms.Totals.{size-Adds}
+use Rattle.pb_normal.proofs.lemmas.rules.Sums.{IsSum-from}
 use Rattle.pb_normal.proofs.tree.Tree.add.Goals as goal
 use Rattle.pb_normal.proofs.tree.Tree.add.Goals.{then-size-limit-via-then-size-limit, then-size-limit-via-else-size-limit+then-degree-limit}
 

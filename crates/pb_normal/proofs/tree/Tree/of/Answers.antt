@@ -1,6 +1,6 @@
 use Rattle.std.proofs.Common.{ap}
 use Rattle.std.specs.Map.{values_of}
-use Rattle.pb_normal.proofs.KeyedTerms.{Adds-from_none}
+use Rattle.pb_normal.proofs.lemmas.terms.KeyedTerms.{Adds-from_none}
 use Rattle.pb_normal.proofs.tree.Tree.of.Goals as goal
 
 -- the terms of the tree are those of the form

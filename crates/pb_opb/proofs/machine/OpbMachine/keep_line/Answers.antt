@@ -1,10 +1,10 @@
 use Rattle.std.proofs.Common.{◌≡◌, ◌∙◌, List, ℕ, true, take, sym, subst}
-use Rattle.pb_text.specs.Automaton.{Runs}
-use Rattle.pb_text.proofs.Results.{grown}
-use Rattle.pb_opb.specs.State.{OpbState, opb, keeps_line}
+use Rattle.pb_text.specs.contract.Automaton.{Runs}
+use Rattle.pb_text.proofs.lemmas.text.Results.{grown}
+use Rattle.pb_opb.specs.engine.State.{OpbState, opb, keeps_line}
 use Rattle.pb_opb.specs.contracts.machine.OpbMachine.{the_view}
-use Rattle.pb_opb.proofs.Lines.{line_order, line_runs}
-use Rattle.pb_opb.proofs.States.{is_state}
+use Rattle.pb_opb.proofs.lemmas.machine.Lines.{line_order, line_runs}
+use Rattle.pb_opb.proofs.lemmas.machine.States.{is_state}
 use Rattle.pb_opb.proofs.machine.OpbMachine.keep_line.Goals as goal
 
 pub returns-clause-runs : goal.returns-clause-runs

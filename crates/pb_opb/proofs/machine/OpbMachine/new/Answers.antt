@@ -1,7 +1,7 @@
-use Rattle.pb_text.specs.Limits.{largest, top_of}
-use Rattle.pb_opb.proofs.Asked.{asks_only}
-use Rattle.pb_opb.proofs.Bodies.{reads_instances}
-use Rattle.pb_opb.proofs.Exactly.{reads_exactly}
+use Rattle.pb_text.specs.meaning.Limits.{largest, top_of}
+use Rattle.pb_opb.proofs.lemmas.machine.Asked.{asks_only}
+use Rattle.pb_opb.proofs.lemmas.machine.Bodies.{reads_instances}
+use Rattle.pb_opb.proofs.lemmas.machine.Exactly.{reads_exactly}
 use Rattle.pb_opb.proofs.machine.OpbMachine.new.Goals as goal
 
 pub returns-clause-accepts : goal.returns-clause-accepts

@@ -1,11 +1,11 @@
 use Rattle.std.proofs.Common.{◌≡◌, ◌∙◌, ℕ, List, IsTrue, ap, sym, subst}
-use Rattle.pb_text.specs.Automaton.{Admits}
-use Rattle.pb_text.proofs.Results.{unchanged}
-use Rattle.pb_opb.specs.Order.{PhaseFits}
-use Rattle.pb_opb.specs.State.{OpbState, opb}
+use Rattle.pb_text.specs.contract.Automaton.{Admits}
+use Rattle.pb_text.proofs.lemmas.text.Results.{unchanged}
+use Rattle.pb_opb.specs.engine.Order.{PhaseFits}
+use Rattle.pb_opb.specs.engine.State.{OpbState, opb}
 use Rattle.pb_opb.specs.contracts.machine.OpbMachine.{the_view}
 use Rattle.pb_opb.specs.declared.phase.Move.TheVariants.{To, BeginTail, Keep}
-use Rattle.pb_opb.proofs.Pushed.{planned_at, to_order, tail_admits, keep_admits}
+use Rattle.pb_opb.proofs.lemmas.machine.Pushed.{planned_at, to_order, tail_admits, keep_admits}
 use Rattle.pb_opb.proofs.machine.OpbMachine.take.Goals as goal
 
 pub invariant_of-self : goal.invariant_of-self

@@ -1,7 +1,7 @@
 use Rattle.std.proofs.Common.{subst}
-use Rattle.pb_text.specs.Automaton.{IsState}
-use Rattle.pb_opb.specs.State.{OpbState, opb}
-use Rattle.pb_opb.proofs.States.{is_state}
+use Rattle.pb_text.specs.contract.Automaton.{IsState}
+use Rattle.pb_opb.specs.engine.State.{OpbState, opb}
+use Rattle.pb_opb.proofs.lemmas.machine.States.{is_state}
 use Rattle.pb_opb.proofs.machine.OpbMachineMachine.is_done.Goals as goal
 
 pub returns-clause-state : goal.returns-clause-state

@@ -1,7 +1,7 @@
 use Rattle.std.proofs.Common.{take, refl}
 use Rattle.pb_opb.specs.contracts.machine.OpbMachine.{the_view}
-use Rattle.pb_opb.proofs.Lines.{kept_or_none}
-use Rattle.pb_opb.proofs.Taken.{runs_given}
+use Rattle.pb_opb.proofs.lemmas.machine.Lines.{kept_or_none}
+use Rattle.pb_opb.proofs.lemmas.machine.Taken.{runs_given}
 use Rattle.pb_opb.proofs.machine.OpbMachineMachine.run.Goals as goal
 use Rattle.pb_opb.proofs.machine.OpbMachineMachine.run.Goals.{in-Constraint, in-Tail, in_default}
 

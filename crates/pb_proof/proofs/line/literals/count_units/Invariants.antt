@@ -1,5 +1,5 @@
 use Rattle.std.proofs.Common.{◌≡◌, ◌-◌, ◌^◌, min, take}
-use Rattle.pb_proof.specs.Line.Literals.{units}
+use Rattle.pb_proof.specs.engine.Line.Literals.{units}
 use Rattle.pb_proof.proofs.line.literals.count_units.Given as goal
 
 abbrev pub invariant-loop-literal : goal.invariant-loop-literal

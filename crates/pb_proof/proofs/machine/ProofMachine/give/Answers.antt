@@ -1,7 +1,7 @@
 use Rattle.std.proofs.Common.{◌≡◌, sym, subst, Some, IsTrue, refl}
-use Rattle.pb_text.specs.Automaton.{Admits}
-use Rattle.pb_proof.specs.Machine.Transition.{plan}
-use Rattle.pb_proof.specs.Machine.State.{ProofState, IsInOrder, proofs}
+use Rattle.pb_text.specs.contract.Automaton.{Admits}
+use Rattle.pb_proof.specs.engine.Machine.Transition.{plan}
+use Rattle.pb_proof.specs.engine.Machine.State.{ProofState, IsInOrder, proofs}
 use Rattle.pb_proof.specs.contracts.machine.ProofMachine.{the_view}
 use Rattle.pb_proof.specs.declared.line.LineMachine.{LineMachine}
 use Rattle.pb_proof.specs.declared.machine.phase.Move.TheVariants.{Give}

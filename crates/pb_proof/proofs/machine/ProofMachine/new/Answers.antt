@@ -1,8 +1,8 @@
-use Rattle.pb_text.specs.Limits.{largest, top_of}
-use Rattle.pb_text.specs.Automaton.{Accepts}
-use Rattle.pb_text.proofs.Formats as formats
-use Rattle.pb_proof.specs.Proofs.{IsProof}
-use Rattle.pb_proof.specs.Machine.State.{proofs, begin}
+use Rattle.pb_text.specs.meaning.Limits.{largest, top_of}
+use Rattle.pb_text.specs.contract.Automaton.{Accepts}
+use Rattle.pb_text.proofs.lemmas.text.Formats as formats
+use Rattle.pb_proof.specs.meaning.Proofs.{IsProof}
+use Rattle.pb_proof.specs.engine.Machine.State.{proofs, begin}
 use Rattle.pb_proof.proofs.lemmas.Machine.Asks.{asks_only}
 use Rattle.pb_proof.proofs.lemmas.Machine.Exact.{reads_proofs}
 use Rattle.pb_proof.proofs.machine.ProofMachine.new.Goals as goal

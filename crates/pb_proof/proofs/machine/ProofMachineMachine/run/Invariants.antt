@@ -1,6 +1,6 @@
 use Rattle.std.proofs.Common.{◌-◌, ◌≤◌, length, take}
-use Rattle.pb_text.specs.Automaton.{IsState, Runs}
-use Rattle.pb_proof.specs.Machine.State.{proofs}
+use Rattle.pb_text.specs.contract.Automaton.{IsState, Runs}
+use Rattle.pb_proof.specs.engine.Machine.State.{proofs}
 use Rattle.pb_proof.proofs.machine.ProofMachineMachine.run.Given as goal
 
 -- the bytes so far were taken

@@ -1,6 +1,6 @@
 use Rattle.std.specs.Prelude.{None, false}
 use Rattle.std.proofs.Common.{refl, ◌∙◌, arith, length-set}
-use Rattle.pb_replay.proofs.Engine.Values.{forget-next, forget-none, forget-inside}
+use Rattle.pb_replay.proofs.lemmas.engine.Values.{forget-next, forget-none, forget-inside}
 use Rattle.pb_replay.proofs.propagate.assignment.forget.Goals as goal
 
 pub list-init : goal.list-init

@@ -1,5 +1,5 @@
 use Rattle.std.proofs.Common.{◌≡◌, length, drop}
-use Rattle.pb_replay.proofs.Engine.Values.{Forgotten}
+use Rattle.pb_replay.proofs.lemmas.engine.Values.{Forgotten}
 use Rattle.pb_replay.proofs.propagate.assignment.forget.Given as goal
 
 abbrev pub invariant-list : goal.invariant-list

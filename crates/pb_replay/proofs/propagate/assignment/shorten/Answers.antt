@@ -1,6 +1,6 @@
 use Rattle.std.specs.Prelude.{None}
 use Rattle.std.proofs.Common.{◌≡◌, ℕ, ◌-◌, ◌+◌, ◌<◌, length, take, set, arith, sym, ap, ◌∙◌, subst}
-use Rattle.pb_replay.proofs.Root.Cuts.{IsCut, cut-inside, cut-next}
+use Rattle.pb_replay.proofs.lemmas.root.Cuts.{IsCut, cut-inside, cut-next}
 use Rattle.pb_replay.proofs.propagate.assignment.shorten.Goals as goal
 
 pub index_mut-requires : goal.index_mut-requires

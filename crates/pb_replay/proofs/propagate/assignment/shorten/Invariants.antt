@@ -1,5 +1,5 @@
 use Rattle.std.proofs.Common.{length}
-use Rattle.pb_replay.proofs.Root.Cuts.{IsCut}
+use Rattle.pb_replay.proofs.lemmas.root.Cuts.{IsCut}
 use Rattle.pb_replay.proofs.propagate.assignment.shorten.Given as goal
 
 abbrev pub decreases-list : goal.decreases-list

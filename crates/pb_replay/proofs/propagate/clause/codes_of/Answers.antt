@@ -2,7 +2,7 @@ use Rattle.std.specs.Prelude.{false}
 use Rattle.std.proofs.Common.{ℕ, ◌++◌, ◌∷◌, [], List, ◌∙◌, sym, ap, arith, map, take}
 use Rattle.std.proofs.lemmas.List.{map_more, take_all}
 use Rattle.pb_normal.specs.declared.entry.Entry.{Entry}
-use Rattle.pb_replay.specs.Clauses.Shapes.{code}
+use Rattle.pb_replay.specs.engine.Clauses.Shapes.{code}
 use Rattle.pb_replay.proofs.propagate.clause.codes_of.Goals as goal
 
 pub entries-preserved : goal.entries-preserved

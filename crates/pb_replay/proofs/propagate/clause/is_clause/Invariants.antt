@@ -1,6 +1,6 @@
 use Rattle.std.proofs.Common.{ℕ, ◌<◌, get_or}
 use Rattle.pb_normal.specs.declared.entry.Entry.{Entry}
-use Rattle.pb_replay.specs.Clauses.Shapes.{IsLight}
+use Rattle.pb_replay.specs.engine.Clauses.Shapes.{IsLight}
 use Rattle.pb_replay.proofs.propagate.clause.is_clause.Given as goal
 
 abbrev pub invariant-entries : goal.invariant-entries

@@ -1,5 +1,5 @@
 use Rattle.std.proofs.Common.{◌≡◌, ℕ, ◌<◌, ◌⊎◌, true, get_or}
-use Rattle.pb_replay.specs.Clauses.Truths.{true_at, false_at}
+use Rattle.pb_replay.specs.engine.Clauses.Truths.{true_at, false_at}
 use Rattle.pb_replay.proofs.propagate.clauses.some_open.Given as goal
 
 abbrev pub invariant-literals : goal.invariant-literals

@@ -1,11 +1,11 @@
 use Rattle.std.proofs.Common.{◌≡◌, ◌+◌, [], get_or, true, false, refl, ◌∙◌, arith}
 use Rattle.pb_replay.specs.declared.numbered.NumberedLiteral.{NumberedLiteral}
-use Rattle.pb_replay.specs.Engine.Lists.{has, negation}
-use Rattle.pb_replay.specs.Engine.Counts.{none}
-use Rattle.pb_replay.specs.Engine.Fields.{shapes_of}
-use Rattle.pb_replay.specs.Engine.Rest.{opposite}
-use Rattle.pb_replay.proofs.Engine.Literals.{has-get}
-use Rattle.pb_replay.proofs.Engine.Assumed.{Assumed, assumed-next, given-refuted, within-none}
+use Rattle.pb_replay.specs.engine.Engine.Lists.{has, negation}
+use Rattle.pb_replay.specs.engine.Engine.Counts.{none}
+use Rattle.pb_replay.specs.engine.Engine.Fields.{shapes_of}
+use Rattle.pb_replay.specs.engine.Engine.Rest.{opposite}
+use Rattle.pb_replay.proofs.lemmas.engine.Literals.{has-get}
+use Rattle.pb_replay.proofs.lemmas.engine.Assumed.{Assumed, assumed-next, given-refuted, within-none}
 use Rattle.pb_replay.proofs.propagate.engine.assume.Goals as goal
 
 pub given-init : goal.given-init

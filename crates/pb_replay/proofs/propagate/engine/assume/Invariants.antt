@@ -1,7 +1,7 @@
 use Rattle.std.proofs.Common.{◌≡◌, ◌≤◌, ℕ, List, [], length, take}
-use Rattle.pb_replay.specs.Engine.Lists.{IsWithin}
-use Rattle.pb_replay.specs.Engine.Counts.{IsCounted, beside, IsTidy, AreSingle}
-use Rattle.pb_replay.specs.Engine.Fields.{shapes_of}
+use Rattle.pb_replay.specs.engine.Engine.Lists.{IsWithin}
+use Rattle.pb_replay.specs.engine.Engine.Counts.{IsCounted, beside, IsTidy, AreSingle}
+use Rattle.pb_replay.specs.engine.Engine.Fields.{shapes_of}
 use Rattle.pb_replay.proofs.propagate.engine.assume.Given as goal
 
 abbrev pub invariant-given : goal.invariant-given

@@ -1,5 +1,5 @@
-use Rattle.pb_replay.specs.Engine.Fields.{forms_of}
-use Rattle.pb_replay.proofs.Root.Follows.{rest-visited}
+use Rattle.pb_replay.specs.engine.Engine.Fields.{forms_of}
+use Rattle.pb_replay.proofs.lemmas.root.Follows.{rest-visited}
 use Rattle.pb_replay.proofs.propagate.engine.follow.Goals as goal
 
 pub returns-then-root-clause-rest : goal.returns-then-root-clause-rest

@@ -1,5 +1,5 @@
 use Rattle.std.proofs.Common.{length, arith}
-use Rattle.pb_replay.proofs.Engine.Rests.{undone-rest}
+use Rattle.pb_replay.proofs.lemmas.engine.Rests.{undone-rest}
 use Rattle.pb_replay.proofs.propagate.engine.rest.Goals as goal
 
 pub returns-clause-rest : goal.returns-clause-rest

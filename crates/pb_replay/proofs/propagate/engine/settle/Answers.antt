@@ -1,11 +1,11 @@
 use Rattle.std.specs.Prelude.{filter}
 use Rattle.std.proofs.Common.{length, arith}
-use Rattle.pb_replay.proofs.Clauses.Watching.{ready-running}
-use Rattle.pb_replay.specs.Engine.Rest.{waits}
-use Rattle.pb_replay.specs.Engine.Fields.{shapes_of}
-use Rattle.pb_replay.specs.Engine.Rest.{derived}
-use Rattle.pb_replay.specs.Clauses.Shapes.{clauses_of}
-use Rattle.pb_replay.proofs.Clauses.Shapes.{refuted-joined}
+use Rattle.pb_replay.proofs.lemmas.clauses.Watching.{ready-running}
+use Rattle.pb_replay.specs.engine.Engine.Rest.{waits}
+use Rattle.pb_replay.specs.engine.Engine.Fields.{shapes_of}
+use Rattle.pb_replay.specs.engine.Engine.Rest.{derived}
+use Rattle.pb_replay.specs.engine.Clauses.Shapes.{clauses_of}
+use Rattle.pb_replay.proofs.lemmas.clauses.Shapes.{refuted-joined}
 use Rattle.pb_replay.proofs.propagate.engine.settle.Goals as goal
 
 pub returns-then-branch-clause-refuted : goal.returns-then-branch-clause-refuted

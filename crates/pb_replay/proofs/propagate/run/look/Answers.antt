@@ -1,15 +1,15 @@
 use Rattle.std.specs.Prelude.{filter, sum}
-use Rattle.pb_replay.specs.Engine.Rest.{waits}
+use Rattle.pb_replay.specs.engine.Engine.Rest.{waits}
 use Rattle.std.proofs.Common.{ℕ, ◌<◌, ◌+◌, Vec, Global, set, length, get_or, refl, ap, sym, ◌∙◌, arith}
 use Rattle.std.proofs.lemmas.List.{length-map, get_or_read}
 use Rattle.std.proofs.lemmas.List.Sums.{get_or-le-sum_by}
 use Rattle.pb_replay.specs.declared.propagate.term.Term.{Term}
-use Rattle.pb_replay.specs.Engine.Counts.{beside}
-use Rattle.pb_replay.specs.Engine.Fields.{shapes_of, entries_of, kept_shape}
-use Rattle.pb_replay.specs.Engine.Terms.{terms_of}
-use Rattle.pb_replay.proofs.Engine.Looks.{IsLooking, Looking-start, Looking-next_by, calm-by, waiting-by, Looking-settled_by, Looking-conflict, shape-at, term-inside}
-use Rattle.pb_replay.proofs.Root.Extends.{extends-then, derives-extends}
-use Rattle.pb_replay.proofs.Engine.Spent.{sum-bounded, derivation-single}
+use Rattle.pb_replay.specs.engine.Engine.Counts.{beside}
+use Rattle.pb_replay.specs.engine.Engine.Fields.{shapes_of, entries_of, kept_shape}
+use Rattle.pb_replay.specs.engine.Engine.Terms.{terms_of}
+use Rattle.pb_replay.proofs.lemmas.engine.Looks.{IsLooking, Looking-start, Looking-next_by, calm-by, waiting-by, Looking-settled_by, Looking-conflict, shape-at, term-inside}
+use Rattle.pb_replay.proofs.lemmas.root.Extends.{extends-then, derives-extends}
+use Rattle.pb_replay.proofs.lemmas.engine.Spent.{sum-bounded, derivation-single}
 use Rattle.pb_replay.proofs.propagate.run.look.Goals as goal
 
 pub terms-init : goal.terms-init

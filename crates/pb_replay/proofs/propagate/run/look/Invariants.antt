@@ -1,10 +1,10 @@
 use Rattle.std.specs.Prelude.{filter}
-use Rattle.pb_replay.specs.Engine.Rest.{waits}
+use Rattle.pb_replay.specs.engine.Engine.Rest.{waits}
 use Rattle.std.proofs.Common.{◌≡◌, ◌-◌, [], length, get_or}
-use Rattle.pb_replay.specs.Engine.Fields.{shapes_of, entries_of}
-use Rattle.pb_replay.specs.Engine.Counts.{beside, IsCounted}
-use Rattle.pb_replay.proofs.Engine.Looks.{IsLooking}
-use Rattle.pb_replay.specs.Engine.Terms.{terms_of}
+use Rattle.pb_replay.specs.engine.Engine.Fields.{shapes_of, entries_of}
+use Rattle.pb_replay.specs.engine.Engine.Counts.{beside, IsCounted}
+use Rattle.pb_replay.proofs.lemmas.engine.Looks.{IsLooking}
+use Rattle.pb_replay.specs.engine.Engine.Terms.{terms_of}
 use Rattle.pb_replay.proofs.propagate.run.look.Given as goal
 
 abbrev pub invariant-terms : goal.invariant-terms

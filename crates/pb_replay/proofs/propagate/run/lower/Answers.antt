@@ -1,9 +1,9 @@
 use Rattle.std.proofs.Common.{ℕ, [], ◌-◌, ◌∙◌, sym, set, get_or, length, ap, subst, arith}
 use Rattle.std.proofs.lemmas.List.{get_or_read, get_or-set_same}
-use Rattle.pb_replay.specs.Engine.Lists.{Shape}
-use Rattle.pb_replay.specs.Engine.Counts.{IsCalm}
-use Rattle.pb_replay.specs.Engine.Fields.{shapes_of}
-use Rattle.pb_replay.proofs.Engine.Looks.{grown-by, idle-at, changed-at, shape-at, weight-read}
+use Rattle.pb_replay.specs.engine.Engine.Lists.{Shape}
+use Rattle.pb_replay.specs.engine.Engine.Counts.{IsCalm}
+use Rattle.pb_replay.specs.engine.Engine.Fields.{shapes_of}
+use Rattle.pb_replay.proofs.lemmas.engine.Looks.{grown-by, idle-at, changed-at, shape-at, weight-read}
 use Rattle.pb_replay.proofs.propagate.run.lower.Goals as goal
 
 pub weight_of-requires : goal.weight_of-requires

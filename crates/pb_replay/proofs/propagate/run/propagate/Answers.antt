@@ -1,23 +1,23 @@
 use Rattle.std.specs.Prelude.{filter, sum, sum_by}
 use Rattle.std.proofs.Common.{◌≡◌, ◌+◌, ◌*◌, ◌<◌, ◌≤◌, ◌++◌, ◌∷◌, [], ℕ, List, Vec, Global, length, drop, get_or, refl, sym, ap, subst, inl, inr, ◌∙◌, arith}
 use Rattle.std.proofs.lemmas.List.{length-map, get_or_default, take_rest, drop_all}
-use Rattle.pb_replay.specs.Engine.Lists.{Derives, Conflicts, IsSettled}
-use Rattle.pb_replay.specs.Engine.Counts.{place, beside, spent}
-use Rattle.pb_replay.specs.Engine.Fields.{shapes_of, entries_of, kept_shape}
-use Rattle.pb_replay.specs.Engine.Rest.{waits}
-use Rattle.pb_replay.specs.Clauses.Truths.{false_at}
-use Rattle.pb_replay.specs.Clauses.Links.{lists_of, list_at}
-use Rattle.pb_replay.specs.Clauses.Runs.{AreServed, AreWalked}
-use Rattle.pb_replay.specs.Clauses.Shapes.{all_of, clauses_of, joined}
-use Rattle.pb_replay.proofs.Engine.Derivations.{derivation-then, derivation-keeps}
-use Rattle.pb_replay.proofs.Engine.Propagated.{Propagating-start, Propagating-look, Propagating-next, Propagating-walk, Propagating-bound, Propagating-choose, Propagating-settled, Propagating-upper}
-use Rattle.pb_replay.proofs.Root.Extends.{extends-none, extends-then, derives-extends, spent-extends, killed-extends}
-use Rattle.pb_replay.specs.Clauses.Walked.{killed, walked_codes}
-use Rattle.pb_replay.proofs.Engine.Spent.{sum-bounded, derivation-single}
-use Rattle.pb_replay.proofs.Engine.Values.{opposite}
-use Rattle.pb_replay.proofs.Clauses.Shapes.{derives-joined, conflicts-joined, joined-source}
-use Rattle.pb_replay.proofs.Clauses.Walks.{grows-refl, grows-trans, grows-listed, running-grow}
-use Rattle.pb_replay.proofs.Clauses.Watching.{falsified_code, cost, next-of, watching-start, watching-grow, watching-next, watching-settled, derived-take, cost-grow, cost-next, cost-broken, cost-most}
+use Rattle.pb_replay.specs.engine.Engine.Lists.{Derives, Conflicts, IsSettled}
+use Rattle.pb_replay.specs.engine.Engine.Counts.{place, beside, spent}
+use Rattle.pb_replay.specs.engine.Engine.Fields.{shapes_of, entries_of, kept_shape}
+use Rattle.pb_replay.specs.engine.Engine.Rest.{waits}
+use Rattle.pb_replay.specs.engine.Clauses.Truths.{false_at}
+use Rattle.pb_replay.specs.engine.Clauses.Links.{lists_of, list_at}
+use Rattle.pb_replay.specs.engine.Clauses.Runs.{AreServed, AreWalked}
+use Rattle.pb_replay.specs.engine.Clauses.Shapes.{all_of, clauses_of, joined}
+use Rattle.pb_replay.proofs.lemmas.engine.Derivations.{derivation-then, derivation-keeps}
+use Rattle.pb_replay.proofs.lemmas.engine.Propagated.{Propagating-start, Propagating-look, Propagating-next, Propagating-walk, Propagating-bound, Propagating-choose, Propagating-settled, Propagating-upper}
+use Rattle.pb_replay.proofs.lemmas.root.Extends.{extends-none, extends-then, derives-extends, spent-extends, killed-extends}
+use Rattle.pb_replay.specs.engine.Clauses.Walked.{killed, walked_codes}
+use Rattle.pb_replay.proofs.lemmas.engine.Spent.{sum-bounded, derivation-single}
+use Rattle.pb_replay.proofs.lemmas.engine.Values.{opposite}
+use Rattle.pb_replay.proofs.lemmas.clauses.Shapes.{derives-joined, conflicts-joined, joined-source}
+use Rattle.pb_replay.proofs.lemmas.clauses.Walks.{grows-refl, grows-trans, grows-listed, running-grow}
+use Rattle.pb_replay.proofs.lemmas.clauses.Watching.{falsified_code, cost, next-of, watching-start, watching-grow, watching-next, watching-settled, derived-take, cost-grow, cost-next, cost-broken, cost-most}
 use Rattle.pb_replay.proofs.propagate.run.propagate.Goals as goal
 
 pub work-init : goal.work-init

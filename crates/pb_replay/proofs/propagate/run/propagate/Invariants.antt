@@ -1,11 +1,11 @@
 use Rattle.std.specs.Prelude.{Bool, Option, sum_by, filter}
-use Rattle.pb_replay.specs.Clauses.Runs.{AreWalked, Grows}
+use Rattle.pb_replay.specs.engine.Clauses.Runs.{AreWalked, Grows}
 use Rattle.std.proofs.Common.{ℕ, List, ◌≡◌, ◌+◌, ◌-◌, ◌≤◌, length}
-use Rattle.pb_replay.specs.Engine.Rest.{waits}
-use Rattle.pb_replay.specs.Engine.Fields.{shapes_of, entries_of}
-use Rattle.pb_replay.specs.Clauses.Shapes.{all_of}
-use Rattle.pb_replay.proofs.Engine.Propagated.{IsPropagating}
-use Rattle.pb_replay.proofs.Clauses.Watching.{IsWatching, cost}
+use Rattle.pb_replay.specs.engine.Engine.Rest.{waits}
+use Rattle.pb_replay.specs.engine.Engine.Fields.{shapes_of, entries_of}
+use Rattle.pb_replay.specs.engine.Clauses.Shapes.{all_of}
+use Rattle.pb_replay.proofs.lemmas.engine.Propagated.{IsPropagating}
+use Rattle.pb_replay.proofs.lemmas.clauses.Watching.{IsWatching, cost}
 use Rattle.pb_replay.proofs.propagate.run.propagate.Given as goal
 
 abbrev pub invariant-work : goal.invariant-work

@@ -4,14 +4,14 @@ use Rattle.std.proofs.lemmas.List.{length-map}
 use Rattle.std.proofs.lemmas.List.Sums.{sum_by_push}
 use Rattle.pb_replay.specs.declared.numbered.NumberedLiteral.{NumberedLiteral}
 use Rattle.pb_replay.specs.declared.propagate.assignment.Assignment.{Assignment}
-use Rattle.pb_replay.specs.Engine.Lists.{Weighted, negation}
-use Rattle.pb_replay.specs.Engine.Counts.{place, beside, more, spent}
-use Rattle.pb_replay.specs.Engine.Fields.{shapes_of, spots_of, entries_of, kept_shape, entry_at}
-use Rattle.pb_replay.specs.Engine.Links.{weighted}
-use Rattle.pb_replay.proofs.Engine.Places.{entries-length}
-use Rattle.pb_replay.proofs.Engine.Weights.{index-within}
-use Rattle.pb_replay.proofs.Engine.Runs.{Counted-put, Tidy-put}
-use Rattle.pb_replay.proofs.Engine.Puts.{IsPutting, counted-conflict, form-within, Putting-start, Putting-fits_at, Putting-next_at, entries-at, place-read, place-inside}
+use Rattle.pb_replay.specs.engine.Engine.Lists.{Weighted, negation}
+use Rattle.pb_replay.specs.engine.Engine.Counts.{place, beside, more, spent}
+use Rattle.pb_replay.specs.engine.Engine.Fields.{shapes_of, spots_of, entries_of, kept_shape, entry_at}
+use Rattle.pb_replay.specs.engine.Engine.Links.{weighted}
+use Rattle.pb_replay.proofs.lemmas.store.Places.{entries-length}
+use Rattle.pb_replay.proofs.lemmas.store.Weights.{index-within}
+use Rattle.pb_replay.proofs.lemmas.engine.Runs.{Counted-put, Tidy-put}
+use Rattle.pb_replay.proofs.lemmas.engine.Puts.{IsPutting, counted-conflict, form-within, Putting-start, Putting-fits_at, Putting-next_at, entries-at, place-read, place-inside}
 use Rattle.pb_replay.proofs.propagate.run.put.Goals as goal
 
 pub entries-init : goal.entries-init

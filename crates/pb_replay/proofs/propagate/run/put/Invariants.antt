@@ -1,8 +1,8 @@
 use Rattle.std.proofs.Common.{◌≡◌, [], get_or}
-use Rattle.pb_replay.specs.Engine.Lists.{negation}
-use Rattle.pb_replay.specs.Engine.Counts.{place}
-use Rattle.pb_replay.specs.Engine.Fields.{shapes_of, entries_of}
-use Rattle.pb_replay.proofs.Engine.Puts.{IsPutting}
+use Rattle.pb_replay.specs.engine.Engine.Lists.{negation}
+use Rattle.pb_replay.specs.engine.Engine.Counts.{place}
+use Rattle.pb_replay.specs.engine.Engine.Fields.{shapes_of, entries_of}
+use Rattle.pb_replay.proofs.lemmas.engine.Puts.{IsPutting}
 use Rattle.pb_replay.proofs.propagate.run.put.Given as goal
 
 abbrev pub invariant-entries : goal.invariant-entries

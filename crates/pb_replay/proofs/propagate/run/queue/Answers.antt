@@ -1,5 +1,5 @@
 use Rattle.std.proofs.Common.{arith}
-use Rattle.pb_replay.specs.Engine.Counts.{pushed, spared}
+use Rattle.pb_replay.specs.engine.Engine.Counts.{pushed, spared}
 use Rattle.pb_replay.proofs.propagate.run.queue.Goals as goal
 
 pub returns-then-left-bound : goal.returns-then-left-bound

@@ -1,5 +1,5 @@
 use Rattle.std.proofs.Common.{◌≡◌, ℕ, ◌<◌, Vec, Global, get_or, set, length, length-set, refl, ap, ◌∙◌, arith}
-use Rattle.pb_replay.proofs.Engine.Undone.{undo-form, undo-next}
+use Rattle.pb_replay.proofs.lemmas.engine.Undone.{undo-form, undo-next}
 use Rattle.pb_replay.proofs.propagate.run.undo_forms.Goals as goal
 
 pub forms-preserved : goal.forms-preserved

@@ -1,6 +1,6 @@
 use Rattle.std.proofs.Common.{◌≡◌, length}
-use Rattle.pb_replay.specs.Engine.Counts.{IsUndone}
-use Rattle.pb_replay.specs.Engine.Fields.{shapes_of}
+use Rattle.pb_replay.specs.engine.Engine.Counts.{IsUndone}
+use Rattle.pb_replay.specs.engine.Engine.Fields.{shapes_of}
 use Rattle.pb_replay.proofs.propagate.run.undo_forms.Given as goal
 
 abbrev pub invariant-forms : goal.invariant-forms

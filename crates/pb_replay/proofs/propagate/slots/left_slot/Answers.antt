@@ -1,9 +1,9 @@
 use Rattle.std.specs.Prelude.{Option, Some}
 use Rattle.std.proofs.Common.{ap, sym, ◌∙◌}
-use Rattle.pb_normal.specs.Form.{Form}
+use Rattle.pb_normal.specs.meaning.Form.{Form}
 use Rattle.pb_replay.specs.declared.propagate.store.kept.Kept.{Kept}
-use Rattle.pb_replay.proofs.Engine.Gets.{get-map}
-use Rattle.pb_replay.proofs.lemmas.Options.{none_of}
+use Rattle.pb_replay.proofs.lemmas.store.Gets.{get-map}
+use Rattle.pb_replay.proofs.lemmas.solutions.Options.{none_of}
 use Rattle.pb_replay.proofs.propagate.slots.left_slot.Goals as goal
 
 pub returns : goal.returns

@@ -1,14 +1,14 @@
 use Rattle.std.specs.Prelude.{Some}
 use Rattle.std.proofs.Common.{rules, refl, ◌∙◌, [], ◌≡◌, ◌⊎◌, set, inl, inr, ap, length, length-set, arith}
-use Rattle.pb_replay.specs.Engine.Fields.{forms_of, shapes_of}
-use Rattle.pb_replay.proofs.Engine.Changes.{forms-filled}
-use Rattle.pb_replay.specs.Clauses.Shapes.{clauses_of}
-use Rattle.pb_replay.proofs.Engine.Slots.{slots-bare, exact-absent, rest-filled, rest-watched}
-use Rattle.pb_replay.proofs.Clauses.Slots.{slots-vacant}
+use Rattle.pb_replay.specs.engine.Engine.Fields.{forms_of, shapes_of}
+use Rattle.pb_replay.proofs.lemmas.store.Changes.{forms-filled}
+use Rattle.pb_replay.specs.engine.Clauses.Shapes.{clauses_of}
+use Rattle.pb_replay.proofs.lemmas.store.Slots.{slots-bare, exact-absent, rest-filled, rest-watched}
+use Rattle.pb_replay.proofs.lemmas.clauses.Slots.{slots-vacant}
 use Rattle.std.proofs.Common.{ℕ, List, map, get_or-set_other}
-use Rattle.pb_replay.specs.Clauses.Shapes.{code}
-use Rattle.pb_replay.specs.Clauses.Links.{list_at}
-use Rattle.pb_replay.proofs.Root.Gained.{gained-filled}
+use Rattle.pb_replay.specs.engine.Clauses.Shapes.{code}
+use Rattle.pb_replay.specs.engine.Clauses.Links.{list_at}
+use Rattle.pb_replay.proofs.lemmas.root.Gained.{gained-filled}
 use Rattle.pb_replay.proofs.propagate.slots.occupy.Goals as goal
 
 pub fill-requires-clause-slot : goal.fill-requires-clause-slot

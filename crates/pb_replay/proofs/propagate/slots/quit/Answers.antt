@@ -2,9 +2,9 @@ use Rattle.std.specs.Prelude.{None}
 use Rattle.std.proofs.Common.{arith}
 use Rattle.std.proofs.lemmas.List.{length-map}
 use Rattle.pb_replay.specs.declared.propagate.store.kept.Kept.{Kept}
-use Rattle.pb_replay.specs.Engine.Fields.{forms_of}
-use Rattle.pb_replay.proofs.Engine.Changes.{forms-filled}
-use Rattle.pb_replay.proofs.Engine.Slots.{eager-there, rest-quit}
+use Rattle.pb_replay.specs.engine.Engine.Fields.{forms_of}
+use Rattle.pb_replay.proofs.lemmas.store.Changes.{forms-filled}
+use Rattle.pb_replay.proofs.lemmas.store.Slots.{eager-there, rest-quit}
 use Rattle.pb_replay.proofs.propagate.slots.quit.Goals as goal
 
 pub unseat-requires-clause-there : goal.unseat-requires-clause-there

@@ -1,6 +1,6 @@
 use Rattle.std.proofs.Common.{◌≡◌, ℕ, zero, suc, ◌<◌, ◌∷◌, [], List, true, false, refl, sym, ◌∙◌, ap, arith, length, get_or}
 use Rattle.pb_replay.specs.declared.propagate.store.kept.Kept.{Kept}
-use Rattle.pb_replay.specs.Engine.Rest.{waits}
+use Rattle.pb_replay.specs.engine.Engine.Rest.{waits}
 use Rattle.pb_replay.proofs.propagate.slots.unseat.Goals as goal
 
 waits-of : (keep : List Kept) (s : ℕ) (k : Kept) → s < length keep → k ≡ get_or keep s k → waits keep s ≡ k.eager

@@ -2,10 +2,10 @@ use Rattle.std.specs.Prelude.{None}
 use Rattle.std.proofs.Common.{inr, arith}
 use Rattle.std.proofs.lemmas.List.{length-map}
 use Rattle.pb_replay.specs.declared.propagate.store.kept.Kept.{Kept}
-use Rattle.pb_replay.specs.Engine.Fields.{forms_of}
-use Rattle.pb_replay.proofs.Engine.Gets.{get-push_same}
-use Rattle.pb_replay.proofs.Engine.Changes.{forms-more, forms-widened}
-use Rattle.pb_replay.proofs.Engine.Slots.{rest-widened}
+use Rattle.pb_replay.specs.engine.Engine.Fields.{forms_of}
+use Rattle.pb_replay.proofs.lemmas.store.Gets.{get-push_same}
+use Rattle.pb_replay.proofs.lemmas.store.Changes.{forms-more, forms-widened}
+use Rattle.pb_replay.proofs.lemmas.store.Slots.{rest-widened}
 use Rattle.pb_replay.proofs.propagate.slots.vacancy.Goals as goal
 
 pub returns-clause-rest : goal.returns-clause-rest

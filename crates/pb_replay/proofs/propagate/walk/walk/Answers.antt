@@ -1,15 +1,15 @@
 use Rattle.std.specs.Prelude.{Bool, Option, sum}
 use Rattle.std.proofs.Common.{Vec, Global, ◌<◌, ◌+◌, ◌++◌, ◌∷◌, [], ℕ, List, refl, sym, ◌∙◌, ap, subst, length, arith}
 use Rattle.pb_replay.specs.declared.numbered.NumberedLiteral.{NumberedLiteral}
-use Rattle.pb_replay.specs.Engine.Lists.{has, negation}
-use Rattle.pb_replay.specs.Engine.Fields.{shapes_of, entries_of}
-use Rattle.pb_replay.specs.Clauses.Links.{lists_of, list_at}
-use Rattle.pb_replay.specs.Clauses.Runs.{AreWalked, Grows, HasFound, AreServed, index_after, IsBroken, IsRunning}
-use Rattle.pb_replay.specs.Clauses.Shapes.{clauses_of}
-use Rattle.pb_replay.proofs.Clauses.Literals.{true-listed, false-listed}
-use Rattle.pb_replay.proofs.Clauses.Shapes.{broken-conflicts, conflicts-joined}
-use Rattle.pb_replay.proofs.Clauses.Walks.{grows-trans, IsWalking, walking-start, walking-next, walking-forces, walked-end}
-use Rattle.pb_replay.proofs.Root.Extends.{extends-none, extends-then}
+use Rattle.pb_replay.specs.engine.Engine.Lists.{has, negation}
+use Rattle.pb_replay.specs.engine.Engine.Fields.{shapes_of, entries_of}
+use Rattle.pb_replay.specs.engine.Clauses.Links.{lists_of, list_at}
+use Rattle.pb_replay.specs.engine.Clauses.Runs.{AreWalked, Grows, HasFound, AreServed, index_after, IsBroken, IsRunning}
+use Rattle.pb_replay.specs.engine.Clauses.Shapes.{clauses_of}
+use Rattle.pb_replay.proofs.lemmas.clauses.Literals.{true-listed, false-listed}
+use Rattle.pb_replay.proofs.lemmas.clauses.Shapes.{broken-conflicts, conflicts-joined}
+use Rattle.pb_replay.proofs.lemmas.clauses.Walks.{grows-trans, IsWalking, walking-start, walking-next, walking-forces, walked-end}
+use Rattle.pb_replay.proofs.lemmas.root.Extends.{extends-none, extends-then}
 use Rattle.pb_replay.proofs.propagate.walk.walk.Goals as goal
 
 pub watches-init : goal.watches-init

@@ -1,11 +1,11 @@
 use Rattle.std.proofs.Common.{◌≡◌, ◌≤◌, ◌+◌, ℕ, List, [], length, ◌-◌}
 use Rattle.std.specs.Prelude.{Bool, Option}
-use Rattle.pb_replay.specs.Clauses.Runs.{AreWalked, Grows}
-use Rattle.pb_replay.specs.Engine.Lists.{Extends}
-use Rattle.pb_replay.specs.Engine.Counts.{IsCounted, beside, IsTidy, AreSingle, spent}
-use Rattle.pb_replay.specs.Engine.Fields.{shapes_of, entries_of}
-use Rattle.pb_replay.specs.Clauses.Links.{lists_of, list_at}
-use Rattle.pb_replay.proofs.Clauses.Walks.{IsWalking}
+use Rattle.pb_replay.specs.engine.Clauses.Runs.{AreWalked, Grows}
+use Rattle.pb_replay.specs.engine.Engine.Lists.{Extends}
+use Rattle.pb_replay.specs.engine.Engine.Counts.{IsCounted, beside, IsTidy, AreSingle, spent}
+use Rattle.pb_replay.specs.engine.Engine.Fields.{shapes_of, entries_of}
+use Rattle.pb_replay.specs.engine.Clauses.Links.{lists_of, list_at}
+use Rattle.pb_replay.proofs.lemmas.clauses.Walks.{IsWalking}
 use Rattle.pb_replay.proofs.propagate.walk.walk.Given as goal
 
 abbrev pub invariant-watches : goal.invariant-watches

@@ -1,7 +1,7 @@
 use Rattle.std.specs.Prelude.{None}
 use Rattle.std.proofs.Common.{◌≡◌, inl, inr, refl, rules}
-use Rattle.pb_replay.specs.Kept.{state_of}
-use Rattle.pb_replay.proofs.lemmas.Ready.{kept-ok, kept-err, step-ok, step-err, step-unvalued}
+use Rattle.pb_replay.specs.contract.Kept.{state_of}
+use Rattle.pb_replay.proofs.lemmas.rules.Ready.{kept-ok, kept-err, step-ok, step-err, step-unvalued}
 use Rattle.pb_replay.proofs.replay.Replay.step.Goals as goal
 
 pub invariant_of-self : goal.invariant_of-self

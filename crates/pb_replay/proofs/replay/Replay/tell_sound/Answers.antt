@@ -1,5 +1,5 @@
 use Rattle.std.proofs.Common.{refl}
-use Rattle.pb_replay.specs.Kept.{state_of}
+use Rattle.pb_replay.specs.contract.Kept.{state_of}
 use Rattle.pb_replay.proofs.replay.Replay.tell_sound.Goals as goal
 
 pub returns-clause-problem : goal.returns-clause-problem

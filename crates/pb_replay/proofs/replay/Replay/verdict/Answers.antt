@@ -1,7 +1,7 @@
 use Rattle.std.proofs.Common.{refl, ◌∙◌, sym}
-use Rattle.pb_replay.specs.Kept.{problem_of, state_of}
-use Rattle.pb_replay.proofs.lemmas.Options.{none_of}
-use Rattle.pb_replay.proofs.lemmas.Ready.{meant, meant-written}
+use Rattle.pb_replay.specs.contract.Kept.{problem_of, state_of}
+use Rattle.pb_replay.proofs.lemmas.solutions.Options.{none_of}
+use Rattle.pb_replay.proofs.lemmas.rules.Ready.{meant, meant-written}
 use Rattle.pb_replay.proofs.replay.Replay.verdict.Goals as goal
 
 pub returns-in-Complete-clause-written : goal.returns-in-Complete-clause-written

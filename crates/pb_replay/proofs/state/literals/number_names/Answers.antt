@@ -1,7 +1,7 @@
 use Rattle.std.proofs.Common.{refl, take}
-use Rattle.pb_replay.specs.Statements.{literal_names}
-use Rattle.pb_replay.proofs.lemmas.Evaluation.{front_of}
-use Rattle.pb_replay.proofs.lemmas.Named.{literal_next}
+use Rattle.pb_replay.specs.meaning.Statements.{literal_names}
+use Rattle.pb_replay.proofs.lemmas.rules.Evaluation.{front_of}
+use Rattle.pb_replay.proofs.lemmas.names.Named.{literal_next}
 use Rattle.pb_replay.proofs.state.literals.number_names.Goals as goal
 
 pub loop-literal-preserved : goal.loop-literal-preserved

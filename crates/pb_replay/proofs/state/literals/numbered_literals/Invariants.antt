@@ -1,5 +1,5 @@
 use Rattle.std.proofs.Common.{◌≡◌, ◌<◌, All, length, take}
-use Rattle.pb_replay.specs.Replay.{numbered}
+use Rattle.pb_replay.specs.meaning.Replay.{numbered}
 use Rattle.pb_replay.proofs.state.literals.numbered_literals.Given as goal
 
 -- the literals so far are numbered

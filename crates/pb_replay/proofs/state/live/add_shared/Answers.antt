@@ -1,5 +1,5 @@
 use Rattle.std.proofs.Common.{◌∙◌}
-use Rattle.pb_replay.proofs.lemmas.Linked.{inside-added}
+use Rattle.pb_replay.proofs.lemmas.rules.Linked.{inside-added}
 use Rattle.pb_replay.proofs.state.live.add_shared.Goals as goal
 
 pub returns-in-Ok-clause-linked : goal.returns-in-Ok-clause-linked

@@ -1,6 +1,6 @@
 use Rattle.std.specs.Prelude.{Option, Some}
 use Rattle.std.proofs.Common.{◌≡◌, false, take, map}
-use Rattle.pb_normal.specs.Form.{Form}
+use Rattle.pb_normal.specs.meaning.Form.{Form}
 use Rattle.pb_replay.proofs.state.live.engine_of.Given as goal
 
 -- the forms so far were added

@@ -1,5 +1,5 @@
 use Rattle.std.proofs.Common.{Err, ap}
-use Rattle.pb_replay.proofs.lemmas.Ready.{opened_ok, opened_err}
+use Rattle.pb_replay.proofs.lemmas.rules.Ready.{opened_ok, opened_err}
 use Rattle.pb_replay.proofs.state.load.begun.Goals as goal
 
 pub returns-clause-ok : goal.returns-clause-ok

@@ -3,9 +3,9 @@ use Rattle.std.specs.Prelude.{option_map}
 use Rattle.std.proofs.Common.{rules, refl, take, sym, ap, FitsSigned}
 use Rattle.std.proofs.lemmas.Int.{to_z-of_z}
 use Rattle.pb_sums.specs.declared.Linear.{Linear}
-use Rattle.pb_normal.specs.Written.{names_of}
-use Rattle.pb_replay.proofs.lemmas.Objectives.{unchanged, objective-made, objective-within}
-use Rattle.pb_replay.proofs.lemmas.Rups.{fits_of, front_after}
+use Rattle.pb_normal.specs.meaning.Written.{names_of}
+use Rattle.pb_replay.proofs.lemmas.conclusions.Objectives.{unchanged, objective-made, objective-within}
+use Rattle.pb_replay.proofs.lemmas.rules.Rups.{fits_of, front_after}
 use Rattle.pb_replay.proofs.state.objective.objective_form.Goals as goal
 
 pub returns-in_err-form-clause-kept : goal.returns-in_err-form-clause-kept

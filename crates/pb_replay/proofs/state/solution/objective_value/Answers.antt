@@ -3,9 +3,9 @@ use Rattle.std.specs.Prelude.{option_map}
 use Rattle.std.proofs.Common.{◌^◌, arith, ◌∙◌, ap, ◌<◌, length, FitsSigned}
 use Rattle.std.proofs.lemmas.Int.{fits_signed_from_abs, to_z-of_z}
 use Rattle.pb_sums.specs.declared.Linear.{Linear}
-use Rattle.pb_normal.specs.Rules.{assignment}
-use Rattle.pb_normal.specs.Written.{magnitude}
-use Rattle.pb_replay.proofs.lemmas.Values.{objective-has, objective-inside, objective-small, objective-value}
+use Rattle.pb_normal.specs.meaning.Rules.{assignment}
+use Rattle.pb_normal.specs.meaning.Written.{magnitude}
+use Rattle.pb_replay.proofs.lemmas.solutions.Values.{objective-has, objective-inside, objective-small, objective-value}
 use Rattle.pb_replay.proofs.state.solution.objective_value.Goals as goal
 
 pub value_of-requires-clause-small : goal.value_of-requires-clause-small

@@ -2,11 +2,11 @@ use Rattle.std.specs.Int.{w128}
 use Rattle.std.proofs.Common.{take, ◌+◌, arith, ◌∙◌, ap, sym, ◌<◌, length, FitsSigned, ◌+ℤ◌, ℤ, to_z}
 use Rattle.std.proofs.lemmas.Int.{fits_signed_from_abs, to_z-of_z}
 use Rattle.pb_sums.specs.declared.Term.{Term}
-use Rattle.pb_normal.specs.Names.{number_in}
-use Rattle.pb_normal.specs.Rules.{assignment}
-use Rattle.pb_normal.specs.Written.{true_sum}
-use Rattle.pb_replay.specs.Replay.{by_name}
-use Rattle.pb_replay.proofs.lemmas.Values.{has-one, inside-one, next-fits, next-small, sum-more, magnitude-front, magnitude-more}
+use Rattle.pb_normal.specs.meaning.Names.{number_in}
+use Rattle.pb_normal.specs.meaning.Rules.{assignment}
+use Rattle.pb_normal.specs.meaning.Written.{true_sum}
+use Rattle.pb_replay.specs.meaning.Replay.{by_name}
+use Rattle.pb_replay.proofs.lemmas.solutions.Values.{has-one, inside-one, next-fits, next-small, sum-more, magnitude-front, magnitude-more}
 use Rattle.pb_replay.proofs.state.solution.value_of.Goals as goal
 
 pub part_of-sum-requires-clause-named : goal.part_of-sum-requires-clause-named

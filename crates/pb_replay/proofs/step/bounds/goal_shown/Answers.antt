@@ -1,5 +1,5 @@
 use Rattle.std.proofs.Common.{inr, refl}
-use Rattle.pb_replay.proofs.lemmas.Rups.{is_so, not_so}
+use Rattle.pb_replay.proofs.lemmas.rules.Rups.{is_so, not_so}
 use Rattle.pb_replay.proofs.step.bounds.goal_shown.Goals as goal
 
 pub returns-in-Ok-true-clause-shown : goal.returns-in-Ok-true-clause-shown

@@ -1,6 +1,6 @@
 use Rattle.std.specs.Prelude.{IsTrue}
 use Rattle.std.proofs.Common.{rules}
-use Rattle.pb_replay.proofs.lemmas.Bounding.{refuted-shown}
+use Rattle.pb_replay.proofs.lemmas.conclusions.Bounding.{refuted-shown}
 use Rattle.pb_replay.proofs.step.bounds.is_shown.Goals as goal
 
 pub returns-then-branch-clause-ok : goal.returns-then-branch-clause-ok

@@ -1,9 +1,9 @@
 use Rattle.std.specs.Int.{w128}
 use Rattle.std.proofs.Common.{rules, ◌≡◌, true, false, FitsSigned}
 use Rattle.std.proofs.lemmas.Int.{to_z-of_z}
-use Rattle.pb_replay.specs.Bounds.{IsBelow}
-use Rattle.pb_replay.proofs.lemmas.Bounding.{lower-late, lower-missing, lower-found}
-use Rattle.pb_replay.proofs.lemmas.Rups.{is_so, not_so}
+use Rattle.pb_replay.specs.engine.Bounds.{IsBelow}
+use Rattle.pb_replay.proofs.lemmas.conclusions.Bounding.{lower-late, lower-missing, lower-found}
+use Rattle.pb_replay.proofs.lemmas.rules.Rups.{is_so, not_so}
 use Rattle.pb_replay.proofs.step.bounds.shows_finite.Goals as goal
 
 pub returns-then-not-is_below_best-clause-lower : goal.returns-then-not-is_below_best-clause-lower

@@ -1,7 +1,7 @@
 use Rattle.std.specs.Int.{w128}
 use Rattle.std.proofs.Common.{rules, FitsSigned}
 use Rattle.std.proofs.lemmas.Int.{to_z-of_z}
-use Rattle.pb_replay.proofs.lemmas.Bounding.{lower-infinite}
+use Rattle.pb_replay.proofs.lemmas.conclusions.Bounding.{lower-infinite}
 use Rattle.pb_replay.proofs.step.bounds.shows_lower.Goals as goal
 
 pub returns-in-Infinite-clause-lower : goal.returns-in-Infinite-clause-lower

@@ -1,4 +1,4 @@
-use Rattle.pb_replay.proofs.lemmas.Bounding.{both-ok}
+use Rattle.pb_replay.proofs.lemmas.conclusions.Bounding.{both-ok}
 use Rattle.pb_replay.proofs.step.conclude.are_shown.Goals as goal
 
 pub returns-in-Ok-clause-both : goal.returns-in-Ok-clause-both

@@ -2,8 +2,8 @@ use Rattle.std.specs.Prelude.{Some}
 use Rattle.std.proofs.Common.{refl}
 use Rattle.pb_proof.specs.declared.Stage.TheVariants.{Closing}
 use Rattle.pb_replay.specs.declared.verdict.Verdict.TheVariants.{Bounds}
-use Rattle.pb_replay.proofs.lemmas.Bounding.{bounds-ok, bounds-err}
-use Rattle.pb_replay.proofs.lemmas.Excluding.{some-objective}
+use Rattle.pb_replay.proofs.lemmas.conclusions.Bounding.{bounds-ok, bounds-err}
+use Rattle.pb_replay.proofs.lemmas.solutions.Excluding.{some-objective}
 use Rattle.pb_replay.proofs.step.conclude.claim_bounds.Goals as goal
 
 pub returns-in-Ok-clause-goes : goal.returns-in-Ok-clause-goes

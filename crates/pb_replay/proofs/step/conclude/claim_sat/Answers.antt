@@ -2,7 +2,7 @@ use Rattle.std.specs.Prelude.{Some}
 use Rattle.pb_replay.specs.declared.verdict.Verdict.TheVariants.{Sat}
 use Rattle.std.proofs.Common.{refl}
 use Rattle.pb_proof.specs.declared.Stage.TheVariants.{Closing}
-use Rattle.pb_replay.proofs.lemmas.Shows.{sat-ok, sat-err}
+use Rattle.pb_replay.proofs.lemmas.conclusions.Shows.{sat-ok, sat-err}
 use Rattle.pb_replay.proofs.step.conclude.claim_sat.Goals as goal
 
 pub returns-in-Ok-clause-goes : goal.returns-in-Ok-clause-goes

@@ -1,5 +1,5 @@
 use Rattle.std.proofs.Common.{rules, ◌≡◌, true, inl, refl, is_some}
-use Rattle.pb_replay.proofs.lemmas.Shows.{logged-some}
+use Rattle.pb_replay.proofs.lemmas.conclusions.Shows.{logged-some}
 use Rattle.pb_replay.proofs.step.conclude.sat_logged.Goals as goal
 
 pub returns-clause-goes : goal.returns-clause-goes

@@ -1,6 +1,6 @@
 use Rattle.std.proofs.Common.{inr, refl}
-use Rattle.pb_replay.specs.Kept.{state_of}
-use Rattle.pb_replay.proofs.lemmas.Bounding.{left-then, left-stop}
+use Rattle.pb_replay.specs.contract.Kept.{state_of}
+use Rattle.pb_replay.proofs.lemmas.conclusions.Bounding.{left-then, left-stop}
 use Rattle.pb_replay.proofs.step.conclude.unsat.Goals as goal
 
 pub returns-in-Ok-clause-goes : goal.returns-in-Ok-clause-goes

@@ -1,5 +1,5 @@
 use Rattle.std.proofs.Common.{refl}
-use Rattle.pb_replay.proofs.lemmas.Deleting.{delete-goes, delete-linked}
+use Rattle.pb_replay.proofs.lemmas.rules.Deleting.{delete-goes, delete-linked}
 use Rattle.pb_replay.proofs.step.delete.delete.Goals as goal
 
 pub returns-clause-goes : goal.returns-clause-goes

@@ -1,6 +1,6 @@
 use Rattle.std.proofs.Common.{rules, get_or, pos, FitsSigned, w64, ◌∙◌}
 use Rattle.std.proofs.lemmas.Int.{to_z-of_z}
-use Rattle.pb_replay.proofs.lemmas.Deletions.{stops, goes-on}
+use Rattle.pb_replay.proofs.lemmas.rules.Deletions.{stops, goes-on}
 use Rattle.pb_replay.proofs.step.delete.delete_each.Goals as goal
 
 pub returns-in-None-clause-err : goal.returns-in-None-clause-err

@@ -1,7 +1,7 @@
 use Rattle.std.specs.Prelude.{Result, Option, false}
 use Rattle.std.proofs.Common.{◌≡◌, List, drop}
-use Rattle.pb_normal.specs.Form.{Form}
-use Rattle.pb_replay.specs.Replay.{Deleted}
+use Rattle.pb_normal.specs.meaning.Form.{Form}
+use Rattle.pb_replay.specs.meaning.Replay.{Deleted}
 use Rattle.pb_replay.specs.declared.fault.Fault.{Fault}
 use Rattle.pb_replay.proofs.step.delete.delete_each.Given as goal
 

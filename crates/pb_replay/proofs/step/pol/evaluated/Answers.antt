@@ -1,5 +1,5 @@
 use Rattle.std.proofs.Common.{inl, inr}
-use Rattle.pb_replay.proofs.lemmas.Evaluation.{stands_first, word_takes, word_named, word_fails, stands_next, some_form, some_fault}
+use Rattle.pb_replay.proofs.lemmas.rules.Evaluation.{stands_first, word_takes, word_named, word_fails, stands_next, some_form, some_fault}
 use Rattle.pb_replay.proofs.step.pol.evaluated.Goals as goal
 
 pub loop-word-init : goal.loop-word-init

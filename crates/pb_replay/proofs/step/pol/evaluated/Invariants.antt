@@ -1,5 +1,5 @@
-use Rattle.pb_text.specs.Limits.{largest, top_of}
-use Rattle.pb_replay.proofs.lemmas.Evaluation.{Standing}
+use Rattle.pb_text.specs.meaning.Limits.{largest, top_of}
+use Rattle.pb_replay.proofs.lemmas.rules.Evaluation.{Standing}
 use Rattle.pb_replay.proofs.step.pol.evaluated.Given as goal
 
 -- the result of the rest is the result of the whole

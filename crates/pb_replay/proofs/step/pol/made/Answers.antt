@@ -1,5 +1,5 @@
 use Rattle.std.proofs.Common.{◌∙◌}
-use Rattle.pb_replay.proofs.lemmas.Made.{axiom_made, weaken_made, saturate_made, add_fails}
+use Rattle.pb_replay.proofs.lemmas.rules.Made.{axiom_made, weaken_made, saturate_made, add_fails}
 use Rattle.pb_replay.proofs.step.pol.made.Goals as goal
 
 pub returns-in_ok-axiom-in-Axiom-clause-ok : goal.returns-in_ok-axiom-in-Axiom-clause-ok

@@ -1,6 +1,6 @@
 use Rattle.std.proofs.Common.{arith, refl, take}
-use Rattle.pb_replay.specs.Statements.{word_names}
-use Rattle.pb_replay.proofs.lemmas.Evaluation.{next_names, front_of}
+use Rattle.pb_replay.specs.meaning.Statements.{word_names}
+use Rattle.pb_replay.proofs.lemmas.rules.Evaluation.{next_names, front_of}
 use Rattle.pb_replay.proofs.step.pol.number_words.Goals as goal
 
 pub loop-word-preserved : goal.loop-word-preserved

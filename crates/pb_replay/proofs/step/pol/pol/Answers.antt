@@ -1,6 +1,6 @@
 use Rattle.std.proofs.Common.{refl, sym}
-use Rattle.pb_replay.proofs.lemmas.Named.{words_named}
-use Rattle.pb_replay.proofs.lemmas.Pols.{pol-inside, pol-goes}
+use Rattle.pb_replay.proofs.lemmas.names.Named.{words_named}
+use Rattle.pb_replay.proofs.lemmas.rules.Pols.{pol-inside, pol-goes}
 use Rattle.pb_replay.proofs.step.pol.pol.Goals as goal
 
 pub expressed-made-requires-clause-named : goal.expressed-made-requires-clause-named

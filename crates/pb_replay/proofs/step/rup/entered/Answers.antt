@@ -1,7 +1,7 @@
 use Rattle.std.proofs.Common.{refl, take, arith, ◌∙◌}
-use Rattle.pb_normal.specs.Written.{names_of}
-use Rattle.pb_replay.proofs.lemmas.Linked.{grown, linked-wider}
-use Rattle.pb_replay.proofs.lemmas.Rups.{fits_of, front_after}
+use Rattle.pb_normal.specs.meaning.Written.{names_of}
+use Rattle.pb_replay.proofs.lemmas.rules.Linked.{grown, linked-wider}
+use Rattle.pb_replay.proofs.lemmas.rules.Rups.{fits_of, front_after}
 use Rattle.pb_replay.proofs.step.rup.entered.Goals as goal
 
 pub returns-in_err-form-clause-kept : goal.returns-in_err-form-clause-kept

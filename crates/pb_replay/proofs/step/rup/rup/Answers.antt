@@ -1,6 +1,6 @@
 use Rattle.std.proofs.Common.{refl, rules, ◌∙◌}
-use Rattle.pb_replay.proofs.lemmas.Looked.{looks-judged, looks-memory, looks-none}
-use Rattle.pb_replay.proofs.lemmas.Rups.{keeps_then, rup_judged, rup_unmade, unmade, unmade-fits}
+use Rattle.pb_replay.proofs.lemmas.rules.Looked.{looks-judged, looks-memory, looks-none}
+use Rattle.pb_replay.proofs.lemmas.rules.Rups.{keeps_then, rup_judged, rup_unmade, unmade, unmade-fits}
 use Rattle.pb_replay.proofs.step.rup.rup.Goals as goal
 
 pub returns-in_err-form-clause-goes : goal.returns-in_err-form-clause-goes

@@ -1,7 +1,7 @@
-use Rattle.pb_replay.specs.Kept.{problem_of}
-use Rattle.pb_replay.specs.Replay.{Live}
-use Rattle.pb_replay.proofs.lemmas.Shows.{own-ok, own-err, own-conflict}
-use Rattle.pb_replay.proofs.lemmas.Solved.{completed-ok, completed-err}
+use Rattle.pb_replay.specs.contract.Kept.{problem_of}
+use Rattle.pb_replay.specs.meaning.Replay.{Live}
+use Rattle.pb_replay.proofs.lemmas.conclusions.Shows.{own-ok, own-err, own-conflict}
+use Rattle.pb_replay.proofs.lemmas.solutions.Solved.{completed-ok, completed-err}
 use Rattle.pb_replay.proofs.step.shown.own_value.Goals as goal
 
 pub returns-in-Ok-clause-ok : goal.returns-in-Ok-clause-ok

@@ -1,7 +1,7 @@
 use Rattle.std.proofs.Common.{length}
-use Rattle.pb_replay.specs.Replay.{Live}
-use Rattle.pb_replay.specs.Kept.{problem_of}
-use Rattle.pb_replay.proofs.lemmas.Solved.{completed-ok, completed-err}
+use Rattle.pb_replay.specs.meaning.Replay.{Live}
+use Rattle.pb_replay.specs.contract.Kept.{problem_of}
+use Rattle.pb_replay.proofs.lemmas.solutions.Solved.{completed-ok, completed-err}
 use Rattle.pb_replay.proofs.step.solution.completed.Goals as goal
 
 pub returns-in-Ok-clause-ok : goal.returns-in-Ok-clause-ok

@@ -2,9 +2,9 @@ use Rattle.std.specs.Int.{w128}
 use Rattle.std.proofs.lemmas.Int.{fits_signed_from_abs, to_z-of_z}
 use Rattle.std.specs.Prelude.{ℤ}
 use Rattle.std.proofs.Common.{inl, inr, subst}
-use Rattle.pb_replay.specs.Bounds.{Demands}
-use Rattle.pb_replay.proofs.lemmas.Excluding.{some-objective, soli-ok, soli-err}
-use Rattle.pb_replay.proofs.lemmas.Going.{demands-from}
+use Rattle.pb_replay.specs.engine.Bounds.{Demands}
+use Rattle.pb_replay.proofs.lemmas.solutions.Excluding.{some-objective, soli-ok, soli-err}
+use Rattle.pb_replay.proofs.lemmas.names.Going.{demands-from}
 use Rattle.pb_replay.proofs.step.solution.improve.Goals as goal
 
 pub returns-in-Ok-clause-goes : goal.returns-in-Ok-clause-goes

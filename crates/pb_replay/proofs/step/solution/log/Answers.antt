@@ -2,7 +2,7 @@ use Rattle.std.specs.Prelude.{Some}
 use Rattle.std.specs.Int.{w128}
 use Rattle.std.proofs.Common.{rules, refl, FitsSigned, to_z, of_z}
 use Rattle.std.proofs.lemmas.Int.{to_z-of_z}
-use Rattle.pb_replay.proofs.lemmas.Going.{logs-ok, logs-err}
+use Rattle.pb_replay.proofs.lemmas.names.Going.{logs-ok, logs-err}
 use Rattle.pb_replay.proofs.step.solution.log.Goals as goal
 
 pub returns-in-Ok-clause-logs : goal.returns-in-Ok-clause-logs

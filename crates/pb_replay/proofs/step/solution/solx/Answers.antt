@@ -1,5 +1,5 @@
 use Rattle.pb_proof.specs.declared.Statement.TheVariants.{Solx}
-use Rattle.pb_replay.proofs.lemmas.Going.{goes-from}
+use Rattle.pb_replay.proofs.lemmas.names.Going.{goes-from}
 use Rattle.std.proofs.Common.{◌∙◌}
 use Rattle.pb_replay.proofs.step.solution.solx.Goals as goal
 

@@ -1,4 +1,4 @@
-use Rattle.pb_sums.proofs.States.{first_is_state}
+use Rattle.pb_sums.proofs.lemmas.machine.States.{first_is_state}
 use Rattle.pb_sums.proofs.machine.SumMachine.restart.Goals as goal
 
 pub returns-clause-state : goal.returns-clause-state

@@ -1,7 +1,7 @@
 use Rattle.std.proofs.Common.{◌≡◌, List, ℕ, ◌++◌, take, ap, sym, ◌∙◌}
-use Rattle.pb_text.proofs.Results.{grown}
-use Rattle.pb_sums.proofs.Names.{more_runs}
-use Rattle.pb_sums.proofs.States.{more_state}
+use Rattle.pb_text.proofs.lemmas.text.Results.{grown}
+use Rattle.pb_sums.proofs.lemmas.prefixes.Names.{more_runs}
+use Rattle.pb_sums.proofs.lemmas.machine.States.{more_state}
 use Rattle.pb_sums.proofs.machine.SumMachine.take_more.Goals as goal
 
 pub returns-clause-runs : goal.returns-clause-runs

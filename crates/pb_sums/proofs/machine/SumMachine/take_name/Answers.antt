@@ -1,8 +1,8 @@
 use Rattle.std.proofs.Common.{◌≡◌, ◌≤◌, length, take, get_or, sym, ap, ◌∙◌, arith}
 use Rattle.std.proofs.lemmas.List.{length-take-le, get_or-take}
-use Rattle.pb_text.specs.Classes.{is_letter}
-use Rattle.pb_sums.proofs.Shorts.{name_utf8}
-use Rattle.pb_sums.proofs.Names.{name_runs, behind_state}
+use Rattle.pb_text.specs.meaning.Classes.{is_letter}
+use Rattle.pb_sums.proofs.lemmas.values.Shorts.{name_utf8}
+use Rattle.pb_sums.proofs.lemmas.prefixes.Names.{name_runs, behind_state}
 use Rattle.pb_sums.proofs.machine.SumMachine.take_name.Goals as goal
 
 pub from_front-requires-clause-text : goal.from_front-requires-clause-text

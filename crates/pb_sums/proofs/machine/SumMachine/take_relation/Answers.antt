@@ -1,7 +1,7 @@
 use Rattle.std.proofs.Common.{refl, sym, ap, ◌==◌, length, ◌∙◌}
-use Rattle.pb_sums.proofs.Digits.{none_there}
-use Rattle.pb_sums.proofs.States.{midway_state}
-use Rattle.pb_sums.proofs.TermParts.{relation_runs, spaced_relation_runs}
+use Rattle.pb_sums.proofs.lemmas.prefixes.Digits.{none_there}
+use Rattle.pb_sums.proofs.lemmas.machine.States.{midway_state}
+use Rattle.pb_sums.proofs.lemmas.prefixes.TermParts.{relation_runs, spaced_relation_runs}
 use Rattle.pb_sums.specs.declared.phase.Phase as phase
 use Rattle.pb_sums.proofs.machine.SumMachine.take_relation.Goals as goal
 

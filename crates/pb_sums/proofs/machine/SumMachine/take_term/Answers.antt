@@ -2,9 +2,9 @@ use Rattle.std.proofs.Common.{refl, sym, ap, ◌==◌, length, ◌∙◌, arith}
 use mir.Val.{SFits}
 use Rattle.std.specs.Int.{w128}
 use Rattle.std.proofs.lemmas.Int.{ints, to_z-of_z}
-use Rattle.pb_sums.proofs.Digits.{none_there}
-use Rattle.pb_sums.proofs.States.{midway_state}
-use Rattle.pb_sums.proofs.TermParts.{term_runs, grown}
+use Rattle.pb_sums.proofs.lemmas.prefixes.Digits.{none_there}
+use Rattle.pb_sums.proofs.lemmas.machine.States.{midway_state}
+use Rattle.pb_sums.proofs.lemmas.prefixes.TermParts.{term_runs, grown}
 use Rattle.pb_sums.specs.declared.phase.Phase as phase
 use Rattle.pb_sums.proofs.machine.SumMachine.take_term.Goals as goal
 

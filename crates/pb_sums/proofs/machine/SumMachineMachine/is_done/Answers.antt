@@ -1,4 +1,4 @@
-use Rattle.pb_sums.proofs.States.{is_state}
+use Rattle.pb_sums.proofs.lemmas.machine.States.{is_state}
 use Rattle.pb_sums.proofs.machine.SumMachineMachine.is_done.Goals as goal
 
 pub returns-clause-state : goal.returns-clause-state

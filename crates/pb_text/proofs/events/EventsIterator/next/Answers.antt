@@ -1,12 +1,12 @@
 use Rattle.std.proofs.Common.{◌≡◌, ℕ, None, IfErr, sym, ap, ◌∙◌, subst}
 use Rattle.std.specs.Option.{option_transpose}
 use Rattle.std.specs.Result.{result_transpose}
-use Rattle.pb_text.specs.Standing.{IsOpen}
-use Rattle.pb_text.specs.Feeding.{WantsMemory, stop_of}
-use Rattle.pb_text.specs.Pulling.{Pulls, faults_after}
-use Rattle.pb_text.specs.PullsInARow.{PullsOn}
-use Rattle.pb_text.specs.Stopping.{IsShown}
-use Rattle.pb_text.proofs.ItemsPulled.{transposed, event_pulled, none_pulled, none_there}
+use Rattle.pb_text.specs.contract.Standing.{IsOpen}
+use Rattle.pb_text.specs.contract.Feeding.{WantsMemory, stop_of}
+use Rattle.pb_text.specs.meaning.Pulling.{Pulls, faults_after}
+use Rattle.pb_text.specs.meaning.PullsInARow.{PullsOn}
+use Rattle.pb_text.specs.meaning.Stopping.{IsShown}
+use Rattle.pb_text.proofs.lemmas.source.ItemsPulled.{transposed, event_pulled, none_pulled, none_there}
 use Rattle.pb_text.proofs.events.EventsIterator.next.Goals as goal
 
 pub returns-clause-steps : goal.returns-clause-steps

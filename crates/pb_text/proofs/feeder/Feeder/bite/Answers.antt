@@ -1,6 +1,6 @@
 use Rattle.std.proofs.Common.{arith, ◌∷◌, ◌++◌, ℕ, List, [], subst, append-nil, take}
-use Rattle.pb_text.specs.Feeding.{StandsAt}
-use Rattle.pb_text.proofs.Spans.{one_further}
+use Rattle.pb_text.specs.contract.Feeding.{StandsAt}
+use Rattle.pb_text.proofs.lemmas.text.Spans.{one_further}
 use Rattle.pb_text.proofs.feeder.Feeder.bite.Goals as goal
 
 pub returns-then-used-piece-clause-stands : goal.returns-then-used-piece-clause-stands

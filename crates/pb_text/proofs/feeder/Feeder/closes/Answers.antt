@@ -1,7 +1,7 @@
 use Rattle.std.proofs.Common.{◌∙◌, subst, None, Option, append-nil}
 use Rattle.pb_text.specs.declared.place.Stop.{Stop}
-use Rattle.pb_text.specs.Standing.{Stands}
-use Rattle.pb_text.proofs.Steps.{before_end, stands_event}
+use Rattle.pb_text.specs.contract.Standing.{Stands}
+use Rattle.pb_text.proofs.lemmas.feeder.Steps.{before_end, stands_event}
 use Rattle.pb_text.proofs.feeder.Feeder.closes.Goals as goal
 
 pub returns-in-Some-clause-stands : goal.returns-in-Some-clause-stands

@@ -1,6 +1,6 @@
 use Rattle.std.proofs.Common.{ℕ, List, ◌++◌, subst, append-nil, take, arith}
-use Rattle.pb_text.specs.Feeding.{StandsAt}
-use Rattle.pb_text.proofs.Spans.{one_further}
+use Rattle.pb_text.specs.contract.Feeding.{StandsAt}
+use Rattle.pb_text.proofs.lemmas.text.Spans.{one_further}
 use Rattle.pb_text.proofs.feeder.Feeder.enter.Goals as goal
 
 pub loop-used-preserved : goal.loop-used-preserved

@@ -2,10 +2,10 @@ use Rattle.std.proofs.Common.{◌≡◌, ◌+◌, ◌-◌, ◌<◌, ◌≤◌, �
 use Rattle.std.proofs.lemmas.List.{take-take, length-take, length-drop}
 use Rattle.std.proofs.lemmas.Option.{slice_get-get_or}
 use Rattle.std.proofs.Math.Seq.{take-length, take-add}
-use Rattle.pb_text.specs.Standing.{Stands}
-use Rattle.pb_text.specs.Feeding.{StandsAt}
-use Rattle.pb_text.proofs.Begin.{stands_more}
-use Rattle.pb_text.proofs.Spans.{one_further}
+use Rattle.pb_text.specs.contract.Standing.{Stands}
+use Rattle.pb_text.specs.contract.Feeding.{StandsAt}
+use Rattle.pb_text.proofs.lemmas.feeder.Begin.{stands_more}
+use Rattle.pb_text.proofs.lemmas.text.Spans.{one_further}
 use Rattle.pb_text.proofs.feeder.Feeder.feed.Goals as goal
 
 whole : (input piece : List ℕ) (i : ℕ) → i < length piece → ((input ++ take i piece) ++ get_or piece i 0 ∷ []) ++ drop (i + 1) piece ≡ input ++ piece

@@ -1,9 +1,9 @@
 use Rattle.std.proofs.Common.{◌≡◌, Option, None, subst, refl, true, false, sym}
-use Rattle.pb_text.specs.Spelling.{bytes}
-use Rattle.pb_text.specs.Standing.{Stands}
+use Rattle.pb_text.specs.meaning.Spelling.{bytes}
+use Rattle.pb_text.specs.contract.Standing.{Stands}
 use Rattle.pb_text.specs.declared.place.Stop.{Stop}
-use Rattle.pb_text.proofs.Told.{stands_reads}
-use Rattle.pb_text.proofs.Begin.{stands_ended}
+use Rattle.pb_text.proofs.lemmas.feeder.Told.{stands_reads}
+use Rattle.pb_text.proofs.lemmas.feeder.Begin.{stands_ended}
 use Rattle.pb_text.proofs.feeder.Feeder.finish.Goals as goal
 
 pub returns-then-is_done-clause-ends : goal.returns-then-is_done-clause-ends

@@ -1,12 +1,12 @@
 use Rattle.std.proofs.Common.{◌≡◌, ◌≤◌, ◌-◌, ◌+◌, ℕ, arith, sym, subst, ap, ◌∙◌, None, Option, List, length, take, min, length-take-le}
 use Rattle.std.proofs.lemmas.List.{length-take, take-take}
-use Rattle.pb_text.specs.Automaton.{Runs}
-use Rattle.pb_text.specs.SpentBytes.{end_of}
-use Rattle.pb_text.specs.Spelling.{place_past}
-use Rattle.pb_text.specs.Standing.{Stands}
+use Rattle.pb_text.specs.contract.Automaton.{Runs}
+use Rattle.pb_text.specs.engine.SpentBytes.{end_of}
+use Rattle.pb_text.specs.meaning.Spelling.{place_past}
+use Rattle.pb_text.specs.contract.Standing.{Stands}
 use Rattle.pb_text.specs.declared.place.Place.{Place}
 use Rattle.pb_text.specs.declared.place.Stop.{Stop}
-use Rattle.pb_text.proofs.Running.{stands_run, runs_unfinished, past_offset, past_line, past_column}
+use Rattle.pb_text.proofs.lemmas.machine.Running.{stands_run, runs_unfinished, past_offset, past_line, past_column}
 use Rattle.pb_text.proofs.feeder.Feeder.go_on.Goals as goal
 
 -- the number of bytes that were taken, and that they are those of the piece

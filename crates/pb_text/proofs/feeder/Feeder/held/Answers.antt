@@ -1,7 +1,7 @@
 use Rattle.std.proofs.Common.{length, arith}
-use Rattle.pb_text.specs.Spelling.{bytes}
-use Rattle.pb_text.proofs.Short.{begun_bytes}
-use Rattle.pb_text.proofs.Told.{stands_open, kept_within}
+use Rattle.pb_text.specs.meaning.Spelling.{bytes}
+use Rattle.pb_text.proofs.lemmas.text.Short.{begun_bytes}
+use Rattle.pb_text.proofs.lemmas.feeder.Told.{stands_open, kept_within}
 use Rattle.pb_text.proofs.feeder.Feeder.held.Goals as goal
 
 pub returns-clause-few : goal.returns-clause-few

@@ -1,5 +1,5 @@
-use Rattle.pb_text.specs.Spelling.{bytes}
-use Rattle.pb_text.proofs.Told.{stands_reads}
+use Rattle.pb_text.specs.meaning.Spelling.{bytes}
+use Rattle.pb_text.proofs.lemmas.feeder.Told.{stands_reads}
 use Rattle.pb_text.proofs.feeder.Feeder.is_done.Goals as goal
 
 pub returns-clause-reads : goal.returns-clause-reads

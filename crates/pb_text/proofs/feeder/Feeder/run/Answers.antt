@@ -1,6 +1,6 @@
 use Rattle.std.proofs.Common.{ℕ, ◌++◌, List, take, drop, length, ◌-◌, ap, sym, subst, ◌∙◌, append_assoc}
-use Rattle.pb_text.specs.Feeding.{StandsAt}
-use Rattle.pb_text.proofs.Spans.{front_parts}
+use Rattle.pb_text.specs.contract.Feeding.{StandsAt}
+use Rattle.pb_text.proofs.lemmas.text.Spans.{front_parts}
 use Rattle.pb_text.proofs.feeder.Feeder.run.Goals as goal
 
 pub returns-clause-stands : goal.returns-clause-stands

@@ -1,9 +1,9 @@
 use Rattle.std.proofs.Common.{◌≡◌, ℕ, refl, subst, ap, ◌∙◌, None, Option}
-use Rattle.pb_text.specs.SpentBytes.{end_of}
+use Rattle.pb_text.specs.engine.SpentBytes.{end_of}
 use Rattle.pb_text.specs.declared.place.Place.{Place}
 use Rattle.pb_text.specs.declared.place.Stop.{Stop}
-use Rattle.pb_text.specs.Standing.{Stands}
-use Rattle.pb_text.proofs.Steps.{before_end, stands_go, stands_event, stands_no, stands_large, stands_lacks, stands_long}
+use Rattle.pb_text.specs.contract.Standing.{Stands}
+use Rattle.pb_text.proofs.lemmas.feeder.Steps.{before_end, stands_go, stands_event, stands_no, stands_large, stands_lacks, stands_long}
 use Rattle.pb_text.proofs.feeder.Feeder.take.Goals as goal
 
 at_end : (longest longest' end offset : ℕ) (first : Option Place) → longest ≡ longest' → end ≡ end_of longest first → offset ≡ end → offset ≡ end_of longest' first

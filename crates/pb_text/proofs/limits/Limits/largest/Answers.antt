@@ -1,4 +1,4 @@
-use Rattle.pb_text.proofs.Powers.{largest_below, largest_above}
+use Rattle.pb_text.proofs.lemmas.numbers.Powers.{largest_below, largest_above}
 use Rattle.pb_text.proofs.limits.Limits.largest.Goals as goal
 
 pub returns-clause-room : goal.returns-clause-room

@@ -1,6 +1,6 @@
 use Rattle.std.proofs.Common.{◌≡◌, ℕ, ◌+◌, take, subst, arith, length-drop, length-take}
-use Rattle.pb_text.specs.Automaton.{Runs}
-use Rattle.pb_text.proofs.Spans.{runs_further}
+use Rattle.pb_text.specs.contract.Automaton.{Runs}
+use Rattle.pb_text.proofs.lemmas.text.Spans.{runs_further}
 use Rattle.pb_text.proofs.machine.Machine.run.Goals as goal
 
 pub returns-then-more-eq0-clause-runs : goal.returns-then-more-eq0-clause-runs

@@ -1,5 +1,5 @@
 use Rattle.std.proofs.Common.{◌-◌, ◌≤◌, length, take}
-use Rattle.pb_text.specs.Automaton.{IsState, Runs}
+use Rattle.pb_text.specs.contract.Automaton.{IsState, Runs}
 use Rattle.pb_text.proofs.machine.Machine.run.Given as goal
 
 -- the bytes so far were taken

@@ -1,5 +1,5 @@
 use Rattle.std.proofs.Common.{refl}
-use Rattle.pb_text.proofs.Running.{runs_on}
+use Rattle.pb_text.proofs.lemmas.machine.Running.{runs_on}
 use Rattle.pb_text.proofs.machine.Machine.take_front.Goals as goal
 
 pub returns-then-goes-clause-runs : goal.returns-then-goes-clause-runs

@@ -1,5 +1,5 @@
 use Rattle.std.proofs.Common.{◌≡◌, take}
-use Rattle.pb_text.specs.Spelling.{place_past}
+use Rattle.pb_text.specs.meaning.Spelling.{place_past}
 use Rattle.pb_text.proofs.place.Place.past.Given as goal
 
 -- the position after the bytes so far

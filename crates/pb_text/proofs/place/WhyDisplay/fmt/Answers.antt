@@ -1,7 +1,7 @@
 use Rattle.std.proofs.Common.{arith, Some, ◌≡◌, ◌++◌, ap, codes}
 use Rattle.std.specs.Fmt.{DisplaysOnOk, styled_digits_output}
-use Rattle.pb_text.specs.Reasons.{hex_of}
-use Rattle.pb_text.proofs.HexDigits.{hex_is_hex_of}
+use Rattle.pb_text.specs.contract.Reasons.{hex_of}
+use Rattle.pb_text.proofs.lemmas.numbers.HexDigits.{hex_is_hex_of}
 use Rattle.pb_text.proofs.place.WhyDisplay.fmt.Goals as goal
 
 pub returns-in-Byte-clause-writes : goal.returns-in-Byte-clause-writes

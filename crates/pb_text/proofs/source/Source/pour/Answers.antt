@@ -1,5 +1,5 @@
 use Rattle.std.proofs.Common.{[], sym, arith, append-nil}
-use Rattle.pb_text.proofs.Pulled.{lost_nothing}
+use Rattle.pb_text.proofs.lemmas.source.Pulled.{lost_nothing}
 use Rattle.pb_text.proofs.source.Source.pour.Goals as goal
 
 pub returns-clause-pours : goal.returns-clause-pours

@@ -1,5 +1,5 @@
 use Rattle.std.proofs.Common.{◌≡◌, ◌^◌, [], ◌++◌, Some, refl, sym, append-nil, unwrap_or}
-use Rattle.pb_replay.specs.Replay.{first_state}
+use Rattle.pb_replay.specs.meaning.Replay.{first_state}
 use Rattle.pb_replay.specs.declared.verdict.Verdict.TheVariants.{Unsat}
 use Rattle.pb_tool.proofs.lemmas.check.TwoSources as accepted
 use Rattle.pb_tool.proofs.lemmas.check.Peeked.{opening_unseen, replay_unseen}

@@ -1,10 +1,10 @@
 use Rattle.std.proofs.Common.{◌^◌, ◌≤◌, [], ◌∷◌, ◌++◌, ap, ◌∙◌, append-nil, refl, subst, sym, Some, None, Ok, Err}
-use Rattle.pb_text.specs.Automaton.{Accepts, MayAsk}
-use Rattle.pb_text.specs.Feeding.{place_of}
+use Rattle.pb_text.specs.contract.Automaton.{Accepts, MayAsk}
+use Rattle.pb_text.specs.contract.Feeding.{place_of}
 use Rattle.pb_text.specs.declared.Place.{Place}
-use Rattle.pb_text.proofs.Parts.{part_wrote}
-use Rattle.pb_text.proofs.Writing.{writes_nothing}
-use Rattle.pb_text.specs.Pulling.{OfGiven}
+use Rattle.pb_text.proofs.lemmas.text.Parts.{part_wrote}
+use Rattle.pb_text.proofs.lemmas.text.Writing.{writes_nothing}
+use Rattle.pb_text.specs.meaning.Pulling.{OfGiven}
 use Rattle.pb_tool.specs.contract.Show.{EndsAt, InText}
 use Rattle.pb_tool.proofs.lemmas.show.GivenStatements.{given_broken, given_next, given_refused, given_row, given_shown, given_so_far}
 use Rattle.pb_tool.proofs.lemmas.show.ShownStatements.{fewer, first_pull, shown_more, shows_end, so_far_within}

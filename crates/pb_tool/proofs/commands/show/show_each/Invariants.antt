@@ -1,7 +1,7 @@
 use Rattle.std.proofs.Common.{◌≡◌, ◌+◌, ◌-◌, ◌^◌, List}
-use Rattle.pb_text.specs.Feeding.{place_of}
-use Rattle.pb_text.specs.PullsInARow.{HasPulled}
-use Rattle.pb_text.specs.Writing.{Wrote}
+use Rattle.pb_text.specs.contract.Feeding.{place_of}
+use Rattle.pb_text.specs.meaning.PullsInARow.{HasPulled}
+use Rattle.pb_text.specs.meaning.Writing.{Wrote}
 use Rattle.pb_text.specs.declared.Spanned.{Spanned}
 use Rattle.pb_tool.specs.contract.Show.{shown}
 use Rattle.pb_tool.proofs.lemmas.show.GivenStatements.{HasGiven}

@@ -1,7 +1,7 @@
 use Rattle.std.proofs.Common.{Some, ◌++◌}
-use Rattle.pb_text.specs.Automaton.{Accepts, MayAsk}
-use Rattle.pb_opb.specs.State.{opb}
-use Rattle.pb_opb.specs.Canonical.{event_bytes}
+use Rattle.pb_text.specs.contract.Automaton.{Accepts, MayAsk}
+use Rattle.pb_opb.specs.engine.State.{opb}
+use Rattle.pb_opb.specs.contract.Canonical.{event_bytes}
 use Rattle.pb_tool.specs.meaning.Tidy.{AsksInInstanceText, IsInstanceText}
 use Rattle.pb_tool.proofs.lemmas.show.ShownStatements.{shows_to}
 use Rattle.pb_tool.proofs.commands.show.show_instance.Goals as goal

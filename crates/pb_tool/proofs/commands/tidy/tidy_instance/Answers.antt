@@ -1,6 +1,6 @@
 use Rattle.std.proofs.Common.{Some, ◌++◌}
-use Rattle.pb_text.specs.Automaton.{Accepts, MayAsk}
-use Rattle.pb_opb.specs.State.{opb}
+use Rattle.pb_text.specs.contract.Automaton.{Accepts, MayAsk}
+use Rattle.pb_opb.specs.engine.State.{opb}
 use Rattle.pb_tool.proofs.lemmas.tidy.InstanceLines.{tidies_text}
 use Rattle.pb_tool.proofs.commands.tidy.tidy_instance.Goals as goal
 

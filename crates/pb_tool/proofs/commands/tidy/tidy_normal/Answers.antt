@@ -1,6 +1,6 @@
 use Rattle.std.proofs.Common.{Some, ◌++◌, ◌∙◌, refl}
-use Rattle.pb_text.specs.Automaton.{Accepts, MayAsk}
-use Rattle.pb_opb.specs.State.{opb}
+use Rattle.pb_text.specs.contract.Automaton.{Accepts, MayAsk}
+use Rattle.pb_opb.specs.engine.State.{opb}
 use Rattle.pb_tool.proofs.lemmas.tidy.NormalFile.{told_faults, told_file, told_on, unnoted}
 use Rattle.pb_tool.proofs.commands.tidy.tidy_normal.Goals as goal
 

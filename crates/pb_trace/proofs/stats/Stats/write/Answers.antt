@@ -1,5 +1,5 @@
 use Rattle.std.proofs.Common.{refl}
-use Rattle.pb_text.proofs.Parts.{part_then, part_broke}
+use Rattle.pb_text.proofs.lemmas.text.Parts.{part_then, part_broke}
 use Rattle.std.proofs.Common.{ℕ, List, ◌++◌, ap, append-nil}
 use Rattle.std.specs.Prelude.{codes}
 use Rattle.pb_trace.specs.Counted.{count_line}

@@ -1,7 +1,7 @@
 use Rattle.std.proofs.Common.{◌≡◌, false, IsTrue, sym, subst}
-use Rattle.pb_text.specs.Automaton.{Refuse, Admits, is_large}
-use Rattle.pb_proof.specs.Line.Claim.{plan}
-use Rattle.pb_proof.specs.Line.ClaimState.{ClaimState, claim_automaton, giving}
+use Rattle.pb_text.specs.contract.Automaton.{Refuse, Admits, is_large}
+use Rattle.pb_proof.specs.engine.Line.Claim.{plan}
+use Rattle.pb_proof.specs.engine.Line.ClaimState.{ClaimState, claim_automaton, giving}
 use Rattle.pb_proof.specs.contracts.line.claim.ClaimMachine.{the_view}
 use Rattle.pb_proof.specs.declared.line.claim.phase.Move.TheVariants.{Give}
 use Rattle.pb_proof.proofs.lemmas.Claim.Pushes.{give_order, give_refused, give_admits, same_inner}

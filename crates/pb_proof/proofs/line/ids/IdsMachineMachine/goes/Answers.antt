@@ -1,9 +1,9 @@
 use Rattle.std.proofs.Common.{refl, sym}
-use Rattle.pb_text.proofs.Booleans.{never}
+use Rattle.pb_text.proofs.lemmas.text.Booleans.{never}
 use Rattle.pb_proof.specs.declared.line.ids.phase.IdsMove.TheVariants as move
 use Rattle.pb_proof.proofs.lemmas.Ids.Theorems.{ids_is_state}
 use Rattle.pb_proof.proofs.lemmas.Ids.Pushes.{moved, midway_state}
-use Rattle.pb_text.proofs.Results.{unchanged}
+use Rattle.pb_text.proofs.lemmas.text.Results.{unchanged}
 use Rattle.pb_proof.proofs.line.ids.IdsMachineMachine.goes.Goals as goal
 
 pub returns-then-is_err-clause-state : goal.returns-then-is_err-clause-state

@@ -1,10 +1,10 @@
 use Rattle.std.proofs.Common.{refl, sym, ap}
-use Rattle.pb_text.proofs.Booleans.{never}
-use Rattle.pb_proof.specs.Line.Ids.{ids_at}
+use Rattle.pb_text.proofs.lemmas.text.Booleans.{never}
+use Rattle.pb_proof.specs.engine.Line.Ids.{ids_at}
 use Rattle.pb_proof.specs.declared.line.ids.phase.IdsMove.TheVariants as move
 use Rattle.pb_proof.proofs.lemmas.Ids.Theorems.{ids_is_state}
 use Rattle.pb_proof.proofs.lemmas.Ids.Pushes.{moved, wants, midway_state}
-use Rattle.pb_text.proofs.Results.{unchanged}
+use Rattle.pb_text.proofs.lemmas.text.Results.{unchanged}
 use Rattle.pb_proof.proofs.line.ids.IdsMachineMachine.push.Goals as goal
 
 pub returns-then-is_err-clause-pushes : goal.returns-then-is_err-clause-pushes

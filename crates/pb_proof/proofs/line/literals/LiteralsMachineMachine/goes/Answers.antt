@@ -1,7 +1,7 @@
 use Rattle.std.proofs.Common.{sym}
 use Rattle.pb_proof.proofs.lemmas.Literals.Theorems.{literals_is_state}
 use Rattle.pb_proof.proofs.lemmas.Literals.Pushes.{goes_to, midway_state}
-use Rattle.pb_text.proofs.Results.{when_ok, when_err, unchanged}
+use Rattle.pb_text.proofs.lemmas.text.Results.{when_ok, when_err, unchanged}
 use Rattle.pb_proof.proofs.line.literals.LiteralsMachineMachine.goes.Goals as goal
 
 pub returns-then-is_err-clause-state : goal.returns-then-is_err-clause-state

@@ -2,7 +2,7 @@ use Rattle.std.proofs.Common.{refl, sym}
 use Rattle.pb_proof.specs.declared.line.literals.phase.LiteralsMove.TheVariants as move
 use Rattle.pb_proof.proofs.lemmas.Literals.Theorems.{literals_is_state}
 use Rattle.pb_proof.proofs.lemmas.Literals.Pushes.{wants, goes_to, same_state, midway_state}
-use Rattle.pb_text.proofs.Results.{when_ok, when_err, unchanged}
+use Rattle.pb_text.proofs.lemmas.text.Results.{when_ok, when_err, unchanged}
 use Rattle.pb_proof.proofs.line.literals.LiteralsMachineMachine.push.Goals as goal
 
 pub returns-then-is_err-clause-pushes : goal.returns-then-is_err-clause-pushes

@@ -2,8 +2,8 @@ use Rattle.std.proofs.Common.{◌≡◌, List, [], ◌∷◌, ◌++◌, not, tak
 use Rattle.std.specs.Int.{w64}
 use Rattle.std.specs.Option.{is_some}
 use Rattle.std.proofs.lemmas.Int.{to_z_pos}
-use Rattle.pb_text.specs.Automaton.{Runs}
-use Rattle.pb_proof.specs.Line.PolState.{PolState, pol_automaton}
+use Rattle.pb_text.specs.contract.Automaton.{Runs}
+use Rattle.pb_proof.specs.engine.Line.PolState.{PolState, pol_automaton}
 use Rattle.pb_proof.specs.declared.word.PolWord.{PolWord}
 use Rattle.pb_proof.specs.declared.word.PolWord.TheVariants.{Id}
 use Rattle.pb_proof.specs.declared.line.pol.phase.Phase.TheVariants as phase

@@ -1,12 +1,12 @@
 use Rattle.std.proofs.Common.{take, refl, sym, subst}
-use Rattle.pb_text.specs.Automaton.{Runs}
-use Rattle.pb_proof.specs.Line.PolState.{PolState, pol_automaton}
+use Rattle.pb_text.specs.contract.Automaton.{Runs}
+use Rattle.pb_proof.specs.engine.Line.PolState.{PolState, pol_automaton}
 use Rattle.pb_proof.specs.declared.line.pol.phase.Held.TheVariants as held
 use Rattle.pb_proof.specs.declared.line.pol.phase.Phase.TheVariants as phase
 use Rattle.pb_proof.proofs.lemmas.Pol.AtOnce.{operator_runs}
 use Rattle.pb_proof.proofs.lemmas.Pol.Covers.{state}
 use Rattle.pb_proof.proofs.lemmas.Pol.Pushes.{same_state, midway_state}
-use Rattle.pb_text.proofs.Results.{when_ok}
+use Rattle.pb_text.proofs.lemmas.text.Results.{when_ok}
 use Rattle.pb_proof.proofs.line.pol.PolMachine.take_operator.Goals as goal
 
 pub returns-clause-runs : goal.returns-clause-runs

@@ -1,7 +1,7 @@
 use Rattle.std.proofs.Common.{◌≡◌, ℕ, take, subst, arith}
-use Rattle.pb_text.specs.Automaton.{Runs}
-use Rattle.pb_text.proofs.Running.{runs_on}
-use Rattle.pb_proof.specs.Line.PolState.{pol_automaton}
+use Rattle.pb_text.specs.contract.Automaton.{Runs}
+use Rattle.pb_text.proofs.lemmas.machine.Running.{runs_on}
+use Rattle.pb_proof.specs.engine.Line.PolState.{pol_automaton}
 use Rattle.pb_proof.proofs.line.pol.PolMachineMachine.take_front.Goals as goal
 
 pub returns-then-goes-clause-runs : goal.returns-then-goes-clause-runs

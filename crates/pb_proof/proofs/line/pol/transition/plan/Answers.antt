@@ -1,5 +1,5 @@
 use Rattle.std.proofs.Common.{◌≡◌, ℕ, refl, sym, ap, ◌∙◌}
-use Rattle.pb_proof.specs.Line.Pol.{read, plan, semicolon, close}
+use Rattle.pb_proof.specs.engine.Line.Pol.{read, plan, semicolon, close}
 use Rattle.pb_proof.specs.declared.line.pol.phase.Kind.{Kind}
 use Rattle.pb_proof.specs.declared.line.pol.phase.Kind.TheVariants as kind
 use Rattle.pb_proof.specs.declared.line.pol.phase.Phase.{Phase}

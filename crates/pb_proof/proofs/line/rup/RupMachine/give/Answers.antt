@@ -1,7 +1,7 @@
 use Rattle.std.proofs.Common.{◌≡◌, ◌∙◌, ap, sym, subst, true, false, IsTrue}
-use Rattle.pb_text.specs.Automaton.{Refuse, Admits, is_large}
-use Rattle.pb_sums.specs.State.{SumState}
-use Rattle.pb_proof.specs.Line.Rup.{RupState, rup_automaton, rup_plan, IsRupInOrder}
+use Rattle.pb_text.specs.contract.Automaton.{Refuse, Admits, is_large}
+use Rattle.pb_sums.specs.engine.State.{SumState}
+use Rattle.pb_proof.specs.engine.Line.Rup.{RupState, rup_automaton, rup_plan, IsRupInOrder}
 use Rattle.pb_proof.specs.contracts.line.rup.RupMachine.{the_view}
 use Rattle.pb_proof.specs.declared.line.rup.phase.RupPhase.TheVariants.{Tail}
 use Rattle.pb_proof.specs.declared.line.rup.phase.RupMove.TheVariants.{Give}

@@ -1,4 +1,4 @@
-use Rattle.pb_replay.proofs.Engine.Values.{Agree-cleared, vacancy-cleared}
+use Rattle.pb_replay.proofs.lemmas.engine.Values.{Agree-cleared, vacancy-cleared}
 use Rattle.pb_replay.proofs.propagate.assignment.Assignment.clear.Goals as goal
 
 pub invariant_of-self : goal.invariant_of-self

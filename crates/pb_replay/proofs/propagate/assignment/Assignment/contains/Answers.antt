@@ -1,8 +1,8 @@
 use Rattle.std.specs.Prelude.{None}
 use Rattle.std.proofs.Common.{sym, ◌∙◌}
 use Rattle.std.proofs.lemmas.List.{get_or_read}
-use Rattle.pb_replay.proofs.Engine.Literals.{beq-not}
-use Rattle.pb_replay.proofs.Engine.Values.{says-some, says-none}
+use Rattle.pb_replay.proofs.lemmas.engine.Literals.{beq-not}
+use Rattle.pb_replay.proofs.lemmas.engine.Values.{says-some, says-none}
 use Rattle.pb_replay.proofs.propagate.assignment.Assignment.contains.Goals as goal
 
 pub returns-in-Some : goal.returns-in-Some

@@ -1,4 +1,4 @@
-use Rattle.pb_replay.proofs.Engine.Values.{Agree-start, vacancy-start}
+use Rattle.pb_replay.proofs.lemmas.engine.Values.{Agree-start, vacancy-start}
 use Rattle.pb_replay.proofs.propagate.assignment.Assignment.new.Goals as goal
 
 pub invariant_of-result : goal.invariant_of-result

@@ -1,5 +1,5 @@
 use Rattle.std.proofs.Common.{is_ok}
-use Rattle.pb_replay.proofs.Engine.Values.{Agree-widen_if, vacancy-widen_if}
+use Rattle.pb_replay.proofs.lemmas.engine.Values.{Agree-widen_if, vacancy-widen_if}
 use Rattle.pb_replay.proofs.propagate.assignment.Assignment.widen.Goals as goal
 
 pub invariant_of-self : goal.invariant_of-self

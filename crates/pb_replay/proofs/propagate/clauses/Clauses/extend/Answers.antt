@@ -1,8 +1,8 @@
 use Rattle.std.proofs.Common.{List, refl, ap, ◌++◌, ◌∷◌, [], ◌∙◌}
 use Rattle.pb_replay.specs.declared.propagate.clauses.lists.Watch.{Watch}
-use Rattle.pb_replay.specs.Clauses.Links.{watch_at, idle}
-use Rattle.pb_replay.proofs.Root.Gained.{idle-push}
-use Rattle.pb_replay.proofs.Clauses.Stores.{rest-extend}
+use Rattle.pb_replay.specs.engine.Clauses.Links.{watch_at, idle}
+use Rattle.pb_replay.proofs.lemmas.root.Gained.{idle-push}
+use Rattle.pb_replay.proofs.lemmas.clauses.Stores.{rest-extend}
 use Rattle.pb_replay.proofs.propagate.clauses.Clauses.extend.Goals as goal
 
 pub returns-clause-rest : goal.returns-clause-rest

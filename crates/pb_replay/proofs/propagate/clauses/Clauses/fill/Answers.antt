@@ -1,7 +1,7 @@
 use Rattle.std.proofs.Common.{refl, ◌∙◌, arith}
 use Rattle.std.proofs.lemmas.List.{get_or_read}
-use Rattle.pb_replay.proofs.Clauses.Stores.{rest-fill, literals-set}
-use Rattle.pb_replay.proofs.Root.Gained.{watches-apart}
+use Rattle.pb_replay.proofs.lemmas.clauses.Stores.{rest-fill, literals-set}
+use Rattle.pb_replay.proofs.lemmas.root.Gained.{watches-apart}
 use Rattle.pb_replay.proofs.propagate.clauses.Clauses.fill.Goals as goal
 
 pub returns-clause-literals : goal.returns-clause-literals

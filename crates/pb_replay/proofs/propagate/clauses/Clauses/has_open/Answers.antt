@@ -1,6 +1,6 @@
 use Rattle.std.proofs.Common.{◌∙◌, ap, sym, subst, arith, length, get_or}
-use Rattle.pb_replay.specs.Engine.Root.{HasOpen}
-use Rattle.pb_replay.proofs.Clauses.Linked.{lists-length, list-here}
+use Rattle.pb_replay.specs.engine.Engine.Root.{HasOpen}
+use Rattle.pb_replay.proofs.lemmas.clauses.Linked.{lists-length, list-here}
 use Rattle.pb_replay.proofs.propagate.clauses.Clauses.has_open.Goals as goal
 
 pub some_open-requires : goal.some_open-requires

@@ -1,10 +1,10 @@
 use Rattle.std.proofs.Common.{◌≡◌, true, ◌+◌, ◌*◌, sym, ◌∙◌, ap, arith}
 use Rattle.std.proofs.lemmas.List.{get_or_read}
 use Rattle.pb_replay.specs.declared.propagate.clauses.lists.Watch.{Watch}
-use Rattle.pb_replay.specs.Clauses.Links.{lists_of, idle, watch_at}
-use Rattle.pb_replay.proofs.Clauses.Steps.{live-within, literal-within}
-use Rattle.pb_replay.proofs.Clauses.Linked.{lists-length}
-use Rattle.pb_replay.proofs.Clauses.Truths.{flip-even}
+use Rattle.pb_replay.specs.engine.Clauses.Links.{lists_of, idle, watch_at}
+use Rattle.pb_replay.proofs.lemmas.clauses.Steps.{live-within, literal-within}
+use Rattle.pb_replay.proofs.lemmas.clauses.Linked.{lists-length}
+use Rattle.pb_replay.proofs.lemmas.clauses.Truths.{flip-even}
 use Rattle.pb_replay.proofs.propagate.clauses.Clauses.is_served.Goals as goal
 
 pub is_true-requires : goal.is_true-requires

@@ -1,5 +1,5 @@
 use Rattle.std.proofs.Common.{◌≡◌, length}
-use Rattle.pb_replay.proofs.Clauses.Stores.{AreLeft}
+use Rattle.pb_replay.proofs.lemmas.clauses.Stores.{AreLeft}
 use Rattle.pb_replay.proofs.propagate.clauses.Clauses.rest.Given as goal
 
 abbrev pub invariant-slots : goal.invariant-slots

@@ -1,9 +1,9 @@
 use Rattle.std.specs.Prelude.{true, false}
 use Rattle.std.proofs.Common.{◌≡◌, ◌+◌, ◌*◌, ◌<◌, refl, sym, ◌∙◌, ap, subst, arith, length, inl, inr, set, length-set}
-use Rattle.pb_replay.specs.Clauses.Links.{lists_of, watch_at}
-use Rattle.pb_replay.specs.Clauses.Runs.{AreStored}
-use Rattle.pb_replay.proofs.Clauses.Linked.{lists-length}
-use Rattle.pb_replay.proofs.Clauses.Stores.{slot-sits, slot-room, stands-by, stored-vacate, literals-set}
+use Rattle.pb_replay.specs.engine.Clauses.Links.{lists_of, watch_at}
+use Rattle.pb_replay.specs.engine.Clauses.Runs.{AreStored}
+use Rattle.pb_replay.proofs.lemmas.clauses.Linked.{lists-length}
+use Rattle.pb_replay.proofs.lemmas.clauses.Stores.{slot-sits, slot-room, stands-by, stored-vacate, literals-set}
 use Rattle.pb_replay.proofs.propagate.clauses.Clauses.vacate.Goals as goal
 
 pub take_out-requires-clause-literal : goal.take_out-requires-clause-literal

@@ -1,4 +1,4 @@
-use Rattle.pb_replay.proofs.Clauses.Stores.{rest-widen}
+use Rattle.pb_replay.proofs.lemmas.clauses.Stores.{rest-widen}
 use Rattle.pb_replay.proofs.propagate.clauses.Clauses.widen.Goals as goal
 
 pub returns-clause-rest : goal.returns-clause-rest

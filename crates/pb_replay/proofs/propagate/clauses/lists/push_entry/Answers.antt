@@ -1,5 +1,5 @@
 use Rattle.std.proofs.Common.{◌++◌, ◌∷◌, [], List, ℕ, sym, ap, ◌∙◌}
-use Rattle.pb_replay.proofs.Clauses.Linked.{list-here, lists-set}
+use Rattle.pb_replay.proofs.lemmas.clauses.Linked.{list-here, lists-set}
 use Rattle.pb_replay.proofs.propagate.clauses.lists.push_entry.Goals as goal
 
 pub returns-clause-lists : goal.returns-clause-lists

@@ -1,6 +1,6 @@
 use Rattle.std.proofs.Common.{refl, ◌∙◌, ap, arith, get_or-set_same, get_or-set_other, ◌++◌, ◌∷◌, [], List, ℕ}
-use Rattle.pb_replay.specs.Clauses.Links.{list_at, lists_of}
-use Rattle.pb_replay.proofs.Clauses.Linked.{put-linked, lists-length}
+use Rattle.pb_replay.specs.engine.Clauses.Links.{list_at, lists_of}
+use Rattle.pb_replay.proofs.lemmas.clauses.Linked.{put-linked, lists-length}
 use Rattle.pb_replay.proofs.propagate.clauses.lists.put_in.Goals as goal
 
 pub returns-clause-linked : goal.returns-clause-linked

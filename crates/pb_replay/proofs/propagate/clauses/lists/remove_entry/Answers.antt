@@ -1,6 +1,6 @@
 use Rattle.std.specs.Prelude.{swap_remove}
 use Rattle.std.proofs.Common.{List, ℕ, sym, ap, ◌∙◌}
-use Rattle.pb_replay.proofs.Clauses.Linked.{list-here, lists-set}
+use Rattle.pb_replay.proofs.lemmas.clauses.Linked.{list-here, lists-set}
 use Rattle.pb_replay.proofs.propagate.clauses.lists.remove_entry.Goals as goal
 
 pub returns-then-index-len-clause-lists : goal.returns-then-index-len-clause-lists

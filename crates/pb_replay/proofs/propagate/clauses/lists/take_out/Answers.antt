@@ -3,8 +3,8 @@ use Rattle.std.specs.Global.{Global}
 use Rattle.std.proofs.Common.{◌≡◌, ℕ, ◌+◌, ◌-◌, ◌<◌, List, length, sym, ◌∙◌, ap, arith, subst, set, get_or-set_same, get_or-set_other}
 use Rattle.std.proofs.lemmas.Option.{same_Some}
 use Rattle.pb_replay.specs.declared.propagate.clauses.lists.Watch.{Watch}
-use Rattle.pb_replay.specs.Clauses.Links.{lists_of, list_at, watch_at, idle}
-use Rattle.pb_replay.proofs.Clauses.Linked.{take-last, take-moved, sits-within, lists-length, moved-apart, dead}
+use Rattle.pb_replay.specs.engine.Clauses.Links.{lists_of, list_at, watch_at, idle}
+use Rattle.pb_replay.proofs.lemmas.clauses.Linked.{take-last, take-moved, sits-within, lists-length, moved-apart, dead}
 use Rattle.pb_replay.proofs.propagate.clauses.lists.take_out.Goals as goal
 
 abbrev Told : List (Vec ℕ Global) → ℕ → ℕ → ℕ → Type 0

@@ -1,6 +1,6 @@
 use Rattle.std.specs.Prelude.{Option, Bool, ◌%◌, ◌==◌}
 use Rattle.std.proofs.Common.{sym, ap}
-use Rattle.pb_replay.specs.Clauses.Truths.{false_at, is_failed}
+use Rattle.pb_replay.specs.engine.Clauses.Truths.{false_at, is_failed}
 use Rattle.pb_replay.proofs.propagate.clauses.truth.is_false.Goals as goal
 
 pub returns-in-Some : goal.returns-in-Some

@@ -1,6 +1,6 @@
 use Rattle.std.proofs.Common.{arith}
 use Rattle.std.proofs.lemmas.Bool.Decides.{nat_tests}
-use Rattle.pb_replay.specs.Clauses.Truths.{flip}
+use Rattle.pb_replay.specs.engine.Clauses.Truths.{flip}
 use Rattle.pb_replay.proofs.propagate.clauses.truth.opposite.Goals as goal
 
 pub returns-then-code-eq0 : goal.returns-then-code-eq0

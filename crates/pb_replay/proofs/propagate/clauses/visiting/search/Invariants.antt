@@ -1,5 +1,5 @@
 use Rattle.std.proofs.Common.{◌≡◌, ℕ, ◌+◌, ◌<◌, ◌≤◌, ◌⊎◌, true, get_or}
-use Rattle.pb_replay.specs.Clauses.Truths.{false_at}
+use Rattle.pb_replay.specs.engine.Clauses.Truths.{false_at}
 use Rattle.pb_replay.proofs.propagate.clauses.visiting.search.Given as goal
 
 abbrev pub invariant-places : goal.invariant-places

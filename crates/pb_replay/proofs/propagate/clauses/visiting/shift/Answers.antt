@@ -1,7 +1,7 @@
 use Rattle.std.proofs.Common.{ap, ◌∙◌, arith, get_or-set_same}
 use Rattle.pb_replay.specs.declared.propagate.clauses.lists.Watch.{Watch}
-use Rattle.pb_replay.specs.Clauses.Links.{idle, watch_at}
-use Rattle.pb_replay.proofs.Clauses.Linked.{sits-within}
+use Rattle.pb_replay.specs.engine.Clauses.Links.{idle, watch_at}
+use Rattle.pb_replay.proofs.lemmas.clauses.Linked.{sits-within}
 use Rattle.pb_replay.proofs.propagate.clauses.visiting.shift.Goals as goal
 
 pub put_in-requires-clause-watch : goal.put_in-requires-clause-watch

@@ -1,10 +1,10 @@
 use Rattle.std.specs.Prelude.{◌/◌, min}
 use Rattle.std.proofs.Common.{◌≡◌, ℕ, ◌+◌, ◌<◌, ◌≤◌, List, length, refl, sym, ◌∙◌, ap, arith, get_or}
 use Rattle.std.proofs.lemmas.Option.{same_Some}
-use Rattle.pb_replay.specs.Clauses.Links.{lists_of, list_at, watch_at}
-use Rattle.pb_replay.specs.Clauses.Truths.{flip}
-use Rattle.pb_replay.proofs.Clauses.Steps.{live-within, item-live, reading-item, reading-other, reading-small, reading-slot, resuming-within, resuming-inside, looking-by, running-end, running-move, covered-by, broken-of, unit-of, served-move, walked-move, resuming-xs, Reading}
-use Rattle.pb_replay.proofs.Clauses.Linked.{lists-length}
+use Rattle.pb_replay.specs.engine.Clauses.Links.{lists_of, list_at, watch_at}
+use Rattle.pb_replay.specs.engine.Clauses.Truths.{flip}
+use Rattle.pb_replay.proofs.lemmas.clauses.Steps.{live-within, item-live, reading-item, reading-other, reading-small, reading-slot, resuming-within, resuming-inside, looking-by, running-end, running-move, covered-by, broken-of, unit-of, served-move, walked-move, resuming-xs, Reading}
+use Rattle.pb_replay.proofs.lemmas.clauses.Linked.{lists-length}
 use Rattle.pb_replay.proofs.propagate.clauses.visiting.visit_clause.Goals as goal
 
 pub opposite-requires : goal.opposite-requires

@@ -1,5 +1,5 @@
 use Rattle.std.proofs.Common.{◌≡◌, length, arith}
-use Rattle.pb_replay.proofs.Engine.Seats.{seated-put}
+use Rattle.pb_replay.proofs.lemmas.store.Seats.{seated-put}
 use Rattle.pb_replay.proofs.propagate.eager.Eager.put.Goals as goal
 
 pub invariant_of-self-2 : goal.invariant_of-self-2

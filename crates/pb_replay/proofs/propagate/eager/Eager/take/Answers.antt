@@ -1,8 +1,8 @@
 use Rattle.std.proofs.Common.{◌-◌, ◌∙◌, ap, length, arith}
 use Rattle.std.specs.Prelude.{swap_remove}
 use Rattle.std.proofs.lemmas.Option.{slice_get_within}
-use Rattle.pb_replay.proofs.Engine.Unlinks.{swap-length}
-use Rattle.pb_replay.proofs.Engine.Seats.{seat-inside, seat-got, taken-is, moved-last, seated-moved, seated-last}
+use Rattle.pb_replay.proofs.lemmas.store.Unlinks.{swap-length}
+use Rattle.pb_replay.proofs.lemmas.store.Seats.{seat-inside, seat-got, taken-is, moved-last, seated-moved, seated-last}
 use Rattle.pb_replay.proofs.propagate.eager.Eager.take.Goals as goal
 
 pub index-seat-requires : goal.index-seat-requires

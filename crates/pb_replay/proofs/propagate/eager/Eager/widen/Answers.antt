@@ -1,5 +1,5 @@
 use Rattle.std.specs.Prelude.{is_ok}
-use Rattle.pb_replay.proofs.Engine.Seats.{seated-widened}
+use Rattle.pb_replay.proofs.lemmas.store.Seats.{seated-widened}
 use Rattle.pb_replay.proofs.propagate.eager.Eager.widen.Goals as goal
 
 pub invariant_of-self : goal.invariant_of-self

@@ -1,13 +1,13 @@
 use Rattle.std.proofs.Common.{true, false, Vec, Global, ℕ, ◌≡◌, ◌*◌, length, ◌++◌, ◌∙◌, ap, sym}
-use Rattle.pb_replay.specs.Clauses.Links.{lists_of}
-use Rattle.pb_replay.specs.Clauses.Shapes.{all_of, clauses_of}
-use Rattle.pb_replay.specs.Engine.Live.{Standing, Live}
-use Rattle.pb_replay.specs.Engine.Fields.{shapes_of, forms_of}
-use Rattle.pb_replay.proofs.Engine.Rested.{rest-counted}
-use Rattle.pb_replay.proofs.Engine.Rests.{rest-undone, rest-tidy-all, slots-kept}
-use Rattle.pb_replay.specs.Engine.Slots.{numbered}
-use Rattle.pb_replay.proofs.Engine.Placed.{placed-kept}
-use Rattle.pb_replay.proofs.Engine.Assumed.{refuted-meets, ended-free, ended-completion}
+use Rattle.pb_replay.specs.engine.Clauses.Links.{lists_of}
+use Rattle.pb_replay.specs.engine.Clauses.Shapes.{all_of, clauses_of}
+use Rattle.pb_replay.specs.engine.Engine.Live.{Standing, Live}
+use Rattle.pb_replay.specs.engine.Engine.Fields.{shapes_of, forms_of}
+use Rattle.pb_replay.proofs.lemmas.engine.Rested.{rest-counted}
+use Rattle.pb_replay.proofs.lemmas.engine.Rests.{rest-undone, rest-tidy-all, slots-kept}
+use Rattle.pb_replay.specs.engine.Engine.Slots.{numbered}
+use Rattle.pb_replay.proofs.lemmas.store.Placed.{placed-kept}
+use Rattle.pb_replay.proofs.lemmas.engine.Assumed.{refuted-meets, ended-free, ended-completion}
 use Rattle.pb_replay.proofs.propagate.engine.Engine.complete.Goals as goal
 
 pub settle-requires-clause-counted : goal.settle-requires-clause-counted

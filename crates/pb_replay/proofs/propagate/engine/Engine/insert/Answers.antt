@@ -1,12 +1,12 @@
 use Rattle.std.specs.Prelude.{Some, None}
 use Rattle.std.proofs.Common.{rules, inl, inr, ◌≡◌, set, ◌-◌, ◌^◌, ◌<◌, ◌++◌, ◌∷◌, [], ◌∙◌, ap, arith}
 use Rattle.std.proofs.lemmas.Option.{slice_get_within}
-use Rattle.pb_replay.specs.Engine.Live.{Standing}
-use Rattle.pb_replay.specs.Engine.Fields.{forms_of}
-use Rattle.pb_replay.specs.Engine.Slots.{numbered}
-use Rattle.pb_replay.proofs.Engine.Changes.{forms-length}
-use Rattle.pb_replay.proofs.Engine.Placed.{numbered-same, numbered-filled, numbered-grown, placed-agree, placed-filled}
-use Rattle.pb_replay.proofs.Root.Gained.{gained-both}
+use Rattle.pb_replay.specs.engine.Engine.Live.{Standing}
+use Rattle.pb_replay.specs.engine.Engine.Fields.{forms_of}
+use Rattle.pb_replay.specs.engine.Engine.Slots.{numbered}
+use Rattle.pb_replay.proofs.lemmas.store.Changes.{forms-length}
+use Rattle.pb_replay.proofs.lemmas.store.Placed.{numbered-same, numbered-filled, numbered-grown, placed-agree, placed-filled}
+use Rattle.pb_replay.proofs.lemmas.root.Gained.{gained-both}
 use Rattle.pb_replay.proofs.propagate.engine.Engine.insert.Goals as goal
 
 pub invariant_of-self-2 : goal.invariant_of-self-2

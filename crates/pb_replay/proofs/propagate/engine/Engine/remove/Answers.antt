@@ -1,9 +1,9 @@
 use Rattle.std.specs.Prelude.{None}
 use Rattle.std.proofs.Common.{◌≡◌, true, false, ◌<◌, sym, ◌∙◌, ap, length, set, arith}
-use Rattle.pb_replay.specs.Engine.Live.{Standing}
-use Rattle.pb_replay.specs.Engine.Fields.{forms_of}
-use Rattle.pb_replay.proofs.Engine.Changes.{forms-length}
-use Rattle.pb_replay.proofs.Engine.Placed.{numbered-length, numbered-none, numbered-left, placed-left, taken-by}
+use Rattle.pb_replay.specs.engine.Engine.Live.{Standing}
+use Rattle.pb_replay.specs.engine.Engine.Fields.{forms_of}
+use Rattle.pb_replay.proofs.lemmas.store.Changes.{forms-length}
+use Rattle.pb_replay.proofs.lemmas.store.Placed.{numbered-length, numbered-none, numbered-left, placed-left, taken-by}
 use Rattle.pb_replay.proofs.Root.Lost.{lost-rooted}
 use Rattle.pb_replay.proofs.propagate.engine.Engine.remove.Goals as goal
 

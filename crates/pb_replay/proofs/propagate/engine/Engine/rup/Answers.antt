@@ -2,33 +2,33 @@ use Rattle.std.specs.Prelude.{filter, map, pos, All, Some, sum, sum_by}
 use Rattle.std.proofs.Common.{true, false, of_z, inl, inr, Vec, Global, ℕ, subst, ◌≡◌, ◌≤◌, ◌<◌, ◌+◌, ◌*◌, ◌++◌, ◌∷◌, [], List, refl, sym, ◌∙◌, ap, length, length-append, arith}
 use Rattle.std.specs.Int.{w128}
 use Rattle.std.proofs.lemmas.List.{length-map}
-use Rattle.pb_normal.specs.Form.{Form}
-use Rattle.pb_normal.specs.Rules.{negation_of}
+use Rattle.pb_normal.specs.meaning.Form.{Form}
+use Rattle.pb_normal.specs.meaning.Rules.{negation_of}
 use Rattle.pb_replay.specs.declared.propagate.assignment.Assignment.{Assignment}
 use Rattle.pb_replay.specs.declared.numbered.NumberedLiteral.{NumberedLiteral}
-use Rattle.pb_replay.specs.Engine.Counts.{none}
-use Rattle.pb_replay.specs.Engine.Live.{Standing, Live, terms_in, one_in}
-use Rattle.pb_replay.specs.Propagation.{With, MeetsConflict, IsCompletion}
-use Rattle.pb_replay.specs.Engine.Fields.{shapes_of, forms_of, entries_of}
+use Rattle.pb_replay.specs.engine.Engine.Counts.{none}
+use Rattle.pb_replay.specs.engine.Engine.Live.{Standing, Live, terms_in, one_in}
+use Rattle.pb_replay.specs.meaning.Propagation.{With, MeetsConflict, IsCompletion}
+use Rattle.pb_replay.specs.engine.Engine.Fields.{shapes_of, forms_of, entries_of}
 use Rattle.pb_normal.specs.declared.entry.Entry.{Entry}
-use Rattle.pb_replay.specs.Engine.Rest.{waits}
-use Rattle.pb_replay.proofs.Engine.Rested.{rest-counted}
-use Rattle.pb_replay.proofs.Engine.Literals.{has-none as on-none}
-use Rattle.pb_replay.proofs.Engine.Values.{opposite}
-use Rattle.pb_replay.proofs.Engine.Bridge.{derives, conflicts, is-closed, has-none}
+use Rattle.pb_replay.specs.engine.Engine.Rest.{waits}
+use Rattle.pb_replay.proofs.lemmas.engine.Rested.{rest-counted}
+use Rattle.pb_replay.proofs.lemmas.engine.Literals.{has-none as on-none}
+use Rattle.pb_replay.proofs.lemmas.engine.Values.{opposite}
+use Rattle.pb_replay.proofs.lemmas.engine.Bridge.{derives, conflicts, is-closed, has-none}
 use Rattle.std.proofs.lemmas.List.Sums.{sum_by_push}
-use Rattle.pb_normal.specs.Rules.{opposite as opposite_entry}
-use Rattle.pb_replay.specs.Engine.Lists.{Shape}
-use Rattle.pb_replay.specs.Engine.Slots.{numbered}
-use Rattle.pb_replay.proofs.Engine.Placed.{placed-with, numbered-same, numbered-entered}
-use Rattle.pb_replay.specs.Clauses.Links.{lists_of}
-use Rattle.pb_replay.specs.Clauses.Shapes.{all_of, clauses_of}
-use Rattle.pb_replay.proofs.Engine.Bounds.{joined-terms, slots-terms, slots-eager, filter-few, found-least, most-looks}
-use Rattle.pb_replay.proofs.Engine.Spent.{spent-le}
-use Rattle.pb_replay.proofs.Clauses.Counts.{killed-most}
-use Rattle.pb_replay.specs.Clauses.Walked.{falsified_code}
-use Rattle.pb_replay.proofs.lemmas.Completing.{closed-none}
-use Rattle.pb_replay.proofs.Engine.Rests.{slots-entered, slots-more, joined-entered, rest-entered, rest-tidy-first, rest-undone, rest-lengths, rest-left, eager-entered, with-kept, opposite-inside}
+use Rattle.pb_normal.specs.meaning.Rules.{opposite as opposite_entry}
+use Rattle.pb_replay.specs.engine.Engine.Lists.{Shape}
+use Rattle.pb_replay.specs.engine.Engine.Slots.{numbered}
+use Rattle.pb_replay.proofs.lemmas.store.Placed.{placed-with, numbered-same, numbered-entered}
+use Rattle.pb_replay.specs.engine.Clauses.Links.{lists_of}
+use Rattle.pb_replay.specs.engine.Clauses.Shapes.{all_of, clauses_of}
+use Rattle.pb_replay.proofs.lemmas.engine.Bounds.{joined-terms, slots-terms, slots-eager, filter-few, found-least, most-looks}
+use Rattle.pb_replay.proofs.lemmas.engine.Spent.{spent-le}
+use Rattle.pb_replay.proofs.lemmas.clauses.Counts.{killed-most}
+use Rattle.pb_replay.specs.engine.Clauses.Walked.{falsified_code}
+use Rattle.pb_replay.proofs.lemmas.solutions.Completing.{closed-none}
+use Rattle.pb_replay.proofs.lemmas.engine.Rests.{slots-entered, slots-more, joined-entered, rest-entered, rest-tidy-first, rest-undone, rest-lengths, rest-left, eager-entered, with-kept, opposite-inside}
 use Rattle.pb_replay.proofs.propagate.engine.Engine.rup.Goals as goal
 
 pub enter-requires-clause-inside : goal.enter-requires-clause-inside

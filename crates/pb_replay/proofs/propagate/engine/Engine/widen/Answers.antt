@@ -1,10 +1,10 @@
 use Rattle.std.proofs.Common.{true, false, Vec, Global, ℕ, ◌≡◌, ◌∷◌, [], ◌∙◌, ap, length, length-append, arith, sym}
-use Rattle.pb_replay.specs.Engine.Live.{Standing}
-use Rattle.pb_replay.specs.Engine.Fields.{shapes_of, spots_of}
-use Rattle.pb_replay.specs.Clauses.Links.{lists_of}
-use Rattle.pb_replay.specs.Clauses.Shapes.{clauses_of}
-use Rattle.pb_replay.proofs.Engine.Places.{entries-length}
-use Rattle.pb_replay.proofs.Engine.Wider.{widened-stored, half}
+use Rattle.pb_replay.specs.engine.Engine.Live.{Standing}
+use Rattle.pb_replay.specs.engine.Engine.Fields.{shapes_of, spots_of}
+use Rattle.pb_replay.specs.engine.Clauses.Links.{lists_of}
+use Rattle.pb_replay.specs.engine.Clauses.Shapes.{clauses_of}
+use Rattle.pb_replay.proofs.lemmas.store.Places.{entries-length}
+use Rattle.pb_replay.proofs.lemmas.engine.Wider.{widened-stored, half}
 use Rattle.pb_replay.proofs.propagate.engine.Engine.widen.Goals as goal
 
 pub invariant_of-self-2 : goal.invariant_of-self-2

@@ -4,33 +4,33 @@ use Rattle.std.proofs.Math.Seq.{take-append_seam}
 use Rattle.std.proofs.lemmas.List.{length-map}
 use Rattle.pb_replay.specs.declared.propagate.assignment.Assignment.{Assignment}
 use Rattle.pb_replay.specs.declared.numbered.NumberedLiteral.{NumberedLiteral}
-use Rattle.pb_replay.specs.Engine.Lists.{Shape, open_sum}
-use Rattle.pb_replay.specs.Engine.Counts.{none}
-use Rattle.pb_replay.specs.Engine.Fields.{shapes_of, forms_of}
-use Rattle.pb_replay.specs.Engine.Slots.{numbered, ArePlaced}
-use Rattle.pb_replay.specs.Clauses.Shapes.{all_of, clauses_of}
-use Rattle.pb_replay.proofs.Engine.Placed.{numbered-entered}
-use Rattle.pb_replay.proofs.Engine.Rests.{joined-entered}
-use Rattle.pb_replay.proofs.Engine.Spent.{derivation-single}
-use Rattle.pb_replay.proofs.Engine.Values.{opposite}
+use Rattle.pb_replay.specs.engine.Engine.Lists.{Shape, open_sum}
+use Rattle.pb_replay.specs.engine.Engine.Counts.{none}
+use Rattle.pb_replay.specs.engine.Engine.Fields.{shapes_of, forms_of}
+use Rattle.pb_replay.specs.engine.Engine.Slots.{numbered, ArePlaced}
+use Rattle.pb_replay.specs.engine.Clauses.Shapes.{all_of, clauses_of}
+use Rattle.pb_replay.proofs.lemmas.store.Placed.{numbered-entered}
+use Rattle.pb_replay.proofs.lemmas.engine.Rests.{joined-entered}
+use Rattle.pb_replay.proofs.lemmas.engine.Spent.{derivation-single}
+use Rattle.pb_replay.proofs.lemmas.engine.Values.{opposite}
 use Rattle.std.specs.Prelude.{sum, Contains}
 use Rattle.std.proofs.lemmas.List.Sums.{sum_by_push}
-use Rattle.pb_replay.specs.Engine.Rest.{waits}
-use Rattle.pb_replay.specs.Engine.Counts.{AreFound, IsTidy, beside}
+use Rattle.pb_replay.specs.engine.Engine.Rest.{waits}
+use Rattle.pb_replay.specs.engine.Engine.Counts.{AreFound, IsTidy, beside}
 use Rattle.pb_replay.specs.declared.propagate.clauses.lists.Watch.{Watch}
-use Rattle.pb_replay.specs.Clauses.Runs.{Grows}
-use Rattle.pb_replay.specs.Clauses.Walked.{walked_codes}
-use Rattle.pb_replay.proofs.Clauses.Literals.{Agree}
-use Rattle.pb_replay.proofs.Clauses.Walks.{grows-refl}
-use Rattle.pb_replay.proofs.Engine.Runs.{grown-length}
-use Rattle.pb_replay.specs.Engine.Lists.{Derives, Conflicts}
-use Rattle.pb_replay.specs.Engine.Fields.{kept_shape}
-use Rattle.pb_replay.specs.Clauses.Links.{lists_of}
-use Rattle.pb_replay.specs.Clauses.Shapes.{joined}
-use Rattle.pb_replay.proofs.Clauses.Slots.{joined-push}
-use Rattle.pb_replay.proofs.Engine.Derivations.{derivation-then}
-use Rattle.pb_replay.proofs.Engine.Rests.{front-of}
-use Rattle.pb_replay.proofs.Root.Questions.{root-few, entered-shapes, laid-counted, laid-tidy, undone-same, walked-agree, derives-entered, kept-terms, found-after, question-most}
+use Rattle.pb_replay.specs.engine.Clauses.Runs.{Grows}
+use Rattle.pb_replay.specs.engine.Clauses.Walked.{walked_codes}
+use Rattle.pb_replay.proofs.lemmas.clauses.Literals.{Agree}
+use Rattle.pb_replay.proofs.lemmas.clauses.Walks.{grows-refl}
+use Rattle.pb_replay.proofs.lemmas.engine.Runs.{grown-length}
+use Rattle.pb_replay.specs.engine.Engine.Lists.{Derives, Conflicts}
+use Rattle.pb_replay.specs.engine.Engine.Fields.{kept_shape}
+use Rattle.pb_replay.specs.engine.Clauses.Links.{lists_of}
+use Rattle.pb_replay.specs.engine.Clauses.Shapes.{joined}
+use Rattle.pb_replay.proofs.lemmas.clauses.Slots.{joined-push}
+use Rattle.pb_replay.proofs.lemmas.engine.Derivations.{derivation-then}
+use Rattle.pb_replay.proofs.lemmas.engine.Rests.{front-of}
+use Rattle.pb_replay.proofs.lemmas.root.Questions.{root-few, entered-shapes, laid-counted, laid-tidy, undone-same, walked-agree, derives-entered, kept-terms, found-after, question-most}
 use Rattle.pb_replay.proofs.propagate.engine.question.ask.Goals as goal
 
 pub returns-in_err-enter-clause-most : goal.returns-in_err-enter-clause-most

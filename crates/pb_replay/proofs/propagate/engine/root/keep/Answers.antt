@@ -1,5 +1,5 @@
 use Rattle.std.proofs.Common.{◌<◌, refl, ◌∙◌, arith, length, length-set}
-use Rattle.pb_replay.proofs.Root.Roots.{keep-next, keep-all}
+use Rattle.pb_replay.proofs.lemmas.root.Roots.{keep-next, keep-all}
 use Rattle.pb_replay.proofs.propagate.engine.root.keep.Goals as goal
 
 pub forms-preserved : goal.forms-preserved

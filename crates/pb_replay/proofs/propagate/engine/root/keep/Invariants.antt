@@ -1,6 +1,6 @@
 use Rattle.std.proofs.Common.{◌≡◌, List, length}
-use Rattle.pb_replay.specs.Engine.Lists.{Shape}
-use Rattle.pb_replay.specs.Engine.Counts.{IsUndone}
+use Rattle.pb_replay.specs.engine.Engine.Lists.{Shape}
+use Rattle.pb_replay.specs.engine.Engine.Counts.{IsUndone}
 use Rattle.pb_replay.proofs.propagate.engine.root.keep.Given as goal
 
 abbrev pub invariant-forms : goal.invariant-forms

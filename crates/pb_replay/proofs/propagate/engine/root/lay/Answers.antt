@@ -1,10 +1,10 @@
 use Rattle.std.proofs.Common.{ℕ, ◌<◌, subst, sym, ap, ◌∙◌, length, get_or, set, arith}
 use Rattle.std.proofs.lemmas.List.{length-map}
-use Rattle.pb_replay.specs.Engine.Lists.{Shape, AreInside, says, open_sum}
-use Rattle.pb_replay.specs.Engine.Counts.{IsCalm}
-use Rattle.pb_replay.specs.Engine.Fields.{shapes_of, kept_shape}
-use Rattle.pb_replay.specs.Engine.Terms.{terms_of}
-use Rattle.pb_replay.proofs.Engine.Looks.{shape-at, grown-by}
+use Rattle.pb_replay.specs.engine.Engine.Lists.{Shape, AreInside, says, open_sum}
+use Rattle.pb_replay.specs.engine.Engine.Counts.{IsCalm}
+use Rattle.pb_replay.specs.engine.Engine.Fields.{shapes_of, kept_shape}
+use Rattle.pb_replay.specs.engine.Engine.Terms.{terms_of}
+use Rattle.pb_replay.proofs.lemmas.engine.Looks.{shape-at, grown-by}
 use Rattle.pb_replay.proofs.propagate.engine.root.lay.Goals as goal
 
 pub open_under-opened-requires-clause-inside : goal.open_under-opened-requires-clause-inside

@@ -1,5 +1,5 @@
 use Rattle.std.proofs.Common.{arith}
-use Rattle.pb_replay.proofs.Engine.Sorted.{places-none, places-next, places-all}
+use Rattle.pb_replay.proofs.lemmas.store.Sorted.{places-none, places-next, places-all}
 use Rattle.pb_replay.proofs.propagate.store.falling.all_places.Goals as goal
 
 pub places-init : goal.places-init

@@ -1,6 +1,6 @@
 use Rattle.std.proofs.Common.{◌≡◌, List, length}
 use Rattle.pb_normal.specs.declared.entry.Entry.{Entry}
-use Rattle.pb_replay.proofs.Engine.Sorted.{ArePlaces}
+use Rattle.pb_replay.proofs.lemmas.store.Sorted.{ArePlaces}
 use Rattle.pb_replay.proofs.propagate.store.falling.all_places.Given as goal
 
 abbrev pub invariant-places : goal.invariant-places

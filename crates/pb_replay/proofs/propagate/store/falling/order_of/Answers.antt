@@ -1,7 +1,7 @@
 use Rattle.std.proofs.Common.{◌∙◌, refl, ap, map}
 use Rattle.std.proofs.lemmas.List.Sorted.{IsPermutation-refl}
 use Rattle.pb_replay.specs.declared.propagate.term.Rank.{Rank}
-use Rattle.pb_replay.proofs.Engine.Sorted.{placed-inside, equal-falling}
+use Rattle.pb_replay.proofs.lemmas.store.Sorted.{placed-inside, equal-falling}
 use Rattle.pb_replay.proofs.propagate.store.falling.order_of.Goals as goal
 
 pub returns-then-are_equal-clause-inside : goal.returns-then-are_equal-clause-inside

@@ -1,8 +1,8 @@
 use Rattle.std.proofs.Common.{rules, ◌-◌, ◌^◌, arith}
 use Rattle.std.proofs.lemmas.List.Sorted.{All-permutation, IsNonDecreasingBy-from_sort_by_key}
 use Rattle.pb_replay.specs.declared.propagate.term.Rank.{Rank}
-use Rattle.pb_replay.specs.Engine.Forms.{IsPlaced}
-use Rattle.pb_replay.proofs.Engine.Sorted.{ranked-same, ranked-falling}
+use Rattle.pb_replay.specs.engine.Engine.Forms.{IsPlaced}
+use Rattle.pb_replay.proofs.lemmas.store.Sorted.{ranked-same, ranked-falling}
 use Rattle.pb_replay.proofs.propagate.store.falling.ranked.Goals as goal
 
 pub returns-clause-placed : goal.returns-clause-placed

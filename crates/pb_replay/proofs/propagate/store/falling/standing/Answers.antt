@@ -1,5 +1,5 @@
 use Rattle.std.proofs.Common.{arith}
-use Rattle.pb_replay.proofs.Engine.Sorted.{standing-none, standing-next, standing-all}
+use Rattle.pb_replay.proofs.lemmas.store.Sorted.{standing-none, standing-next, standing-all}
 use Rattle.pb_replay.proofs.propagate.store.falling.standing.Goals as goal
 
 pub entries-init : goal.entries-init

@@ -1,4 +1,4 @@
-use Rattle.pb_replay.proofs.Engine.Sorted.{IsStanding}
+use Rattle.pb_replay.proofs.lemmas.store.Sorted.{IsStanding}
 use Rattle.pb_replay.proofs.propagate.store.falling.standing.Given as goal
 
 abbrev pub invariant-entries : goal.invariant-entries

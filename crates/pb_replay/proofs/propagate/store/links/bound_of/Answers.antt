@@ -1,8 +1,8 @@
 use Rattle.std.proofs.Common.{◌+◌, ap, arith}
 use Rattle.std.proofs.lemmas.List.Sums.{get_or-le-sum_by}
 use Rattle.pb_replay.specs.declared.propagate.term.Term.{Term}
-use Rattle.pb_replay.specs.Engine.Terms.{terms_of}
-use Rattle.pb_replay.proofs.Engine.Sorted.{bound-calm, bound-none}
+use Rattle.pb_replay.specs.engine.Engine.Terms.{terms_of}
+use Rattle.pb_replay.proofs.lemmas.store.Sorted.{bound-calm, bound-none}
 use Rattle.pb_replay.proofs.propagate.store.links.bound_of.Goals as goal
 
 pub returns-then-len-eq0-clause-first : goal.returns-then-len-eq0-clause-first

@@ -1,6 +1,6 @@
 use Rattle.std.proofs.Common.{rules, None, get_or, Vec, Global, ℕ, ◌≡◌, ◌∷◌, [], sym, ◌∙◌, ap, arith, length, length-append}
-use Rattle.pb_replay.specs.Engine.Fields.{forms_of}
-use Rattle.pb_replay.proofs.Engine.Changes.{set-end, empty-end, forms-more}
+use Rattle.pb_replay.specs.engine.Engine.Fields.{forms_of}
+use Rattle.pb_replay.proofs.lemmas.store.Changes.{set-end, empty-end, forms-more}
 use Rattle.pb_replay.proofs.propagate.store.links.enter.Goals as goal
 
 pub fill-requires-clause-slot : goal.fill-requires-clause-slot

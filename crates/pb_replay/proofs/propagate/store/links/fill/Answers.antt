@@ -1,10 +1,10 @@
 use Rattle.std.proofs.Common.{get_or, refl, arith}
-use Rattle.pb_replay.specs.Engine.Fields.{shapes_of}
-use Rattle.pb_replay.specs.Engine.Terms.{terms_of}
-use Rattle.pb_replay.proofs.Engine.Places.{entries-length}
-use Rattle.pb_replay.proofs.Engine.Puts.{place-inside}
-use Rattle.pb_replay.proofs.Engine.Storages.{kept-inside}
-use Rattle.pb_replay.proofs.Engine.Changes.{filled-stored}
+use Rattle.pb_replay.specs.engine.Engine.Fields.{shapes_of}
+use Rattle.pb_replay.specs.engine.Engine.Terms.{terms_of}
+use Rattle.pb_replay.proofs.lemmas.store.Places.{entries-length}
+use Rattle.pb_replay.proofs.lemmas.engine.Puts.{place-inside}
+use Rattle.pb_replay.proofs.lemmas.store.Storages.{kept-inside}
+use Rattle.pb_replay.proofs.lemmas.store.Changes.{filled-stored}
 use Rattle.pb_replay.proofs.propagate.store.links.fill.Goals as goal
 
 pub link-requires-clause-inside : goal.link-requires-clause-inside

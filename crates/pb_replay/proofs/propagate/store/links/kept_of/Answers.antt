@@ -1,6 +1,6 @@
 use Rattle.std.proofs.Common.{arith, ◌∙◌, sym}
-use Rattle.pb_replay.specs.Engine.Terms.{terms_of}
-use Rattle.pb_replay.proofs.Engine.Sorted.{kept-size, degree-read}
+use Rattle.pb_replay.specs.engine.Engine.Terms.{terms_of}
+use Rattle.pb_replay.proofs.lemmas.store.Sorted.{kept-size, degree-read}
 use Rattle.pb_replay.proofs.propagate.store.links.kept_of.Goals as goal
 
 pub bound_of-bound-requires-clause-size : goal.bound_of-bound-requires-clause-size

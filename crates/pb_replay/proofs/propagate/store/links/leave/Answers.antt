@@ -1,9 +1,9 @@
 use Rattle.std.proofs.Common.{◌≡◌, ℕ, ◌+◌, ◌-◌, ◌∙◌, Vec, Global, refl, ap, arith, length, take}
 use Rattle.std.proofs.lemmas.List.{length-map}
 use Rattle.pb_replay.specs.declared.propagate.store.kept.Kept.{Kept}
-use Rattle.pb_replay.specs.Engine.Fields.{shapes_of, kept_shape}
-use Rattle.pb_replay.proofs.Engine.Links.{cut-length}
-use Rattle.pb_replay.proofs.Engine.Changes.{left-stored, take-at}
+use Rattle.pb_replay.specs.engine.Engine.Fields.{shapes_of, kept_shape}
+use Rattle.pb_replay.proofs.lemmas.store.Links.{cut-length}
+use Rattle.pb_replay.proofs.lemmas.store.Changes.{left-stored, take-at}
 use Rattle.pb_replay.proofs.propagate.store.links.leave.Goals as goal
 
 pub returns-clause-sound : goal.returns-clause-sound

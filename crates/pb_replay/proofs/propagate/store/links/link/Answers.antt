@@ -1,8 +1,8 @@
 use Rattle.std.proofs.Common.{[], ◌∷◌, ◌≡◌, ◌<◌, ◌∙◌, get_or, ap, arith, length, length-append, length-set}
 use Rattle.pb_replay.specs.declared.propagate.term.Term.{Term}
-use Rattle.pb_replay.specs.Engine.Counts.{place}
-use Rattle.pb_replay.specs.Engine.Terms.{terms_of}
-use Rattle.pb_replay.proofs.Engine.Places.{link-by}
+use Rattle.pb_replay.specs.engine.Engine.Counts.{place}
+use Rattle.pb_replay.specs.engine.Engine.Terms.{terms_of}
+use Rattle.pb_replay.proofs.lemmas.store.Places.{link-by}
 use Rattle.pb_replay.proofs.propagate.store.links.link.Goals as goal
 
 pub place_of-place-requires : goal.place_of-place-requires

@@ -1,8 +1,8 @@
 use Rattle.std.proofs.Common.{◌≡◌, ℕ, ◌<◌, [], List, length, set}
-use Rattle.pb_replay.specs.Engine.Lists.{Shape}
-use Rattle.pb_replay.specs.Engine.Fields.{entries_of}
-use Rattle.pb_replay.specs.Engine.Links.{IsLinked, cut, terms_at}
-use Rattle.pb_replay.specs.Engine.Terms.{terms_of}
+use Rattle.pb_replay.specs.engine.Engine.Lists.{Shape}
+use Rattle.pb_replay.specs.engine.Engine.Fields.{entries_of}
+use Rattle.pb_replay.specs.engine.Engine.Links.{IsLinked, cut, terms_at}
+use Rattle.pb_replay.specs.engine.Engine.Terms.{terms_of}
 use Rattle.pb_replay.proofs.propagate.store.links.link.Given as goal
 
 abbrev pub invariant-terms : goal.invariant-terms

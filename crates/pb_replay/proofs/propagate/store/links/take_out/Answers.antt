@@ -1,6 +1,6 @@
 use Rattle.std.proofs.Common.{[], get_or, refl, ap, arith, length}
-use Rattle.pb_replay.specs.Engine.Fields.{lists_of, spots_of}
-use Rattle.pb_replay.proofs.Engine.Places.{taken-lists, taken-last, taken-moved, spots-moved, set-read, spots-read}
+use Rattle.pb_replay.specs.engine.Engine.Fields.{lists_of, spots_of}
+use Rattle.pb_replay.proofs.lemmas.store.Places.{taken-lists, taken-last, taken-moved, spots-moved, set-read, spots-read}
 use Rattle.pb_replay.proofs.propagate.store.links.take_out.Goals as goal
 
 pub returns-then-spot-len-clause-lists : goal.returns-then-spot-len-clause-lists

@@ -1,9 +1,9 @@
 use Rattle.std.proofs.Common.{[], ℕ, ◌-◌, ◌∙◌, Vec, Global, get_or, refl, ap, arith}
 use Rattle.std.proofs.lemmas.List.{length-map}
 use Rattle.pb_replay.specs.declared.propagate.store.kept.Kept.{Kept}
-use Rattle.pb_replay.specs.Engine.Counts.{place}
-use Rattle.pb_replay.specs.Engine.Fields.{spots_of, shapes_of, lists_of, kept_shape}
-use Rattle.pb_replay.proofs.Engine.Places.{unlink-read, moved-rooms, entries-length, taken-length}
+use Rattle.pb_replay.specs.engine.Engine.Counts.{place}
+use Rattle.pb_replay.specs.engine.Engine.Fields.{spots_of, shapes_of, lists_of, kept_shape}
+use Rattle.pb_replay.proofs.lemmas.store.Places.{unlink-read, moved-rooms, entries-length, taken-length}
 use Rattle.pb_replay.proofs.propagate.store.links.unlink.Goals as goal
 
 pub place_of-place-requires : goal.place_of-place-requires

@@ -1,6 +1,6 @@
 use Rattle.std.proofs.Common.{◌≡◌, ℕ, ◌≤◌, [], get_or, length}
-use Rattle.pb_replay.specs.Engine.Fields.{shapes_of, entries_of, spots_of}
-use Rattle.pb_replay.specs.Engine.Links.{IsLinked, cut, terms_at}
+use Rattle.pb_replay.specs.engine.Engine.Fields.{shapes_of, entries_of, spots_of}
+use Rattle.pb_replay.specs.engine.Engine.Links.{IsLinked, cut, terms_at}
 use Rattle.pb_replay.proofs.propagate.store.links.unlink.Given as goal
 
 abbrev pub invariant-terms : goal.invariant-terms

@@ -1,6 +1,6 @@
 use Rattle.std.proofs.Common.{List, Vec, Global, ap, set}
 use Rattle.pb_replay.specs.declared.propagate.store.kept.Kept.{Kept}
-use Rattle.pb_replay.proofs.Engine.Changes.{vacated-stored}
+use Rattle.pb_replay.proofs.lemmas.store.Changes.{vacated-stored}
 use Rattle.pb_replay.proofs.propagate.store.links.vacate.Goals as goal
 
 pub returns-clause-sound : goal.returns-clause-sound

@@ -1,8 +1,8 @@
 use Rattle.std.specs.Prelude.{All}
 use Rattle.std.proofs.Common.{◌≡◌, ℕ, List, ◌<◌, get_or, subst, sym, ◌∙◌, ap, map, length}
-use Rattle.pb_normal.specs.Form.{Form}
-use Rattle.pb_replay.specs.Clauses.Shapes.{code}
-use Rattle.pb_replay.proofs.Clauses.Slots.{first-two, codes-inside}
+use Rattle.pb_normal.specs.meaning.Form.{Form}
+use Rattle.pb_replay.specs.engine.Clauses.Shapes.{code}
+use Rattle.pb_replay.proofs.lemmas.clauses.Slots.{first-two, codes-inside}
 use Rattle.pb_replay.proofs.propagate.store.links.watch.Goals as goal
 
 pub fill-requires-clause-apart : goal.fill-requires-clause-apart

@@ -1,4 +1,4 @@
-use Rattle.pb_replay.proofs.Engine.Changes.{widened-forms}
+use Rattle.pb_replay.proofs.lemmas.store.Changes.{widened-forms}
 use Rattle.pb_replay.proofs.propagate.store.links.widen.Goals as goal
 
 pub returns-clause-sound : goal.returns-clause-sound

@@ -1,7 +1,7 @@
 use Rattle.std.proofs.Common.{sym}
-use Rattle.pb_replay.specs.Engine.Lists.{negation}
-use Rattle.pb_replay.proofs.Engine.Values.{says-none}
-use Rattle.pb_replay.proofs.Root.Opens.{falsified-some}
+use Rattle.pb_replay.specs.engine.Engine.Lists.{negation}
+use Rattle.pb_replay.proofs.lemmas.engine.Values.{says-none}
+use Rattle.pb_replay.proofs.lemmas.root.Opens.{falsified-some}
 use Rattle.pb_replay.proofs.propagate.store.opened.is_falsified.Goals as goal
 
 pub returns-in-Some : goal.returns-in-Some

@@ -1,6 +1,6 @@
 use Rattle.std.proofs.Common.{sym}
-use Rattle.pb_replay.proofs.Engine.Values.{says-none}
-use Rattle.pb_replay.proofs.Root.Opens.{true-some}
+use Rattle.pb_replay.proofs.lemmas.engine.Values.{says-none}
+use Rattle.pb_replay.proofs.lemmas.root.Opens.{true-some}
 use Rattle.pb_replay.proofs.propagate.store.opened.is_true.Goals as goal
 
 pub returns-in-Some : goal.returns-in-Some

@@ -1,6 +1,6 @@
 use Rattle.std.proofs.Common.{arith}
-use Rattle.pb_replay.specs.Engine.Terms.{terms_of}
-use Rattle.pb_replay.proofs.Root.Opens.{summed-fits, summed-next}
+use Rattle.pb_replay.specs.engine.Engine.Terms.{terms_of}
+use Rattle.pb_replay.proofs.lemmas.root.Opens.{summed-fits, summed-next}
 use Rattle.pb_replay.proofs.propagate.store.opened.open_under.Goals as goal
 
 pub overflow_add-sum : goal.overflow_add-sum

@@ -1,5 +1,5 @@
-use Rattle.pb_replay.specs.Engine.Terms.{terms_of}
-use Rattle.pb_replay.proofs.Root.Opens.{IsSummed}
+use Rattle.pb_replay.specs.engine.Engine.Terms.{terms_of}
+use Rattle.pb_replay.proofs.lemmas.root.Opens.{IsSummed}
 use Rattle.pb_replay.proofs.propagate.store.opened.open_under.Given as goal
 
 abbrev pub invariant-terms : goal.invariant-terms

@@ -1,5 +1,5 @@
 use Rattle.std.proofs.Common.{sym, ◌∙◌}
-use Rattle.pb_replay.proofs.Root.Opens.{part-none, part-whole}
+use Rattle.pb_replay.proofs.lemmas.root.Opens.{part-none, part-whole}
 use Rattle.pb_replay.proofs.propagate.store.opened.part_of.Goals as goal
 
 pub returns-then-is_falsified-clause-part : goal.returns-then-is_falsified-clause-part

@@ -1,5 +1,5 @@
 use Rattle.std.proofs.Common.{Ok, Err, sym, subst}
-use Rattle.pb_text.specs.Blank.{ReadsBlank}
+use Rattle.pb_text.specs.meaning.Blank.{ReadsBlank}
 use Rattle.pb_tool.specs.contract.Runs.{Replays}
 use Rattle.pb_tool.specs.meaning.Verified.{InProof, AfterProof}
 use Rattle.pb_tool.specs.declared.fault.ToolFault.{ToolFault}

@@ -1,7 +1,7 @@
 use Rattle.std.proofs.Common.{ℕ, ◌^◌, ◌≤◌, [], ◌∷◌, ◌++◌, None, Some, Ok, Err, ap, ◌∙◌, sym, refl, subst, append-nil}
-use Rattle.pb_text.specs.Pulling.{faults_with}
+use Rattle.pb_text.specs.meaning.Pulling.{faults_with}
 use Rattle.pb_text.specs.declared.Place.{Place}
-use Rattle.pb_text.specs.Feeding.{place_of}
+use Rattle.pb_text.specs.contract.Feeding.{place_of}
 use Rattle.pb_tool.proofs.lemmas.check.GivenProof.{given_ended, given_step, given_stopped, moved}
 use Rattle.pb_tool.proofs.lemmas.show.GivenStatements.{given_next, given_row, given_so_far}
 use Rattle.pb_tool.proofs.lemmas.check.ReplayRuns as replayed

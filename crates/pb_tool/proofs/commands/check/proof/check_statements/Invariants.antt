@@ -1,14 +1,14 @@
 use Rattle.std.proofs.Common.{◌≡◌, ◌+◌, ◌-◌, ◌^◌, List, None}
-use Rattle.pb_text.specs.Feeding.{place_of}
-use Rattle.pb_text.specs.Limits.{largest, top_of}
-use Rattle.pb_text.specs.PullsInARow.{HasPulled}
+use Rattle.pb_text.specs.contract.Feeding.{place_of}
+use Rattle.pb_text.specs.meaning.Limits.{largest, top_of}
+use Rattle.pb_text.specs.meaning.PullsInARow.{HasPulled}
 use Rattle.pb_text.specs.declared.Spanned.{Spanned}
-use Rattle.pb_proof.specs.Machine.State.{begin}
+use Rattle.pb_proof.specs.engine.Machine.State.{begin}
 use Rattle.pb_proof.specs.declared.Statement.{Statement}
-use Rattle.pb_replay.specs.Replay.{State}
-use Rattle.pb_replay.specs.Statements.{Accepts}
-use Rattle.pb_text.specs.Whole.{events_at}
-use Rattle.pb_replay.specs.Kept.{StandsFor}
+use Rattle.pb_replay.specs.meaning.Replay.{State}
+use Rattle.pb_replay.specs.meaning.Statements.{Accepts}
+use Rattle.pb_text.specs.meaning.Whole.{events_at}
+use Rattle.pb_replay.specs.contract.Kept.{StandsFor}
 use Rattle.pb_tool.proofs.lemmas.show.GivenStatements.{HasGiven}
 use Rattle.pb_tool.proofs.lemmas.check.WatchCalls.{HasShown}
 use Rattle.pb_tool.proofs.commands.check.proof.check_statements.Given as goal

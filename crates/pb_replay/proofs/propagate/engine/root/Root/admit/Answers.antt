@@ -2,17 +2,17 @@ use Rattle.std.proofs.Common.{◌≡◌, ℕ, ◌++◌, ◌∷◌, [], List, Vec
 use Rattle.std.proofs.lemmas.List.{length-map}
 use Rattle.pb_replay.specs.declared.propagate.assignment.Assignment.{Assignment}
 use Rattle.pb_replay.specs.declared.propagate.clauses.lists.Watch.{Watch}
-use Rattle.pb_replay.specs.Engine.Lists.{Shape, Derives, open_sum}
-use Rattle.pb_replay.specs.Engine.Counts.{none}
-use Rattle.pb_replay.specs.Engine.Fields.{shapes_of, kept_shape}
-use Rattle.pb_replay.specs.Engine.Root.{IsServed}
-use Rattle.pb_replay.specs.Clauses.Links.{lists_of}
-use Rattle.pb_replay.specs.Clauses.Shapes.{all_of, clauses_of}
-use Rattle.pb_replay.specs.Clauses.Walked.{walked_codes}
-use Rattle.pb_replay.proofs.Engine.Spent.{derivation-single}
-use Rattle.pb_replay.proofs.Engine.Derivations.{derivation-then}
-use Rattle.pb_replay.proofs.Root.Roots.{kept-rooted}
-use Rattle.pb_replay.proofs.Root.Admitted.{arrived, gained-rooted, served-walked, no-watch, served-watch, clause-rooted, slot-counted, slot-tidy}
+use Rattle.pb_replay.specs.engine.Engine.Lists.{Shape, Derives, open_sum}
+use Rattle.pb_replay.specs.engine.Engine.Counts.{none}
+use Rattle.pb_replay.specs.engine.Engine.Fields.{shapes_of, kept_shape}
+use Rattle.pb_replay.specs.engine.Engine.Root.{IsServed}
+use Rattle.pb_replay.specs.engine.Clauses.Links.{lists_of}
+use Rattle.pb_replay.specs.engine.Clauses.Shapes.{all_of, clauses_of}
+use Rattle.pb_replay.specs.engine.Clauses.Walked.{walked_codes}
+use Rattle.pb_replay.proofs.lemmas.engine.Spent.{derivation-single}
+use Rattle.pb_replay.proofs.lemmas.engine.Derivations.{derivation-then}
+use Rattle.pb_replay.proofs.lemmas.root.Roots.{kept-rooted}
+use Rattle.pb_replay.proofs.lemmas.root.Admitted.{arrived, gained-rooted, served-walked, no-watch, served-watch, clause-rooted, slot-counted, slot-tidy}
 use Rattle.pb_replay.proofs.propagate.engine.root.Root.admit.Goals as goal
 
 pub returns-then-is_filled-clause-rooted : goal.returns-then-is_filled-clause-rooted

@@ -1,14 +1,14 @@
 use Rattle.std.proofs.Common.{◌<◌, ◌∙◌, ap, sym, subst, arith, length}
 use Rattle.std.proofs.lemmas.Bool.{not-true}
 use Rattle.std.proofs.lemmas.List.{length-map}
-use Rattle.pb_replay.specs.Engine.Lists.{Shape, AreInside}
-use Rattle.pb_replay.specs.Engine.Fields.{shapes_of, kept_shape}
-use Rattle.pb_replay.specs.Engine.Root.{IsSpare, HasOpen, HasTrue}
-use Rattle.pb_replay.specs.Engine.Terms.{terms_of}
-use Rattle.pb_replay.specs.Clauses.Links.{list_at}
-use Rattle.pb_replay.specs.Clauses.Shapes.{slot_shape, clauses_of}
-use Rattle.pb_replay.proofs.Clauses.Shapes.{shape-some}
-use Rattle.pb_replay.proofs.Engine.Looks.{shape-at}
+use Rattle.pb_replay.specs.engine.Engine.Lists.{Shape, AreInside}
+use Rattle.pb_replay.specs.engine.Engine.Fields.{shapes_of, kept_shape}
+use Rattle.pb_replay.specs.engine.Engine.Root.{IsSpare, HasOpen, HasTrue}
+use Rattle.pb_replay.specs.engine.Engine.Terms.{terms_of}
+use Rattle.pb_replay.specs.engine.Clauses.Links.{list_at}
+use Rattle.pb_replay.specs.engine.Clauses.Shapes.{slot_shape, clauses_of}
+use Rattle.pb_replay.proofs.lemmas.clauses.Shapes.{shape-some}
+use Rattle.pb_replay.proofs.lemmas.engine.Looks.{shape-at}
 use Rattle.pb_replay.proofs.Root.Lost.{open-spare, untrue-spare, slot-is}
 use Rattle.pb_replay.proofs.propagate.engine.root.Root.is_spare.Goals as goal
 

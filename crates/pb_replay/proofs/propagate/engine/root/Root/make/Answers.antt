@@ -1,9 +1,9 @@
 use Rattle.std.proofs.Common.{[], Vec, Global, ◌∙◌, ap}
 use Rattle.pb_replay.specs.declared.propagate.clauses.lists.Watch.{Watch}
-use Rattle.pb_replay.specs.Engine.Counts.{none}
-use Rattle.pb_replay.specs.Engine.Lists.{Derives}
-use Rattle.pb_replay.specs.Clauses.Shapes.{all_of}
-use Rattle.pb_replay.proofs.Root.Roots.{start-counted, start-tidy, kept-rooted}
+use Rattle.pb_replay.specs.engine.Engine.Counts.{none}
+use Rattle.pb_replay.specs.engine.Engine.Lists.{Derives}
+use Rattle.pb_replay.specs.engine.Clauses.Shapes.{all_of}
+use Rattle.pb_replay.proofs.lemmas.root.Roots.{start-counted, start-tidy, kept-rooted}
 use Rattle.pb_replay.proofs.propagate.engine.root.Root.make.Goals as goal
 
 pub propagate-requires-clause-single : goal.propagate-requires-clause-single

@@ -1,7 +1,7 @@
 use Rattle.std.proofs.Common.{ap, arith}
 use Rattle.std.specs.Prelude.{sum_by}
 use Rattle.pb_normal.specs.declared.entry.Entry.{Entry}
-use Rattle.pb_replay.proofs.Engine.Sorted.{total-each}
+use Rattle.pb_replay.proofs.lemmas.store.Sorted.{total-each}
 use Rattle.pb_replay.proofs.propagate.store.falling.Falling.new.Goals as goal
 
 pub order_of-requires : goal.order_of-requires

@@ -2,7 +2,7 @@ use Rattle.std.proofs.Common.{◌++◌, ◌-◌, ℕ, List, length, take, drop, 
 use Rattle.std.proofs.lemmas.List.{length-drop}
 use Rattle.pb_tool.specs.contract.Pieces.{ChecksAt, AllocatesAt, fault_of}
 use Rattle.pb_tool.specs.contract.Checker.{Checking}
-use Rattle.pb_text.proofs.Spans.{all_rest}
+use Rattle.pb_text.proofs.lemmas.text.Spans.{all_rest}
 use Rattle.pb_tool.proofs.lemmas.check.CheckerSteps as checked
 use Rattle.pb_tool.proofs.commands.check.checker.Checker.feed.Goals as goal
 

@@ -1,5 +1,5 @@
 use Rattle.std.proofs.Common.{List, ℕ, subst}
-use Rattle.pb_text.specs.Writing.{Broke, Wrote}
+use Rattle.pb_text.specs.meaning.Writing.{Broke, Wrote}
 use Rattle.pb_tool.proofs.lemmas.tidy.NormalFile.{kept_form}
 use Rattle.pb_tool.proofs.commands.tidy.normal_text.NormalText.write.Goals as goal
 

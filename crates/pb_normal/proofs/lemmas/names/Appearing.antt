@@ -1,0 +1,67 @@
+-- Names that appear one after another. Offered to other crates.
+use Rattle.std.proofs.Common.{◌≡◌, ℕ, ◌<◌, Bool, true, false, cond, List, [], ◌∷◌, ◌++◌, length, map, refl, sym, ◌∙◌, ap, subst, append_assoc, append-nil, pos}
+use Rattle.std.specs.List.{All}
+use Rattle.std.proofs.lemmas.List.{get_or_append_left}
+use Rattle.std.proofs.lemmas.List.Elements.{All-head, All-tail}
+use Rattle.pb_sums.specs.declared.values.Term.{Term}
+use Rattle.pb_sums.specs.declared.values.Relation.TheVariants.{AtLeast}
+use Rattle.pb_normal.specs.declared.entry.Entry.{Entry}
+use Rattle.pb_normal.specs.meaning.Form.{Form}
+use Rattle.pb_normal.specs.meaning.Names.{has_name, AreDistinct, with_name, with_names, HasNames}
+use Rattle.pb_normal.specs.meaning.Written.{term_of, linear_of}
+use Rattle.pb_normal.proofs.lemmas.names.Numbering.{has_name-append, with_name-has, AreDistinct-with}
+
+pub in_turn : (names others further : List (List ℕ)) → with_names names (others ++ further) ≡ with_names (with_names names others) further
+in_turn names [] further = refl
+in_turn names (n ∷ others) further = in_turn (with_name names n) others further
+
+-- the names before are a prefix
+one_front : (names : List (List ℕ)) (name : List ℕ) → (more : List (List ℕ)) × (with_name names name ≡ names ++ more)
+one_front names name = by_test (has_name names name)
+  where
+    by_test : (b : Bool) → (more : List (List ℕ)) × (cond b names (names ++ name ∷ []) ≡ names ++ more)
+    by_test true = ([], sym (append-nil names))
+    by_test false = (name ∷ [], refl)
+
+pub front : (names others : List (List ℕ)) → (more : List (List ℕ)) × (with_names names others ≡ names ++ more)
+front names [] = ([], sym (append-nil names))
+front names (n ∷ others) =
+    let one = one_front names n in
+    let rest = front (with_name names n) others in
+    (one.0 ++ rest.0, rest.1 ∙ ap (λ (ks : List (List ℕ)). ks ++ rest.0) one.1 ∙ append_assoc names one.0 rest.0)
+
+pub distinct : (names others : List (List ℕ)) → AreDistinct names → AreDistinct (with_names names others)
+distinct names [] d = d
+distinct names (n ∷ others) d = distinct (with_name names n) others (AreDistinct-with names n d)
+
+stays_named : (names others : List (List ℕ)) (name : List ℕ) → has_name names name ≡ true → has_name (with_names names others) name ≡ true
+stays_named names others name has =
+    let more = front names others in
+    subst (λ (ks : List (List ℕ)). has_name ks name ≡ true) (sym more.1) (has_name-append names more.0 name has)
+
+pub named : (names others : List (List ℕ)) → HasNames (with_names names others) others
+named names [] = tt
+named names (n ∷ others) = (stays_named (with_name names n) others n (with_name-has n names), named (with_name names n) others)
+
+pub names_split : (names xs ys : List (List ℕ)) → HasNames names (xs ++ ys) → HasNames names xs × HasNames names ys
+names_split names [] ys h = (tt, h)
+names_split names (x ∷ xs) ys h = let rest = names_split names xs ys h.1 in ((h.0, rest.0), rest.1)
+
+pub present : (names others : List (List ℕ)) → HasNames names others → with_names names others ≡ names
+present names [] h = refl
+present names (n ∷ others) h =
+    let same : with_name names n ≡ names = ap (λ (b : Bool). cond b names (names ++ n ∷ [])) h.0 in
+    rw same (present names others h.1)
+
+-- the terms of a form are written in the same way if more names follow
+terms_alike : (names more : List (List ℕ)) (ts : List Entry) → All (λ t. t.variable < length names) ts → map (term_of (names ++ more)) ts ≡ map (term_of names) ts
+terms_alike names more [] h = refl
+terms_alike names more (t ∷ ts) h =
+    let below = All-head (λ (u : Entry). u.variable < length names) t ts h in
+    let same = get_or_append_left names more [] t.variable below in
+    let first : term_of (names ++ more) t ≡ term_of names t = ap (λ (name : List ℕ). record { coefficient = pos t.coefficient; literal = record { name = name; negated = t.negated } }) same in
+    let rest = terms_alike names more ts (All-tail (λ (u : Entry). u.variable < length names) t ts h) in
+    cc
+
+pub written_alike : (names more : List (List ℕ)) (f : Form) → All (λ t. t.variable < length names) f.terms → linear_of (names ++ more) f ≡ linear_of names f
+written_alike names more f h = ap (λ (ts : List Term). record { terms = ts; relation = AtLeast; degree = pos f.degree }) (terms_alike names more f.terms h)

@@ -1,0 +1,163 @@
+-- The forms that constraints load as, over the names so far. Offered to other crates.
+use Rattle.std.proofs.Common.{Result, Ok, Err, OnOk, OnErr, ◌≡◌, ℕ, ◌<◌, List, [], ◌∷◌, ◌++◌, length, zero, suc, arith, refl, sym, ◌∙◌, ap, subst, append_assoc, append-nil, take, get_or, ◌+◌}
+use Rattle.std.specs.List.{All, AllByRecursion}
+use Rattle.pb_normal.specs.declared.fault.NormalFault.{NormalFault}
+use Rattle.pb_normal.specs.declared.fault.NormalFault.TheVariants.{Memory, Overflow}
+use Rattle.std.proofs.lemmas.Grind.{flat_map-append}
+use Rattle.pb_sums.specs.declared.values.Linear.{Linear}
+use Rattle.pb_sums.specs.declared.values.Relation.{Relation}
+use Rattle.pb_sums.specs.declared.values.Relation.TheVariants.{AtLeast, Equal}
+use Rattle.pb_normal.specs.declared.side.Side.{Side}
+use Rattle.pb_normal.specs.declared.side.Side.TheVariants.{AtLeast as least, AtMost as most}
+use Rattle.pb_normal.specs.meaning.Constraints.{AreFormsOf, constraint_names, sides_in, with_sides}
+use Rattle.pb_normal.specs.meaning.Form.{Form}
+use Rattle.pb_normal.specs.meaning.Names.{AfterFront, AreDistinct, HasNames, with_names}
+use Rattle.pb_normal.specs.meaning.Written.{names_of}
+use Rattle.pb_normal.proofs.lemmas.names.Appearing.{front, named, names_split, distinct, present, in_turn}
+use Rattle.pb_text.proofs.lemmas.text.Lists.{take_read}
+use Rattle.pb_normal.proofs.lemmas.names.WrittenForms.{IsSideOf-append}
+
+-- the names of each side's constraint have numbers
+abbrev pub AreNamed : List (List ℕ) → List (Side × Linear) → Type 0
+AreNamed names = AllByRecursion (λ side. HasNames names (names_of side.1.terms))
+
+named_sides : (names : List (List ℕ)) (relation : Relation) (c : Linear) (sides : List (Side × Linear)) → HasNames names (names_of c.terms) → AreNamed names sides → AreNamed names (with_sides relation c ++ sides)
+named_sides names AtLeast c sides h k = (h, k)
+named_sides names Equal c sides h k = (h, (h, k))
+
+pub are_named : (names : List (List ℕ)) (cs : List Linear) → HasNames names (constraint_names cs) → AreNamed names (sides_in cs)
+are_named names [] h = tt
+are_named names (c ∷ cs) h =
+    let parts = names_split names (names_of c.terms) (constraint_names cs) h in
+    named_sides names c.relation c (sides_in cs) parts.0 (are_named names cs parts.1)
+
+-- the same forms over more names
+pub forms_more : (names more : List (List ℕ)) (sides : List (Side × Linear)) (forms : List Form) → AreDistinct (names ++ more) → AreNamed names sides → AreFormsOf names sides forms → AreFormsOf (names ++ more) sides forms
+forms_more names more [] [] d n f = tt
+forms_more names more [] (r ∷ forms) d n f = absurd f
+forms_more names more (side ∷ sides) [] d n f = absurd f
+forms_more names more (side ∷ sides) (r ∷ forms) d n f = (IsSideOf-append names more side.0 side.1 r d n.0 f.0, forms_more names more sides forms d n.1 f.1)
+
+-- a fault that is not `Overflow`
+pub memory_alone : (e : NormalFault) → (e ≡ Overflow → ⊥) → e ≡ Memory
+memory_alone Overflow h = absurd (h refl)
+memory_alone Memory h = refl
+
+-- an element that was read from a list is one of its elements
+pub all_read : (P : Linear → Type 0) (cs : List Linear) (i : ℕ) (c : Linear) → i < length cs → c ≡ get_or cs i c → All P cs → P c
+all_read P cs i c lt e h = subst P (sym e) (h i c lt)
+
+-- one list after another
+pub forms_then : (names : List (List ℕ)) (ss ts : List (Side × Linear)) (fs gs : List Form) → AreFormsOf names ss fs → AreFormsOf names ts gs → AreFormsOf names (ss ++ ts) (fs ++ gs)
+forms_then names [] ts [] gs h k = k
+forms_then names [] ts (f ∷ fs) gs h k = absurd h
+forms_then names (s ∷ ss) ts [] gs h k = absurd h
+forms_then names (s ∷ ss) ts (f ∷ fs) gs h k = (h.0, forms_then names ss ts fs gs h.1 k)
+
+-- if a constraint's names have numbers already, its second side is loaded over the same names
+pub loaded_twice : (old names new : List (List ℕ)) (c : Linear) (l m : Form) → names ≡ with_names old (names_of c.terms) → HasNames names (names_of c.terms) → new ≡ with_names names (names_of c.terms)
+    → AreFormsOf names ((least, c) ∷ []) (l ∷ []) → AreFormsOf new ((most, c) ∷ []) (m ∷ [])
+    → AreFormsOf new ((least, c) ∷ (most, c) ∷ []) (l ∷ m ∷ []) × (new ≡ with_names old (names_of c.terms))
+loaded_twice old names new c l m e h k first second =
+    let same : new ≡ names = k ∙ present names (names_of c.terms) h in
+    (forms_then new ((least, c) ∷ []) ((most, c) ∷ []) (l ∷ []) (m ∷ []) (rw same first) second, same ∙ e)
+
+-- the second form of an equality after its first
+pub second_loaded : {E : Type 0} (result : Result Unit E) (old names new : List (List ℕ)) (c : Linear) (before middle after : List Form) → c.relation ≡ Equal → names ≡ with_names old (names_of c.terms)
+    → HasNames names (names_of c.terms)
+    → (x : Form) × AreFormsOf names ((least, c) ∷ []) (x ∷ []) × (middle ≡ before ++ x ∷ [])
+    → OnOk result ((y : Form) × AreFormsOf new ((most, c) ∷ []) (y ∷ []) × (after ≡ middle ++ y ∷ []))
+    → OnOk result (new ≡ with_names names (names_of c.terms))
+    → OnOk result ((added : List Form) × AreFormsOf new (with_sides c.relation c) added × (after ≡ before ++ added))
+second_loaded (Err f) old names new c before middle after r e h first second k = tt
+second_loaded (Ok u) old names new c before middle after r e h (x, one, was) (y, other, is) k =
+    let both = loaded_twice old names new c x y e h k one other in
+    (x ∷ y ∷ [], rw r both.0, is ∙ ap (λ (ls : List Form). ls ++ y ∷ []) was ∙ append_assoc before (x ∷ []) (y ∷ []))
+
+pub second_names : {E : Type 0} (result : Result Unit E) (old names new : List (List ℕ)) (ns : List (List ℕ)) → names ≡ with_names old ns → HasNames names ns → OnOk result (new ≡ with_names names ns)
+    → OnOk result (new ≡ with_names old ns)
+second_names (Err f) old names new ns e h k = tt
+second_names (Ok u) old names new ns e h k = k ∙ present names ns h ∙ e
+
+-- what was loaded so far, starting with these names
+pub record LoadedFrom (old new : List (List ℕ)) (cs : List Linear) (ls : List Form) : Type 0 where
+  pub names : new ≡ with_names old (constraint_names cs)
+  pub loaded : AreFormsOf new (sides_in cs) ls
+
+pub loaded_none : (old : List (List ℕ)) → LoadedFrom old old [] []
+loaded_none old = record { names = refl; loaded = tt }
+
+-- one more constraint
+pub loaded_next : (old names new : List (List ℕ)) (cs : List Linear) (c : Linear) (ls added : List Form) → AreDistinct old → LoadedFrom old names cs ls → new ≡ with_names names (names_of c.terms)
+    → AreFormsOf new (with_sides c.relation c) added → LoadedFrom old new (cs ++ c ∷ []) (ls ++ added)
+loaded_next old names new cs c ls added d before e one =
+    let more = front names (names_of c.terms) in
+    let grown : new ≡ names ++ more.0 = e ∙ more.1 in
+    let apart_names : AreDistinct names = subst AreDistinct (sym before.names) (distinct old (constraint_names cs) d) in
+    let apart : AreDistinct (names ++ more.0) = subst AreDistinct more.1 (distinct names (names_of c.terms) apart_names) in
+    let has : HasNames names (constraint_names cs) = subst (λ (ks : List (List ℕ)). HasNames ks (constraint_names cs)) (sym before.names) (named old (constraint_names cs)) in
+    let kept : AreFormsOf new (sides_in cs) ls = subst (λ (ks : List (List ℕ)). AreFormsOf ks (sides_in cs) ls) (sym grown) (forms_more names more.0 (sides_in cs) ls apart (are_named names cs has) before.loaded) in
+    let all_names : constraint_names (cs ++ c ∷ []) ≡ constraint_names cs ++ names_of c.terms =
+    flat_map-append (λ (x : Linear). names_of x.terms) cs (c ∷ []) ∙ ap (λ (ks : List (List ℕ)). constraint_names cs ++ ks) (append-nil (names_of c.terms)) in
+    let all_sides : sides_in (cs ++ c ∷ []) ≡ sides_in cs ++ with_sides c.relation c =
+    flat_map-append (λ (x : Linear). with_sides x.relation x) cs (c ∷ []) ∙ ap (λ (ss : List (Side × Linear)). sides_in cs ++ ss) (append-nil (with_sides c.relation c)) in
+    record {
+      names = e ∙ ap (λ (ks : List (List ℕ)). with_names ks (names_of c.terms)) before.names ∙ sym (in_turn old (constraint_names cs) (names_of c.terms)) ∙ ap (with_names old) (sym all_names);
+      loaded = subst (λ (ss : List (Side × Linear)). AreFormsOf new ss (ls ++ added)) (sym all_sides) (forms_then new (sides_in cs) (with_sides c.relation c) ls added kept one);
+    }
+
+pub loaded_at : (old names new : List (List ℕ)) (cs : List Linear) (i : ℕ) (c : Linear) (ls after : List Form) → i < length cs → c ≡ get_or cs i c → AreDistinct old → LoadedFrom old names (take i cs) ls
+    → new ≡ with_names names (names_of c.terms) → (added : List Form) × AreFormsOf new (with_sides c.relation c) added × (after ≡ ls ++ added) → LoadedFrom old new (take (i + 1) cs) after
+loaded_at old names new cs i c ls after lt e d before k (added, one, is) =
+    rw (take_read cs i c c lt e, is) (loaded_next old names new (take i cs) c ls added d before k one)
+
+-- ---- a prefix of the names
+front_longer : (xs ys : List (List ℕ)) (k : ℕ) → (m : ℕ) × (take m (xs ++ ys) ≡ take k xs)
+front_longer xs ys zero = (0, refl)
+front_longer [] ys (suc k) = (0, refl)
+front_longer (x ∷ xs) ys (suc k) = let rest = front_longer xs ys k in (suc rest.0, ap (λ (ns : List (List ℕ)). x ∷ ns) rest.1)
+
+front_behind : (xs ys : List (List ℕ)) (k : ℕ) → (m : ℕ) × (take m (xs ++ ys) ≡ xs ++ take k ys)
+front_behind [] ys k = (k, refl)
+front_behind (x ∷ xs) ys k = let rest = front_behind xs ys k in (suc rest.0, ap (λ (ns : List (List ℕ)). x ∷ ns) rest.1)
+
+whole : (xs : List (List ℕ)) → (m : ℕ) × (take m xs ≡ xs)
+whole [] = (0, refl)
+whole (x ∷ xs) = let rest = whole xs in (suc rest.0, ap (λ (ns : List (List ℕ)). x ∷ ns) rest.1)
+
+front_named : (names ns : List (List ℕ)) (k : ℕ) → HasNames names ns → HasNames names (take k ns)
+front_named names ns zero h = tt
+front_named names [] (suc k) h = tt
+front_named names (n ∷ ns) (suc k) h = (h.0, front_named names ns k h.1)
+
+pub after_all : (old new ns : List (List ℕ)) → new ≡ with_names old ns → AfterFront old ns new
+after_all old new ns e = let all = whole ns in (all.0, e ∙ ap (with_names old) (sym all.1))
+
+-- the names of the second side have numbers already
+after_again : (old names new ns : List (List ℕ)) → names ≡ with_names old ns → HasNames names ns → AfterFront names ns new → AfterFront old ns new
+after_again old names new ns e h (k, is) = after_all old new ns (is ∙ present names (take k ns) (front_named names ns k h) ∙ e)
+
+pub second_after : {E : Type 0} (result : Result Unit E) (old names new ns : List (List ℕ)) → names ≡ with_names old ns → HasNames names ns → OnErr result (AfterFront names ns new) → OnErr result (AfterFront old ns new)
+second_after (Ok u) old names new ns e h k = tt
+second_after (Err f) old names new ns e h k = after_again old names new ns e h k
+
+after_others : (old names new before own more : List (List ℕ)) → names ≡ with_names old before → AfterFront names own new → AfterFront old (before ++ (own ++ more)) new
+after_others old names new before own more e (k, is) =
+    let inner = front_longer own more k in
+    let outer = front_behind before (own ++ more) inner.0 in
+    let to : before ++ take k own ≡ take outer.0 (before ++ (own ++ more)) = sym (outer.1 ∙ ap (λ (ns : List (List ℕ)). before ++ ns) inner.1) in
+    (outer.0, is ∙ ap (λ (ks : List (List ℕ)). with_names ks (take k own)) e ∙ sym (in_turn old before (take k own)) ∙ ap (with_names old) to)
+
+-- the names of one constraint come after those of the constraints before
+names_at : (cs : List Linear) (i : ℕ) (c : Linear) → i < length cs → c ≡ get_or cs i c → (more : List (List ℕ)) × (constraint_names cs ≡ constraint_names (take i cs) ++ (names_of c.terms ++ more))
+names_at [] i c lt e = absurd (omega (arith, lt))
+names_at (x ∷ cs) zero c lt e = (constraint_names cs, ap (λ (y : Linear). names_of y.terms ++ constraint_names cs) (sym e))
+names_at (x ∷ cs) (suc i) c lt e =
+    let rest = names_at cs i c (omega (arith, lt)) e in
+    (rest.0, ap (λ (ns : List (List ℕ)). names_of x.terms ++ ns) rest.1 ∙ sym (append_assoc (names_of x.terms) (constraint_names (take i cs)) (names_of c.terms ++ rest.0)))
+
+pub after_at : (old names new : List (List ℕ)) (cs : List Linear) (i : ℕ) (c : Linear) → i < length cs → c ≡ get_or cs i c → names ≡ with_names old (constraint_names (take i cs)) → AfterFront names (names_of c.terms) new
+    → AfterFront old (constraint_names cs) new
+after_at old names new cs i c lt e k a =
+    let at = names_at cs i c lt e in
+    subst (λ (ns : List (List ℕ)). AfterFront old ns new) (sym at.1) (after_others old names new (constraint_names (take i cs)) (names_of c.terms) at.0 k a)

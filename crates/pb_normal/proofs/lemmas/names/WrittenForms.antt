@@ -1,0 +1,332 @@
+-- The form of a written constraint. Offered to other crates.
+use Rattle.std.proofs.Common.{inl, inr, ◌≡◌, ℕ, ◌+◌, ◌-◌, ◌*◌, ◌<◌, ◌≤◌, ◌^◌, Bool, true, false, not, ◌&&◌, cond, eqb, List, [], ◌∷◌, ◌++◌, map, length, take, drop, get_or, slice_get, Some, refl, sym, ◌∙◌, ap, arith, ℤ, pos, negsuc, ◌+ℤ◌, ◌-ℤ◌, ◌≤ℤ◌, neg_ℤ, unsigned_abs, ◌↔◌, FitsSigned, to_z, of_z}
+use Rattle.std.specs.Int.{w128}
+use Rattle.std.specs.List.{All}
+use Rattle.std.specs.Str.{bytes_eq}
+use Rattle.std.proofs.lemmas.Int.{ints, to_z-of_z}
+use Rattle.std.proofs.lemmas.Bool.Decides.{nat_tests}
+use Rattle.std.proofs.lemmas.Bool.{cases_lt}
+use Rattle.std.proofs.lemmas.Slice.Eq.{bytes_eq-Decides}
+use Rattle.std.proofs.lemmas.Option.{get_or_from_slice_get, slice_get-get_or}
+use Rattle.std.proofs.lemmas.List.{length-append, take-append-drop}
+use Rattle.std.proofs.lemmas.List.Elements.{All-nil, All-cons}
+use Rattle.pb_sums.specs.declared.values.Term.{Term}
+use Rattle.pb_sums.specs.declared.values.Linear.{Linear}
+use Rattle.pb_sums.specs.declared.values.Relation.TheVariants.{AtLeast as relation_least, Equal as relation_equal}
+use Rattle.pb_normal.specs.declared.side.Side.{Side}
+use Rattle.pb_normal.specs.declared.side.Side.TheVariants.{AtLeast, AtMost}
+use Rattle.pb_normal.specs.declared.entry.Entry.{Entry}
+use Rattle.pb_normal.specs.meaning.Form.{Form, total, each, negative, plain_of, negated_of, true_at, at_least_0, low, Holds, IsRising, IsNormal, IsWithin}
+use Rattle.pb_normal.specs.engine.Adds.{flip, Adds}
+use Rattle.pb_normal.specs.meaning.Names.{has_name, AreDistinct, number_in, HasNames}
+use Rattle.pb_normal.specs.meaning.Constraints.{AreFormsOf}
+use Rattle.pb_normal.specs.engine.Raw.{is_below_0, entry_of, raw_of, shift}
+use Rattle.pb_normal.specs.meaning.Written.{names_of, magnitude, written_on, on_negations, true_sum, IsFormOf, side_number, side_terms, IsSideOf, by_number, SameSolutions, SameAsForm, SameAsForms, term_of, linear_of}
+use Rattle.pb_normal.proofs.lemmas.terms.Maps.{counted-le-all}
+use Rattle.pb_normal.proofs.lemmas.terms.Totals.{size-Adds}
+use Rattle.pb_normal.proofs.lemmas.terms.Variables.{total-same}
+use Rattle.pb_normal.proofs.lemmas.rules.Sums.{at_least_0-is, flip_plain}
+use Rattle.pb_normal.proofs.lemmas.rules.Unique.{Balanced, IsRising-same, same_form}
+use Rattle.pb_normal.proofs.lemmas.terms.Balance.{total-balanced, total-past, All-below}
+use Rattle.pb_text.proofs.lemmas.text.Lists.{drop_read}
+use Rattle.pb_normal.proofs.lemmas.names.Numbering.{slice_get-number, number_in-below, number_in-get, number_in-append, has_name-append, AreDistinct-front}
+
+pub total-raw : (names : List (List ℕ)) (ts : List Term) → total each (map (raw_of names) ts) ≡ magnitude ts
+total-raw names [] = refl
+total-raw names (t ∷ ts) = omega (arith, total-raw names ts)
+
+-- a term is on the variable x if and only if its name is the one with that number
+same_test : (names : List (List ℕ)) (q name : List ℕ) (x : ℕ) → AreDistinct names → has_name names q ≡ true → slice_get names x ≡ Some name → eqb (number_in names q) x ≡ bytes_eq q name
+same_test names q name x d has get = by_test (bytes_eq q name) refl
+  where
+    there : number_in names name ≡ x
+    there = number_in-get names x name d get
+
+    by_test : (b : Bool) → bytes_eq q name ≡ b → eqb (number_in names q) x ≡ b
+    by_test true t =
+        let same : q ≡ name = (bytes_eq-Decides q name).0 t in
+        let number : number_in names q ≡ x = rw same there in
+        grind (arith, nat_tests)
+    by_test false t = apart (eqb (number_in names q) x) refl
+      where
+        apart : (b : Bool) → eqb (number_in names q) x ≡ b → eqb (number_in names q) x ≡ false
+        apart true e =
+            let number : number_in names q ≡ x = grind (arith, nat_tests) in
+            let found = rw number at (slice_get-number names q has) in
+            let same : q ≡ name = cc in
+            let yes : bytes_eq q name ≡ true = (bytes_eq-Decides q name).1 same in
+            absurd cc
+        apart false e = e
+
+-- one term, by the sign of its coefficient z, whether it is negated, and whether it is on the variable
+signed_one : (z : ℤ) (n e : Bool) → (pos (cond (e && not (cond (is_below_0 z) (not n) n)) (unsigned_abs z) 0) -ℤ pos (cond (e && cond (is_below_0 z) (not n) n) (unsigned_abs z) 0)) ≡ cond e (cond n (neg_ℤ z) z) (pos 0)
+signed_one (pos k) true true = omega (arith, ints)
+signed_one (pos k) true false = omega (arith, ints)
+signed_one (pos k) false true = omega (arith, ints)
+signed_one (pos k) false false = omega (arith, ints)
+signed_one (negsuc k) true true = omega (arith, ints)
+signed_one (negsuc k) true false = omega (arith, ints)
+signed_one (negsuc k) false true = omega (arith, ints)
+signed_one (negsuc k) false false = omega (arith, ints)
+
+signed_same : (z : ℤ) (n e d : Bool) → e ≡ d → (pos (cond (e && not (cond (is_below_0 z) (not n) n)) (unsigned_abs z) 0) -ℤ pos (cond (e && cond (is_below_0 z) (not n) n) (unsigned_abs z) 0)) ≡ cond d (cond n (neg_ℤ z) z) (pos 0)
+signed_same z n e d h = rw h (signed_one z n d)
+
+signed-raw : (names : List (List ℕ)) (x : ℕ) (name : List ℕ) (ts : List Term) → AreDistinct names → HasNames names (names_of ts) → slice_get names x ≡ Some name → (pos (total (plain_of x) (map (raw_of names) ts)) -ℤ pos (total (negated_of x) (map (raw_of names) ts))) ≡ written_on name ts
+signed-raw names x name [] d h get = refl
+signed-raw names x name (t ∷ ts) d h get =
+    omega (arith, ints, signed-raw names x name ts d h.1 get, signed_same t.coefficient t.literal.negated _ _ (same_test names t.literal.name name x d h.0 get))
+
+low_one : (z : ℤ) (n : Bool) → pos (cond (cond (is_below_0 z) (not n) n) (unsigned_abs z) 0) ≡ (cond n z (pos 0) +ℤ pos (cond (is_below_0 z) (unsigned_abs z) 0))
+low_one (pos k) true = omega (arith, ints)
+low_one (pos k) false = omega (arith, ints)
+low_one (negsuc k) true = omega (arith, ints)
+low_one (negsuc k) false = omega (arith, ints)
+
+low-raw : (names : List (List ℕ)) (ts : List Term) → pos (total negative (map (raw_of names) ts)) ≡ (on_negations ts +ℤ pos (shift ts))
+low-raw names [] = refl
+low-raw names (t ∷ ts) = omega (arith, ints, low-raw names ts, low_one t.coefficient t.literal.negated)
+
+true_one : (z : ℤ) (n v : Bool) → pos (cond (cond (cond (is_below_0 z) (not n) n) (not v) v) (unsigned_abs z) 0) ≡ (cond (cond n (not v) v) z (pos 0) +ℤ pos (cond (is_below_0 z) (unsigned_abs z) 0))
+true_one (pos k) true true = omega (arith, ints)
+true_one (pos k) true false = omega (arith, ints)
+true_one (pos k) false true = omega (arith, ints)
+true_one (pos k) false false = omega (arith, ints)
+true_one (negsuc k) true true = omega (arith, ints)
+true_one (negsuc k) true false = omega (arith, ints)
+true_one (negsuc k) false true = omega (arith, ints)
+true_one (negsuc k) false false = omega (arith, ints)
+
+true_same : (z : ℤ) (n v w : Bool) → v ≡ w → pos (cond (cond (cond (is_below_0 z) (not n) n) (not v) v) (unsigned_abs z) 0) ≡ (cond (cond n (not w) w) z (pos 0) +ℤ pos (cond (is_below_0 z) (unsigned_abs z) 0))
+true_same z n v w h = rw h (true_one z n w)
+
+true-raw : (names : List (List ℕ)) (a : List ℕ → Bool) (ts : List Term) → HasNames names (names_of ts) → pos (total (true_at (by_number names a)) (map (raw_of names) ts)) ≡ (true_sum a ts +ℤ pos (shift ts))
+true-raw names a [] h = refl
+true-raw names a (t ∷ ts) h =
+    let q = t.literal.name in
+    let value : a (get_or names (number_in names q) []) ≡ a q = ap a (get_or_from_slice_get names (number_in names q) q [] (slice_get-number names q h.0)) in
+    omega (arith, ints, true-raw names a ts h.1, true_same t.coefficient t.literal.negated _ _ value)
+
+pub All-raw : (names : List (List ℕ)) (ts : List Term) → HasNames names (names_of ts) → All (λ (t : Entry). t.variable < length names) (map (raw_of names) ts)
+All-raw names [] h = All-nil (λ (t : Entry). t.variable < length names)
+All-raw names (t ∷ ts) h =
+    All-cons (λ (u : Entry). u.variable < length names) (raw_of names t) (map (raw_of names) ts) (number_in-below names t.literal.name h.0) (All-raw names ts h.1)
+
+-- what was collected from the terms is their form
+pub IsFormOf-from : (names : List (List ℕ)) (ts : List Term) (d : ℤ) (rs : List Entry) (up down gone : ℕ) → AreDistinct names → HasNames names (names_of ts) → (d +ℤ pos down) ≡ pos up → IsRising 0 rs → Adds (map (raw_of names) ts) [] rs gone → IsFormOf names ts d record { terms = rs; degree = up + shift ts - (down + gone) }
+IsFormOf-from names ts d rs up down gone distinct has e rising h =
+    let raw = map (raw_of names) ts in
+    let turned = λ (x : ℕ) (us : List Entry). total-same (flip (plain_of x)) (negated_of x) (λ v n. flip_plain (eqb v x) n) us in
+    record {
+      ordered = rising;
+      named = All-below (length names) 0 rs rising (λ x le. omega (arith, h.signed (plain_of x), turned x rs, turned x raw, total-past not x (length names) raw (All-raw names ts has) le, total-past (λ b. b) x (length names) raw (All-raw names ts has) le));
+      coefficients = λ x name get. omega (arith, ints, h.signed (plain_of x), turned x rs, turned x raw, signed-raw names x name ts distinct has get);
+      degree = sym (at_least_0-is ((d -ℤ on_negations ts) +ℤ pos (total negative rs)) (up + shift ts) (down + gone) (omega (arith, ints, h.lows, low-raw names ts)));
+    }
+
+-- a form of the terms has their coefficients
+Balanced-raw : (names : List (List ℕ)) (ts : List Term) (d : ℤ) (r : Form) → AreDistinct names → HasNames names (names_of ts) → IsFormOf names ts d r → Balanced r.terms (map (raw_of names) ts)
+Balanced-raw names ts d r distinct has f x =
+    let raw = map (raw_of names) ts in
+    elim (cases_lt x (length names)) [
+      | inl lt ↦
+          let get = slice_get-get_or names x [] lt in
+          omega (arith, ints, f.coefficients x _ get, signed-raw names x _ ts distinct has get)
+      | inr ge ↦
+          omega (arith, total-past not x (length names) raw (All-raw names ts has) ge, total-past (λ b. b) x (length names) raw (All-raw names ts has) ge, total-past not x (length names) r.terms f.named ge, total-past (λ b. b) x (length names) r.terms f.named ge)
+    ]
+
+at_least_0-below : (z : ℤ) (n : ℕ) → (at_least_0 z ≤ n) ↔ (z ≤ℤ pos n)
+at_least_0-below (pos k) n = (λ h. omega (arith, ints), λ h. omega (arith, ints))
+at_least_0-below (negsuc k) n = (λ h. omega (arith, ints), λ h. omega (arith, ints))
+
+-- a form of the terms holds if and only if their sum is at least the degree
+pub Holds-form : (names : List (List ℕ)) (ts : List Term) (d : ℤ) (r : Form) → AreDistinct names → HasNames names (names_of ts) → IsFormOf names ts d r → (a : List ℕ → Bool) → Holds (by_number names a) r ↔ (d ≤ℤ true_sum a ts)
+Holds-form names ts d r distinct has f a =
+    let raw = map (raw_of names) ts in
+    let kept = total-balanced (by_number names a) r.terms raw (Balanced-raw names ts d r distinct has f) in
+    let whole = at_least_0-below ((d -ℤ on_negations ts) +ℤ pos (low r)) (total (true_at (by_number names a)) r.terms) in
+    (λ holds. omega (arith, ints, kept, whole.0 (rw f.degree at holds), true-raw names a ts has, low-raw names ts), λ le. rw f.degree (whole.1 (omega (arith, ints, kept, true-raw names a ts has, low-raw names ts))))
+
+pub IsFormOf-unique : (names : List (List ℕ)) (ts : List Term) (d : ℤ) (r s : Form) → IsFormOf names ts d r → IsFormOf names ts d s → r ≡ s
+IsFormOf-unique names ts d r s p q =
+    let balanced : Balanced r.terms s.terms = λ x.
+    elim (cases_lt x (length names)) [
+      | inl lt ↦
+          let get = slice_get-get_or names x [] lt in
+          omega (arith, ints, p.coefficients x _ get, q.coefficients x _ get)
+      | inr ge ↦
+          omega (arith, total-past not x (length names) s.terms q.named ge, total-past (λ b. b) x (length names) s.terms q.named ge, total-past not x (length names) r.terms p.named ge, total-past (λ b. b) x (length names) r.terms p.named ge)
+    ] in
+    let terms = IsRising-same 0 r.terms s.terms p.ordered q.ordered balanced in
+    let lows : low r ≡ low s = ap (total negative) terms in
+    let degrees : r.degree ≡ s.degree = p.degree ∙ rw lows (sym q.degree) in
+    same_form r.terms s.terms r.degree s.degree terms degrees
+
+-- forms of the same sides are equal if each sum has only one form
+pub same_forms : ((names : List (List ℕ)) (ts : List Term) (d : ℤ) (r s : Form) → IsFormOf names ts d r → IsFormOf names ts d s → r ≡ s)
+    → (names : List (List ℕ)) (sides : List (Side × Linear)) (fs gs : List Form) → AreFormsOf names sides fs → AreFormsOf names sides gs → fs ≡ gs
+same_forms unique names [] [] [] h k = refl
+same_forms unique names [] [] (g ∷ gs) h k = absurd k
+same_forms unique names [] (f ∷ fs) gs h k = absurd h
+same_forms unique names (s ∷ sides) [] gs h k = absurd h
+same_forms unique names (s ∷ sides) (f ∷ fs) [] h k = absurd k
+same_forms unique names (s ∷ sides) (f ∷ fs) (g ∷ gs) h k =
+    let first : f ≡ g = unique names _ _ f g h.0 k.0 in
+    let rest : fs ≡ gs = same_forms unique names sides fs gs h.1 k.1 in
+    cc
+
+-- the two sides
+pub names_of-side : (side : Side) (ts : List Term) → names_of (side_terms side ts) ≡ names_of ts
+names_of-side side [] = refl
+names_of-side side (t ∷ ts) = ap (λ (ns : List (List ℕ)). t.literal.name ∷ ns) (names_of-side side ts)
+
+pub magnitude_one : (side : Side) (z : ℤ) → unsigned_abs (side_number side z) ≡ unsigned_abs z
+magnitude_one AtLeast z = refl
+magnitude_one AtMost z = omega (arith, ints)
+
+pub magnitude-side : (side : Side) (ts : List Term) → magnitude (side_terms side ts) ≡ magnitude ts
+magnitude-side side [] = refl
+magnitude-side side (t ∷ ts) = omega (arith, magnitude-side side ts, magnitude_one side t.coefficient)
+
+true_sum-least : (a : List ℕ → Bool) (ts : List Term) → true_sum a (side_terms AtLeast ts) ≡ true_sum a ts
+true_sum-least a [] = refl
+true_sum-least a (t ∷ ts) = omega (arith, ints, true_sum-least a ts)
+
+negated_one : (b : Bool) (z : ℤ) → cond b (neg_ℤ z) (pos 0) ≡ neg_ℤ (cond b z (pos 0))
+negated_one true z = refl
+negated_one false z = refl
+
+true_sum-most : (a : List ℕ → Bool) (ts : List Term) → true_sum a (side_terms AtMost ts) ≡ neg_ℤ (true_sum a ts)
+true_sum-most a [] = refl
+true_sum-most a (t ∷ ts) =
+    omega (arith, ints, true_sum-most a ts, negated_one (cond t.literal.negated (not (a t.literal.name)) (a t.literal.name)) t.coefficient)
+
+HasNames-side : (names : List (List ℕ)) (side : Side) (ts : List Term) → HasNames names (names_of ts) → HasNames names (names_of (side_terms side ts))
+HasNames-side names side ts h = rw (names_of-side side ts) h
+
+-- the form of a side holds if and only if the side does
+pub SameSolutions-side : (names : List (List ℕ)) (side : Side) (linear : Linear) (r : Form) → AreDistinct names → HasNames names (names_of linear.terms) → IsSideOf names side linear r → SameSolutions names side linear r
+SameSolutions-side names AtLeast linear r distinct has f a =
+    let whole = Holds-form names _ _ r distinct (HasNames-side names AtLeast linear.terms has) f a in
+    rw (true_sum-least a linear.terms) at whole
+SameSolutions-side names AtMost linear r distinct has f a =
+    let whole = Holds-form names _ _ r distinct (HasNames-side names AtMost linear.terms has) f a in
+    (λ holds. omega (arith, ints, whole.0 holds, true_sum-most a linear.terms), λ le. whole.1 (omega (arith, ints, true_sum-most a linear.terms)))
+
+raw-append : (names more : List (List ℕ)) (ts : List Term) → HasNames names (names_of ts) → map (raw_of (names ++ more)) ts ≡ map (raw_of names) ts
+raw-append names more [] h = refl
+raw-append names more (t ∷ ts) h =
+    let first = ap (λ n. entry_of n t.literal.negated t.coefficient) (number_in-append names more t.literal.name h.0) in
+    let rest = raw-append names more ts h.1 in
+    cc
+
+pub HasNames-append : (names more ns : List (List ℕ)) → HasNames names ns → HasNames (names ++ more) ns
+HasNames-append names more [] h = tt
+HasNames-append names more (n ∷ ns) h = (has_name-append names more n h.0, HasNames-append names more ns h.1)
+
+-- a form remains the form of its terms if more names appear
+pub IsFormOf-append : (names more : List (List ℕ)) (ts : List Term) (d : ℤ) (r : Form) → AreDistinct (names ++ more) → HasNames names (names_of ts) → IsFormOf names ts d r → IsFormOf (names ++ more) ts d r
+IsFormOf-append names more ts d r distinct has f =
+    let balanced = Balanced-raw names ts d r (AreDistinct-front names more distinct) has f in
+    record {
+      ordered = f.ordered;
+      named = λ i t lt. omega (arith, f.named i t lt, length-append names more);
+      coefficients = λ x name get.
+          let signed = rw (raw-append names more ts has) at (signed-raw (names ++ more) x name ts distinct (HasNames-append names more _ has) get) in
+          omega (arith, ints, signed, balanced x);
+      degree = f.degree;
+    }
+
+pub IsSideOf-append : (names more : List (List ℕ)) (side : Side) (linear : Linear) (r : Form) → AreDistinct (names ++ more) → HasNames names (names_of linear.terms) → IsSideOf names side linear r → IsSideOf (names ++ more) side linear r
+IsSideOf-append names more side linear r distinct has f =
+    IsFormOf-append names more _ _ r distinct (HasNames-side names side linear.terms has) f
+
+-- a constraint, by its relation
+pub SameAsForm-from : (names : List (List ℕ)) (linear : Linear) (r : Form) → linear.relation ≡ relation_least → SameSolutions names AtLeast linear r → SameAsForm names linear r
+SameAsForm-from names linear r e h a = rw e ((h a).1, (h a).0)
+
+pub SameAsForms-from : (names : List (List ℕ)) (linear : Linear) (r s : Form) → linear.relation ≡ relation_equal → SameSolutions names AtLeast linear r → SameSolutions names AtMost linear s → SameAsForms names linear r s
+SameAsForms-from names linear r s e h k a =
+    rw e (λ w. ((h a).1 (omega (arith, ints)), (k a).1 (omega (arith, ints))), λ w. let low = (h a).0 w.0 in let high = (k a).0 w.1 in omega (arith, ints))
+
+-- the magnitude of one term is at most that of the whole
+pub magnitude-append : (xs ys : List Term) → magnitude (xs ++ ys) ≡ magnitude xs + magnitude ys
+magnitude-append [] ys = omega arith
+magnitude-append (x ∷ xs) ys = omega (arith, magnitude-append xs ys)
+
+pub magnitude-read : (ts : List Term) (i : ℕ) (t : Term) → i < length ts → t ≡ get_or ts i t → unsigned_abs t.coefficient ≤ magnitude ts
+magnitude-read ts i t lt e =
+    let s = magnitude-append (take i ts) (drop i ts) in
+    let w = rw (take-append-drop, drop_read ts i t t lt e) at s in
+    omega arith
+
+pub shift-le : (ts : List Term) → shift ts ≤ magnitude ts
+shift-le [] = omega arith
+shift-le (t ∷ ts) = omega (arith, shift-le ts, counted-le-all (is_below_0 t.coefficient) (unsigned_abs t.coefficient))
+
+pub shift-side-le : (side : Side) (ts : List Term) → shift (side_terms side ts) ≤ magnitude ts
+shift-side-le side ts = omega (arith, shift-le (side_terms side ts), magnitude-side side ts)
+
+-- what holds for a side after all has been collected
+pub record Collected (names : List (List ℕ)) (side : Side) (linear : Linear) (rs : List Entry) (up down gone limit : ℕ) : Type 0 where
+  pub small : magnitude linear.terms + unsigned_abs linear.degree ≤ limit
+  pub distinct : AreDistinct names
+  pub named : HasNames names (names_of linear.terms)
+  pub difference : (side_number side linear.degree +ℤ pos down) ≡ pos up
+  pub parts : up + down ≡ unsigned_abs linear.degree
+  pub rising : IsRising 0 rs
+  pub adds : Adds (map (raw_of names) (side_terms side linear.terms)) [] rs gone
+
+-- the same, derived from the contracts of the steps
+pub Collected-from : (names : List (List ℕ)) (side : Side) (linear : Linear) (ts : List Term) (raw rs : List Entry) (z : ℤ) (up down gone limit : ℕ) → FitsSigned w128 linear.degree → FitsSigned w128 z → ts ≡ linear.terms → magnitude linear.terms + unsigned_abs linear.degree ≤ limit → AreDistinct names → HasNames names (names_of ts) → z ≡ side_number side (to_z w128 (of_z w128 linear.degree)) → (to_z w128 (of_z w128 z) +ℤ pos down) ≡ pos up → up + down ≡ unsigned_abs (to_z w128 (of_z w128 z)) → IsRising 0 rs → raw ≡ map (raw_of names) (side_terms side ts) → Adds raw [] rs gone → Collected names side linear rs up down gone limit
+Collected-from names side linear ts raw rs z up down gone limit fits z_fits same small distinct named sign difference parts rising entries adds =
+    let signed = rw (to_z-of_z w128 linear.degree fits) at sign in
+    let number = to_z-of_z w128 z z_fits in
+    record {
+      small = small;
+      distinct = distinct;
+      named = rw same at named;
+      difference = rw (number, signed) at difference;
+      parts = omega (arith, rw (number, signed) at parts, magnitude_one side linear.degree);
+      rising = rising;
+      adds = rw (entries, same) at adds;
+    }
+
+-- the sizes of the collected terms and of what cancelled
+pub size-Collected : (names : List (List ℕ)) (side : Side) (linear : Linear) (rs : List Entry) (up down gone limit : ℕ) → Collected names side linear rs up down gone limit → total each rs + 2 * gone ≡ magnitude linear.terms
+size-Collected names side linear rs up down gone limit k =
+    omega (arith, size-Adds _ _ _ _ k.adds, total-raw names (side_terms side linear.terms), magnitude-side side linear.terms)
+
+pub IsNormal-Collected : (names : List (List ℕ)) (side : Side) (linear : Linear) (rs : List Entry) (up down gone limit : ℕ) → limit < 2 ^ 127 → Collected names side linear rs up down gone limit → IsNormal record { terms = rs; degree = up + shift (side_terms side linear.terms) - (down + gone) }
+IsNormal-Collected names side linear rs up down gone limit room k = record {
+  ordered = k.rising;
+  size_in = omega (arith, k.small, size-Collected names side linear rs up down gone limit k);
+  degree_in = omega (arith, k.small, k.parts, shift-side-le side linear.terms);
+}
+
+pub IsWithin-Collected : (names : List (List ℕ)) (side : Side) (linear : Linear) (rs : List Entry) (up down gone limit : ℕ) → Collected names side linear rs up down gone limit → IsWithin limit record { terms = rs; degree = up + shift (side_terms side linear.terms) - (down + gone) }
+IsWithin-Collected names side linear rs up down gone limit k = record {
+  size_in = omega (arith, k.small, size-Collected names side linear rs up down gone limit k);
+  degree_in = omega (arith, k.small, k.parts, shift-side-le side linear.terms);
+}
+
+pub IsSideOf-Collected : (names : List (List ℕ)) (side : Side) (linear : Linear) (rs : List Entry) (up down gone limit : ℕ) → Collected names side linear rs up down gone limit → IsSideOf names side linear record { terms = rs; degree = up + shift (side_terms side linear.terms) - (down + gone) }
+IsSideOf-Collected names side linear rs up down gone limit k =
+    IsFormOf-from names (side_terms side linear.terms) (side_number side linear.degree) rs up down gone k.distinct (HasNames-side names side linear.terms k.named) k.difference k.rising k.adds
+
+-- a form that is written with names holds if and only if the form does
+true_sum-terms : (names : List (List ℕ)) (a : List ℕ → Bool) (ts : List Entry) → true_sum a (map (term_of names) ts) ≡ pos (total (true_at (by_number names a)) ts)
+true_sum-terms names a [] = refl
+true_sum-terms names a (t ∷ ts) =
+    let v = a (get_or names t.variable []) in
+    omega (arith, ints, true_sum-terms names a ts, pos_part (cond t.negated (not v) v) t.coefficient)
+  where
+    pos_part : (b : Bool) (n : ℕ) → cond b (pos n) (pos 0) ≡ pos (cond b n 0)
+    pos_part true n = refl
+    pos_part false n = refl
+
+pub SameAsForm-linear_of : (names : List (List ℕ)) (f : Form) → SameAsForm names (linear_of names f) f
+SameAsForm-linear_of names f a =
+    let sum = true_sum-terms names a f.terms in
+    (λ h. omega (arith, ints, h, sum), λ h. omega (arith, ints, h, sum))

@@ -1,0 +1,115 @@
+-- Multiplication and saturation. Offered to other crates.
+use Rattle.std.proofs.Common.{zero, suc, inl, inr, ◌≡◌, ℕ, ◌+◌, ◌*◌, ◌/◌, min, ◌^◌, ◌<◌, ◌≤◌, Bool, true, false, cond, ltb, List, [], ◌∷◌, get_or, map, refl, arith}
+use Rattle.std.specs.List.{filter, All}
+use Rattle.std.proofs.lemmas.Nat.{div-add-mod', le-div}
+use Rattle.std.proofs.lemmas.Bool.{cases_lt}
+use Rattle.std.proofs.lemmas.Bool.Decides.{nat_tests}
+use Rattle.std.proofs.Math.Nat.{mul-le-mul_left}
+use Rattle.pb_normal.specs.declared.entry.Entry.{Entry}
+use Rattle.pb_normal.specs.meaning.Form.{Form, size, IsNormal, IsWithin, Holds, true_at, counted, total, each, IsRising}
+use Rattle.pb_normal.specs.meaning.Rules.{Passes, with_coefficient, multiplied, saturated}
+use Rattle.pb_normal.proofs.lemmas.terms.Maps.{IsRising-map, total-filter-le, total-map-le, counted-le}
+use Rattle.pb_normal.proofs.lemmas.terms.Merging.{total-read}
+use Rattle.pb_normal.proofs.lemmas.terms.Totals.{IsRising-from}
+
+-- comparing a quotient and a product
+pub past_quotient : (m n k : ℕ) → 0 < k → n / k < m → n < m * k
+past_quotient m n k h lt =
+    elim (cases_lt n (m * k)) [ inl past ↦ past | inr le ↦ absurd (omega (arith, le-div m n k h le)) ]
+
+pub within_quotient : (m n k : ℕ) → m ≤ n / k → m * k ≤ n
+within_quotient m n k le = omega (arith, mul-le-mul_left k le, div-add-mod' n k)
+
+counted-times : (b : Bool) (n k : ℕ) → cond b (n * k) 0 ≡ cond b n 0 * k
+counted-times true n k = refl
+counted-times false n k = omega arith
+
+pub total-multiplied : (p : ℕ → Bool → Bool) (k : ℕ) (ts : List Entry) → total p (map (λ t. with_coefficient t (t.coefficient * k)) ts) ≡ total p ts * k
+total-multiplied p k [] = omega arith
+total-multiplied p k (t ∷ ts) = omega (arith, total-multiplied p k ts, counted-times (p t.variable t.negated) t.coefficient k)
+
+times_pos : (n k : ℕ) → 0 < n → 0 < k → 0 < n * k
+times_pos zero k h p = absurd (omega arith)
+times_pos (suc n) k h p = omega arith
+
+pub IsRising-multiplied : (k n : ℕ) (ts : List Entry) → 0 < k → IsRising n ts → IsRising n (map (λ t. with_coefficient t (t.coefficient * k)) ts)
+IsRising-multiplied k n ts h r = IsRising-map _ n ts (λ t. refl) (λ t p. times_pos t.coefficient k p h) r
+
+-- each product is at most m if the product of the total is
+pub All-multiplied : (k m : ℕ) (ts : List Entry) → total each ts * k ≤ m → All (λ t. t.coefficient * k < m + 1) ts
+All-multiplied k m ts le i d lt =
+    omega (arith, mul-le-mul_left k (total-read ts i d (get_or ts i d) lt refl))
+
+pub Holds-multiplied : (a : ℕ → Bool) (k : ℕ) (f : Form) → Holds a f → Holds a (multiplied k f)
+Holds-multiplied a k f h = omega (arith, total-multiplied (true_at a) k f.terms, mul-le-mul_left k h)
+
+-- saturation
+positive_step : (b : Bool) (n : ℕ) (t : Entry) (rest : List Entry) → ltb 0 t.coefficient ≡ b → n ≤ t.variable → IsRising (t.variable + 1) rest → IsRising n (cond b (t ∷ rest) rest)
+positive_step true n t rest e le r = (le, let p : 0 < t.coefficient = grind (arith, nat_tests) in p, r)
+positive_step false n t rest e le r = IsRising-from n (t.variable + 1) rest (omega arith) r
+
+pub IsRising-saturated : (d n : ℕ) (ts : List Entry) → IsRising n ts → IsRising n (filter (λ t. ltb 0 t.coefficient) (map (λ t. with_coefficient t (min t.coefficient d)) ts))
+IsRising-saturated d n [] r = tt
+IsRising-saturated d n (t ∷ ts) r = positive_step _ n (with_coefficient t (min t.coefficient d)) _ refl r.0 (IsRising-saturated d (t.variable + 1) ts r.2)
+
+pub total-saturated-le : (p : ℕ → Bool → Bool) (d : ℕ) (ts : List Entry) → total p (filter (λ t. ltb 0 t.coefficient) (map (λ t. with_coefficient t (min t.coefficient d)) ts)) ≤ total p ts
+total-saturated-le p d ts =
+    let filtered = total-filter-le (λ t. ltb 0 t.coefficient) p (map (λ t. with_coefficient t (min t.coefficient d)) ts) in
+    let mapped = total-map-le (λ t. with_coefficient t (min t.coefficient d)) p ts (λ t. counted-le (p t.variable t.negated) _ _ (omega arith)) in
+    omega arith
+
+nothing_lost : (b c : Bool) (n : ℕ) (r s : ℕ) → ltb 0 n ≡ b → r ≤ s → cond c n 0 + r ≤ cond b (cond c n 0 + s) s
+nothing_lost true c n r s e le = omega arith
+nothing_lost false true n r s e le = let z : n ≡ 0 = grind (arith, nat_tests) in omega arith
+nothing_lost false false n r s e le = omega arith
+
+kept : (b : Bool) (p : ℕ → Bool → Bool) (t : Entry) (rest : List Entry) → total p (cond b (t ∷ rest) rest) ≡ cond b (counted p t + total p rest) (total p rest)
+kept true p t rest = refl
+kept false p t rest = refl
+
+-- dropping terms whose coefficient is 0 loses nothing
+total-positive : (p : ℕ → Bool → Bool) (ts : List Entry) → total p ts ≤ total p (filter (λ t. ltb 0 t.coefficient) ts)
+total-positive p [] = omega arith
+total-positive p (t ∷ ts) = rw (kept (ltb 0 t.coefficient) p t (filter (λ t. ltb 0 t.coefficient) ts)) (nothing_lost (ltb 0 t.coefficient) (p t.variable t.negated) t.coefficient _ _ refl (total-positive p ts))
+
+least_of : (b : Bool) (n d r s : ℕ) → min d r ≤ s → min d (cond b n 0 + r) ≤ cond b (min n d) 0 + s
+least_of true n d r s le = omega arith
+least_of false n d r s le = omega arith
+
+total-capped : (p : ℕ → Bool → Bool) (d : ℕ) (ts : List Entry) → min d (total p ts) ≤ total p (map (λ t. with_coefficient t (min t.coefficient d)) ts)
+total-capped p d [] = omega arith
+total-capped p d (t ∷ ts) = least_of (p t.variable t.negated) t.coefficient d _ _ (total-capped p d ts)
+
+pub Holds-saturated : (a : ℕ → Bool) (f : Form) → Holds a f → Holds a (saturated f)
+Holds-saturated a f h =
+    omega (arith, total-capped (true_at a) f.degree f.terms, total-positive (true_at a) (map (λ t. with_coefficient t (min t.coefficient f.degree)) f.terms))
+
+pub IsNormal-saturated : (f : Form) → IsNormal f → IsNormal (saturated f)
+IsNormal-saturated f n = record {
+  ordered = IsRising-saturated f.degree 0 f.terms n.ordered;
+  size_in = omega (arith, n.size_in, total-saturated-le each f.degree f.terms);
+  degree_in = n.degree_in;
+}
+
+-- a product exceeds the limit if and only if the form exceeds the quotient
+pub Passes-size : (limit k : ℕ) (f : Form) → 0 < k → limit / k < size f → Passes limit (multiplied k f)
+Passes-size limit k f h lt = inl (omega (arith, total-multiplied each k f.terms, past_quotient (size f) limit k h lt))
+
+pub Passes-degree : (limit k : ℕ) (f : Form) → 0 < k → limit / k < f.degree → Passes limit (multiplied k f)
+Passes-degree limit k f h lt = inr (past_quotient f.degree limit k h lt)
+
+pub IsWithin-multiplied : (limit k : ℕ) (f : Form) → size f ≤ limit / k → f.degree ≤ limit / k → IsWithin limit (multiplied k f)
+IsWithin-multiplied limit k f s d = record {
+  size_in = omega (arith, total-multiplied each k f.terms, within_quotient (size f) limit k s);
+  degree_in = within_quotient f.degree limit k d;
+}
+
+pub Passes-not : (limit : ℕ) (f : Form) → IsWithin limit f → Passes limit f → ⊥
+Passes-not limit f w p = elim p [ inl h ↦ omega (arith, w.size_in) | inr h ↦ omega (arith, w.degree_in) ]
+
+pub IsNormal-multiplied : (limit k : ℕ) (f : Form) → 0 < k → limit < 2 ^ 127 → IsNormal f → IsWithin limit (multiplied k f) → IsNormal (multiplied k f)
+IsNormal-multiplied limit k f h room n w = record {
+  ordered = IsRising-multiplied k 0 f.terms h n.ordered;
+  size_in = omega (arith, w.size_in);
+  degree_in = omega (arith, w.degree_in);
+}

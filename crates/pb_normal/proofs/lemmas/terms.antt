@@ -1,0 +1,12 @@
+-- Lemmas of terms, in lists and in maps.
+pub mod Balance
+pub mod Collecting
+pub mod Counts
+pub mod Entries
+pub mod KeyedTerms
+pub mod Maps
+pub mod Merging
+pub mod Positions
+pub mod Removals
+pub mod Totals
+pub mod Variables

@@ -1,0 +1,13 @@
+-- Two entries are compared by their parts.
+use Rattle.std.proofs.Common.{◌≡◌, ◌&&◌, eqb, ap}
+use Rattle.std.specs.Bool.{beq, Decides}
+use Rattle.std.specs.Cmp.{booleans_Decides}
+use Rattle.std.proofs.lemmas.Bool.Decides.{Decides-and, Decides-eqb}
+use Rattle.pb_normal.specs.declared.entry.Entry.{Entry}
+use Rattle.pb_normal.proofs.lemmas.rules.Unique.{same_entry}
+
+pub entry-Decides : (a b : Entry) → Decides (eqb a.variable b.variable && (beq a.negated b.negated && eqb a.coefficient b.coefficient)) (a ≡ b)
+entry-Decides a b =
+    let rest = Decides-and _ _ (booleans_Decides a.negated b.negated) (Decides-eqb a.coefficient b.coefficient) in
+    let parts = Decides-and _ _ (Decides-eqb a.variable b.variable) rest in
+    (λ t. let p = parts.0 t in same_entry _ _ _ _ _ _ p.0 p.1.0 p.1.1, λ e. parts.1 (ap (λ (x : Entry). x.variable) e, (ap (λ (x : Entry). x.negated) e, ap (λ (x : Entry). x.coefficient) e)))

@@ -1,0 +1,173 @@
+-- Terms in a map by their variables: what an insertion and a removal change.
+use Rattle.std.proofs.Common.{◌≡◌, ℕ, ◌+◌, ◌<◌, ◌≤◌, Bool, true, false, cond, eqb, List, [], ◌∷◌, ◌++◌, Option, Some, None, refl, sym, ◌∙◌, ap, arith, take, drop, length, get_or, Ordering, Less, Equal, Greater}
+use Rattle.std.specs.List.{All, AllByRecursion, sum_by}
+use Rattle.std.specs.List.Sorted.{IsStrictlySortedBy}
+use Rattle.std.specs.Option.{option_map, option_to_list, unwrap_or}
+use Rattle.std.specs.Map.{keys_of, values_of, lookup, remove_entry}
+use Rattle.std.specs.BTreeMap.{BTreeMap, IsOrdered, get, values, is_at, insert_entry}
+use Rattle.std.specs.Ordering.{nat_cmp, is_eq, match_ordering}
+use Rattle.std.proofs.lemmas.Cmp.{nat_cmp_total, ranked}
+use Rattle.std.proofs.lemmas.List.Elements.{All-cons, All-head, All-tail}
+use Rattle.std.proofs.lemmas.Map.Entries.{sum_by-insert_entry, sum_by-remove_entry}
+use Rattle.std.proofs.lemmas.Map.Keys.{sorted_head, sorted_tail}
+use Rattle.pb_normal.specs.declared.entry.Entry.{Entry}
+use Rattle.pb_normal.specs.engine.Adds.{flip, Adds}
+use Rattle.pb_normal.specs.meaning.Form.{counted, total, each, negative, plain_of, negated_of, IsRising}
+use Rattle.pb_normal.specs.engine.Keyed.{IsAtItsKey, IsKeyed}
+use Rattle.pb_normal.proofs.lemmas.terms.Collecting.{total-sum}
+use Rattle.pb_text.proofs.lemmas.text.Lists.{take_read, drop_read}
+use Rattle.std.proofs.lemmas.List.{take-append-drop}
+use Rattle.pb_normal.proofs.lemmas.rules.Sums.{flip_plain}
+use Rattle.pb_normal.proofs.lemmas.terms.Totals.{total-append, Adds-apart, size-Adds}
+use Rattle.pb_normal.proofs.lemmas.rules.Unique.{IsRising-same}
+use Rattle.pb_normal.proofs.lemmas.terms.Variables.{total-same}
+
+-- a term at its key is put into the map
+All-put : (o : Ordering) (k : ℕ) (t : Entry) (e : ℕ × Entry) (es rest : List (ℕ × Entry)) → o ≡ nat_cmp k e.0 → IsAtItsKey (k, t) → IsAtItsKey e → All IsAtItsKey es → All IsAtItsKey rest → All IsAtItsKey (match_ordering o ((k, t) ∷ e ∷ es) ((e.0, t) ∷ es) (e ∷ rest))
+All-put Less k t e es rest is new here h hr = All-cons IsAtItsKey (k, t) (e ∷ es) new (All-cons IsAtItsKey e es here h)
+All-put Equal k t e es rest is new here h hr =
+    let same : k ≡ e.0 = ranked k e.0 Equal is in
+    All-cons IsAtItsKey (e.0, t) es (sym same ∙ new.0, new.1) h
+All-put Greater k t e es rest is new here h hr = All-cons IsAtItsKey e rest here hr
+
+All-insert : (k : ℕ) (t : Entry) (es : List (ℕ × Entry)) → IsAtItsKey (k, t) → All IsAtItsKey es → All IsAtItsKey (insert_entry nat_cmp es k t)
+All-insert k t [] new h = All-cons IsAtItsKey (k, t) [] new h
+All-insert k t (e ∷ es) new h =
+    All-put (nat_cmp k e.0) k t e es (insert_entry nat_cmp es k t) refl new (All-head IsAtItsKey e es h) (All-tail IsAtItsKey e es h) (All-insert k t es new (All-tail IsAtItsKey e es h))
+
+All-drop : (b : Bool) (e : ℕ × Entry) (es rest : List (ℕ × Entry)) → IsAtItsKey e → All IsAtItsKey es → All IsAtItsKey rest → All IsAtItsKey (cond b es (e ∷ rest))
+All-drop true e es rest here h hr = h
+All-drop false e es rest here h hr = All-cons IsAtItsKey e rest here hr
+
+All-remove : (test : ℕ → Bool) (es : List (ℕ × Entry)) → All IsAtItsKey es → All IsAtItsKey (remove_entry test es)
+All-remove test [] h = h
+All-remove test (e ∷ es) h =
+    All-drop (test e.0) e es (remove_entry test es) (All-head IsAtItsKey e es h) (All-tail IsAtItsKey e es h) (All-remove test es (All-tail IsAtItsKey e es h))
+
+pub IsKeyed-insert : (m n : BTreeMap ℕ Entry) (t : Entry) → IsKeyed m → 0 < t.coefficient → n.entries ≡ insert_entry nat_cmp m.entries t.variable t → IsKeyed n
+IsKeyed-insert m n t h p e = rw e (All-insert t.variable t m.entries (refl, p) h)
+
+-- the same, where the key is that of an equal variable
+pub IsKeyed-insert_at : (m n : BTreeMap ℕ Entry) (k : ℕ) (t : Entry) → IsKeyed m → k ≡ t.variable → 0 < t.coefficient → n.entries ≡ insert_entry nat_cmp m.entries k t → IsKeyed n
+IsKeyed-insert_at m n k t h same p e = rw e (All-insert k t m.entries (same, p) h)
+
+pub IsKeyed-remove : (m n : BTreeMap ℕ Entry) (k : ℕ) → IsKeyed m → n.entries ≡ remove_entry (is_at (nat_cmp k)) m.entries → IsKeyed n
+IsKeyed-remove m n k h e = rw e (All-remove (is_at (nat_cmp k)) m.entries h)
+
+-- what a look-up finds is at its key
+found_step : (o : Ordering) (k : ℕ) (e : ℕ × Entry) (rest : Option Entry) (x : Entry) → o ≡ nat_cmp k e.0 → IsAtItsKey e → (rest ≡ Some x → (k ≡ x.variable) × (0 < x.coefficient)) → cond (is_eq o) (Some e.1) rest ≡ Some x → (k ≡ x.variable) × (0 < x.coefficient)
+found_step Less k e rest x is here next h = next h
+found_step Equal k e rest x is here next h =
+    let same : k ≡ e.0 = ranked k e.0 Equal is in
+    let it : e.1 ≡ x = cc h in
+    (same ∙ here.0 ∙ ap (λ (t : Entry). t.variable) it, rw (← it) here.1)
+found_step Greater k e rest x is here next h = next h
+
+found_in : (k : ℕ) (es : List (ℕ × Entry)) (x : Entry) → All IsAtItsKey es → lookup (is_at (nat_cmp k)) es ≡ Some x → (k ≡ x.variable) × (0 < x.coefficient)
+found_in k [] x h is = absurd cc
+found_in k (e ∷ es) x h is = found_step (nat_cmp k e.0) k e (lookup (is_at (nat_cmp k)) es) x refl (All-head IsAtItsKey e es h) (found_in k es x (All-tail IsAtItsKey e es h)) is
+
+pub IsKeyed-get : (m : BTreeMap ℕ Entry) (k : ℕ) (x : Entry) → IsKeyed m → Some x ≡ get nat_cmp m k → (k ≡ x.variable) × (0 < x.coefficient)
+IsKeyed-get m k x h is = found_in k m.entries x h (sym is)
+
+-- the terms rise
+above : (k : ℕ) (ks : List ℕ) → AllByRecursion (λ y. nat_cmp k y ≡ Less) ks → AllByRecursion (λ y. k + 1 ≤ y) ks
+above k [] h = tt
+above k (y ∷ ks) h =
+    let lt : k < y = ranked k y Less (sym h.0) in
+    (omega arith, above k ks h.1)
+
+IsRising-sorted : (n : ℕ) (es : List (ℕ × Entry)) → AllByRecursion (λ y. n ≤ y) (keys_of es) → IsStrictlySortedBy nat_cmp (keys_of es) → All IsAtItsKey es → IsRising n (values_of es)
+IsRising-sorted n [] low sorted h = tt
+IsRising-sorted n (e ∷ es) low sorted h =
+    let here = All-head IsAtItsKey e es h in
+    let more = above e.0 (keys_of es) (sorted_head nat_cmp e.0 (keys_of es) sorted) in
+    let rest = IsRising-sorted (e.0 + 1) es more (sorted_tail nat_cmp e.0 (keys_of es) sorted) (All-tail IsAtItsKey e es h) in
+    (omega (arith, low.0, here.0), here.1, rw (← here.0) rest)
+
+from_0 : (ks : List ℕ) → AllByRecursion (λ y. 0 ≤ y) ks
+from_0 [] = tt
+from_0 (k ∷ ks) = (omega arith, from_0 ks)
+
+pub IsKeyed-rising : (m : BTreeMap ℕ Entry) → IsOrdered nat_cmp m → IsKeyed m → IsRising 0 (values m)
+IsKeyed-rising m sorted h = IsRising-sorted 0 m.entries (from_0 (keys_of m.entries)) sorted h
+
+-- ys is xs without the terms of o and with those of n, for any choice of the literals that count
+abbrev pub Replaces : List Entry → List Entry → List Entry → List Entry → Type 0
+Replaces xs ys o n = (p : ℕ → Bool → Bool) → total p ys + total p o ≡ total p xs + total p n
+
+counted-option : (p : ℕ → Bool → Bool) (o : Option Entry) → unwrap_or (option_map (counted p) o) 0 ≡ total p (option_to_list o)
+counted-option p None = refl
+counted-option p (Some t) = omega arith
+
+pub Replaces-insert : (m n : BTreeMap ℕ Entry) (k : ℕ) (t : Entry) → IsOrdered nat_cmp m → n.entries ≡ insert_entry nat_cmp m.entries k t → Replaces (values m) (values n) (option_to_list (get nat_cmp m k)) (t ∷ [])
+Replaces-insert m n k t sorted e p =
+    let sums = sum_by-insert_entry (counted p) nat_cmp_total m.entries k t sorted in
+    let new : total p (values n) ≡ sum_by (counted p) (values_of (insert_entry nat_cmp m.entries k t)) = rw e (total-sum p _) in
+    omega (arith, sums, new, total-sum p (values m), counted-option p (get nat_cmp m k))
+
+pub Replaces-remove : (m n : BTreeMap ℕ Entry) (k : ℕ) → n.entries ≡ remove_entry (is_at (nat_cmp k)) m.entries → Replaces (values m) (values n) (option_to_list (get nat_cmp m k)) []
+Replaces-remove m n k e p =
+    let sums = sum_by-remove_entry (counted p) (is_at (nat_cmp k)) m.entries in
+    let new : total p (values n) ≡ sum_by (counted p) (values_of (remove_entry (is_at (nat_cmp k)) m.entries)) = rw e (total-sum p _) in
+    omega (arith, sums, new, total-sum p (values m), counted-option p (get nat_cmp m k))
+
+pub Replaces-then : (xs ys zs o i n : List Entry) → Replaces xs ys o i → Replaces ys zs i n → Replaces xs zs o n
+Replaces-then xs ys zs o i n h k p = omega (arith, h p, k p)
+
+-- the sum with one term, from the sum with the term of its variable
+pub Adds-replaced : (xs ys o n : List Entry) (t : Entry) (g : ℕ) → Replaces xs ys o n → Adds o (t ∷ []) n g → Adds xs (t ∷ []) ys g
+Adds-replaced xs ys o n t g h a = record {
+  signed = λ p. omega (arith, h p, h (flip p), a.signed p);
+  lows = omega (arith, h negative, a.lows);
+}
+
+-- one more term of a list
+pub Adds-then : (xs ts ys zs : List Entry) (t : Entry) (c g : ℕ) → Adds xs ts ys c → Adds ys (t ∷ []) zs g → Adds xs (ts ++ t ∷ []) zs (c + g)
+Adds-then xs ts ys zs t c g h k = record {
+  signed = λ p. simp total-append (omega (arith, h.signed p, k.signed p));
+  lows = simp total-append (omega (arith, h.lows, k.lows));
+}
+
+-- the look-up and the change, by what was found
+pub Adds-absent : (m n : BTreeMap ℕ Entry) (t : Entry) (o : Option Entry) → IsOrdered nat_cmp m → o ≡ get nat_cmp m t.variable → o ≡ None → n.entries ≡ insert_entry nat_cmp m.entries t.variable t → Adds (values m) (t ∷ []) (values n) 0
+Adds-absent m n t o sorted found none e =
+    let nothing : get nat_cmp m t.variable ≡ None = sym found ∙ none in
+    Adds-replaced (values m) (values n) [] (t ∷ []) t 0 (rw nothing at (Replaces-insert m n t.variable t sorted e)) (Adds-apart [] (t ∷ []))
+
+-- the term t was inserted where x was, and then o instead of t
+pub Adds-present : (m i n : BTreeMap ℕ Entry) (x t : Entry) (o : Option Entry) (g : ℕ) → IsOrdered nat_cmp m → Some x ≡ get nat_cmp m t.variable → i.entries ≡ insert_entry nat_cmp m.entries t.variable t → Replaces (values i) (values n) (t ∷ []) (option_to_list o) → Adds (x ∷ []) (t ∷ []) (option_to_list o) g → Adds (values m) (t ∷ []) (values n) g
+Adds-present m i n x t o g sorted found e second a =
+    let first : Replaces (values m) (values i) (x ∷ []) (t ∷ []) = rw (← found) at (Replaces-insert m i t.variable t sorted e) in
+    Adds-replaced (values m) (values n) (x ∷ []) (option_to_list o) t g (Replaces-then (values m) (values i) (values n) (x ∷ []) (t ∷ []) (option_to_list o) first second) a
+
+-- a coefficient is within the size
+pub get-le-total : (m : BTreeMap ℕ Entry) (k : ℕ) (x : Entry) → Some x ≡ get nat_cmp m k → x.coefficient ≤ total each (values m)
+get-le-total m k x found =
+    let sums = sum_by-remove_entry (counted each) (is_at (nat_cmp k)) m.entries in
+    let here = rw (← found) at sums in
+    omega (arith, here, total-sum each (values m))
+
+-- a list is added term by term
+total-front : (list : List Entry) (i : ℕ) (d x : Entry) → i < length list → x ≡ get_or list i d → total each (take i list) + x.coefficient ≤ total each list
+total-front list i d x lt e =
+    let s = total-append each (take i list) (drop i list) in
+    let t = rw (take-append-drop, drop_read list i d x lt e) at s in
+    omega arith
+
+pub Putting-fits : (xs list ys : List Entry) (i c n : ℕ) (d x : Entry) → Adds xs (take i list) ys c → i < length list → x ≡ get_or list i d → total each xs + total each list < n → total each ys + x.coefficient < n
+Putting-fits xs list ys i c n d x h lt e fits = omega (arith, size-Adds xs (take i list) ys c h, total-front list i d x lt e)
+
+pub Putting-next : (xs list ys zs : List Entry) (i c g : ℕ) (d x : Entry) → Adds xs (take i list) ys c → i < length list → x ≡ get_or list i d → Adds ys (x ∷ []) zs g → Adds xs (take (i + 1) list) zs (c + g)
+Putting-next xs list ys zs i c g d x h lt e k = rw (take_read list i d x lt e) (Adds-then xs (take i list) ys zs x c g h k)
+
+pub Putting-cancels : (xs list ys zs : List Entry) (i c g n : ℕ) (d x : Entry) → Adds xs (take i list) ys c → i < length list → x ≡ get_or list i d → Adds ys (x ∷ []) zs g → total each xs + total each list < n → c + g < n
+Putting-cancels xs list ys zs i c g n d x h lt e k fits =
+    omega (arith, size-Adds xs (take i list) ys c h, size-Adds ys (x ∷ []) zs g k, total-front list i d x lt e)
+
+-- what is added to nothing is the list
+pub Adds-from_none : (ys rs : List Entry) (c : ℕ) → IsRising 0 ys → IsRising 0 rs → Adds [] ys rs c → rs ≡ ys
+Adds-from_none ys rs c p q h =
+    IsRising-same 0 rs ys q p (λ x.
+    let turned = λ (ts : List Entry). total-same (flip (plain_of x)) (negated_of x) (λ v n. flip_plain (eqb v x) n) ts in
+    omega (arith, h.signed (plain_of x), turned ys, turned rs))

@@ -1,0 +1,100 @@
+-- A total over a list of terms, as a sum over the variables
+use Rattle.std.proofs.Common.{◌≡◌, ◌≢◌, ℕ, zero, suc, ◌+◌, ◌<◌, ◌≤◌, max, Bool, true, false, not, ◌&&◌, cond, eqb, List, [], ◌∷◌, refl, sym, ◌∙◌, ap, arith, inl, inr}
+use Rattle.std.proofs.lemmas.Bool.{cases_eq, eq-eqb, ne_eqb}
+use Rattle.pb_normal.specs.declared.entry.Entry.{Entry}
+use Rattle.pb_normal.specs.meaning.Form.{counted, total, plain_of, negated_of}
+
+pub total-same : (p q : ℕ → Bool → Bool) → ((v : ℕ) (n : Bool) → p v n ≡ q v n) → (ts : List Entry) → total p ts ≡ total q ts
+total-same p q h [] = refl
+total-same p q h (t ∷ ts) =
+    let first : counted p t ≡ counted q t = ap (λ b. cond b t.coefficient 0) (h t.variable t.negated) in
+    omega (arith, total-same p q h ts)
+
+-- g 0 + .. + g (n - 1)
+abbrev pub up_to : (ℕ → ℕ) → ℕ → ℕ
+up_to g zero = 0
+up_to g (suc n) = up_to g n + g n
+
+up_to-zero : (g : ℕ → ℕ) (n : ℕ) → ((x : ℕ) → x < n → g x ≡ 0) → up_to g n ≡ 0
+up_to-zero g zero h = refl
+up_to-zero g (suc n) h = omega (arith, up_to-zero g n (λ x lt. h x (omega arith)), h n (omega arith))
+
+up_to-add : (g h k : ℕ → ℕ) (n : ℕ) → ((x : ℕ) → g x ≡ h x + k x) → up_to g n ≡ up_to h n + up_to k n
+up_to-add g h k zero e = refl
+up_to-add g h k (suc n) e = omega (arith, up_to-add g h k n e, e n)
+
+up_to-one : (g : ℕ → ℕ) (v n : ℕ) → v < n → ((x : ℕ) → x ≢ v → g x ≡ 0) → up_to g n ≡ g v
+up_to-one g v zero lt h = absurd (omega arith)
+up_to-one g v (suc n) lt h =
+    elim (cases_eq v n) [
+      | inl e ↦ omega (arith, up_to-zero g n (λ x xlt. h x (omega arith)), ap g e)
+      | inr ne ↦ omega (arith, up_to-one g v n (omega arith) h, h n (omega arith))
+    ]
+
+-- six sums that balance at each variable balance as a whole
+pub up_to-balance : (a b c d e f : ℕ → ℕ) (n : ℕ) → ((x : ℕ) → a x + b x + c x ≡ d x + e x + f x) → up_to a n + up_to b n + up_to c n ≡ up_to d n + up_to e n + up_to f n
+up_to-balance a b c d e f zero h = refl
+up_to-balance a b c d e f (suc n) h = omega (arith, up_to-balance a b c d e f n h, h n)
+
+-- the sum of the coefficients that count on the variable x
+abbrev pub share : (ℕ → Bool → Bool) → List Entry → ℕ → ℕ
+share p ts x = cond (p x false) (total (plain_of x) ts) 0 + cond (p x true) (total (negated_of x) ts) 0
+
+-- the first number above all variables
+abbrev pub top : List Entry → ℕ
+top [] = 0
+top (t ∷ ts) = max (t.variable + 1) (top ts)
+
+share_of_one : (b0 b1 n e : Bool) (c : ℕ) → e ≡ true → cond b0 (cond (e && not n) c 0) 0 + cond b1 (cond (e && n) c 0) 0 ≡ cond (cond n b1 b0) c 0
+share_of_one true true true true c h = omega arith
+share_of_one true true false true c h = omega arith
+share_of_one true false true true c h = omega arith
+share_of_one true false false true c h = omega arith
+share_of_one false true true true c h = omega arith
+share_of_one false true false true c h = omega arith
+share_of_one false false true true c h = omega arith
+share_of_one false false false true c h = omega arith
+share_of_one b0 b1 n false c h = absurd cc
+
+at_sign : (f : Bool → Bool) (n : Bool) → cond n (f true) (f false) ≡ f n
+at_sign f true = refl
+at_sign f false = refl
+
+-- what a coefficient counts for on another variable, and on its own
+pub counted-other : (v x : ℕ) (b : Bool) (c : ℕ) → v ≢ x → cond (eqb v x && b) c 0 ≡ 0
+counted-other v x b c ne = ap (λ (e : Bool). cond (e && b) c 0) (ne_eqb v x ne)
+
+pub counted-here : (v x : ℕ) (b : Bool) (c : ℕ) → v ≡ x → cond (eqb v x && b) c 0 ≡ cond b c 0
+counted-here v x b c same = ap (λ (e : Bool). cond (e && b) c 0) (eq-eqb v x same)
+
+cond_zero : (b c : Bool) (n m : ℕ) → n ≡ 0 → m ≡ 0 → cond b n 0 + cond c m 0 ≡ 0
+cond_zero true true n m e f = omega arith
+cond_zero true false n m e f = omega arith
+cond_zero false true n m e f = omega arith
+cond_zero false false n m e f = omega arith
+
+-- what one term contributes on the variable x
+abbrev share_of : (ℕ → Bool → Bool) → Entry → ℕ → ℕ
+share_of p t x = cond (p x false) (counted (plain_of x) t) 0 + cond (p x true) (counted (negated_of x) t) 0
+
+share_of-other : (p : ℕ → Bool → Bool) (t : Entry) (x : ℕ) → x ≢ t.variable → share_of p t x ≡ 0
+share_of-other p t x ne =
+    let here : t.variable ≢ x = λ e. ne (sym e) in
+    cond_zero (p x false) (p x true) _ _ (counted-other t.variable x (not t.negated) t.coefficient here) (counted-other t.variable x t.negated t.coefficient here)
+
+share_of-self : (p : ℕ → Bool → Bool) (t : Entry) → share_of p t t.variable ≡ counted p t
+share_of-self p t =
+    share_of_one (p t.variable false) (p t.variable true) t.negated (eqb t.variable t.variable) t.coefficient (eq-eqb t.variable t.variable refl) ∙ ap (λ b. cond b t.coefficient 0) (at_sign (p t.variable) t.negated)
+
+cond_plus : (b c : Bool) (k l m n : ℕ) → cond b (k + l) 0 + cond c (m + n) 0 ≡ (cond b k 0 + cond c m 0) + (cond b l 0 + cond c n 0)
+cond_plus true true k l m n = omega arith
+cond_plus true false k l m n = omega arith
+cond_plus false true k l m n = omega arith
+cond_plus false false k l m n = omega arith
+
+pub total-by_variable : (p : ℕ → Bool → Bool) (ts : List Entry) (n : ℕ) → top ts ≤ n → total p ts ≡ up_to (share p ts) n
+total-by_variable p [] n le = sym (up_to-zero (share p []) n (λ x lt. cond_zero (p x false) (p x true) 0 0 refl refl))
+total-by_variable p (t ∷ ts) n le =
+    let both = up_to-add (share p (t ∷ ts)) (share_of p t) (share p ts) n (λ x. cond_plus (p x false) (p x true) _ _ _ _) in
+    let one = up_to-one (share_of p t) t.variable n (omega arith) (share_of-other p t) in
+    omega (arith, both, one, share_of-self p t, total-by_variable p ts n (omega arith))

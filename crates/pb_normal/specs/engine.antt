@@ -1,0 +1,5 @@
+-- What private functions ensure, and what bodies and proofs need.
+pub mod Adds
+pub mod Growing
+pub mod Keyed
+pub mod Raw

@@ -1,0 +1,14 @@
+-- The form of a list or of a tree
+use Rattle.pb_normal.specs.meaning.Form.{Form}
+use Rattle.pb_normal.specs.declared.kind.Listing.{Listing}
+use Rattle.pb_normal.specs.declared.kind.Listing.TheVariants.{Held, Made}
+use Rattle.pb_normal.specs.declared.kind.Kind.{Kind}
+use Rattle.pb_normal.specs.declared.kind.Kind.TheVariants.{Listing as Listed, Tree}
+
+abbrev pub listing_form : Listing → Form
+listing_form (Held f) = f.now
+listing_form (Made f) = f
+
+abbrev pub kind_form : Kind → Form
+kind_form (Listed l) = listing_form l
+kind_form (Tree t) = t

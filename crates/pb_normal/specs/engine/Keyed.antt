@@ -1,0 +1,22 @@
+-- Terms in a map by their variables
+use Rattle.std.specs.Prelude.{◌≡◌, ℕ, ◌<◌, All}
+use Rattle.std.specs.BTreeMap.{BTreeMap, values}
+use Rattle.pb_normal.specs.declared.entry.Entry.{Entry}
+use Rattle.pb_normal.specs.meaning.Form.{Form, IsNormal, each, total}
+
+-- the key is the variable of the term, and its coefficient is not 0
+abbrev pub IsAtItsKey : ℕ × Entry → Type 0
+IsAtItsKey e = (e.0 ≡ e.1.variable) × (0 < e.1.coefficient)
+
+abbrev pub IsKeyed : BTreeMap ℕ Entry → Type 0
+IsKeyed m = All IsAtItsKey m.entries
+
+-- the form of the terms of a map
+abbrev pub keyed_form : BTreeMap ℕ Entry → ℕ → Form
+keyed_form m degree = record { terms = values m; degree = degree }
+
+-- what is kept beside the terms: their size, and that the form is normal
+pub record IsKept (m : BTreeMap ℕ Entry) (size degree : ℕ) : Type 0 where
+  pub keyed : IsKeyed m
+  pub size_is : size ≡ total each (values m)
+  pub normal : IsNormal (keyed_form m degree)

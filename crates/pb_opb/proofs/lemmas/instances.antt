@@ -1,0 +1,12 @@
+-- Lemmas of instances, their statements and their texts.
+pub mod Again
+pub mod Back
+pub mod Counted
+pub mod Gathered
+pub mod Kept
+pub mod Larger
+pub mod Meets
+pub mod OneValue
+pub mod Spelled
+pub mod Texts
+pub mod Told

@@ -1,0 +1,76 @@
+-- What is written for an instance reads back as that instance.
+use Rattle.std.proofs.Common.{◌≡◌, ℕ, suc, ◌+◌, ◌<◌, ◌≤◌, ◌^◌, List, [], ◌∷◌, ◌++◌, length, refl, ap, sym, ◌∙◌, append_assoc, arith, false, true, Option, Some, None}
+use Rattle.pb_text.specs.meaning.Spelling.{Item, bytes_of}
+use Rattle.pb_text.specs.meaning.Whole.{events_of}
+use Rattle.pb_sums.specs.declared.values.Term.{Term}
+use Rattle.pb_sums.specs.declared.values.Linear.{Linear}
+use Rattle.pb_opb.specs.meaning.Values.{IsValueOf, IsObjective, AreLinears, AreComments, is_one, statements}
+use Rattle.pb_opb.specs.contract.Canonical.{header_bytes, lines, objective_events, constraint_events, in_order, body_events, instance_bytes}
+use Rattle.pb_opb.specs.contract.Statements.{CanonicalInstance}
+use Rattle.pb_opb.specs.declared.event.OpbEvent.{OpbEvent}
+use Rattle.pb_opb.specs.declared.event.OpbEvent.TheVariants.{Header}
+use Rattle.pb_opb.specs.declared.instance.Instance.{Instance}
+use Rattle.pb_opb.specs.declared.instance.Comment.{Comment}
+use Rattle.pb_opb.proofs.lemmas.instances.Counted.{IsCounted, body_of}
+use Rattle.pb_opb.proofs.lemmas.instances.Spelled.{AreMain, AreInLines, spelled, header_text, header-spelled, header-bytes, item-bytes, body-bytes, constraints-body, objective-body}
+use Rattle.pb_opb.proofs.lemmas.instances.Told.{spelled-events, order_variables, order_tail, order_objective, order_constraints, order_comments, in_lines}
+
+constraints_main : (ls : List Linear) → AreMain (constraint_events ls)
+constraints_main [] = tt
+constraints_main (l ∷ ls) = (tt, constraints_main ls)
+
+all_main : (o : Option (List Term)) (ls : List Linear) → AreMain (objective_events o ++ constraint_events ls)
+all_main None ls = constraints_main ls
+all_main (Some t) ls = (tt, constraints_main ls)
+
+count_constraints : (ls : List Linear) → length (constraint_events ls) ≡ length ls
+count_constraints [] = refl
+count_constraints (l ∷ ls) = ap suc (count_constraints ls)
+
+count_all : (o : Option (List Term)) (ls : List Linear) → length ls + is_one o ≤ 0 + length (objective_events o ++ constraint_events ls)
+count_all None ls = omega (arith, count_constraints ls)
+count_all (Some t) ls = omega (arith, count_constraints ls)
+
+abbrev first_item : Instance → Item OpbEvent
+first_item v = record { gap = []; text = header_text v.variables (length v.constraints) v.tail; event = Header v.variables (length v.constraints) v.tail }
+
+abbrev items_of : Instance → List (Item OpbEvent)
+items_of v = first_item v ∷ spelled false (body_events v)
+
+instance-body : (limit : ℕ) → limit < 2 ^ 127 → (o : Option (List Term)) (ls : List Linear) (cs : List Comment) → IsObjective limit ls o → AreLinears limit ls → AreInLines cs
+    → IsCounted limit true (length ls) (spelled false (in_order 0 cs (objective_events o ++ constraint_events ls)))
+instance-body limit small None ls cs t h i = constraints-body limit small ls h cs i true 0 false
+instance-body limit small (Some terms) ls cs t h i = objective-body limit small terms t.1 ls t.0 h cs i 0 false
+
+instance-bytes : (v : Instance) → bytes_of (items_of v) ≡ instance_bytes v
+instance-bytes v =
+    item-bytes (first_item v) (spelled false (body_events v))
+    ∙ (ap (λ (y : List ℕ). y ++ bytes_of (spelled false (body_events v))) (header-bytes v.variables (length v.constraints) v.tail)
+    ∙ (ap (λ (y : List ℕ). (header_bytes v.variables (length v.constraints) v.tail ++ (10 ∷ [])) ++ y)
+    (body-bytes (objective_events v.objective ++ constraint_events v.constraints) (all_main v.objective v.constraints) 0 v.comments false)
+    ∙ append_assoc (header_bytes v.variables (length v.constraints) v.tail) (10 ∷ []) (lines (body_events v))))
+
+instance-told : (v : Instance) → AreComments 0 (statements v) v.comments → IsValueOf (Header v.variables (length v.constraints) v.tail ∷ body_events v) v
+instance-told v h = record {
+  variables = sym (order_variables v.comments v.objective v.constraints v.variables);
+  tail = sym (order_tail v.comments v.objective v.constraints v.tail);
+  objective = sym (order_objective v.comments v.objective v.constraints);
+  comments = sym (order_comments (objective_events v.objective ++ constraint_events v.constraints) (all_main v.objective v.constraints) 0 (statements v) v.comments (count_all v.objective v.constraints) h);
+  constraints = sym (order_constraints v.comments v.objective v.constraints);
+}
+
+instance-value : (v : Instance) (events : List OpbEvent) → events ≡ body_events v → AreComments 0 (statements v) v.comments → IsValueOf (Header v.variables (length v.constraints) v.tail ∷ events) v
+instance-value v events e h = rw e (instance-told v h)
+
+pub canonical_instance : CanonicalInstance
+canonical_instance limit top v l t h = (
+  items_of v,
+  (
+    refl,
+    h.tail,
+    header-spelled top v.variables (length v.constraints) v.tail t h.variables h.count,
+    body_of limit (length v.constraints) (spelled false (body_events v)) (instance-body limit l v.objective v.constraints v.comments h.objective h.constraints (in_lines 0 (statements v) v.comments h.comments)),
+  ),
+  instance-bytes v,
+  instance-value v (events_of (spelled false (body_events v))) (spelled-events false (body_events v)) h.comments,
+)

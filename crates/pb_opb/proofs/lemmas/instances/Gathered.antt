@@ -1,0 +1,77 @@
+-- Statements that are gathered one by one have the value that they state.
+use Rattle.std.proofs.Common.{◌≡◌, ℕ, ◌+◌, List, [], ◌∷◌, ◌++◌, IsTrue, refl, sym, ap, ◌∙◌, subst, append_assoc, append-nil, arith}
+use Rattle.pb_text.proofs.lemmas.source.Unkept as stopped
+use Rattle.pb_text.specs.meaning.Spelling.{Item}
+use Rattle.pb_text.specs.meaning.Whole.{gathered, events_of, IsRead, IsWhole, MayHold, StopsIn}
+use Rattle.pb_text.specs.declared.Spanned.{Spanned}
+use Rattle.pb_text.specs.declared.Stop.{Stop}
+use Rattle.pb_opb.specs.meaning.Gather.{with, ended_with, asks, counted, MayKeep, nothing}
+use Rattle.pb_opb.specs.meaning.Values.{IsValueOf, last_or, variables_in, tails_in, objectives_in, constraints_in, comments_in, comment_at}
+use Rattle.pb_opb.specs.declared.gather.InstanceSoFar.{InstanceSoFar}
+use Rattle.pb_opb.specs.declared.instance.Instance.{Instance}
+use Rattle.pb_opb.specs.declared.event.OpbEvent.{OpbEvent}
+use Rattle.pb_opb.specs.declared.event.OpbEvent.TheVariants.{Header, Comment, Objective, Constraint}
+
+abbrev pub one_more : InstanceSoFar → OpbEvent → InstanceSoFar
+one_more b e = record { instance = with b.ended b.instance e; ended = ended_with b.ended e }
+
+-- what more statements add
+pub record Adds (b : InstanceSoFar) (events : List OpbEvent) (v : Instance) : Type 0 where
+  pub variables : v.variables ≡ last_or b.instance.variables (variables_in events)
+  pub tail : v.tail ≡ last_or b.instance.tail (tails_in events)
+  pub objective : v.objective ≡ last_or b.instance.objective (objectives_in events)
+  pub comments : v.comments ≡ b.instance.comments ++ comments_in b.ended events
+  pub constraints : v.constraints ≡ b.instance.constraints ++ constraints_in events
+
+pub adds : (events : List OpbEvent) (b : InstanceSoFar) → Adds b events (gathered one_more b events).instance
+adds [] b = record { variables = refl; tail = refl; objective = refl; comments = sym (append-nil b.instance.comments); constraints = sym (append-nil b.instance.constraints) }
+adds (Header variables constraints tail ∷ events) b =
+    let k = adds events (one_more b (Header variables constraints tail)) in
+    record { variables = k.variables; tail = k.tail; objective = k.objective; comments = k.comments; constraints = k.constraints }
+adds (Comment text ∷ events) b =
+    let k = adds events (one_more b (Comment text)) in
+    record { variables = k.variables; tail = k.tail; objective = k.objective; comments = k.comments ∙ append_assoc b.instance.comments (comment_at b.ended text ∷ []) (comments_in b.ended events); constraints = k.constraints }
+adds (Objective terms ∷ events) b =
+    let k = adds events (one_more b (Objective terms)) in
+    record { variables = k.variables; tail = k.tail; objective = k.objective; comments = k.comments; constraints = k.constraints }
+adds (Constraint linear ∷ events) b =
+    let k = adds events (one_more b (Constraint linear)) in
+    record { variables = k.variables; tail = k.tail; objective = k.objective; comments = k.comments; constraints = k.constraints ∙ append_assoc b.instance.constraints (linear ∷ []) (constraints_in events) }
+
+ended_after : (events : List OpbEvent) (b : InstanceSoFar) → (gathered one_more b events).ended ≡ b.ended + counted events
+ended_after [] b = omega arith
+ended_after (Header variables constraints tail ∷ events) b = ended_after events (one_more b (Header variables constraints tail))
+ended_after (Comment text ∷ events) b = ended_after events (one_more b (Comment text))
+ended_after (Objective terms ∷ events) b = let k = ended_after events (one_more b (Objective terms)) in omega (arith, k)
+ended_after (Constraint linear ∷ events) b = let k = ended_after events (one_more b (Constraint linear)) in omega (arith, k)
+
+value_of : (events : List OpbEvent) (b v : InstanceSoFar) → b.instance ≡ nothing → b.ended ≡ 0 → v ≡ gathered one_more b events → IsValueOf events v.instance
+value_of events b v i n e =
+    let k = adds events (record { instance = nothing; ended = 0 }) in
+    let same : b ≡ record { instance = nothing; ended = 0 } = rw (i, n) refl in
+    let is : v.instance ≡ (gathered one_more (record { instance = nothing; ended = 0 }) events).instance = ap (λ (x : InstanceSoFar). x.instance) (e ∙ ap (λ (x : InstanceSoFar). gathered one_more x events) same) in
+    record {
+      variables = ap (λ (x : Instance). x.variables) is ∙ k.variables;
+      tail = ap (λ (x : Instance). x.tail) is ∙ k.tail;
+      objective = ap (λ (x : Instance). x.objective) is ∙ k.objective;
+      comments = ap (λ (x : Instance). x.comments) is ∙ k.comments;
+      constraints = ap (λ (x : Instance). x.constraints) is ∙ k.constraints;
+    }
+
+module _ (format : List (Item OpbEvent) → Type 0) (longest : ℕ) (b : InstanceSoFar) (i : b.instance ≡ nothing) (n : b.ended ≡ 0) (used : List ℕ) where
+  pub is_read : (m : Spanned InstanceSoFar) → IsWhole format longest one_more b used m → (let r : Spanned Instance = record { event = m.event.instance; first = m.first; past = m.past } in IsRead format longest IsValueOf used r)
+  is_read m w = record {
+    marks = w.marks;
+    spelled = w.spelled;
+    value = value_of (events_of w.spelled.items) b m.event i n w.value;
+    first = w.first;
+    past = w.past;
+  }
+
+  may_keep : (events : List OpbEvent) (x : OpbEvent) → MayHold one_more b (λ c e. asks c.ended e) events x → MayKeep events x
+  may_keep events x h =
+      let count : (gathered one_more b events).ended ≡ counted events = let k = ended_after events b in omega (arith, k, n) in
+      subst (λ (k : ℕ). IsTrue (asks k x)) count h
+
+  pub stops_in : (may_ask : List ℕ → ℕ → Type 0) (seen : List ℕ) (s : Stop) → StopsIn format longest may_ask (MayHold one_more b (λ c e. asks c.ended e)) used seen s → StopsIn format longest may_ask MayKeep used seen s
+  stops_in may_ask seen s w = stopped.stops_in format format (λ items h. h) (λ items h. h) longest may_ask may_ask (λ u c h. h) (MayHold one_more b (λ c e. asks c.ended e)) MayKeep may_keep used seen s w

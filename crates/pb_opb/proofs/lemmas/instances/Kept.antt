@@ -1,0 +1,152 @@
+-- The value of an instance that was read meets the rules; and what the statements after its header state. Offered to
+-- other crates.
+use Rattle.std.proofs.Common.{◌≡◌, ℕ, zero, suc, ◌+◌, ◌<◌, ◌≤◌, List, [], ◌∷◌, length, refl, ap, sym, ◌∙◌, subst, arith, Bool, true, false, Option, Some, None}
+use Rattle.std.specs.Prelude.{IsTrue}
+use Rattle.pb_text.specs.meaning.Spelling.{Letter, Item}
+use Rattle.pb_text.specs.meaning.Whole.{events_of}
+use Rattle.pb_sums.specs.contract.Canonical.{AreTerms}
+use Rattle.pb_sums.specs.declared.values.Term.{Term}
+use Rattle.pb_sums.specs.declared.values.Linear.{Linear}
+use Rattle.pb_sums.specs.declared.grammar.Spaces.TheVariants.{White}
+use Rattle.pb_sums.proofs.lemmas.values.Within.{sum-within, linear-within}
+use Rattle.pb_opb.specs.meaning.Instances.{IsTail, SpellsHeader, SpellsObjective, IsBegun}
+use Rattle.pb_opb.specs.meaning.Values.{last_or, variables_in, tails_in, objectives_in, constraints_in, comments_in, IsValueOf, IsInstanceValue, IsObjective, AreLinears, AreComments, is_one}
+use Rattle.pb_opb.specs.contract.Statements.{InstanceValues, IsOneHeader}
+use Rattle.pb_opb.specs.declared.event.OpbEvent.{OpbEvent}
+use Rattle.pb_opb.specs.declared.event.OpbEvent.TheVariants.{Header, Comment, Objective, Constraint}
+use Rattle.pb_opb.specs.declared.instance.Comment as comment
+use Rattle.pb_opb.specs.declared.instance.Instance.{Instance}
+use Rattle.pb_opb.proofs.lemmas.instances.Counted.{IsEntry, IsCounted, counted}
+
+objective-within : (limit : ℕ) (terms : List Term) (t : List Letter) → SpellsObjective limit terms t → AreTerms limit terms
+objective-within limit terms t (p4, l4, e4, (p3, l3, e3, (p2, l2, e2, h, s), w), b) = sum-within White limit terms l2 s
+
+-- the counts of a header are at most top
+counts-within : (top n m : ℕ) (tail : List ℕ) (t : List Letter) → SpellsHeader top n m tail t → (n ≤ top) × (m ≤ top)
+counts-within top n m tail t (q1, r1, f1, (q2, r2, f2, (q3, r3, f3, (q4, r4, f4, (q5, r5, f5, (q6, r6, f6, (q7, r7, f7, (rest), v), x6), x5), x4), k), x2), x1) = (v.0, k.0)
+
+comments_fall : (low least all : ℕ) (cs : List comment.Comment) → low ≤ least → AreComments least all cs → AreComments low all cs
+comments_fall low least all [] h k = tt
+comments_fall low least all (c ∷ cs) h k = (omega (arith, k.0), k.1, k.2, k.3)
+
+module _ (limit : ℕ) where
+  -- no objective, or one before this many constraints, if one may come
+  abbrev Objectives : Bool → ℕ → List (Option (List Term)) → Type 0
+  Objectives may n [] = Unit {0}
+  Objectives may n (None ∷ rest) = ⊥
+  Objectives may n (Some terms ∷ []) = IsTrue may × AreTerms limit terms × (0 < n)
+  Objectives may n (Some terms ∷ x ∷ rest) = ⊥
+
+  -- statements after a header, of which n are constraints
+  pub record IsTold (may : Bool) (n : ℕ) (events : List OpbEvent) : Type 0 where
+    pub variables : variables_in events ≡ []
+    pub tails : tails_in events ≡ []
+    pub count : length (constraints_in events) ≡ n
+    constraints : AreLinears limit (constraints_in events)
+    objectives : Objectives may n (objectives_in events)
+    comments : (k : ℕ) → AreComments k (k + (n + length (objectives_in events))) (comments_in k events)
+
+  no_objective : (n : ℕ) (os : List (Option (List Term))) → Objectives false n os → os ≡ []
+  no_objective n [] h = refl
+  no_objective n (None ∷ rest) h = absurd h
+  no_objective n (Some t ∷ []) h = cc
+  no_objective n (Some t ∷ x ∷ rest) h = absurd h
+
+  objectives-more : (may : Bool) (n : ℕ) (os : List (Option (List Term))) → Objectives false n os → Objectives may (suc n) os
+  objectives-more may n os h = subst (Objectives may (suc n)) (sym (no_objective n os h)) tt
+
+  told-entry : (may : Bool) (n : ℕ) (text : List Letter) (e : OpbEvent) (rest : List (Item OpbEvent))
+      → ((m : Bool) (k : ℕ) → IsCounted limit m k rest → IsTold m k (events_of rest))
+      → IsEntry limit may n text (λ m k. IsCounted limit m k rest) e → IsTold may (suc n) (e ∷ events_of rest)
+  told-entry may n text (Header a b t) rest ih h = absurd h
+  told-entry may n text (Comment t) rest ih h =
+      let r : IsTold may (suc n) (events_of rest) = ih may (suc n) h.2 in
+      record {
+        variables = r.variables;
+        tails = r.tails;
+        count = r.count;
+        constraints = r.constraints;
+        objectives = r.objectives;
+        comments = λ k. (omega arith, omega arith, h.0, r.comments k);
+      }
+  told-entry may n text (Objective t) rest ih h =
+      let r : IsTold false (suc n) (events_of rest) = ih false (suc n) h.2 in
+      let none : objectives_in (events_of rest) ≡ [] = no_objective (suc n) (objectives_in (events_of rest)) r.objectives in
+      record {
+        variables = r.variables;
+        tails = r.tails;
+        count = r.count;
+        constraints = r.constraints;
+        objectives = subst (λ (os : List (Option (List Term))). Objectives may (suc n) (Some t ∷ os)) (sym none) (h.0, objective-within limit t text h.1, omega arith);
+        comments = λ k.
+            let e : k + 1 + (suc n + length (objectives_in (events_of rest))) ≡ k + (suc n + suc (length (objectives_in (events_of rest)))) = omega arith in
+            comments_fall k (k + 1) (k + (suc n + suc (length (objectives_in (events_of rest))))) (comments_in (k + 1) (events_of rest)) (omega arith)
+            (subst (λ (a : ℕ). AreComments (k + 1) a (comments_in (k + 1) (events_of rest))) e (r.comments (k + 1)));
+      }
+  told-entry may n text (Constraint l) rest ih h =
+      let r : IsTold false n (events_of rest) = ih false n h.1 in
+      record {
+        variables = r.variables;
+        tails = r.tails;
+        count = ap suc r.count;
+        constraints = (linear-within White limit l text h.0, r.constraints);
+        objectives = objectives-more may n (objectives_in (events_of rest)) r.objectives;
+        comments = λ k.
+            let e : k + 1 + (n + length (objectives_in (events_of rest))) ≡ k + (suc n + length (objectives_in (events_of rest))) = omega arith in
+            comments_fall k (k + 1) (k + (suc n + length (objectives_in (events_of rest)))) (comments_in (k + 1) (events_of rest)) (omega arith)
+            (subst (λ (a : ℕ). AreComments (k + 1) a (comments_in (k + 1) (events_of rest))) e (r.comments (k + 1)));
+      }
+
+  pub told : (may : Bool) (n : ℕ) (items : List (Item OpbEvent)) → IsCounted limit may n items → IsTold may n (events_of items)
+  told may zero [] h = record { variables = refl; tails = refl; count = refl; constraints = tt; objectives = tt; comments = λ k. tt }
+  told may zero (i ∷ rest) h = absurd h
+  told may (suc n) [] h = absurd h
+  told may (suc n) (i ∷ rest) h = told-entry may n i.text i.event rest (λ m k b. told m k rest b) h.1
+
+  objective-value : (n : ℕ) (os : List (Option (List Term))) (cs : List Linear) → length cs ≡ n → Objectives true n os → IsObjective limit cs (last_or None os)
+  objective-value n [] cs e h = tt
+  objective-value n (None ∷ rest) cs e h = absurd h
+  objective-value n (Some t ∷ []) cs e h = (omega (arith, e, h.2), h.1)
+  objective-value n (Some t ∷ x ∷ rest) cs e h = absurd h
+
+  objectives-count : (n : ℕ) (os : List (Option (List Term))) → Objectives true n os → (length os ≡ is_one (last_or None os)) × (length os ≤ 1)
+  objectives-count n [] h = (refl, omega arith)
+  objectives-count n (None ∷ rest) h = absurd h
+  objectives-count n (Some t ∷ []) h = (refl, omega arith)
+  objectives-count n (Some t ∷ x ∷ rest) h = absurd h
+
+begun : (limit top : ℕ) (i : Item OpbEvent) (rest : List (Item OpbEvent)) (e : OpbEvent) (v : Instance) → IsBegun limit top i rest e → IsValueOf (e ∷ events_of rest) v
+    → IsInstanceValue limit top v × IsOneHeader (e ∷ events_of rest) v
+begun limit top i rest (Comment t) v h k = absurd h
+begun limit top i rest (Objective t) v h k = absurd h
+begun limit top i rest (Constraint l) v h k = absurd h
+begun limit top i rest (Header n m tail) v h k =
+    let events : List OpbEvent = events_of rest in
+    let r = told limit true m rest (counted limit m rest h.3) in
+    let c = counts-within top n m tail i.text h.2 in
+    let os : List (Option (List Term)) = objectives_in events in
+    let o = objectives-count limit m os r.objectives in
+    let variables_is : v.variables ≡ n = k.variables ∙ ap (last_or n) r.variables in
+    let tail_is : v.tail ≡ tail = k.tail ∙ ap (last_or tail) r.tails in
+    let count_is : length v.constraints ≡ m = ap length k.constraints ∙ r.count in
+    let one : is_one v.objective ≡ is_one (last_or None os) = ap is_one k.objective in
+    let all : 0 + (m + length os) ≡ length v.constraints + is_one v.objective = omega (arith, count_is, one, o.0) in (
+      record {
+        variables = subst (λ (x : ℕ). x ≤ top) (sym variables_is) c.0;
+        count = subst (λ (x : ℕ). x ≤ top) (sym count_is) c.1;
+        tail = subst IsTail (sym tail_is) h.1;
+        objective = subst (IsObjective limit v.constraints) (sym k.objective) (objective-value limit m os v.constraints count_is r.objectives);
+        comments = subst (λ (a : ℕ). AreComments 0 a v.comments) all (subst (AreComments 0 (0 + (m + length os))) (sym k.comments) (r.comments 0));
+        constraints = subst (AreLinears limit) (sym k.constraints) r.constraints;
+      },
+      record {
+        behind = events;
+        header = rw (variables_is, count_is, tail_is) refl;
+        no_other = r.variables;
+        one_objective = o.1;
+      },
+    )
+
+pub instance_values : InstanceValues
+instance_values limit top [] v h k = absurd h
+instance_values limit top (i ∷ rest) v h k = begun limit top i rest i.event v h k

@@ -1,0 +1,288 @@
+-- The canonical text of an instance is one of its texts.
+use Rattle.pb_text.specs.meaning.Blank.{IsInLine}
+use Rattle.std.proofs.Common.{◌≡◌, ℕ, zero, suc, ◌+◌, ◌<◌, ◌≤◌, ◌^◌, List, [], ◌∷◌, ◌++◌, length, take, drop, refl, ap, sym, ◌∙◌, append_assoc, append-nil, arith, Bool, true, false}
+use Rattle.std.specs.Prelude.{decimal, IsTrue}
+use Rattle.pb_text.specs.meaning.Languages.{unmarked, Each}
+use Rattle.pb_text.specs.meaning.Classes.{is_white}
+use Rattle.pb_text.specs.meaning.Spelling.{Letter, Item, plain, digits_of, bytes, letters_of, bytes_of}
+use Rattle.pb_text.proofs.lemmas.text.Languages.{bytes-append, bytes-plain, bytes-digits}
+use Rattle.pb_text.proofs.lemmas.numbers.Numbers.{decimal-digits}
+use Rattle.pb_sums.specs.contract.Canonical.{AreTerms, sum_text, linear_text, head_bytes, linear_bytes, space}
+use Rattle.pb_sums.specs.declared.values.Term.{Term}
+use Rattle.pb_sums.specs.declared.values.Linear.{Linear}
+use Rattle.pb_sums.specs.declared.grammar.Spaces.TheVariants.{White}
+use Rattle.pb_sums.proofs.lemmas.values.CanonicalLaws.{linear-spelled, sum-spelled, bytes-linear, bytes-sum}
+use Rattle.pb_opb.specs.meaning.Instances.{variable_word, constraint_word, min_word, SpellsHeader, SpellsComment, SpellsObjective}
+use Rattle.pb_opb.specs.contract.Canonical.{header_bytes, objective_bytes, event_bytes, lines, comment_events, constraint_events, due, in_order}
+use Rattle.pb_opb.specs.engine.Led.{led_lines}
+use Rattle.pb_opb.specs.meaning.Values.{AreLinears}
+use Rattle.pb_opb.specs.declared.event.OpbEvent.{OpbEvent}
+use Rattle.pb_opb.specs.declared.event.OpbEvent.TheVariants.{Header, Comment, Objective, Constraint}
+use Rattle.pb_opb.specs.declared.instance.Comment as comment
+use Rattle.pb_opb.proofs.lemmas.instances.Counted.{IsCounted}
+use Rattle.pb_opb.proofs.lemmas.instances.Texts.{led-lines, led-between}
+
+-- The texts of statements.
+abbrev pub star : List Letter
+star = unmarked 42 ∷ []
+
+abbrev pub feed : List Letter
+feed = unmarked 10 ∷ []
+
+abbrev pub header_text : ℕ → ℕ → List ℕ → List Letter
+header_text n m tail =
+    star ++ space ++ plain variable_word ++ space ++ digits_of (decimal n) ++ space ++ plain constraint_word ++ space ++ digits_of (decimal m) ++ plain tail ++ feed
+
+abbrev comment_text : List ℕ → List Letter
+comment_text text = star ++ plain text ++ feed
+
+-- the space after a sum
+abbrev behind : List Term → List Letter
+behind [] = []
+behind (x ∷ xs) = space
+
+abbrev objective_text : List Term → List Letter
+objective_text terms = plain min_word ++ space ++ sum_text terms ++ behind terms ++ (unmarked 59 ∷ [])
+
+abbrev text_of : OpbEvent → List Letter
+text_of (Header n m tail) = header_text n m tail
+text_of (Comment text) = comment_text text
+text_of (Objective terms) = objective_text terms
+text_of (Constraint linear) = linear_text linear
+
+-- They are texts of their statements.
+pub header-spelled : (top n m : ℕ) (tail : List ℕ) → top < 2 ^ 63 → n ≤ top → m ≤ top → SpellsHeader top n m tail (header_text n m tail)
+header-spelled top n m tail t h k =
+    let N : List Letter = digits_of (decimal n) in
+    let M : List Letter = digits_of (decimal m) in
+    let V : List Letter = plain variable_word in
+    let C : List Letter = plain constraint_word in (
+      star ++ space ++ V ++ space ++ N ++ space ++ C ++ space ++ M ++ plain tail,
+      feed,
+      refl,
+      (
+        star ++ space ++ V ++ space ++ N ++ space ++ C ++ space ++ M,
+        plain tail,
+        refl,
+        (
+          star ++ space ++ V ++ space ++ N ++ space ++ C ++ space,
+          M,
+          refl,
+          (
+            star ++ space ++ V ++ space ++ N ++ space ++ C,
+            space,
+            refl,
+            (
+              star ++ space ++ V ++ space ++ N ++ space,
+              C,
+              refl,
+              (
+                star ++ space ++ V ++ space ++ N,
+                space,
+                refl,
+                (
+                  star ++ space ++ V ++ space,
+                  N,
+                  refl,
+                  (star ++ space ++ V, space, refl, (star ++ space, V, refl, (star, space, refl, refl, (32 ∷ [], (refl, tt), refl)), refl), (32 ∷ [], (refl, tt), refl)),
+                  (h, decimal-digits n (omega arith)),
+                ),
+                (32, [], refl, tt, refl),
+              ),
+              refl,
+            ),
+            (32 ∷ [], (refl, tt), refl),
+          ),
+          (k, decimal-digits m (omega arith)),
+        ),
+        refl,
+      ),
+      refl,
+    )
+
+comment-spelled : (text : List ℕ) → SpellsComment text (comment_text text)
+comment-spelled text = (star ++ plain text, feed, refl, (star, plain text, refl, refl, refl), refl)
+
+objective-spelled : (limit : ℕ) (terms : List Term) → limit < 2 ^ 127 → AreTerms limit terms → SpellsObjective limit terms (objective_text terms)
+objective-spelled limit [] l h =
+    let W : List Letter = plain min_word in (
+      W ++ space ++ [] ++ [],
+      unmarked 59 ∷ [],
+      refl,
+      (W ++ space ++ [], [], refl, (W ++ space, [], refl, (W, space, refl, refl, (32 ∷ [], (refl, tt), refl)), refl), ([], tt, refl)),
+      refl,
+    )
+objective-spelled limit (x ∷ xs) l h =
+    let W : List Letter = plain min_word in
+    let S : List Letter = sum_text (x ∷ xs) in (
+      W ++ space ++ S ++ space,
+      unmarked 59 ∷ [],
+      refl,
+      (
+        W ++ space ++ S,
+        space,
+        refl,
+        (W ++ space, S, refl, (W, space, refl, refl, (32 ∷ [], (refl, tt), refl)), sum-spelled limit (omega arith) White (x ∷ xs) h),
+        (32 ∷ [], (refl, tt), refl),
+      ),
+      refl,
+    )
+
+-- Their bytes.
+regrouped : (a b c d e f g h i j k : List Letter) → a ++ b ++ c ++ d ++ e ++ f ++ g ++ h ++ i ++ j ++ k ≡ a ++ (b ++ (c ++ (d ++ (e ++ (f ++ (g ++ (h ++ (i ++ (j ++ k)))))))))
+regrouped a b c d e f g h i j k = simp append_assoc
+
+pub header-bytes : (n m : ℕ) (tail : List ℕ) → bytes (header_text n m tail) ≡ header_bytes n m tail ++ (10 ∷ [])
+header-bytes n m tail =
+    let N : List Letter = digits_of (decimal n) in
+    let M : List Letter = digits_of (decimal m) in
+    let R : List Letter = M ++ (plain tail ++ feed) in
+    let before : List ℕ → List ℕ = λ y. 42 ∷ 32 ∷ (variable_word ++ (32 ∷ y)) in
+    let between : List ℕ → List ℕ = λ y. 32 ∷ (constraint_word ++ (32 ∷ y)) in
+    let last : bytes R ≡ (decimal m ++ tail) ++ (10 ∷ []) =
+    bytes-append M (plain tail ++ feed)
+    ∙ (ap (λ y. y ++ bytes (plain tail ++ feed)) (bytes-digits (decimal m))
+    ∙ (ap (λ y. decimal m ++ y) (bytes-append (plain tail) feed ∙ ap (λ y. y ++ (10 ∷ [])) (bytes-plain tail))
+    ∙ sym (append_assoc (decimal m) tail (10 ∷ [])))) in
+    ap bytes (regrouped star space (plain variable_word) space N space (plain constraint_word) space M (plain tail) feed)
+    ∙ (ap before (bytes-append N (space ++ (plain constraint_word ++ (space ++ R))))
+    ∙ (ap (λ y. before (y ++ between (bytes R))) (bytes-digits (decimal n))
+    ∙ (ap (λ y. before (decimal n ++ between y)) last
+    ∙ ap before (sym (append_assoc (decimal n) (between (decimal m ++ tail)) (10 ∷ []))))))
+
+comment-bytes : (text : List ℕ) → bytes (comment_text text) ≡ (42 ∷ text) ++ (10 ∷ [])
+comment-bytes text =
+    ap bytes (append_assoc star (plain text) feed) ∙ ap (λ y. 42 ∷ y) (bytes-append (plain text) feed ∙ ap (λ y. y ++ (10 ∷ [])) (bytes-plain text))
+
+regrouped5 : (a b c d e : List Letter) → a ++ b ++ c ++ d ++ e ≡ a ++ (b ++ ((c ++ d) ++ e))
+regrouped5 a b c d e = simp append_assoc
+
+head-bytes : (terms : List Term) → bytes (sum_text terms ++ behind terms) ≡ head_bytes terms
+head-bytes [] = refl
+head-bytes (x ∷ xs) = bytes-append (sum_text (x ∷ xs)) space ∙ ap (λ y. y ++ (32 ∷ [])) (bytes-sum (x ∷ xs))
+
+objective-bytes : (terms : List Term) → bytes (objective_text terms) ≡ objective_bytes terms
+objective-bytes terms =
+    let E : List Letter = unmarked 59 ∷ [] in
+    ap bytes (regrouped5 (plain min_word) space (sum_text terms) (behind terms) E)
+    ∙ ap (λ y. min_word ++ (32 ∷ y)) (bytes-append (sum_text terms ++ behind terms) E ∙ ap (λ y. y ++ (59 ∷ [])) (head-bytes terms))
+
+-- Statements with white space before them: a line feed, unless the statement before ended with one.
+abbrev gap_of : Bool → List ℕ
+gap_of true = 10 ∷ []
+gap_of false = []
+
+abbrev owes : OpbEvent → Bool
+owes (Header n m tail) = false
+owes (Comment text) = false
+owes (Objective terms) = true
+owes (Constraint linear) = true
+
+abbrev item_of : Bool → OpbEvent → Item OpbEvent
+item_of owed e = record { gap = gap_of owed; text = text_of e; event = e }
+
+abbrev pub spelled : Bool → List OpbEvent → List (Item OpbEvent)
+spelled owed [] = []
+spelled owed (e ∷ events) = item_of owed e ∷ spelled (owes e) events
+
+abbrev pub lead : Bool → List OpbEvent → List ℕ
+lead true events = led_lines events
+lead false events = lines events
+
+-- an objective or a constraint
+abbrev pub IsMain : OpbEvent → Type 0
+IsMain (Header n m tail) = ⊥
+IsMain (Comment text) = ⊥
+IsMain (Objective terms) = Unit {0}
+IsMain (Constraint linear) = Unit {0}
+
+abbrev pub AreMain : List OpbEvent → Type 0
+AreMain [] = Unit {0}
+AreMain (e ∷ events) = IsMain e × AreMain events
+
+pub item-bytes : (i : Item OpbEvent) (rest : List (Item OpbEvent)) → bytes_of (i ∷ rest) ≡ i.gap ++ (bytes i.text ++ bytes_of rest)
+item-bytes i rest =
+    bytes-append (plain i.gap) (i.text ++ letters_of rest)
+    ∙ (ap (λ y. y ++ bytes (i.text ++ letters_of rest)) (bytes-plain i.gap) ∙ ap (λ y. i.gap ++ y) (bytes-append i.text (letters_of rest)))
+
+lead-first : (owed : Bool) (e : OpbEvent) (events : List OpbEvent) → gap_of owed ++ (event_bytes e ++ led_lines events) ≡ lead owed (e ∷ events)
+lead-first true e events = refl
+lead-first false e [] = append-nil (event_bytes e)
+lead-first false e (f ∷ events) = ap (λ y. event_bytes e ++ y) (sym (led-lines f events))
+
+main-bytes : (owed : Bool) (e : OpbEvent) (events : List OpbEvent) → IsMain e → bytes_of (spelled true events) ≡ led_lines events
+    → bytes_of (spelled owed (e ∷ events)) ≡ lead owed (e ∷ events)
+main-bytes owed (Header n m tail) events h ih = absurd h
+main-bytes owed (Comment text) events h ih = absurd h
+main-bytes owed (Objective terms) events h ih =
+    item-bytes (item_of owed (Objective terms)) (spelled true events)
+    ∙ (ap (λ y. gap_of owed ++ (y ++ bytes_of (spelled true events))) (objective-bytes terms)
+    ∙ (ap (λ y. gap_of owed ++ (objective_bytes terms ++ y)) ih ∙ lead-first owed (Objective terms) events))
+main-bytes owed (Constraint linear) events h ih =
+    item-bytes (item_of owed (Constraint linear)) (spelled true events)
+    ∙ (ap (λ y. gap_of owed ++ (y ++ bytes_of (spelled true events))) (bytes-linear linear)
+    ∙ (ap (λ y. gap_of owed ++ (linear_bytes linear ++ y)) ih ∙ lead-first owed (Constraint linear) events))
+
+comments-bytes : (cs : List comment.Comment) (e : OpbEvent) (events : List OpbEvent) → ((owed : Bool) → bytes_of (spelled owed (e ∷ events)) ≡ lead owed (e ∷ events))
+    → (owed : Bool) → bytes_of (spelled owed (comment_events cs ++ e ∷ events)) ≡ lead owed (comment_events cs ++ e ∷ events)
+comments-bytes [] e events ih owed = ih owed
+comments-bytes (c ∷ cs) e events ih owed =
+    let rest : List OpbEvent = comment_events cs ++ e ∷ events in
+    item-bytes (item_of owed (Comment c.text)) (spelled false rest)
+    ∙ (ap (λ y. gap_of owed ++ (y ++ bytes_of (spelled false rest))) (comment-bytes c.text)
+    ∙ (ap (λ y. gap_of owed ++ (((42 ∷ c.text) ++ (10 ∷ [])) ++ y)) (comments-bytes cs e events ih false)
+    ∙ (ap (λ y. gap_of owed ++ y) (append_assoc (42 ∷ c.text) (10 ∷ []) (lines rest))
+    ∙ (ap (λ y. gap_of owed ++ ((42 ∷ c.text) ++ y)) (led-between (comment_events cs) e events) ∙ lead-first owed (Comment c.text) rest))))
+
+none-bytes : (owed : Bool) → bytes_of (spelled owed []) ≡ lead owed []
+none-bytes true = refl
+none-bytes false = refl
+
+-- the bytes of statements in order are their lines
+pub body-bytes : (events : List OpbEvent) → AreMain events → (n : ℕ) (cs : List comment.Comment) (owed : Bool) → bytes_of (spelled owed (in_order n cs events)) ≡ lead owed (in_order n cs events)
+body-bytes [] h n cs owed = none-bytes owed
+body-bytes (e ∷ events) h n cs owed =
+    let later : List comment.Comment = drop (due n cs) cs in
+    comments-bytes (take (due n cs) cs) e (in_order (n + 1) later events)
+    (λ o. main-bytes o e (in_order (n + 1) later events) h.0 (body-bytes events h.1 (n + 1) later true)) owed
+
+-- The statements are those of an instance.
+abbrev pub AreInLines : List comment.Comment → Type 0
+AreInLines [] = Unit {0}
+AreInLines (c ∷ cs) = IsInLine c.text × AreInLines cs
+
+in_lines-take : (k : ℕ) (cs : List comment.Comment) → AreInLines cs → AreInLines (take k cs)
+in_lines-take zero cs h = tt
+in_lines-take (suc k) [] h = tt
+in_lines-take (suc k) (c ∷ cs) h = (h.0, in_lines-take k cs h.1)
+
+in_lines-drop : (k : ℕ) (cs : List comment.Comment) → AreInLines cs → AreInLines (drop k cs)
+in_lines-drop zero cs h = h
+in_lines-drop (suc k) [] h = tt
+in_lines-drop (suc k) (c ∷ cs) h = in_lines-drop k cs h.1
+
+gap-white : (owed : Bool) → Each (λ b. IsTrue (is_white b)) (gap_of owed)
+gap-white true = (refl, tt)
+gap-white false = tt
+
+module _ (limit : ℕ) (small : limit < 2 ^ 127) where
+  comments-body : (cs : List comment.Comment) → AreInLines cs → (may : Bool) (n : ℕ) (events : List OpbEvent) → ((owed : Bool) → IsCounted limit may (suc n) (spelled owed events))
+      → (owed : Bool) → IsCounted limit may (suc n) (spelled owed (comment_events cs ++ events))
+  comments-body [] h may n events ih owed = ih owed
+  comments-body (c ∷ cs) h may n events ih owed = (gap-white owed, (h.0, comment-spelled c.text, comments-body cs h.1 may n events ih false))
+
+  pub constraints-body : (ls : List Linear) → AreLinears limit ls → (cs : List comment.Comment) → AreInLines cs → (may : Bool) (n : ℕ) (owed : Bool)
+      → IsCounted limit may (length ls) (spelled owed (in_order n cs (constraint_events ls)))
+  constraints-body [] h cs i may n owed = tt
+  constraints-body (l ∷ ls) h cs i may n owed =
+      let later : List comment.Comment = drop (due n cs) cs in
+      comments-body (take (due n cs) cs) (in_lines-take (due n cs) cs i) may (length ls) (Constraint l ∷ in_order (n + 1) later (constraint_events ls))
+      (λ o. (gap-white o, (linear-spelled limit (omega arith) White l h.0, constraints-body ls h.1 later (in_lines-drop (due n cs) cs i) false (n + 1) true))) owed
+
+  pub objective-body : (terms : List Term) → AreTerms limit terms → (ls : List Linear) → 0 < length ls → AreLinears limit ls → (cs : List comment.Comment) → AreInLines cs → (n : ℕ) (owed : Bool)
+      → IsCounted limit true (length ls) (spelled owed (in_order n cs (Objective terms ∷ constraint_events ls)))
+  objective-body terms t [] some h cs i n owed = absurd (omega arith)
+  objective-body terms t (l ∷ ls) some h cs i n owed =
+      let later : List comment.Comment = drop (due n cs) cs in
+      comments-body (take (due n cs) cs) (in_lines-take (due n cs) cs i) true (length ls) (Objective terms ∷ in_order (n + 1) later (constraint_events (l ∷ ls)))
+      (λ o. (gap-white o, (refl, objective-spelled limit terms small t, constraints-body (l ∷ ls) h later (in_lines-drop (due n cs) cs i) false (n + 1) true))) owed

@@ -1,0 +1,115 @@
+-- What is written for an instance, in parts.
+use Rattle.std.proofs.Common.{◌≡◌, ℕ, zero, suc, ◌+◌, ◌<◌, ◌≤◌, List, [], ◌∷◌, ◌++◌, take, drop, length, refl, ap, ap₂, sym, append_assoc, ◌∙◌, arith, get_or, Option, Some, None}
+use Rattle.std.proofs.lemmas.List.{append-nil, take_more, drop_all}
+use Rattle.std.proofs.Math.Seq.{drop-cons}
+use Rattle.pb_sums.specs.contract.Canonical.{sum_bytes, linear_bytes}
+use Rattle.pb_sums.specs.declared.values.Term.{Term}
+use Rattle.pb_sums.specs.declared.values.Linear.{Linear}
+use Rattle.pb_opb.specs.meaning.Instances.{min_word}
+use Rattle.pb_opb.specs.contract.Canonical.{event_bytes, objective_bytes, lines, comment_events, constraint_events, objective_events, due, in_order, body_events}
+use Rattle.pb_opb.specs.engine.Led.{led_lines}
+use Rattle.pb_opb.specs.declared.event.OpbEvent.{OpbEvent}
+use Rattle.pb_opb.specs.declared.event.OpbEvent.TheVariants.{Objective, Constraint}
+use Rattle.pb_opb.specs.declared.instance.Comment.{Comment}
+use Rattle.pb_opb.specs.declared.instance.Instance.{Instance}
+
+-- `min: `, the sum, ` ;`
+pub objective_parts : (xs : List Term) → 0 < length xs → objective_bytes xs ≡ (109 ∷ 105 ∷ 110 ∷ 58 ∷ 32 ∷ []) ++ (sum_bytes xs ++ (32 ∷ 59 ∷ []))
+objective_parts [] h = absurd (omega arith)
+objective_parts (x ∷ xs) h = ap (λ (z : List ℕ). min_word ++ (32 ∷ z)) (append_assoc (sum_bytes (x ∷ xs)) (32 ∷ []) (59 ∷ []))
+
+pub led-append : (xs ys : List OpbEvent) → led_lines (xs ++ ys) ≡ led_lines xs ++ led_lines ys
+led-append [] ys = refl
+led-append (x ∷ xs) ys =
+    ap (λ (z : List ℕ). 10 ∷ (event_bytes x ++ z)) (led-append xs ys)
+    ∙ ap (λ (z : List ℕ). 10 ∷ z) (sym (append_assoc (event_bytes x) (led_lines xs) (led_lines ys)))
+
+-- Lines with a line feed between two, and with one before each.
+pub led-lines : (e : OpbEvent) (events : List OpbEvent) → 10 ∷ lines (e ∷ events) ≡ led_lines (e ∷ events)
+led-lines e [] = ap (λ (z : List ℕ). 10 ∷ z) (sym (append-nil (event_bytes e)))
+led-lines e (f ∷ events) = ap (λ (z : List ℕ). 10 ∷ (event_bytes e ++ z)) (led-lines f events)
+
+-- Comments: those so far, and the next.
+pub comments_more : (cs : List Comment) (i : ℕ) (d : Comment) → i < length cs
+    → led_lines (comment_events (take (i + 1) cs)) ≡ led_lines (comment_events (take i cs)) ++ (10 ∷ 42 ∷ (get_or cs i d).text)
+comments_more cs i d h =
+    ap (λ (z : List Comment). led_lines (comment_events z)) (take_more cs i d h)
+    ∙ comments-append (take i cs) (get_or cs i d)
+  where
+    comments-append : (xs : List Comment) (x : Comment) → led_lines (comment_events (xs ++ x ∷ [])) ≡ led_lines (comment_events xs) ++ (10 ∷ 42 ∷ x.text)
+    comments-append [] x = ap (λ (z : List ℕ). 10 ∷ 42 ∷ z) (append-nil x.text)
+    comments-append (y ∷ xs) x =
+        ap (λ (z : List ℕ). 10 ∷ 42 ∷ (y.text ++ z)) (comments-append xs x)
+        ∙ ap (λ (z : List ℕ). 10 ∷ 42 ∷ z) (sym (append_assoc y.text (led_lines (comment_events xs)) (10 ∷ 42 ∷ x.text)))
+
+pub comments_at : (cs : List Comment) (i : ℕ) (d : Comment) → i < length cs →
+    led_lines (comment_events cs) ≡ led_lines (comment_events (take i cs)) ++ ((10 ∷ 42 ∷ (get_or cs i d).text) ++ led_lines (comment_events (drop (suc i) cs)))
+comments_at [] i d h = absurd (omega arith)
+comments_at (c ∷ cs) zero d h = refl
+comments_at (c ∷ cs) (suc i) d h =
+    ap (λ (z : List ℕ). 10 ∷ 42 ∷ (c.text ++ z)) (comments_at cs i d (omega arith))
+    ∙ ap (λ (z : List ℕ). 10 ∷ 42 ∷ z) (sym (append_assoc c.text (led_lines (comment_events (take i cs))) ((10 ∷ 42 ∷ (get_or cs i d).text) ++ led_lines (comment_events (drop (suc i) cs)))))
+
+-- A statement with the comments before it, and then the other statements.
+pub in_order_parts : (n : ℕ) (cs : List Comment) (e : OpbEvent) (events : List OpbEvent) →
+    led_lines (in_order n cs (e ∷ events))
+    ≡ led_lines (comment_events (take (due n cs) cs)) ++ ((10 ∷ event_bytes e) ++ led_lines (in_order (n + 1) (drop (due n cs) cs) events))
+in_order_parts n cs e events = led-append (comment_events (take (due n cs) cs)) (e ∷ in_order (n + 1) (drop (due n cs) cs) events)
+
+-- One constraint of the rest, with the comments before it.
+pub constraint_turn : (whole front : List ℕ) (n i k : ℕ) (rest before later : List Comment) (cs : List Linear) (x : Linear) → i < length cs
+    → k ≡ due (n + i) rest → before ≡ take k rest → later ≡ drop k rest → x ≡ get_or cs i x
+    → whole ≡ front ++ led_lines (in_order (n + i) rest (constraint_events (drop i cs)))
+    → whole ≡ front ++ (led_lines (comment_events before)
+    ++ ((10 ∷ linear_bytes x) ++ led_lines (in_order (n + (i + 1)) later (constraint_events (drop (i + 1) cs)))))
+constraint_turn whole front n i k rest before later cs x h q b l f e =
+    let one : suc i ≡ i + 1 = omega arith in
+    let next : n + i + 1 ≡ n + (i + 1) = omega arith in
+    let now : take (due (n + i) rest) rest ≡ before = ap (λ (m : ℕ). take m rest) (sym q) ∙ sym b in
+    let then : drop (due (n + i) rest) rest ≡ later = ap (λ (m : ℕ). drop m rest) (sym q) ∙ sym l in
+    let T : List Comment → Linear → ℕ → List Comment → ℕ → List ℕ =
+    λ c y j r m. led_lines (comment_events c) ++ ((10 ∷ linear_bytes y) ++ led_lines (in_order j r (constraint_events (drop m cs)))) in
+    e
+    ∙ ap (λ (z : List ℕ). front ++ z)
+    (ap (λ (z : List Linear). led_lines (in_order (n + i) rest (constraint_events z))) (drop-cons cs i x h)
+    ∙ (in_order_parts (n + i) rest (Constraint (get_or cs i x)) (constraint_events (drop (suc i) cs))
+    ∙ (ap₂ (λ (c r : List Comment). T c (get_or cs i x) (n + i + 1) r (suc i)) now then
+    ∙ (ap (λ (y : Linear). T before y (n + i + 1) later (suc i)) (sym f)
+    ∙ ap₂ (λ (j m : ℕ). T before x j later m) next one))))
+
+-- the same, with all that was written before
+pub constraint_done : (whole front a b rest : List ℕ) → whole ≡ front ++ (a ++ (b ++ rest)) → whole ≡ (front ++ (a ++ b)) ++ rest
+constraint_done whole front a b rest e =
+    e ∙ (ap (λ (z : List ℕ). front ++ z) (sym (append_assoc a b rest)) ∙ sym (append_assoc front (a ++ b) rest))
+
+-- no constraint is left
+pub constraints_end : (whole front : List ℕ) (n i : ℕ) (rest : List Comment) (cs : List Linear) → length cs ≤ i
+    → whole ≡ front ++ led_lines (in_order (n + i) rest (constraint_events (drop i cs))) → front ≡ whole
+constraints_end whole front n i rest cs h e =
+    sym (e ∙ (ap (λ (z : List Linear). front ++ led_lines (in_order (n + i) rest (constraint_events z))) (drop_all i cs h) ∙ append-nil front))
+
+-- the same for the objective
+pub objective_turn : (k : ℕ) (terms : List Term) (cs before later : List Comment) (events : List OpbEvent) → k ≡ due 0 cs → before ≡ take k cs → later ≡ drop k cs
+    → led_lines (in_order 0 cs (Objective terms ∷ events)) ≡ led_lines (comment_events before) ++ ((10 ∷ []) ++ (objective_bytes terms ++ led_lines (in_order 1 later events)))
+objective_turn k terms cs before later events q b l =
+    let now : take (due 0 cs) cs ≡ before = ap (λ (m : ℕ). take m cs) (sym q) ∙ sym b in
+    let then : drop (due 0 cs) cs ≡ later = ap (λ (m : ℕ). drop m cs) (sym q) ∙ sym l in
+    in_order_parts 0 cs (Objective terms) events
+    ∙ ap₂ (λ (c r : List Comment). led_lines (comment_events c) ++ ((10 ∷ objective_bytes terms) ++ led_lines (in_order 1 r events))) now then
+
+pub led-between : (xs : List OpbEvent) (e : OpbEvent) (ys : List OpbEvent) → 10 ∷ lines (xs ++ e ∷ ys) ≡ led_lines (xs ++ e ∷ ys)
+led-between [] e ys = led-lines e ys
+led-between (x ∷ xs) e ys = led-lines x (xs ++ e ∷ ys)
+
+-- what comes after the header, without an objective and with one
+pub body_without : (v : Instance) → v.objective ≡ None → 0 < length v.constraints → 10 ∷ lines (body_events v) ≡ led_lines (in_order 0 v.comments (constraint_events v.constraints))
+body_without v e h = ap (λ (o : Option (List Term)). 10 ∷ lines (in_order 0 v.comments (objective_events o ++ constraint_events v.constraints))) e ∙ some v.comments v.constraints h
+  where
+    some : (cs : List Comment) (ls : List Linear) → 0 < length ls → 10 ∷ lines (in_order 0 cs (constraint_events ls)) ≡ led_lines (in_order 0 cs (constraint_events ls))
+    some cs [] h = absurd (omega arith)
+    some cs (l ∷ ls) h = led-between (comment_events (take (due 0 cs) cs)) (Constraint l) (in_order 1 (drop (due 0 cs) cs) (constraint_events ls))
+
+pub body_with : (v : Instance) (terms : List Term) → v.objective ≡ Some terms → 10 ∷ lines (body_events v) ≡ led_lines (in_order 0 v.comments (Objective terms ∷ constraint_events v.constraints))
+body_with v terms e =
+    ap (λ (o : Option (List Term)). 10 ∷ lines (in_order 0 v.comments (objective_events o ++ constraint_events v.constraints))) e
+    ∙ led-between (comment_events (take (due 0 v.comments) v.comments)) (Objective terms) (in_order 1 (drop (due 0 v.comments) v.comments) (constraint_events v.constraints))

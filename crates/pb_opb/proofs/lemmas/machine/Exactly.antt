@@ -1,0 +1,43 @@
+-- What the machine reads, in terms of instances.
+use Rattle.std.proofs.Common.{ℕ, List, Bool, Option}
+use Rattle.pb_text.specs.contract.Automaton.{Accepts, MayAsk}
+use Rattle.pb_text.specs.meaning.Spelling.{Item}
+use Rattle.pb_text.specs.meaning.Reading.{Reads}
+use Rattle.pb_text.specs.declared.Place.{Place}
+use Rattle.pb_text.specs.declared.Spanned.{Spanned}
+use Rattle.pb_text.specs.declared.Stop.{Stop}
+use Rattle.pb_text.specs.meaning.Whole.{IsRead, StopsIn}
+use Rattle.pb_text.proofs.lemmas.text.Formats as formats
+use Rattle.pb_text.proofs.lemmas.source.Unkept.{stops_in}
+use Rattle.pb_opb.specs.meaning.Instances.{IsInstance}
+use Rattle.pb_opb.specs.engine.State.{opb, begin}
+use Rattle.pb_opb.specs.meaning.Values.{IsValueOf}
+use Rattle.pb_opb.specs.meaning.Reading.{AsksInInstance}
+use Rattle.pb_opb.specs.meaning.Gather.{MayKeep}
+use Rattle.pb_opb.specs.declared.instance.Instance.{Instance}
+use Rattle.pb_opb.specs.declared.event.OpbEvent.{OpbEvent}
+use Rattle.pb_opb.proofs.lemmas.machine.Asked.{asks_only}
+use Rattle.pb_opb.proofs.lemmas.machine.Bodies.{instance_only, instance_each}
+
+module _ (limit top longest : ℕ) where
+  abbrev accepted : List (Item OpbEvent) → Type 0
+  accepted = Accepts opb (begin limit top)
+
+  abbrev spelled : List (Item OpbEvent) → Type 0
+  spelled = IsInstance limit top
+
+  pub reads_exactly : (input used : List ℕ) (marks : List (Spanned OpbEvent)) (place : Place) (done : Bool) (stop : Option Stop) → Reads accepted longest input used marks place done stop → Reads spelled longest input used marks place done stop
+  reads_exactly = formats.reads accepted spelled (instance_only limit top) (instance_each limit top) longest
+
+  pub read_exactly : (used : List ℕ) (m : Spanned Instance) → IsRead accepted longest IsValueOf used m → IsRead spelled longest IsValueOf used m
+  read_exactly used m r = record {
+    marks = r.marks;
+    spelled = formats.is_spelled accepted spelled (instance_only limit top) (instance_each limit top) longest used r.marks r.spelled;
+    value = r.value;
+    first = r.first;
+    past = r.past;
+  }
+
+  pub stops_exactly : (used seen : List ℕ) (s : Stop) → StopsIn accepted longest (MayAsk opb (begin limit top)) MayKeep used seen s → StopsIn spelled longest (AsksInInstance limit top) MayKeep used seen s
+  stops_exactly used seen s h =
+      stops_in accepted spelled (instance_only limit top) (instance_each limit top) longest (MayAsk opb (begin limit top)) (AsksInInstance limit top) (asks_only limit top) MayKeep MayKeep (λ events e k. k) used seen s h

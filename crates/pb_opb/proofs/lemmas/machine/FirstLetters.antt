@@ -1,0 +1,66 @@
+-- The first letters of sums and of linear texts.
+use Rattle.std.proofs.Common.{◌≡◌, ℕ, true, false, ◌||◌, List, [], ◌∷◌, ◌++◌, map, refl, sym, ap, subst, ◌∙◌, inl, inr}
+use Rattle.std.proofs.Math.Bool.{and-true}
+use Rattle.std.proofs.lemmas.Bool.{eqb-true, false_from_ne_true}
+use Rattle.std.specs.Prelude.{IsTrue, nat_eq, ℤ}
+use Rattle.pb_text.specs.contract.Automaton.{Refuse, Reads}
+use Rattle.pb_text.specs.meaning.Classes.{is_blank, is_white}
+use Rattle.pb_text.specs.meaning.Languages.{unmarked, digit, Language, ◌⋅◌, Each}
+use Rattle.pb_text.specs.meaning.Numbers.{Number}
+use Rattle.pb_text.specs.meaning.Spelling.{Letter}
+use Rattle.pb_text.proofs.lemmas.text.ByteTests.{white_each, digit_dark}
+use Rattle.pb_text.proofs.lemmas.machine.Outcomes.{refuse_or_go, refuse_or_end}
+use Rattle.pb_sums.specs.engine.State.{SumState, sums}
+use Rattle.pb_sums.specs.meaning.Sums.{is_space, Spaces1, SpellsLiteral, SpellsTerm, SpellsFurther, SpellsSum}
+use Rattle.pb_sums.specs.declared.grammar.Spaces.TheVariants.{White}
+use Rattle.pb_sums.specs.declared.values.SumEvent.{SumEvent}
+use Rattle.pb_sums.specs.declared.values.Term.{Term}
+use Rattle.pb_opb.specs.engine.State.{linears}
+
+white-space : (b : ℕ) → is_space White b ≡ is_white b
+white-space b = ap (λ x. is_blank b || x) (and-true (nat_eq b 10))
+
+-- white space is what separates the parts of a sum
+pub spaces_white : (bs : List ℕ) → Each (λ b. IsTrue (is_space White b)) bs → Each (λ b. IsTrue (is_white b)) bs
+spaces_white [] h = tt
+spaces_white (b ∷ bs) h = (sym (white-space b) ∙ h.0, spaces_white bs h.1)
+
+pub whites_space : (bs : List ℕ) → Each (λ b. IsTrue (is_white b)) bs → Each (λ b. IsTrue (is_space White b)) bs
+whites_space [] h = tt
+whites_space (b ∷ bs) h = (white-space b ∙ h.0, whites_space bs h.1)
+
+-- the first letter is not white space
+abbrev pub IsDark : Language
+IsDark t = (c : Letter) × (u : List Letter) × (t ≡ c ∷ u) × (is_white c.byte ≡ false)
+
+dark_then : (P Q : Language) → ((t : List Letter) → P t → IsDark t) → (t : List Letter) → (P ⋅ Q) t → IsDark t
+dark_then P Q f t (a, b, e, h, k) =
+    let g : IsDark a = f a h in (g.0, g.1 ++ b, e ∙ ap (λ x. x ++ b) g.2, g.3)
+
+number-dark : (limit : ℕ) (z : ℤ) (t : List Letter) → Number limit z t → IsDark t
+number-dark limit z t (true, n, l, e, (a, b, f, s, d)) = (unmarked 45, b, f ∙ ap (λ x. x ++ b) s, refl)
+number-dark limit z t (false, n, l, e, (a, b, f, inl s, (d, ds, h, g, v))) =
+    (digit d, map digit ds, f ∙ (ap (λ x. x ++ b) s ∙ g), digit_dark d h.0)
+number-dark limit z t (false, n, l, e, (a, b, f, inr s, d)) = (unmarked 43, b, f ∙ ap (λ x. x ++ b) s, refl)
+
+pub sum-dark : (limit : ℕ) (x : Term) (xs : List Term) (P Q : Language) (t : List Letter) → (SpellsSum White limit (x ∷ xs) ⋅ P ⋅ Q) t → IsDark t
+sum-dark limit x xs P Q =
+    dark_then (SpellsSum White limit (x ∷ xs) ⋅ P) Q
+    (dark_then (SpellsSum White limit (x ∷ xs)) P
+    (dark_then (SpellsTerm White limit x) (SpellsFurther White limit xs)
+    (dark_then (Number limit x.coefficient ⋅ Spaces1 White limit) (SpellsLiteral x.literal)
+    (dark_then (Number limit x.coefficient) (Spaces1 White limit) (number-dark limit x.coefficient)))))
+
+-- a byte that a machine rejects does not begin what it reads
+taken : (s : SumState) (l : Letter) (t : List Letter) (e : SumEvent) (after : SumState) → Reads sums s (l ∷ t) e after → sums.step s l.byte ≡ Refuse → ⊥
+taken s l [] e after (h, n) k = refuse_or_end e after (sym k ∙ h)
+taken s l (d ∷ t) e after (mid, h, i, n, r) k = refuse_or_go mid (sym k ∙ h)
+
+-- a linear text does not begin with white space, a star or `m`
+pub linear_first : (limit : ℕ) (l : Letter) (t : List Letter) (e : SumEvent) (after : SumState) → Reads sums (linears limit) (l ∷ t) e after
+    → (is_white l.byte ≡ false) × (nat_eq l.byte 42 ≡ false) × (nat_eq l.byte 109 ≡ false)
+linear_first limit l t e after r = (
+  false_from_ne_true (is_white l.byte) (λ h. taken (linears limit) l t e after r (white_each (λ b. sums.step (linears limit) b ≡ Refuse) refl refl refl refl l.byte h)),
+  false_from_ne_true (nat_eq l.byte 42) (λ h. taken (linears limit) l t e after r (subst (λ b. sums.step (linears limit) b ≡ Refuse) (sym (eqb-true l.byte 42 h)) refl)),
+  false_from_ne_true (nat_eq l.byte 109) (λ h. taken (linears limit) l t e after r (subst (λ b. sums.step (linears limit) b ≡ Refuse) (sym (eqb-true l.byte 109 h)) refl)),
+)

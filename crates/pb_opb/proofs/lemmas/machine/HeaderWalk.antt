@@ -1,0 +1,165 @@
+-- The machine reads each header: one lemma for each word of the grammar.
+use Rattle.std.proofs.Common.{◌≡◌, ℕ, ◌+◌, ◌-◌, ◌*◌, ◌<◌, ◌≤◌, Bool, true, false, cond, List, [], ◌∷◌, ◌++◌, length, refl, sym, ap, subst, arith, ◌∙◌, append_assoc, length-append}
+use Rattle.std.proofs.Math.Seq.{get_or-append_seam}
+use Rattle.std.proofs.lemmas.Bool.{le-leb, eq-eqb}
+use Rattle.std.proofs.lemmas.Bool.Decides.{nat_tests}
+use Rattle.std.specs.Prelude.{IsTrue, nat_eq, slice_index}
+use Rattle.pb_text.specs.contract.Automaton.{Go, Reads}
+use Rattle.pb_text.specs.meaning.Classes.{is_blank}
+use Rattle.pb_text.specs.meaning.Languages.{unmarked, Language, ◌⋅◌, Byte, Bytes, Blanks0, Blanks1}
+use Rattle.pb_text.specs.meaning.Numbers.{Count}
+use Rattle.pb_text.specs.meaning.Spelling.{Letter, plain}
+use Rattle.pb_text.proofs.lemmas.text.ByteTests.{blank_each, digit_byte, digit_blank}
+use Rattle.pb_text.proofs.lemmas.numbers.DigitWalks.{TakesDigits, digits_lead}
+use Rattle.pb_text.proofs.lemmas.machine.Walking.{Walks, Leads, leads_then, longer, reads_behind}
+use Rattle.pb_opb.specs.meaning.Instances.{variable_word, constraint_word, IsTail, SpellsHeader}
+use Rattle.pb_opb.specs.engine.Machine.{word_of, spell, count, behind_count, plan}
+use Rattle.pb_opb.specs.engine.State.{OpbState, opb, begin, act}
+use Rattle.pb_opb.specs.declared.event.OpbEvent.TheVariants.{Header}
+use Rattle.pb_opb.specs.declared.phase.Field.{Field}
+use Rattle.pb_opb.specs.declared.phase.Field.TheVariants.{Variables, Constraints}
+use Rattle.pb_opb.specs.declared.phase.Phase.{Phase}
+use Rattle.pb_opb.specs.declared.phase.Phase as phase
+use Rattle.pb_opb.specs.declared.phase.Move.TheVariants.{To}
+use Rattle.pb_opb.proofs.lemmas.machine.Stands.{stands, idle, stays_many, Keeps, line_reads}
+
+spell_next : (w front left : List ℕ) (b : ℕ) (more whole : Phase) (x : Bool) → w ≡ front ++ b ∷ left → nat_eq (length front + 1) (length w) ≡ x
+    → spell w (length front) b more whole ≡ To (cond x whole more)
+spell_next w front left b more whole x e f =
+    let g : slice_index w (length front) ≡ b = ap (λ y. slice_index y (length front)) e ∙ get_or-append_seam front b left 0 in
+    rw (g, eq-eqb b b refl, f) refl
+
+count_next : (top : ℕ) (f : Field) (m d : ℕ) → d < 10 → 10 * m + d ≤ top → count top f m (48 + d) ≡ To (phase.TheVariants.Count f (10 * m + d))
+count_next top f m d h l =
+    let e : (48 + d) - 48 ≡ d = omega arith in
+    rw (digit_byte d h, e, le-leb (10 * m + d) top l) refl
+
+first_digit : (top : ℕ) (f : Field) (d : ℕ) → d < 10 → d ≤ top → plan top (phase.TheVariants.BeforeCount f) (48 + d) ≡ To (phase.TheVariants.Count f d)
+first_digit top f d h l =
+    let same : 10 * 0 + d ≡ d = omega arith in
+    rw (digit_blank d h) (count_next top f 0 d h (omega arith) ∙ ap (λ n. To (phase.TheVariants.Count f n)) same)
+
+next_digit : (top : ℕ) (f : Field) (m d : ℕ) → d < 10 → 10 * m + d ≤ top → plan top (phase.TheVariants.Count f m) (48 + d) ≡ To (phase.TheVariants.Count f (10 * m + d))
+next_digit top f m d h l = ap (λ x. cond x (count top f m (48 + d)) (behind_count f m (48 + d))) (digit_byte d h) ∙ count_next top f m d h l
+
+module _ (limit top : ℕ) where
+  -- before the tail of a header
+  abbrev head : ℕ → Phase → OpbState
+  head v p = stands limit top v 0 p []
+
+  abbrev IsBlank : ℕ → Type 0
+  IsBlank b = IsTrue (is_blank b)
+
+  blanks_before_word : (f : Field) (v : ℕ) → Leads opb (head v (phase.TheVariants.BeforeWord f)) Blanks0 (head v (phase.TheVariants.BeforeWord f))
+  blanks_before_word f v = stays_many IsBlank (head v (phase.TheVariants.BeforeWord f)) (λ b h. rw h refl) refl refl
+
+  blanks_before_count : (f : Field) (v : ℕ) → Leads opb (head v (phase.TheVariants.BeforeCount f)) Blanks0 (head v (phase.TheVariants.BeforeCount f))
+  blanks_before_count f v = stays_many IsBlank (head v (phase.TheVariants.BeforeCount f)) (λ b h. rw h refl) refl refl
+
+  -- the remaining bytes of a word
+  spelled : (f : Field) (v : ℕ) (front left : List ℕ) (b : ℕ) → word_of f ≡ front ++ b ∷ left
+      → Walks opb (head v (phase.TheVariants.Word f (length front))) (plain (b ∷ left)) (head v (phase.TheVariants.BeforeCount f))
+  spelled f v front [] b e =
+      let n : nat_eq (length front + 1) (length (word_of f)) ≡ true = ap (λ x. nat_eq (length front + 1) (length x)) e ∙ ap (λ x. nat_eq (length front + 1) x) (length-append front (b ∷ [])) ∙ eq-eqb (length front + 1) (length front + 1) refl in (
+        head v (phase.TheVariants.BeforeCount f),
+        ap (λ x. act (head v (phase.TheVariants.Word f (length front))) b x) (spell_next (word_of f) front [] b (phase.TheVariants.Word f (length front + 1)) (phase.TheVariants.BeforeCount f) true e n),
+        refl,
+        refl,
+        refl,
+      )
+  spelled f v front (c ∷ left) b e =
+      let m : length (word_of f) ≡ length front + (2 + length left) = ap length e ∙ (length-append front (b ∷ c ∷ left) ∙ omega arith) in
+      let n : nat_eq (length front + 1) (length (word_of f)) ≡ false = rw m (grind (arith, nat_tests)) in (
+        head v (phase.TheVariants.Word f (length front + 1)),
+        ap (λ x. act (head v (phase.TheVariants.Word f (length front))) b x) (spell_next (word_of f) front (c ∷ left) b (phase.TheVariants.Word f (length front + 1)) (phase.TheVariants.BeforeCount f) false e n),
+        refl,
+        refl,
+        subst (λ k. Walks opb (head v (phase.TheVariants.Word f k)) (plain (c ∷ left)) (head v (phase.TheVariants.BeforeCount f))) (length-append front (b ∷ []))
+            (spelled f v (front ++ b ∷ []) left c (e ∙ sym (append_assoc front (b ∷ []) (c ∷ left)))),
+      )
+
+  begins_word : (f : Field) (v : ℕ) (left : List ℕ) (b : ℕ) → word_of f ≡ 35 ∷ b ∷ left
+      → Walks opb (head v (phase.TheVariants.BeforeWord f)) (plain (35 ∷ b ∷ left)) (head v (phase.TheVariants.BeforeCount f))
+  begins_word f v left b e = (head v (phase.TheVariants.Word f 1), refl, refl, refl, spelled f v (35 ∷ []) left b e)
+
+  word_leads : (f : Field) (v : ℕ) → Leads opb (head v (phase.TheVariants.BeforeWord f)) (Bytes (word_of f)) (head v (phase.TheVariants.BeforeCount f))
+  word_leads Variables v t e = subst (λ x. Walks opb (head v (phase.TheVariants.BeforeWord Variables)) x (head v (phase.TheVariants.BeforeCount Variables))) (sym e) (begins_word Variables v _ 118 refl)
+  word_leads Constraints v t e = subst (λ x. Walks opb (head v (phase.TheVariants.BeforeWord Constraints)) x (head v (phase.TheVariants.BeforeCount Constraints))) (sym e) (begins_word Constraints v _ 99 refl)
+
+  -- digits of a count
+  takes_digits : (f : Field) (v : ℕ) → TakesDigits opb (λ n. head v (phase.TheVariants.Count f n)) top
+  takes_digits f v = record {
+    more = λ n d h l. ap (λ x. act (head v (phase.TheVariants.Count f n)) (48 + d) x) (next_digit top f n d h l);
+    begun = λ n. refl;
+    number = λ n. refl;
+  }
+
+  count_leads : (f : Field) (v n : ℕ) → Leads opb (head v (phase.TheVariants.BeforeCount f)) (Count top n) (head v (phase.TheVariants.Count f n))
+  count_leads f v n t h =
+      digits_lead opb (λ n. head v (phase.TheVariants.Count f n)) top (takes_digits f v) (head v (phase.TheVariants.BeforeCount f))
+      (λ d i l. ap (λ x. act (head v (phase.TheVariants.BeforeCount f)) (48 + d) x) (first_digit top f d i l)) n h.0 t h.1
+
+  declares : (v n b : ℕ) → is_blank b ≡ true → opb.step (head v (phase.TheVariants.Count Variables n)) b ≡ Go (head n (phase.TheVariants.BeforeWord Constraints))
+  declares v n = blank_each (λ b. opb.step (head v (phase.TheVariants.Count Variables n)) b ≡ Go (head n (phase.TheVariants.BeforeWord Constraints))) refl refl refl
+
+  blanks_between : (v n : ℕ) → Leads opb (head v (phase.TheVariants.Count Variables n)) Blanks1 (head n (phase.TheVariants.BeforeWord Constraints))
+  blanks_between v n t (b, bs, h, i, e) =
+      subst (λ x. Walks opb (head v (phase.TheVariants.Count Variables n)) x (head n (phase.TheVariants.BeforeWord Constraints))) (sym e)
+      (head n (phase.TheVariants.BeforeWord Constraints), declares v n b h, refl, refl, blanks_before_word Constraints n (plain bs) (bs, i, refl))
+
+  -- a word, and its count
+  field_leads : (f : Field) (v n : ℕ) (P : Language) → Leads opb (head 0 phase.TheVariants.Start) P (head v (phase.TheVariants.BeforeWord f))
+      → Leads opb (head 0 phase.TheVariants.Start) (P ⋅ Bytes (word_of f) ⋅ Blanks0 ⋅ Count top n) (head v (phase.TheVariants.Count f n))
+  field_leads f v n P h =
+      leads_then opb (P ⋅ Bytes (word_of f) ⋅ Blanks0) (Count top n) (head 0 phase.TheVariants.Start) (head v (phase.TheVariants.BeforeCount f)) (head v (phase.TheVariants.Count f n))
+      (leads_then opb (P ⋅ Bytes (word_of f)) Blanks0 (head 0 phase.TheVariants.Start) (head v (phase.TheVariants.BeforeCount f)) (head v (phase.TheVariants.BeforeCount f))
+      (leads_then opb P (Bytes (word_of f)) (head 0 phase.TheVariants.Start) (head v (phase.TheVariants.BeforeWord f)) (head v (phase.TheVariants.BeforeCount f)) h
+      (word_leads f v)) (blanks_before_count f v)) (count_leads f v n)
+
+  star_leads : Leads opb (head 0 phase.TheVariants.Start) (Byte 42) (head 0 (phase.TheVariants.BeforeWord Variables))
+  star_leads t e = subst (λ x. Walks opb (head 0 phase.TheVariants.Start) x (head 0 (phase.TheVariants.BeforeWord Variables))) (sym e) (head 0 (phase.TheVariants.BeforeWord Variables), refl, refl, refl, refl)
+
+  abbrev FirstCount : ℕ → Language
+  FirstCount v = Byte 42 ⋅ Blanks0 ⋅ Bytes variable_word ⋅ Blanks0 ⋅ Count top v
+
+  abbrev Counts : ℕ → ℕ → Language
+  Counts v n = FirstCount v ⋅ Blanks1 ⋅ Bytes constraint_word ⋅ Blanks0 ⋅ Count top n
+
+  counts_lead : (v n : ℕ) → Leads opb (head 0 phase.TheVariants.Start) (Counts v n) (head v (phase.TheVariants.Count Constraints n))
+  counts_lead v n =
+      field_leads Constraints v n (FirstCount v ⋅ Blanks1)
+      (leads_then opb (FirstCount v) Blanks1 (head 0 phase.TheVariants.Start) (head 0 (phase.TheVariants.Count Variables v)) (head v (phase.TheVariants.BeforeWord Constraints))
+      (field_leads Variables 0 v (Byte 42 ⋅ Blanks0)
+      (leads_then opb (Byte 42) Blanks0 (head 0 phase.TheVariants.Start) (head 0 (phase.TheVariants.BeforeWord Variables)) (head 0 (phase.TheVariants.BeforeWord Variables)) star_leads
+      (blanks_before_word Variables 0)))
+      (blanks_between 0 v))
+
+  -- the tail
+  tail_keeps : (v n : ℕ) → Keeps (λ kept. stands limit top v n phase.TheVariants.Tail kept) (λ kept. Header v n kept) (idle limit top v true n)
+  tail_keeps v n = record {
+    keep = λ kept b h. rw h refl;
+    stop = λ kept. refl;
+    within = λ kept. refl;
+    number = λ kept. refl;
+  }
+
+  begins_tail : (v n b : ℕ) → is_blank b ≡ true → opb.step (head v (phase.TheVariants.Count Constraints n)) b ≡ Go (stands limit top v n phase.TheVariants.Tail (b ∷ []))
+  begins_tail v n = blank_each (λ b. opb.step (head v (phase.TheVariants.Count Constraints n)) b ≡ Go (stands limit top v n phase.TheVariants.Tail (b ∷ []))) refl refl refl
+
+  tail_reads : (v n : ℕ) (tail : List ℕ) → IsTail tail
+      → Reads opb (head v (phase.TheVariants.Count Constraints n)) (plain tail ++ unmarked 10 ∷ []) (Header v n tail) (idle limit top v true n)
+  tail_reads v n [] h = (refl, refl)
+  tail_reads v n (b ∷ bs) h =
+      longer opb (unmarked b) (plain bs ++ unmarked 10 ∷ []) (head v (phase.TheVariants.Count Constraints n)) (stands limit top v n phase.TheVariants.Tail (b ∷ [])) (idle limit top v true n) (Header v n (b ∷ bs))
+      (begins_tail v n b h.0) refl refl
+      (line_reads (λ kept. stands limit top v n phase.TheVariants.Tail kept) (λ kept. Header v n kept) (idle limit top v true n) (tail_keeps v n) bs (b ∷ []) h.1)
+
+  -- The machine reads each header.
+  pub header_reads : (v n : ℕ) (tail : List ℕ) (t : List Letter) → IsTail tail → SpellsHeader top v n tail t
+      → Reads opb (begin limit top) t (Header v n tail) (idle limit top v true n)
+  header_reads v n tail t h (ab, c, e, (a, b, f, counts, g), k) =
+      let parts : t ≡ a ++ (plain tail ++ unmarked 10 ∷ []) =
+      e ∙ (ap (λ x. x ++ c) (f ∙ ap (λ x. a ++ x) g) ∙ (ap (λ x. (a ++ plain tail) ++ x) k ∙ append_assoc a (plain tail) (unmarked 10 ∷ []))) in
+      subst (λ x. Reads opb (begin limit top) x (Header v n tail) (idle limit top v true n)) (sym parts)
+      (reads_behind opb a (plain tail ++ unmarked 10 ∷ []) (begin limit top) (head v (phase.TheVariants.Count Constraints n)) (idle limit top v true n) (Header v n tail)
+      (counts_lead v n a counts) (tail_reads v n tail h))

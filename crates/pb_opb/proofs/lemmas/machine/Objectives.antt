@@ -1,0 +1,43 @@
+-- The texts of objectives: `min:` and white space, and what a machine of sums reads after that.
+use Rattle.std.proofs.Common.{ℕ, List, refl}
+use Rattle.pb_text.specs.meaning.Languages.{Language, ◌⋅◌, Byte, Bytes}
+use Rattle.pb_text.specs.meaning.Spelling.{Letter}
+use Rattle.pb_text.proofs.lemmas.text.Languages.{inside, behind_it, regroup3, regroup⁻¹}
+use Rattle.pb_sums.specs.meaning.Sums.{Spaces0, SpellsSum, Spells}
+use Rattle.pb_sums.specs.declared.grammar.Part as part
+use Rattle.pb_sums.specs.declared.grammar.Spaces.TheVariants.{White}
+use Rattle.pb_sums.specs.declared.values.SumEvent as sum
+use Rattle.pb_sums.specs.declared.values.Term.{Term}
+use Rattle.pb_opb.specs.meaning.Instances.{min_word, Whites0, SpellsObjective}
+use Rattle.pb_opb.proofs.lemmas.machine.FirstLetters.{spaces_white, whites_space}
+
+-- `min:` and white space
+abbrev pub MinFront : Language
+MinFront = Bytes min_word ⋅ Whites0
+
+module _ (limit : ℕ) where
+  whites_many : (t : List Letter) → Spaces0 White limit t → Whites0 t
+  whites_many t (bs, h, e) = (bs, spaces_white bs h, e)
+
+  spaces_many : (t : List Letter) → Whites0 t → Spaces0 White limit t
+  spaces_many t (bs, h, e) = (bs, whites_space bs h, e)
+
+  module _ (xs : List Term) (t : List Letter) where
+    abbrev S : Language
+    S = SpellsSum White limit xs
+
+    abbrev Rest : Language
+    Rest = Spells White limit part.TheVariants.Sum (sum.TheVariants.Sum xs)
+
+    pub objective_of : (MinFront ⋅ Rest) t → SpellsObjective limit xs t
+    objective_of h =
+        inside (MinFront ⋅ (S ⋅ Whites0)) (MinFront ⋅ S ⋅ Whites0) (Byte 59) t (regroup⁻¹ MinFront S Whites0)
+        (regroup⁻¹ MinFront (S ⋅ Whites0) (Byte 59) t
+        (behind_it MinFront Rest (S ⋅ Whites0 ⋅ Byte 59) t
+        (λ q r. inside (S ⋅ Spaces0 White limit) (S ⋅ Whites0) (Byte 59) q (λ u. behind_it S (Spaces0 White limit) Whites0 u whites_many) r.1) h))
+
+    pub objective_parts : SpellsObjective limit xs t → (MinFront ⋅ Rest) t
+    objective_parts h =
+        behind_it MinFront (S ⋅ Whites0 ⋅ Byte 59) Rest t
+        (λ q r. (refl, inside (S ⋅ Whites0) (S ⋅ Spaces0 White limit) (Byte 59) q (λ u. behind_it S Whites0 (Spaces0 White limit) u spaces_many) r))
+        (regroup3 MinFront S Whites0 (Byte 59) t h)

@@ -1,0 +1,54 @@
+-- The states of a machine of instances, within a header and between two statements.
+use Rattle.pb_text.specs.meaning.Blank.{IsInLine}
+use Rattle.std.proofs.Common.{◌≡◌, ℕ, Bool, true, false, List, [], ◌∷◌, ◌++◌, refl, sym, ap, subst, ◌∙◌, append_assoc}
+use Rattle.std.proofs.lemmas.Bool.{not-true}
+use Rattle.std.proofs.lemmas.List.{append-nil}
+use Rattle.std.specs.Prelude.{nat_eq}
+use Rattle.pb_text.specs.contract.Automaton.{Go, End, Reads}
+use Rattle.pb_text.specs.meaning.Languages.{unmarked, Each, Many}
+use Rattle.pb_text.specs.meaning.Spelling.{plain}
+use Rattle.pb_text.proofs.lemmas.machine.Walking.{Walks, Leads, longer}
+use Rattle.pb_opb.specs.engine.State.{OpbState, opb, phase_owing, linears}
+use Rattle.pb_opb.specs.declared.event.OpbEvent.{OpbEvent}
+use Rattle.pb_opb.specs.declared.phase.Phase.{Phase}
+
+-- with the machine of sums at the start of a linear text
+abbrev pub stands : ℕ → ℕ → ℕ → ℕ → Phase → List ℕ → OpbState
+stands limit top variables owed p text = record {
+  limit = limit;
+  top = top;
+  variables = variables;
+  owed = owed;
+  phase = p;
+  text = text;
+  sums = linears limit;
+}
+
+-- between two statements
+abbrev pub idle : ℕ → ℕ → ℕ → Bool → ℕ → OpbState
+idle limit top variables may owed = stands limit top variables owed (phase_owing may owed) []
+
+-- bytes that do not change the state
+pub stays : (P : ℕ → Type 0) (s : OpbState) → ((b : ℕ) → P b → opb.step s b ≡ Go s) → opb.begun s ≡ true → opb.in_number s ≡ false
+    → (bs : List ℕ) → Each P bs → Walks opb s (plain bs) s
+stays P s f w n [] h = refl
+stays P s f w n (b ∷ bs) h = (s, f b h.0, w, sym n, stays P s f w n bs h.1)
+
+pub stays_many : (P : ℕ → Type 0) (s : OpbState) → ((b : ℕ) → P b → opb.step s b ≡ Go s) → opb.begun s ≡ true → opb.in_number s ≡ false → Leads opb s (Many P) s
+stays_many P s f w n t (bs, h, e) = subst (λ x. Walks opb s x s) (sym e) (stays P s f w n bs h)
+
+-- Bytes that are stored until a line feed.
+pub record Keeps (at : List ℕ → OpbState) (event : List ℕ → OpbEvent) (new : OpbState) : Type 0 where
+  pub keep : (kept : List ℕ) (b : ℕ) → nat_eq b 10 ≡ false → opb.step (at kept) b ≡ Go (at (kept ++ b ∷ []))
+  pub stop : (kept : List ℕ) → opb.step (at kept) 10 ≡ End (event kept) new
+  pub within : (kept : List ℕ) → opb.begun (at kept) ≡ true
+  pub number : (kept : List ℕ) → opb.in_number (at kept) ≡ false
+
+pub line_reads : (at : List ℕ → OpbState) (event : List ℕ → OpbEvent) (new : OpbState) → Keeps at event new → (bs kept : List ℕ) → IsInLine bs
+    → Reads opb (at kept) (plain bs ++ unmarked 10 ∷ []) (event (kept ++ bs)) new
+line_reads at event new k [] kept h = (k.stop kept ∙ ap (λ (x : List ℕ). End (event x) new) (sym (append-nil kept)), refl)
+line_reads at event new k (b ∷ bs) kept h =
+    let more : List ℕ = kept ++ b ∷ [] in
+    longer opb (unmarked b) (plain bs ++ unmarked 10 ∷ []) (at kept) (at more) new (event (kept ++ b ∷ bs))
+    (k.keep kept b (not-true (nat_eq b 10) h.0)) (k.within more) (sym (k.number more))
+    (subst (λ (x : List ℕ). Reads opb (at more) (plain bs ++ unmarked 10 ∷ []) (event x) new) (append_assoc kept (b ∷ []) bs) (line_reads at event new k bs more h.1))

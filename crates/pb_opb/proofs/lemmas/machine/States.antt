@@ -1,0 +1,152 @@
+-- What holds for each state that a machine of instances can be in.
+use Rattle.std.proofs.Common.{◌≡◌, ℕ, zero, suc, ◌+◌, ◌-◌, ◌*◌, ◌≤◌, Bool, true, false, cond, ◌&&◌, nat_le, nat_eq, [], ◌∷◌, length, length-append, refl, sym, ap, subst, arith}
+use Rattle.std.specs.Prelude.{slice_index}
+use Rattle.std.proofs.lemmas.Bool.{false≢true}
+use Rattle.pb_text.specs.meaning.Classes.{is_blank, is_white, is_digit}
+use Rattle.pb_text.specs.contract.Automaton.{Next, Go, End, Refuse, IsState}
+use Rattle.pb_sums.specs.engine.State.{SumState, sums}
+use Rattle.pb_sums.specs.declared.SumEvent.{SumEvent}
+use Rattle.pb_opb.specs.meaning.Instances.{min_word}
+use Rattle.pb_opb.specs.engine.Machine.{plan, count, behind_count, word_of}
+use Rattle.pb_opb.specs.engine.State.{OpbState, opb, owed_after, phase_owing, act, over, is_within, is_done, is_in_number}
+use Rattle.pb_opb.specs.engine.Order.{Holds, IsIdle, IsInOrder}
+use Rattle.pb_opb.specs.declared.event.OpbEvent.{OpbEvent}
+use Rattle.pb_opb.specs.declared.phase.Field.{Field}
+use Rattle.pb_opb.specs.declared.phase.Field.TheVariants.{Variables, Constraints}
+use Rattle.pb_opb.specs.declared.phase.Phase.{Phase}
+use Rattle.pb_opb.specs.declared.phase.Phase as phase
+use Rattle.pb_opb.specs.declared.phase.Move.{Move}
+use Rattle.pb_opb.specs.declared.phase.Move.TheVariants.{To, Declare, BeginTail, Keep, EndHeader, EndTail, EndComment, BeginSum, Give, Stop}
+use Rattle.pb_opb.proofs.lemmas.machine.Alive.{live}
+
+abbrev N : Type 0
+N = Next OpbState OpbEvent
+
+-- P holds for the next state if the machine continues, and Q if a statement has ended
+abbrev On : (OpbState → Type 0) → (OpbState → Type 0) → N → Type 0
+On P Q (Go s) = P s
+On P Q (End e s) = Q s
+On P Q Refuse = Unit {0}
+
+at_go : (P Q : OpbState → Type 0) (n : N) (next : OpbState) → n ≡ Go next → On P Q n → P next
+at_go P Q n next e h = subst (On P Q) e h
+
+at_end : (P Q : OpbState → Type 0) (n : N) (e : OpbEvent) (next : OpbState) → n ≡ End e next → On P Q n → Q next
+at_end P Q n e next i h = subst (On P Q) i h
+
+-- the next phase is not the last one, and a statement that has begun has not ended
+abbrev GoesOn : Phase → Phase → Type 0
+GoesOn p q = (is_done q ≡ false) × (is_within p ≡ true → is_within q ≡ true)
+
+abbrev OnMove : Phase → Move → Type 0
+OnMove p (To q) = GoesOn p q
+OnMove p (Give q) = GoesOn p q
+OnMove p (Keep b) = is_done p ≡ false
+OnMove p _ = Unit {0}
+
+-- what holds in both cases
+pub either_way : {A : Type 0} (P : A → Type 0) (c : Bool) (x y : A) → P x → P y → P (cond c x y)
+either_way P true x y h k = h
+either_way P false x y h k = k
+
+on_count : (p : Phase) (top : ℕ) (f : Field) (n b : ℕ) → OnMove p (count top f n b)
+on_count p top f n b = either_way (OnMove p) (is_digit b && nat_le (10 * n + (b - 48)) top) _ Stop (refl, λ h. refl) tt
+
+on_behind : (p : Phase) (f : Field) (n b : ℕ) → OnMove p (behind_count f n b)
+on_behind p Variables n b = either_way (OnMove p) (is_blank b) (Declare n) Stop tt tt
+on_behind p Constraints n b = either_way (OnMove p) (nat_eq b 10) (EndHeader n) _ tt (either_way (OnMove p) (is_blank b) (BeginTail n b) Stop tt tt)
+
+-- the plan of each phase
+on_plan : (top : ℕ) (p : Phase) (b : ℕ) → OnMove p (plan top p b)
+on_plan top phase.TheVariants.Start b = either_way (OnMove phase.TheVariants.Start) (nat_eq b 42) (To (phase.TheVariants.BeforeWord Variables)) Stop (refl, λ h. refl) tt
+on_plan top (phase.TheVariants.BeforeWord f) b =
+    either_way (OnMove (phase.TheVariants.BeforeWord f)) (is_blank b) (To (phase.TheVariants.BeforeWord f)) _ (refl, λ h. refl)
+    (either_way (OnMove (phase.TheVariants.BeforeWord f)) (nat_eq b 35) (To (phase.TheVariants.Word f 1)) Stop (refl, λ h. refl) tt)
+on_plan top (phase.TheVariants.Word f k) b =
+    either_way (OnMove (phase.TheVariants.Word f k)) (nat_eq b (slice_index (word_of f) k)) _ Stop
+    (either_way (GoesOn (phase.TheVariants.Word f k)) (nat_eq (k + 1) (length (word_of f))) (phase.TheVariants.BeforeCount f) (phase.TheVariants.Word f (k + 1)) (refl, λ h. refl) (refl, λ h. refl)) tt
+on_plan top (phase.TheVariants.BeforeCount f) b =
+    either_way (OnMove (phase.TheVariants.BeforeCount f)) (is_blank b) (To (phase.TheVariants.BeforeCount f)) _ (refl, λ h. refl) (on_count (phase.TheVariants.BeforeCount f) top f 0 b)
+on_plan top (phase.TheVariants.Count f n) b =
+    either_way (OnMove (phase.TheVariants.Count f n)) (is_digit b) _ _ (on_count (phase.TheVariants.Count f n) top f n b) (on_behind (phase.TheVariants.Count f n) f n b)
+on_plan top phase.TheVariants.Tail b = either_way (OnMove phase.TheVariants.Tail) (nat_eq b 10) EndTail (Keep b) tt refl
+on_plan top (phase.TheVariants.Between may) b =
+    either_way (OnMove (phase.TheVariants.Between may)) (is_white b) (To (phase.TheVariants.Between may)) _ (refl, λ h. h)
+    (either_way (OnMove (phase.TheVariants.Between may)) (nat_eq b 42) (To (phase.TheVariants.Comment may)) _ (refl, λ h. refl)
+    (either_way (OnMove (phase.TheVariants.Between may)) (nat_eq b 109 && may) (To (phase.TheVariants.Min 1)) (Give phase.TheVariants.Constraint) (refl, λ h. refl) (refl, λ h. refl)))
+on_plan top (phase.TheVariants.Comment may) b = either_way (OnMove (phase.TheVariants.Comment may)) (nat_eq b 10) (EndComment may) (Keep b) tt refl
+on_plan top (phase.TheVariants.Min k) b =
+    either_way (OnMove (phase.TheVariants.Min k)) (nat_eq b (slice_index min_word k)) _ Stop
+    (either_way (OnMove (phase.TheVariants.Min k)) (nat_eq (k + 1) (length min_word)) BeginSum (To (phase.TheVariants.Min (k + 1))) tt (refl, λ h. refl)) tt
+on_plan top phase.TheVariants.AfterMin b =
+    either_way (OnMove phase.TheVariants.AfterMin) (is_white b) (To phase.TheVariants.AfterMin) (Give phase.TheVariants.Objective) (refl, λ h. refl) (refl, λ h. refl)
+on_plan top phase.TheVariants.Objective b = (refl, λ h. refl)
+on_plan top phase.TheVariants.Constraint b = (refl, λ h. refl)
+on_plan top phase.TheVariants.Done b = tt
+
+-- what holds for the next state if the machine continues
+record Goes (s next : OpbState) : Type 0 where
+  pub owes : opb.done next ≡ false
+  pub stays : opb.begun s ≡ true → opb.begun next ≡ true
+  pub grows : opb.spent next ≤ opb.spent s + 1
+
+owing : (may : Bool) (n : ℕ) → is_within (phase_owing may n) ≡ false
+owing may zero = refl
+owing may (suc n) = refl
+
+sum_grows : (s : OpbState) (p : Phase) → IsState sums s.sums → GoesOn s.phase p → (b : ℕ) (n : Next SumState SumEvent) → sums.step s.sums b ≡ n → On (λ next. Goes s next) (λ next. opb.begun next ≡ false) (over s p n)
+sum_grows s p state g b (Go inner) e = record { owes = g.0; stays = g.1; grows = omega (arith, state.grows b inner e) }
+sum_grows s p state g b (End f inner) e = owing false (owed_after p s.owed)
+sum_grows s p state g b Refuse e = tt
+
+on_act : (s : OpbState) → IsState sums s.sums → (b : ℕ) (m : Move) → OnMove s.phase m → On (λ next. Goes s next) (λ next. opb.begun next ≡ false) (act s b m)
+on_act s state b (To p) h = record { owes = h.0; stays = h.1; grows = omega arith }
+on_act s state b (Declare n) h = record { owes = refl; stays = λ i. refl; grows = omega arith }
+on_act s state b (BeginTail n c) h = record { owes = refl; stays = λ i. refl; grows = omega arith }
+on_act s state b (Keep c) h = record { owes = h; stays = λ i. i; grows = omega (arith, length-append s.text (c ∷ [])) }
+on_act s state b (EndHeader n) h = owing true n
+on_act s state b EndTail h = owing true s.owed
+on_act s state b (EndComment may) h = owing may s.owed
+on_act s state b BeginSum h = record { owes = refl; stays = λ i. refl; grows = omega arith }
+on_act s state b (Give p) h = sum_grows s p state h b (sums.step s.sums b) refl
+on_act s state b Stop h = tt
+
+steps : (s : OpbState) → IsState sums s.sums → (b : ℕ) → On (λ next. Goes s next) (λ next. opb.begun next ≡ false) (opb.step s b)
+steps s state b = on_act s state b (plan s.top s.phase b) (on_plan s.top s.phase b)
+
+-- after the last constraint
+pub done_stops : (top : ℕ) (p : Phase) (b : ℕ) → is_done p ≡ true → plan top p b ≡ Stop
+done_stops top phase.TheVariants.Done b h = refl
+done_stops top _ b h = absurd (false≢true h)
+
+-- between two statements no number is being read, and nothing is stored
+pub outside : (s : OpbState) (p : Phase) → is_within p ≡ false → Holds s p → (is_in_number s p ≡ false) × IsIdle s
+outside s phase.TheVariants.Start h i = (refl, i)
+outside s (phase.TheVariants.BeforeWord f) h i = absurd (false≢true (sym h))
+outside s (phase.TheVariants.Word f k) h i = absurd (false≢true (sym h))
+outside s (phase.TheVariants.BeforeCount f) h i = absurd (false≢true (sym h))
+outside s (phase.TheVariants.Count f n) h i = absurd (false≢true (sym h))
+outside s phase.TheVariants.Tail h i = absurd (false≢true (sym h))
+outside s (phase.TheVariants.Between may) h i = (refl, i.1)
+outside s (phase.TheVariants.Comment may) h i = absurd (false≢true (sym h))
+outside s (phase.TheVariants.Min k) h i = absurd (false≢true (sym h))
+outside s phase.TheVariants.AfterMin h i = absurd (false≢true (sym h))
+outside s phase.TheVariants.Objective h i = absurd (false≢true (sym h))
+outside s phase.TheVariants.Constraint h i = absurd (false≢true (sym h))
+outside s phase.TheVariants.Done h i = (refl, i)
+
+nothing_spent : (s : OpbState) → IsIdle s → opb.spent s ≡ 0
+nothing_spent s (t, i) = rw (t, i) refl
+
+pub is_state : (s : OpbState) → IsInOrder s → IsState opb s
+is_state s h = record {
+  live = live s h;
+  ends = λ d b. ap (act s b) (done_stops s.top s.phase b d);
+  owes = λ b next e. (at_go (λ t. Goes s t) (λ t. opb.begun t ≡ false) (opb.step s b) next e (steps s h.state b)).owes;
+  stays = λ i b next e. (at_go (λ t. Goes s t) (λ t. opb.begun t ≡ false) (opb.step s b) next e (steps s h.state b)).stays i;
+  closes = λ b e next i. at_end (λ t. Goes s t) (λ t. opb.begun t ≡ false) (opb.step s b) e next i (steps s h.state b);
+  plain = λ o. (outside s s.phase o h.holds).0;
+  grows = λ b next e. (at_go (λ t. Goes s t) (λ t. opb.begun t ≡ false) (opb.step s b) next e (steps s h.state b)).grows;
+  bounds = omega (arith, h.state.bounds);
+  empties = λ o. nothing_spent s (outside s s.phase o h.holds).1;
+}

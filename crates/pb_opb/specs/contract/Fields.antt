@@ -1,0 +1,13 @@
+-- What a machine of instances stores.
+use Rattle.std.specs.Prelude.{◌≡◌}
+use Rattle.pb_text.specs.meaning.Limits.{largest, top_of}
+use Rattle.pb_opb.specs.engine.State.{OpbState}
+use Rattle.pb_opb.specs.declared.machine.OpbMachine.TheInside.{Inside}
+
+-- the state that its fields form
+abbrev pub state_of : Inside → OpbState
+state_of m = record { limit = largest m.limits; top = top_of m.limits; variables = m.variables; owed = m.owed; phase = m.phase; text = m.text; sums = m.sums }
+
+-- It stores nothing but its state, its limits and its allocator, as contracts see these.
+abbrev pub KeepsItsState : Type 0
+KeepsItsState = (a b : Inside) → a.alloc ≡ b.alloc → a.limits ≡ b.limits → state_of a ≡ state_of b → a ≡ b

@@ -1,0 +1,28 @@
+-- The laws of the format of instances.
+use Rattle.std.specs.Prelude.{ℕ, List, ◌↔◌}
+use Rattle.pb_text.specs.contract.Automaton.{Accepts}
+use Rattle.pb_text.specs.contract.FormatLaws.{IsOneText, FixesMarks, HasNoFront, Widens}
+use Rattle.pb_text.specs.meaning.Spelling.{Item}
+use Rattle.pb_opb.specs.meaning.Instances.{IsInstance}
+use Rattle.pb_opb.specs.engine.State.{opb, begin}
+use Rattle.pb_opb.specs.declared.event.OpbEvent.{OpbEvent}
+
+-- A new machine accepts the instances, and nothing else.
+abbrev pub ReadsInstances : Type 0
+ReadsInstances = (limit top : ℕ) (items : List (Item OpbEvent)) → Accepts opb (begin limit top) items ↔ IsInstance limit top items
+
+-- A text is the text of one instance only.
+abbrev pub OneInstance : Type 0
+OneInstance = IsOneText IsInstance
+
+-- In all instances whose texts begin with the same prefix, the spans that end within the prefix are the same.
+abbrev pub FixedMarks : Type 0
+FixedMarks = FixesMarks IsInstance
+
+-- No instance's text is a prefix of another's.
+abbrev pub NoFront : Type 0
+NoFront = HasNoFront IsInstance
+
+-- An instance remains an instance under larger limits.
+abbrev pub LargerLimits : Type 0
+LargerLimits = Widens IsInstance

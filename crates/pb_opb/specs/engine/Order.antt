@@ -1,0 +1,52 @@
+-- The invariant of the state of a machine of instances.
+use Rattle.std.specs.Prelude.{◌≡◌, ℕ, ◌<◌, ◌≤◌, ◌^◌, false, [], length}
+use Rattle.pb_text.specs.contract.Automaton.{IsState}
+use Rattle.pb_sums.specs.engine.State.{sums}
+use Rattle.pb_sums.specs.declared.Spaces.TheVariants.{White}
+use Rattle.pb_opb.specs.engine.Machine.{word_of}
+use Rattle.pb_opb.specs.engine.State.{OpbState, linears, objectives}
+use Rattle.pb_opb.specs.declared.phase.Phase.{Phase}
+use Rattle.pb_opb.specs.declared.phase.Phase as phase
+use Rattle.pb_opb.specs.declared.phase.Move.{Move}
+use Rattle.pb_opb.specs.declared.phase.Move.TheVariants.{To, Declare, BeginTail, EndHeader, Give}
+
+-- a word was not read to its end, and a count is at most top
+abbrev pub PhaseFits : ℕ → Phase → Type 0
+PhaseFits top (phase.TheVariants.Word f k) = k < length (word_of f)
+PhaseFits top (phase.TheVariants.Count f n) = n ≤ top
+PhaseFits top (phase.TheVariants.Min k) = (0 < k) × (k < 4)
+PhaseFits top _ = Unit {0}
+
+abbrev pub MoveFits : ℕ → Move → Type 0
+MoveFits top (To p) = PhaseFits top p
+MoveFits top (Declare n) = n ≤ top
+MoveFits top (BeginTail n b) = n ≤ top
+MoveFits top (EndHeader n) = n ≤ top
+MoveFits top (Give phase.TheVariants.Objective) = Unit {0}
+MoveFits top (Give phase.TheVariants.Constraint) = Unit {0}
+MoveFits top (Give _) = ⊥
+MoveFits top _ = Unit {0}
+
+-- no byte is stored, and the machine of sums is at its start
+abbrev pub IsIdle : OpbState → Type 0
+IsIdle s = (s.text ≡ []) × (s.sums ≡ linears s.limit)
+
+-- what holds with each phase
+abbrev pub Holds : OpbState → Phase → Type 0
+Holds s phase.TheVariants.Tail = s.sums ≡ linears s.limit
+Holds s (phase.TheVariants.Between may) = (0 < s.owed) × IsIdle s
+Holds s (phase.TheVariants.Comment may) = (0 < s.owed) × (s.sums ≡ linears s.limit)
+Holds s (phase.TheVariants.Min k) = (0 < s.owed) × IsIdle s
+Holds s phase.TheVariants.AfterMin = (0 < s.owed) × (s.text ≡ []) × (s.sums ≡ objectives s.limit)
+Holds s phase.TheVariants.Objective = (0 < s.owed) × (s.text ≡ []) × (sums.done s.sums ≡ false)
+Holds s phase.TheVariants.Constraint = (0 < s.owed) × (s.text ≡ []) × (sums.done s.sums ≡ false)
+Holds s _ = IsIdle s
+
+pub record IsInOrder (s : OpbState) : Type 0 where
+  pub limit : s.limit < 2 ^ 127
+  pub top : s.top < 2 ^ 63
+  pub fits : PhaseFits s.top s.phase
+  pub holds : Holds s s.phase
+  pub spaces : s.sums.spaces ≡ White
+  pub limits : s.sums.limit ≡ s.limit
+  pub state : IsState sums s.sums

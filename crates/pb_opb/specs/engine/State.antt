@@ -1,0 +1,147 @@
+-- The states of a machine of instances, and its automaton.
+use Rattle.std.specs.Prelude.{ℕ, zero, suc, ◌+◌, ◌-◌, ◌^◌, min, Bool, true, false, List, [], ◌∷◌, ◌++◌, length}
+use Rattle.pb_text.specs.contract.Automaton.{Automaton, Next, Go, End, Refuse}
+use Rattle.pb_sums.specs.engine.State.{SumState, sums, first}
+use Rattle.pb_sums.specs.declared.Spaces.TheVariants.{White}
+use Rattle.pb_sums.specs.declared.Part as part
+use Rattle.pb_sums.specs.declared.SumEvent.{SumEvent}
+use Rattle.pb_sums.specs.declared.SumEvent as sum
+use Rattle.pb_opb.specs.engine.Machine.{plan}
+use Rattle.pb_opb.specs.declared.event.OpbEvent.{OpbEvent}
+use Rattle.pb_opb.specs.declared.event.OpbEvent as event
+use Rattle.pb_opb.specs.declared.phase.Field as field
+use Rattle.pb_opb.specs.declared.phase.Phase.{Phase}
+use Rattle.pb_opb.specs.declared.phase.Phase as phase
+use Rattle.pb_opb.specs.declared.phase.Move.{Move}
+use Rattle.pb_opb.specs.declared.phase.Move.TheVariants.{To, Declare, BeginTail, Keep, EndHeader, EndTail, EndComment, BeginSum, Give, Stop}
+
+-- what a machine stores: its limits, the counts of its header, the phase, the bytes of a tail or a comment, and the
+-- machine of sums
+pub record OpbState : Type 0 where
+  pub limit : ℕ
+  pub top : ℕ
+  pub variables : ℕ
+  -- constraints that are still to come
+  pub owed : ℕ
+  pub phase : Phase
+  pub text : List ℕ
+  pub sums : SumState
+
+abbrev pub linears : ℕ → SumState
+linears limit = first White part.TheVariants.Linear limit
+
+abbrev pub objectives : ℕ → SumState
+objectives limit = first White part.TheVariants.Sum limit
+
+-- before an instance
+abbrev pub begin : ℕ → ℕ → OpbState
+begin limit top = record {
+  limit = limit;
+  top = top;
+  variables = 0;
+  owed = 0;
+  phase = phase.TheVariants.Start;
+  text = [];
+  sums = linears limit;
+}
+
+-- the phase with this many constraints to come
+abbrev pub phase_owing : Bool → ℕ → Phase
+phase_owing may zero = phase.TheVariants.Done
+phase_owing may (suc n) = phase.TheVariants.Between may
+
+-- between two statements
+abbrev pub between : OpbState → Bool → ℕ → OpbState
+between s may owed = record {
+  limit = s.limit;
+  top = s.top;
+  variables = s.variables;
+  owed = owed;
+  phase = phase_owing may owed;
+  text = [];
+  sums = linears s.limit;
+}
+
+abbrev pub at : OpbState → Phase → OpbState
+at s p = record s { phase = p }
+
+abbrev pub keeping : OpbState → Phase → List ℕ → OpbState
+keeping s p text = record s { phase = p; text = text }
+
+abbrev pub giving : OpbState → Phase → SumState → OpbState
+giving s p inner = record s { phase = p; sums = inner }
+
+-- the statement for a sum or a linear text
+abbrev pub statement_of : SumEvent → OpbEvent
+statement_of (sum.TheVariants.Sum terms) = event.TheVariants.Objective terms
+statement_of (sum.TheVariants.Linear linear) = event.TheVariants.Constraint linear
+
+-- how many constraints are to come after an objective, and after a constraint
+abbrev pub owed_after : Phase → ℕ → ℕ
+owed_after phase.TheVariants.Objective owed = owed
+owed_after _ owed = owed - 1
+
+-- after an objective or a constraint
+abbrev pub after : OpbState → Phase → OpbState
+after s p = between s false (owed_after p s.owed)
+
+abbrev pub over : OpbState → Phase → Next SumState SumEvent → Next OpbState OpbEvent
+over s p (Go inner) = Go (giving s p inner)
+over s p (End e inner) = End (statement_of e) (after s p)
+over s p Refuse = Refuse
+
+abbrev pub act : OpbState → ℕ → Move → Next OpbState OpbEvent
+act s b (To p) = Go (at s p)
+act s b (Declare n) = Go (record s { variables = n; phase = phase.TheVariants.BeforeWord field.TheVariants.Constraints })
+act s b (BeginTail n c) = Go (record s { owed = n; phase = phase.TheVariants.Tail; text = c ∷ [] })
+act s b (Keep c) = Go (record s { text = s.text ++ c ∷ [] })
+act s b (EndHeader n) = End (event.TheVariants.Header s.variables n []) (between s true n)
+act s b EndTail = End (event.TheVariants.Header s.variables s.owed s.text) (between s true s.owed)
+act s b (EndComment may) = End (event.TheVariants.Comment s.text) (between s may s.owed)
+act s b BeginSum = Go (giving s phase.TheVariants.AfterMin (objectives s.limit))
+act s b (Give p) = over s p (sums.step s.sums b)
+act s b Stop = Refuse
+
+abbrev pub step : OpbState → ℕ → Next OpbState OpbEvent
+step s b = act s b (plan s.top s.phase b)
+
+-- a statement has begun and not ended
+abbrev pub is_within : Phase → Bool
+is_within phase.TheVariants.Start = false
+is_within (phase.TheVariants.Between may) = false
+is_within phase.TheVariants.Done = false
+is_within _ = true
+
+abbrev pub is_done : Phase → Bool
+is_done phase.TheVariants.Done = true
+is_done _ = false
+
+-- bytes up to a line feed are stored
+abbrev pub keeps_line : Phase → Bool
+keeps_line phase.TheVariants.Tail = true
+keeps_line (phase.TheVariants.Comment may) = true
+keeps_line _ = false
+
+abbrev pub is_in_number : OpbState → Phase → Bool
+is_in_number s (phase.TheVariants.Count f n) = true
+is_in_number s phase.TheVariants.Objective = sums.in_number s.sums
+is_in_number s phase.TheVariants.Constraint = sums.in_number s.sums
+is_in_number s _ = false
+
+-- whether a byte is stored, or given to the machine of sums, which may allocate at it
+abbrev pub asks : OpbState → ℕ → Move → Bool
+asks s b (BeginTail n c) = true
+asks s b (Keep c) = true
+asks s b (Give p) = sums.asks s.sums b
+asks s b _ = false
+
+abbrev pub opb : Automaton OpbState OpbEvent
+opb = record {
+  step = step;
+  done = λ s. is_done s.phase;
+  begun = λ s. is_within s.phase;
+  in_number = λ s. is_in_number s s.phase;
+  asks = λ s b. asks s b (plan s.top s.phase b);
+  kept = λ s. min (length s.text + sums.kept s.sums) (2 ^ 64 - 1);
+  spent = λ s. length s.text + sums.spent s.sums;
+}

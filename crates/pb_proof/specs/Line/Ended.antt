@@ -1,8 +1,0 @@
--- Lines with a line feed after each.
-use Rattle.std.specs.Prelude.{ℕ, List, [], ◌∷◌, ◌++◌}
-use Rattle.pb_proof.specs.Canonical.{statement_bytes}
-use Rattle.pb_proof.specs.declared.statement.Statement.{Statement}
-
-unfoldable pub ended_lines : List Statement → List ℕ
-ended_lines [] = []
-ended_lines (s ∷ statements) = (statement_bytes s ++ (10 ∷ [])) ++ ended_lines statements

@@ -1,0 +1,28 @@
+-- The laws of the format of proofs.
+use Rattle.std.specs.Prelude.{ℕ, List, ◌↔◌}
+use Rattle.pb_text.specs.contract.Automaton.{Accepts}
+use Rattle.pb_text.specs.contract.FormatLaws.{IsOneText, FixesMarks, HasNoFront, Widens}
+use Rattle.pb_text.specs.meaning.Spelling.{Item}
+use Rattle.pb_proof.specs.meaning.Proofs.{IsProof}
+use Rattle.pb_proof.specs.engine.Machine.State.{proofs, begin}
+use Rattle.pb_proof.specs.declared.statement.Statement.{Statement}
+
+-- A new machine accepts exactly the proofs.
+abbrev pub ReadsProofs : Type 0
+ReadsProofs = (limit top : ℕ) (items : List (Item Statement)) → Accepts proofs (begin limit top) items ↔ IsProof limit top items
+
+-- A text is the text of at most one proof.
+abbrev pub OneProof : Type 0
+OneProof = IsOneText IsProof
+
+-- In all texts that begin with the same prefix, the spans that end within it are the same.
+abbrev pub FixedMarks : Type 0
+FixedMarks = FixesMarks IsProof
+
+-- No proof is a prefix of another.
+abbrev pub NoFront : Type 0
+NoFront = HasNoFront IsProof
+
+-- A proof under limits is a proof under larger limits.
+abbrev pub LargerLimits : Type 0
+LargerLimits = Widens IsProof

@@ -1,0 +1,90 @@
+-- The machine for the rest of a line after `f`: a count or none, through the line feed.
+use Rattle.std.specs.Prelude.{◌≡◌, ℕ, ◌+◌, ◌*◌, ◌^◌, ◌≤◌, ◌<◌, Bool, true, false, cond, nat_le, Option, Some, None}
+use Rattle.pb_text.specs.contract.Automaton.{Automaton, Next, Go, End, Refuse}
+use Rattle.pb_proof.specs.engine.Line.ByteKind.{number_byte}
+use Rattle.pb_proof.specs.declared.line.byte_kind.NumberByte.{NumberByte}
+use Rattle.pb_proof.specs.declared.line.byte_kind.NumberByte.TheVariants.{Blank, Digit, Semicolon, Feed}
+use Rattle.pb_proof.specs.declared.line.count.phase.CountPhase.{CountPhase}
+use Rattle.pb_proof.specs.declared.line.count.phase.CountPhase.TheVariants.{Start, Gap, Digits, Tail, Closing, Done}
+use Rattle.pb_proof.specs.declared.line.count.phase.CountMove.{CountMove}
+use Rattle.pb_proof.specs.declared.line.count.phase.CountMove as move
+
+-- the largest count, and what was read last
+pub record CountState : Type 0 where
+  pub top : ℕ
+  pub phase : CountPhase
+
+abbrev pub at : ℕ → CountPhase → CountState
+at top p = record { top = top; phase = p }
+
+-- before the text after `f`, and after that text
+abbrev pub counting : ℕ → CountState
+counting top = at top Start
+
+abbrev pub count_last : ℕ → CountState
+count_last top = at top Done
+
+-- the action for the next digit of a count
+abbrev pub digits : ℕ → ℕ → ℕ → CountMove
+digits top n d = cond (nat_le (10 * n + d) top) (move.TheVariants.To (Digits (10 * n + d))) move.TheVariants.Stop
+
+-- the action for a byte at which the line may end, with a count or none
+abbrev pub behind : Option ℕ → CountPhase → NumberByte → CountMove
+behind count gap Blank = move.TheVariants.To gap
+behind count gap Semicolon = move.TheVariants.To (Closing count)
+behind count gap Feed = move.TheVariants.End count
+behind count gap _ = move.TheVariants.Stop
+
+abbrev pub plan : ℕ → CountPhase → NumberByte → CountMove
+plan top Start k = behind None Gap k
+plan top Gap (Digit d) = digits top 0 d
+plan top Gap k = behind None Gap k
+plan top (Digits n) (Digit d) = digits top n d
+plan top (Digits n) k = behind (Some n) (Tail n) k
+plan top (Tail n) k = behind (Some n) (Tail n) k
+plan top (Closing count) Blank = move.TheVariants.To (Closing count)
+plan top (Closing count) Feed = move.TheVariants.End count
+plan _ _ _ = move.TheVariants.Stop
+
+abbrev pub act : ℕ → CountMove → Next CountState (Option ℕ)
+act top (move.TheVariants.To p) = Go (at top p)
+act top (move.TheVariants.End count) = End count (count_last top)
+act top move.TheVariants.Stop = Refuse
+
+abbrev pub is_midway : CountPhase → Bool
+is_midway Start = false
+is_midway Done = false
+is_midway _ = true
+
+abbrev pub is_done : CountPhase → Bool
+is_done Done = true
+is_done _ = false
+
+abbrev pub is_in_number : CountPhase → Bool
+is_in_number (Digits n) = true
+is_in_number _ = false
+
+-- the automaton: it stores nothing
+abbrev pub count_automaton : Automaton CountState (Option ℕ)
+count_automaton = record {
+  step = λ s b. act s.top (plan s.top s.phase (number_byte b));
+  done = λ s. is_done s.phase;
+  begun = λ s. is_midway s.phase;
+  in_number = λ s. is_in_number s.phase;
+  asks = λ s b. false;
+  kept = λ s. 0;
+  spent = λ s. 0;
+}
+
+-- a count that is being read is at most top
+abbrev pub PhaseFits : ℕ → CountPhase → Type 0
+PhaseFits top (Digits n) = n ≤ top
+PhaseFits top _ = Unit {0}
+
+abbrev pub MoveFits : ℕ → CountMove → Type 0
+MoveFits top (move.TheVariants.To p) = PhaseFits top p × (is_midway p ≡ true)
+MoveFits top _ = Unit {0}
+
+-- the invariant of a machine
+abbrev pub IsCountInOrder : CountState → Type 0
+IsCountInOrder s = (s.top < 2 ^ 63) × PhaseFits s.top s.phase

@@ -1,0 +1,120 @@
+-- The machine for the ids after `del id`, through the line feed.
+use Rattle.std.specs.Prelude.{◌≡◌, ℕ, ◌+◌, ◌*◌, ◌-◌, ◌^◌, ◌≤◌, ◌<◌, min, ℤ, Bool, true, false, cond, nat_eq, nat_le, List, [], ◌∷◌, ◌++◌, length}
+use Rattle.pb_text.specs.contract.Automaton.{Automaton, Next, Go, End, Refuse}
+use Rattle.pb_text.specs.meaning.Numbers.{signed}
+use Rattle.pb_proof.specs.engine.Line.ByteKind.{number_byte}
+use Rattle.pb_proof.specs.declared.line.byte_kind.NumberByte.{NumberByte}
+use Rattle.pb_proof.specs.declared.line.byte_kind.NumberByte.TheVariants as kind
+use Rattle.pb_proof.specs.declared.line.ids.phase.IdsPhase.{IdsPhase}
+use Rattle.pb_proof.specs.declared.line.ids.phase.IdsPhase.TheVariants.{Start, Gap, Between, Minus, Digits, Closing, Done}
+use Rattle.pb_proof.specs.declared.line.ids.phase.IdsMove.{IdsMove}
+use Rattle.pb_proof.specs.declared.line.ids.phase.IdsMove.TheVariants as move
+
+-- the largest magnitude of an id, the ids that are complete, and what was read last
+pub record IdsState : Type 0 where
+  pub top : ℕ
+  pub ids : List ℤ
+  pub phase : IdsPhase
+
+abbrev pub ids_at : ℕ → List ℤ → IdsPhase → IdsState
+ids_at top ids p = record { top = top; ids = ids; phase = p }
+
+-- before the ids, and after them
+abbrev pub ids_first : ℕ → IdsState
+ids_first top = ids_at top [] Start
+
+abbrev pub ids_last : ℕ → IdsState
+ids_last top = ids_at top [] Done
+
+-- the action for the next digit of an id
+abbrev pub digits : ℕ → Bool → ℕ → ℕ → IdsMove
+digits top negative n d = cond (nat_le (10 * n + d) top) (move.To (Digits negative (10 * n + d))) move.Stop
+
+-- the action for a byte at which an id may begin
+abbrev pub before : ℕ → NumberByte → IdsMove
+before top kind.Minus = move.To Minus
+before top (kind.Digit d) = digits top false 0 d
+before top _ = move.Stop
+
+-- the action for a byte at which an id may end
+abbrev pub behind : ℤ → NumberByte → IdsMove
+behind id kind.Blank = move.Keep Between id
+behind id kind.Semicolon = move.Keep Closing id
+behind id kind.Feed = move.EndWith id
+behind id _ = move.Stop
+
+abbrev pub plan : ℕ → IdsPhase → NumberByte → IdsMove
+plan top Start kind.Blank = move.To Gap
+plan top Gap kind.Blank = move.To Gap
+plan top Gap k = before top k
+plan top Between kind.Blank = move.To Between
+plan top Between kind.Semicolon = move.To Closing
+plan top Between kind.Feed = move.End
+plan top Between k = before top k
+plan top Minus (kind.Digit d) = digits top true 0 d
+plan top (Digits negative n) (kind.Digit d) = digits top negative n d
+plan top (Digits negative n) k = cond (nat_eq n 0) move.Stop (behind (signed negative n) k)
+plan top Closing kind.Blank = move.To Closing
+plan top Closing kind.Feed = move.End
+plan _ _ _ = move.Stop
+
+abbrev pub act : ℕ → List ℤ → IdsMove → Next IdsState (List ℤ)
+act top ids (move.To p) = Go (ids_at top ids p)
+act top ids (move.Keep p id) = Go (ids_at top (ids ++ id ∷ []) p)
+act top ids move.End = End ids (ids_last top)
+act top ids (move.EndWith id) = End (ids ++ id ∷ []) (ids_last top)
+act top ids move.Stop = Refuse
+
+abbrev pub step : IdsState → NumberByte → Next IdsState (List ℤ)
+step s k = act s.top s.ids (plan s.top s.phase k)
+
+abbrev pub is_midway : IdsPhase → Bool
+is_midway Start = false
+is_midway Done = false
+is_midway _ = true
+
+abbrev pub is_done : IdsPhase → Bool
+is_done Done = true
+is_done _ = false
+
+abbrev pub is_in_number : IdsPhase → Bool
+is_in_number (Digits negative n) = true
+is_in_number _ = false
+
+-- an id may begin
+abbrev pub begins_id : IdsPhase → Bool
+begins_id Gap = true
+begins_id Between = true
+begins_id _ = false
+
+-- whether the machine may allocate: at a byte that ends an id
+abbrev pub keeps : IdsMove → Bool
+keeps (move.Keep p id) = true
+keeps (move.EndWith id) = true
+keeps _ = false
+
+-- the automaton: it stores ids, and their count saturates
+abbrev pub ids_automaton : Automaton IdsState (List ℤ)
+ids_automaton = record {
+  step = λ s b. step s (number_byte b);
+  done = λ s. is_done s.phase;
+  begun = λ s. is_midway s.phase;
+  in_number = λ s. is_in_number s.phase;
+  asks = λ s b. keeps (plan s.top s.phase (number_byte b));
+  kept = λ s. min (length s.ids) (2 ^ 64 - 1);
+  spent = λ s. length s.ids;
+}
+
+-- an id that is being read is at most top
+abbrev pub PhaseFits : ℕ → IdsPhase → Type 0
+PhaseFits top (Digits negative n) = n ≤ top
+PhaseFits top _ = Unit {0}
+
+abbrev pub MoveFits : ℕ → IdsMove → Type 0
+MoveFits top (move.To p) = PhaseFits top p × (is_midway p ≡ true)
+MoveFits top (move.Keep p id) = PhaseFits top p × (is_midway p ≡ true)
+MoveFits top _ = Unit {0}
+
+-- The invariant of a machine: some id is within top, and no id is stored before the ids and after them.
+abbrev pub IsIdsInOrder : IdsState → Type 0
+IsIdsInOrder s = (s.top < 2 ^ 63) × (0 < s.top) × PhaseFits s.top s.phase × (is_midway s.phase ≡ false → s.ids ≡ [])

@@ -1,0 +1,106 @@
+-- The machine for a goal: blanks, a constraint, and the end of its line.
+use Rattle.std.specs.Prelude.{◌≡◌, ℕ, pos, ◌+◌, ◌-◌, ◌^◌, min, Bool, true, false, cond, nat_eq, Option, Some, None}
+use Rattle.pb_text.specs.contract.Automaton.{Automaton, Next, Go, End, Refuse, IsState}
+use Rattle.pb_text.specs.meaning.Classes.{is_blank}
+use Rattle.pb_sums.specs.engine.State.{SumState, sums, first, last, units}
+use Rattle.pb_sums.specs.declared.Linear.{Linear}
+use Rattle.pb_sums.specs.declared.Relation.TheVariants.{AtLeast}
+use Rattle.pb_sums.specs.declared.Spaces.TheVariants.{Blank}
+use Rattle.pb_sums.specs.declared.Part as part
+use Rattle.pb_sums.specs.declared.SumEvent.{SumEvent}
+use Rattle.pb_sums.specs.declared.SumEvent as sum
+use Rattle.pb_proof.specs.declared.line.rup.phase.RupPhase.{RupPhase}
+use Rattle.pb_proof.specs.declared.line.rup.phase.RupPhase.TheVariants.{Start, Gap, Inside, Tail, Done}
+use Rattle.pb_proof.specs.declared.line.rup.phase.RupMove.{RupMove}
+use Rattle.pb_proof.specs.declared.line.rup.phase.RupMove.TheVariants.{To, Give, Finish, Stop}
+
+-- what was read last, the machine for sums, and the constraint that it has read
+pub record RupState : Type 0 where
+  pub phase : RupPhase
+  pub sums : SumState
+  pub linear : Option Linear
+
+-- before a constraint, and after it
+abbrev pub sum_first : ℕ → SumState
+sum_first limit = first Blank part.TheVariants.AtLeast limit
+
+abbrev pub sum_last : ℕ → SumState
+sum_last limit = last Blank part.TheVariants.AtLeast limit
+
+abbrev pub rup_first : ℕ → RupState
+rup_first limit = record { phase = Start; sums = sum_first limit; linear = None }
+
+abbrev pub rup_last : ℕ → RupState
+rup_last limit = record { phase = Done; sums = sum_last limit; linear = None }
+
+abbrev pub rup_plan : RupPhase → ℕ → RupMove
+rup_plan Start b = cond (is_blank b) (To Gap) Stop
+rup_plan Gap b = cond (is_blank b) (To Gap) Give
+rup_plan Inside b = Give
+rup_plan Tail b = cond (is_blank b) (To Tail) (cond (nat_eq b 10) Finish Stop)
+rup_plan Done b = Stop
+
+-- the constraint that a machine for sums has read; in a goal, it never reads a sum without a relation
+abbrev pub linear_of : SumEvent → Linear
+linear_of (sum.TheVariants.Linear c) = c
+linear_of (sum.TheVariants.Sum terms) = record { terms = terms; relation = AtLeast; degree = pos 0 }
+
+abbrev pub rup_over : RupState → Next SumState SumEvent → Next RupState Linear
+rup_over s (Go inner) = Go (record s { phase = Inside; sums = inner })
+rup_over s (End e inner) = Go (record { phase = Tail; sums = inner; linear = Some (linear_of e) })
+rup_over s Refuse = Refuse
+
+abbrev pub rup_finish : RupState → Option Linear → Next RupState Linear
+rup_finish s None = Refuse
+rup_finish s (Some c) = End c (record s { phase = Done; linear = None })
+
+abbrev pub rup_act : RupState → ℕ → RupMove → Next RupState Linear
+rup_act s b (To p) = Go (record s { phase = p })
+rup_act s b Give = rup_over s (sums.step s.sums b)
+rup_act s b Finish = rup_finish s s.linear
+rup_act s b Stop = Refuse
+
+abbrev pub rup_midway : RupPhase → Bool
+rup_midway Start = false
+rup_midway Done = false
+rup_midway _ = true
+
+abbrev pub rup_done : RupPhase → Bool
+rup_done Done = true
+rup_done _ = false
+
+abbrev pub rup_in_number : RupState → RupPhase → Bool
+rup_in_number s Inside = sums.in_number s.sums
+rup_in_number s _ = false
+
+abbrev pub rup_asks : RupState → ℕ → RupMove → Bool
+rup_asks s b Give = sums.asks s.sums b
+rup_asks s b _ = false
+
+-- the number of literals of the constraint that has been read, plus the number of bytes of their names
+abbrev pub units_in : Option Linear → ℕ
+units_in None = 0
+units_in (Some c) = units c.terms
+
+abbrev pub rup_automaton : Automaton RupState Linear
+rup_automaton = record {
+  step = λ s b. rup_act s b (rup_plan s.phase b);
+  done = λ s. rup_done s.phase;
+  begun = λ s. rup_midway s.phase;
+  in_number = λ s. rup_in_number s s.phase;
+  asks = λ s b. rup_asks s b (rup_plan s.phase b);
+  kept = λ s. min (units_in s.linear + sums.kept s.sums) (2 ^ 64 - 1);
+  spent = λ s. units_in s.linear + sums.spent s.sums;
+}
+
+-- What holds in each phase, as a part of the invariant.
+abbrev pub RupHolds : RupState → RupPhase → Type 0
+RupHolds s Start = (s.linear ≡ None) × (s.sums ≡ sum_first s.sums.limit)
+RupHolds s Gap = (s.linear ≡ None) × (s.sums ≡ sum_first s.sums.limit)
+RupHolds s Inside = (s.linear ≡ None) × (sums.done s.sums ≡ false)
+RupHolds s Tail = ((c : Linear) × (s.linear ≡ Some c)) × (sums.spent s.sums ≡ 0)
+RupHolds s Done = (s.linear ≡ None) × (sums.spent s.sums ≡ 0)
+
+pub record IsRupInOrder (s : RupState) : Type 0 where
+  pub holds : RupHolds s s.phase
+  pub state : IsState sums s.sums

@@ -1,0 +1,55 @@
+-- Where reading a proof may allocate, in terms of a statement, its bytes so far and the next byte.
+use Rattle.std.specs.Prelude.{◌≡◌, ℕ, false, List, [], ◌∷◌, ◌++◌, IsTrue, ◌⊎◌, Some}
+use Rattle.pb_text.specs.meaning.Classes.{is_digit, is_name_byte}
+use Rattle.pb_text.specs.meaning.Languages.{Language, ◌⋅◌, Bytes, Blanks1}
+use Rattle.pb_text.specs.meaning.Spelling.{Letter, bytes}
+use Rattle.pb_sums.specs.meaning.Asking.{EndsIn, AsksLiteral}
+use Rattle.pb_proof.specs.meaning.Lines.{pol_word, rup_word, soli_word, solx_word, del_word, id_word, conclusion_word}
+use Rattle.pb_proof.specs.declared.conclusion.Conclusion.{Conclusion}
+use Rattle.pb_proof.specs.declared.conclusion.Conclusion.TheVariants.{Sat, Bounds}
+use Rattle.pb_proof.specs.declared.statement.Statement.{Statement}
+use Rattle.pb_proof.specs.declared.statement.Statement.TheVariants.{Pol, Rup, Soli, Solx, Delete, Conclude}
+
+-- The next byte ends a number: it comes after a digit and is not a digit.
+abbrev pub EndsNumber : List ℕ → ℕ → Type 0
+EndsNumber text b = (d : ℕ) × EndsIn text (d ∷ []) × IsTrue (is_digit d) × (is_digit b ≡ false)
+
+-- The next byte is `+`, or it comes after an `s` and is not a byte of a name.
+abbrev pub AsksOperator : List ℕ → ℕ → Type 0
+AsksOperator text b = (b ≡ 43) ⊎ (EndsIn text (115 ∷ []) × (is_name_byte b ≡ false))
+
+-- a byte of a name, a byte after a literal or a number, or an operator
+abbrev pub AsksWord : List ℕ → ℕ → Type 0
+AsksWord text b = AsksLiteral text b ⊎ EndsNumber text b ⊎ AsksOperator text b
+
+-- after the `:` before literals that are given
+abbrev pub AsksShown : List ℕ → ℕ → Type 0
+AsksShown text b = (claim : List ℕ) × (shown : List ℕ) × (text ≡ claim ++ 58 ∷ shown) × AsksLiteral shown b
+
+abbrev pub AsksClaim : Conclusion → List ℕ → ℕ → Type 0
+AsksClaim (Sat (Some literals)) text b = AsksShown text b
+AsksClaim (Bounds lower id upper (Some literals)) text b = AsksShown text b
+AsksClaim _ text b = ⊥
+
+-- after the first word of a statement
+abbrev pub AsksBehind : Statement → List ℕ → ℕ → Type 0
+AsksBehind (Pol ws) text b = AsksWord text b
+AsksBehind (Rup c) text b = AsksLiteral text b
+AsksBehind (Soli literals) text b = AsksLiteral text b
+AsksBehind (Solx literals) text b = AsksLiteral text b
+AsksBehind (Delete ids) text b = EndsNumber text b
+AsksBehind (Conclude c) text b = AsksClaim c text b
+AsksBehind _ text b = ⊥
+
+-- the first word of a statement that may allocate
+abbrev pub FirstWord : Statement → Language
+FirstWord (Pol ws) = Bytes pol_word
+FirstWord (Rup c) = Bytes rup_word
+FirstWord (Soli literals) = Bytes soli_word
+FirstWord (Solx literals) = Bytes solx_word
+FirstWord (Delete ids) = Bytes del_word ⋅ Blanks1 ⋅ Bytes id_word
+FirstWord (Conclude c) = Bytes conclusion_word
+FirstWord _ = λ t. ⊥
+
+abbrev pub Asks : Statement → List ℕ → ℕ → Type 0
+Asks s text b = (word : List Letter) × (more : List ℕ) × FirstWord s word × (text ≡ bytes word ++ more) × AsksBehind s more b

@@ -1,0 +1,173 @@
+-- The statements of a proof, and their texts.
+use Rattle.std.specs.Prelude.{◌≡◌, ℕ, ℤ, pos, ◌<◌, ◌≤◌, Bool, true, false, List, [], ◌∷◌, length, ◌⊎◌, Option, Some, None, codes}
+use Rattle.pb_text.specs.meaning.Languages.{Language, ◌⋅◌, Empty, Byte, Bytes, Blanks0, Blanks1}
+use Rattle.pb_text.specs.meaning.Numbers.{Digits, Number, Count, signed}
+use Rattle.pb_sums.specs.meaning.Sums.{IsName, SpellsLiteral, SpellsLinear}
+use Rattle.pb_sums.specs.declared.Literal.{Literal}
+use Rattle.pb_sums.specs.declared.Linear.{Linear}
+use Rattle.pb_sums.specs.declared.Relation.TheVariants.{AtLeast}
+use Rattle.pb_sums.specs.declared.Spaces.TheVariants.{Blank}
+use Rattle.pb_proof.specs.meaning.Postfix.{IsPostfix}
+use Rattle.pb_proof.specs.declared.word.PolWord.{PolWord}
+use Rattle.pb_proof.specs.declared.word.PolWord.TheVariants.{Id, Axiom, Add, Multiply, Divide, Saturate, Weaken}
+use Rattle.pb_proof.specs.declared.conclusion.Bound.{Bound}
+use Rattle.pb_proof.specs.declared.conclusion.Bound.TheVariants.{Finite, Infinite}
+use Rattle.pb_proof.specs.declared.conclusion.Conclusion.{Conclusion}
+use Rattle.pb_proof.specs.declared.conclusion.Conclusion.TheVariants.{NoClaim, Unsat, Sat, Bounds}
+use Rattle.pb_proof.specs.declared.statement.Statement.{Statement}
+use Rattle.pb_proof.specs.declared.statement.Statement.TheVariants.{Header, F, Pol, Rup, Soli, Solx, Delete, Output, Conclude, End}
+
+-- The fixed words.
+abbrev pub pseudo_word : List ℕ
+pseudo_word = codes "pseudo-Boolean"
+
+abbrev pub proof_word : List ℕ
+proof_word = codes "proof"
+
+abbrev pub version_word : List ℕ
+version_word = codes "version"
+
+abbrev pub two_word : List ℕ
+two_word = codes "2.0"
+
+abbrev pub f_word : List ℕ
+f_word = codes "f"
+
+abbrev pub pol_word : List ℕ
+pol_word = codes "pol"
+
+abbrev pub rup_word : List ℕ
+rup_word = codes "rup"
+
+abbrev pub soli_word : List ℕ
+soli_word = codes "soli"
+
+abbrev pub solx_word : List ℕ
+solx_word = codes "solx"
+
+abbrev pub del_word : List ℕ
+del_word = codes "del"
+
+abbrev pub id_word : List ℕ
+id_word = codes "id"
+
+abbrev pub output_word : List ℕ
+output_word = codes "output"
+
+abbrev pub conclusion_word : List ℕ
+conclusion_word = codes "conclusion"
+
+abbrev pub end_word : List ℕ
+end_word = codes "end"
+
+abbrev pub none_word : List ℕ
+none_word = codes "NONE"
+
+abbrev pub unsat_word : List ℕ
+unsat_word = codes "UNSAT"
+
+abbrev pub sat_word : List ℕ
+sat_word = codes "SAT"
+
+abbrev pub bounds_word : List ℕ
+bounds_word = codes "BOUNDS"
+
+abbrev pub inf_word : List ℕ
+inf_word = codes "INF"
+
+-- blank* and a line feed
+abbrev pub Feed : Language
+Feed = Blanks0 ⋅ Byte 10
+
+-- a line feed, with or without blanks and one `;` before it
+abbrev pub LineEnd : Language
+LineEnd = λ t. Feed t ⊎ (Blanks0 ⋅ Byte 59 ⋅ Feed) t
+
+-- each with blank+ before it
+abbrev pub Listed : {A : Type 0} → (A → Language) → List A → Language
+Listed P [] = Empty
+Listed P (x ∷ xs) = Blanks1 ⋅ P x ⋅ Listed P xs
+
+-- `-` if it is negative
+abbrev pub Minus : Bool → Language
+Minus true = Byte 45
+Minus false = Empty
+
+-- an id: digits, and `-` before them if it counts back
+abbrev pub SpellsId : ℕ → ℤ → Language
+SpellsId top id = λ t. (negative : Bool) × (n : ℕ) × (0 < n) × (n ≤ top) × (id ≡ signed negative n) × (Minus negative ⋅ Digits n) t
+
+-- a factor or a divisor: digits
+abbrev pub Factor : ℕ → ℤ → Language
+Factor limit k = λ t. (n : ℕ) × (0 < n) × (n ≤ limit) × (k ≡ pos n) × Digits n t
+
+abbrev pub SpellsBound : ℕ → Bound → Language
+SpellsBound limit (Finite z) = Number limit z
+SpellsBound limit Infinite = Bytes inf_word
+
+-- `:`, and literals with blank+ between them
+abbrev pub SpellsShown : List Literal → Language
+SpellsShown [] = Byte 58
+SpellsShown (l ∷ ls) = Byte 58 ⋅ Blanks0 ⋅ SpellsLiteral l ⋅ Listed SpellsLiteral ls
+
+-- nothing, or `:` and literals
+abbrev pub Shown : Option (List Literal) → Language
+Shown None = Empty
+Shown (Some ls) = Blanks0 ⋅ SpellsShown ls
+
+module _ (limit top : ℕ) where
+  -- nothing, or `:` and an id
+  abbrev pub IdShown : Option ℤ → Language
+  IdShown None = Empty
+  IdShown (Some id) = Blanks0 ⋅ Byte 58 ⋅ Blanks0 ⋅ SpellsId top id
+
+  -- a word of an expression; a factor comes before `*` or `d`, and a name before `w`
+  abbrev pub SpellsWord : PolWord → Language
+  SpellsWord (Id id) = SpellsId top id
+  SpellsWord (Axiom literal) = SpellsLiteral literal
+  SpellsWord Add = Byte 43
+  SpellsWord (Multiply k) = Factor limit k ⋅ Blanks1 ⋅ Byte 42
+  SpellsWord (Divide k) = Factor limit k ⋅ Blanks1 ⋅ Byte 100
+  SpellsWord Saturate = Byte 115
+  SpellsWord (Weaken name) = λ t. IsName name × (Bytes name ⋅ Blanks1 ⋅ Byte 119) t
+
+  abbrev pub SpellsConclusion : Conclusion → Language
+  SpellsConclusion NoClaim = Bytes none_word
+  SpellsConclusion (Unsat id) = Bytes unsat_word ⋅ IdShown id
+  SpellsConclusion (Sat shown) = Bytes sat_word ⋅ Shown shown
+  SpellsConclusion (Bounds lower id upper shown) =
+      Bytes bounds_word ⋅ Blanks1 ⋅ SpellsBound limit lower ⋅ IdShown id ⋅ Blanks1 ⋅ SpellsBound limit upper ⋅ Shown shown
+
+  -- The texts after the first word of a statement.
+  abbrev pub SpellsCount : Option ℕ → Language
+  SpellsCount None = LineEnd
+  SpellsCount (Some n) = Blanks1 ⋅ Count top n ⋅ LineEnd
+
+  abbrev pub SpellsWords : List PolWord → Language
+  SpellsWords ws = λ t. IsPostfix ws × (Listed SpellsWord ws ⋅ LineEnd) t
+
+  abbrev pub SpellsRup : Linear → Language
+  SpellsRup c = λ t. (c.relation ≡ AtLeast) × (Blanks1 ⋅ SpellsLinear Blank limit c ⋅ Feed) t
+
+  abbrev pub SpellsLiterals : List Literal → Language
+  SpellsLiterals ls = Listed SpellsLiteral ls ⋅ LineEnd
+
+  abbrev pub SpellsIds : List ℤ → Language
+  SpellsIds ids = λ t. (0 < length ids) × (Listed (SpellsId top) ids ⋅ LineEnd) t
+
+  abbrev pub SpellsClaim : Conclusion → Language
+  SpellsClaim c = Blanks1 ⋅ SpellsConclusion c ⋅ LineEnd
+
+  -- A statement from its first word through its line feed. The closing words have no line feed.
+  abbrev pub SpellsStatement : Statement → Language
+  SpellsStatement Header =
+      Bytes pseudo_word ⋅ Blanks1 ⋅ Bytes proof_word ⋅ Blanks1 ⋅ Bytes version_word ⋅ Blanks1 ⋅ Bytes two_word ⋅ Feed
+  SpellsStatement (F count) = Bytes f_word ⋅ SpellsCount count
+  SpellsStatement (Pol ws) = Bytes pol_word ⋅ SpellsWords ws
+  SpellsStatement (Rup c) = Bytes rup_word ⋅ SpellsRup c
+  SpellsStatement (Soli ls) = Bytes soli_word ⋅ SpellsLiterals ls
+  SpellsStatement (Solx ls) = Bytes solx_word ⋅ SpellsLiterals ls
+  SpellsStatement (Delete ids) = Bytes del_word ⋅ Blanks1 ⋅ Bytes id_word ⋅ SpellsIds ids
+  SpellsStatement Output = Bytes output_word ⋅ Blanks1 ⋅ Bytes none_word ⋅ LineEnd
+  SpellsStatement (Conclude c) = Bytes conclusion_word ⋅ SpellsClaim c
+  SpellsStatement End = Bytes end_word ⋅ Blanks1 ⋅ Bytes pseudo_word ⋅ Blanks1 ⋅ Bytes proof_word

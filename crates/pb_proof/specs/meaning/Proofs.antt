@@ -1,0 +1,48 @@
+-- Proofs in VeriPB: their statements, with the white space and comments before them.
+use Rattle.std.specs.Prelude.{◌≡◌, ℕ, false, List, [], ◌∷◌, ◌++◌, All}
+use Rattle.pb_text.specs.meaning.Blank.{IsBlank, in_comment}
+use Rattle.pb_text.specs.meaning.Spelling.{Item}
+use Rattle.pb_text.specs.meaning.Whole.{events_of}
+use Rattle.pb_proof.specs.meaning.Lines.{SpellsStatement}
+use Rattle.pb_proof.specs.declared.proof.Proof.{Proof}
+use Rattle.pb_proof.specs.declared.statement.Statement.{Statement}
+use Rattle.pb_proof.specs.declared.statement.Statement.TheVariants.{Header, F, Pol, Rup, Soli, Solx, Delete, Output, Conclude, End}
+
+-- white space and comments; each comment has its line feed
+abbrev pub IsGap : List ℕ → Type 0
+IsGap gap = IsBlank gap × (in_comment gap ≡ false)
+
+-- a statement that may appear between `f` and `output`
+abbrev pub IsStep : Statement → Type 0
+IsStep (Pol ws) = Unit {0}
+IsStep (Rup c) = Unit {0}
+IsStep (Soli ls) = Unit {0}
+IsStep (Solx ls) = Unit {0}
+IsStep (Delete ids) = Unit {0}
+IsStep _ = ⊥
+
+-- the statements of a proof
+abbrev pub statements_of : Proof → List Statement
+statements_of v = Header ∷ F v.count ∷ (v.steps ++ Output ∷ Conclude v.conclusion ∷ End ∷ [])
+
+module _ (limit top : ℕ) where
+  -- the text of each is that of its statement, after white space and comments
+  abbrev pub AreSpelled : List (Item Statement) → Type 0
+  AreSpelled items = All (λ i. IsGap i.gap × SpellsStatement limit top i.event i.text) items
+
+  -- nothing comes before the first one
+  abbrev pub BeginsAtOnce : List (Item Statement) → Type 0
+  BeginsAtOnce [] = ⊥
+  BeginsAtOnce (i ∷ items) = i.gap ≡ []
+
+  -- a text of this proof
+  abbrev pub SpellsProof : Proof → List (Item Statement) → Type 0
+  SpellsProof v items = All IsStep v.steps × (events_of items ≡ statements_of v) × BeginsAtOnce items × AreSpelled items
+
+  -- a proof
+  abbrev pub IsProof : List (Item Statement) → Type 0
+  IsProof items = (v : Proof) × SpellsProof v items
+
+-- the proof that the statements make up
+abbrev pub IsProofOf : List Statement → Proof → Type 0
+IsProofOf statements v = statements ≡ statements_of v

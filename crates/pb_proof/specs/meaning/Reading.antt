@@ -1,0 +1,19 @@
+-- What is read of a proof, under limits.
+use Rattle.std.specs.Prelude.{ℕ, List, Option, Result}
+use Rattle.pb_text.specs.meaning.Asking.{AsksOnly}
+use Rattle.pb_text.specs.meaning.Whole.{ReadsValue}
+use Rattle.pb_text.specs.declared.Spanned.{Spanned}
+use Rattle.pb_text.specs.declared.Stop.{Stop}
+use Rattle.pb_proof.specs.meaning.Asking.{Asks}
+use Rattle.pb_proof.specs.contract.Gather.{MayKeep}
+use Rattle.pb_proof.specs.meaning.Proofs.{IsProof, IsProofOf}
+use Rattle.pb_proof.specs.declared.proof.Proof.{Proof}
+
+module _ (limit top : ℕ) where
+  -- the bytes of a proof at which reading it may allocate
+  abbrev pub AsksInProof : List ℕ → ℕ → Type 0
+  AsksInProof = AsksOnly (IsProof limit top) Asks
+
+  -- the result of reading from a source that had these bytes before and has those after
+  abbrev pub ReadsProof : ℕ → Option (List ℕ) → Result (Spanned Proof) Stop → Option (List ℕ) → Type 0
+  ReadsProof longest = ReadsValue (IsProof limit top) longest AsksInProof MayKeep IsProofOf

@@ -1,0 +1,35 @@
+-- The form of one side of the objective
+use Rattle.std.specs.Prelude.{Ok, Some, option_map, ℤ, unsigned_abs}
+use Rattle.std.proofs.Common.{◌≡◌, ℕ, ◌+◌, ◌≤◌, List, length, refl, ◌∙◌, ap, inl, subst}
+use Rattle.pb_text.specs.meaning.Limits.{largest}
+use Rattle.pb_sums.specs.declared.Linear.{Linear}
+use Rattle.pb_normal.specs.declared.Side.{Side}
+use Rattle.pb_normal.specs.meaning.Form.{Form}
+use Rattle.pb_normal.specs.meaning.Names.{with_names}
+use Rattle.pb_normal.specs.meaning.Written.{magnitude, names_of, side_number, side_terms, IsFormOf}
+use Rattle.pb_normal.proofs.lemmas.names.Appearing.{present}
+use Rattle.pb_replay.specs.declared.state.Running.{Running}
+use Rattle.pb_replay.specs.engine.Bounds.{HasObjective}
+use Rattle.pb_replay.specs.contract.Kept.{IsInside, IsProper, problem_of}
+use Rattle.pb_replay.proofs.lemmas.solutions.Values.{objective-has}
+
+module _ (r : Running) (linear : Linear) where
+  terms-are : r.objective ≡ Some linear → (problem_of r).objective ≡ Some linear.terms
+  terms-are e = ap (option_map (λ (x : Linear). x.terms)) e
+
+  pub unchanged : (names : List (List ℕ)) → IsProper r → r.objective ≡ Some linear → names ≡ with_names r.names (names_of linear.terms) → names ≡ r.names
+  unchanged names p e h = h ∙ present r.names (names_of linear.terms) (objective-has r linear.terms p (terms-are e))
+
+  pub objective-made : (degree given : ℤ) (side : Side) (names : List (List ℕ)) (form : Form) → IsProper r → r.objective ≡ Some linear → names ≡ with_names r.names (names_of linear.terms) → given ≡ degree
+      → magnitude linear.terms + unsigned_abs given ≤ largest r.limits → IsFormOf names (side_terms side linear.terms) (side_number side given) form
+      → HasObjective (largest r.limits) r.names (problem_of r).objective side degree (Ok form)
+  objective-made degree given side names form p e h same fits is =
+      let at : IsFormOf r.names (side_terms side linear.terms) (side_number side given) form = subst (λ (ns : List (List ℕ)). IsFormOf ns (side_terms side linear.terms) (side_number side given) form) (unchanged names p e h) is in
+      inl (
+        linear.terms,
+        terms-are e,
+        inl (subst (λ (z : ℤ). magnitude linear.terms + unsigned_abs z ≤ largest r.limits) same fits, (form, subst (λ (z : ℤ). IsFormOf r.names (side_terms side linear.terms) (side_number side z) form) same at, refl)),
+      )
+
+  pub objective-within : (names : List (List ℕ)) (form : Form) (side : Side) (given : ℤ) → IsProper r → r.objective ≡ Some linear → names ≡ with_names r.names (names_of linear.terms) → IsFormOf names (side_terms side linear.terms) (side_number side given) form → IsInside (length r.names) form
+  objective-within names form side given p e h is = subst (λ (ns : List (List ℕ)). IsInside (length ns) form) (unchanged names p e h) is.named

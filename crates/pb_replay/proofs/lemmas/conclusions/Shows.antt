@@ -1,0 +1,54 @@
+-- Shown solutions, and the conclusions by them
+use Rattle.std.specs.Prelude.{Result, Ok, Err, IfOk, IfErr, Option, Some, None, Contains, ℤ, is_some}
+use Rattle.std.proofs.Common.{◌≡◌, ◌⊎◌, ℕ, true, List, map, sym, ◌∙◌, ap, arith, inl, inr, subst}
+use Rattle.std.proofs.lemmas.List.{get_or-map, length-map}
+use Rattle.pb_sums.specs.declared.Literal.{Literal}
+use Rattle.pb_proof.specs.declared.Conclusion.TheVariants.{Sat}
+use Rattle.pb_proof.specs.declared.Statement.TheVariants.{Conclude}
+use Rattle.pb_proof.specs.declared.Stage.TheVariants.{Closing}
+use Rattle.pb_normal.specs.meaning.Form.{Form}
+use Rattle.pb_replay.specs.declared.fault.Fault.{Fault}
+use Rattle.pb_replay.specs.declared.fault.Fault.TheVariants.{Conflict, Memory, NoSolution}
+use Rattle.pb_replay.specs.declared.numbered.NumberedLiteral.{NumberedLiteral}
+use Rattle.pb_replay.specs.declared.state.Running.{Running}
+use Rattle.pb_replay.specs.declared.verdict.Verdict.TheVariants as verdict
+use Rattle.pb_replay.specs.meaning.Problem.{Problem}
+use Rattle.pb_replay.specs.meaning.Propagation.{MeetsConflict}
+use Rattle.pb_replay.specs.meaning.Replay.{Completed, Live, Logged, Shown, State, numbered}
+use Rattle.pb_replay.specs.contract.Kept.{GoesAt, IsBest, problem_of, state_of}
+use Rattle.pb_replay.proofs.lemmas.rules.Living.{Live-loaded}
+use Rattle.pb_replay.proofs.lemmas.solutions.Solved.{completed-to, conflicting}
+
+loaded-live : (forms : List Form) (f : Form) → Contains forms f → Live (map (λ (f : Form). let o : Option Form = Some f in o) forms) f
+loaded-live forms f (k, lt, is) = (k, omega (arith, lt, length-map forms (λ (f : Form). let o : Option Form = Some f in o)), get_or-map (λ (f : Form). let o : Option Form = Some f in o) forms k f (Some f) lt ∙ ap (λ (f : Form). let o : Option Form = Some f in o) is)
+
+module _ (v : Problem) (live : List (Option Form)) (same : live ≡ map (λ (f : Form). let o : Option Form = Some f in o) v.loaded) (names : ℕ) (given : List NumberedLiteral) where
+  own-to : (r : Result Logged Fault) → Completed v (Live live) names given r → Completed v (Contains v.loaded) names given r
+  own-to r h =
+      completed-to (Live live) (Contains v.loaded) (λ f c. Live-loaded v.loaded f (subst (λ (l : List (Option Form)). Live l f) same c)) (λ f c. subst (λ (l : List (Option Form)). Live l f) (sym same) (loaded-live v.loaded f c)) v names given r h
+
+  pub own-ok : (result : Result ℤ Fault) → IfOk result (λ z. (g : Logged) × Completed v (Live live) names given (Ok g) × (g.value ≡ z)) → IfOk result (λ z. (g : Logged) × Completed v (Contains v.loaded) names given (Ok g) × (g.value ≡ z))
+  own-ok (Ok z) (g, h, is) = (g, own-to (Ok g) h, is)
+  own-ok (Err e) h = tt
+
+  pub own-err : (result : Result ℤ Fault) → IfErr result (λ e. (e ≡ Memory) ⊎ Completed v (Live live) names given (Err e)) → IfErr result (λ e. (e ≡ Memory) ⊎ Completed v (Contains v.loaded) names given (Err e))
+  own-err (Ok z) h = tt
+  own-err (Err e) (inl memory) = inl memory
+  own-err (Err e) (inr h) = inr (own-to (Err e) h)
+
+  pub own-conflict : (e : Fault) → (e ≡ Memory) ⊎ ((e ≡ Conflict) × MeetsConflict (Live live) given) → (e ≡ Memory) ⊎ Completed v (Contains v.loaded) names given (Err e)
+  own-conflict e (inl memory) = inl memory
+  own-conflict e (inr (is, meets)) = inr (subst (λ (d : Fault). Completed v (Contains v.loaded) names given (Err d)) (sym is) (own-to (Err Conflict) (conflicting v (Live live) names given meets)))
+
+module _ (old new : Running) (given : List NumberedLiteral) (written : List Literal) (numbers : given ≡ numbered old.names written) where
+  pub sat-ok : new.best ≡ old.best → (g : Logged) → Shown (problem_of old) given g → ((logged : List Logged) → state_of new logged ≡ record (state_of old logged) { next = Closing; concluded = Some verdict.Sat }) → GoesAt old (Conclude (Sat (Some written))) (Ok tt) new
+  sat-ok b g shown same = λ logged best.
+      (logged, subst (λ (o : Option ℤ). IsBest logged o) (sym b) best, inl (g, subst (λ (x : List NumberedLiteral). Shown (problem_of old) x g) numbers shown, let to : State → Result State Fault = λ s. Ok s in ap to (same logged)))
+
+  pub sat-err : (e : Fault) → (e ≡ Memory) ⊎ ((e ≡ NoSolution) × ((g : Logged) → Shown (problem_of old) given g → ⊥)) → GoesAt old (Conclude (Sat (Some written))) (Err e) new
+  sat-err e (inl memory) = inl memory
+  sat-err e (inr (is, none)) = inr (λ logged best. inr (λ g s. none g (subst (λ (x : List NumberedLiteral). Shown (problem_of old) x g) (sym numbers) s), let to : Fault → Result State Fault = λ d. Err d in ap to is))
+
+pub logged-some : (logged : List Logged) (best : Option ℤ) → is_some best ≡ true → IsBest logged best → (g : Logged) × Contains logged g
+logged-some logged None e h = absurd cc
+logged-some logged (Some b) e h = let one = h.0 in (one.0, one.1)

@@ -1,0 +1,4 @@
+-- Lemmas of the short proofs that are examples.
+pub mod Examples
+pub mod Pairs
+pub mod Worked

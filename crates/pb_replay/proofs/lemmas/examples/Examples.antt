@@ -1,0 +1,151 @@
+-- Short proofs that are accepted
+use Rattle.std.specs.Prelude.{Option, Some, None, Ok, Contains, slice_get, All}
+use Rattle.std.proofs.Common.{◌≡◌, ℕ, zero, suc, ◌<◌, Bool, true, false, List, [], ◌∷◌, refl, arith, inl, inr, pos, ◌+ℤ◌, ◌-ℤ◌, ◌+◌, ◌&&◌, cond, eqb}
+use Rattle.pb_sums.specs.declared.Linear.{Linear}
+use Rattle.pb_proof.specs.meaning.Postfix.{Tree, Constraint, Sum}
+use Rattle.pb_normal.specs.declared.entry.Entry.{Entry}
+use Rattle.pb_normal.specs.meaning.Constraints.{Fits}
+use Rattle.pb_normal.specs.meaning.Form.{Form, coefficient}
+use Rattle.pb_normal.specs.meaning.Rules.{IsSum, negation_of}
+use Rattle.pb_normal.specs.meaning.Written.{IsFormOf, written_on}
+use Rattle.pb_replay.specs.declared.numbered.NumberedLiteral.{NumberedLiteral}
+use Rattle.pb_replay.specs.declared.verdict.Verdict.TheVariants as verdict
+use Rattle.pb_replay.specs.meaning.Problem.{Problem, Opened}
+use Rattle.pb_replay.specs.meaning.Propagation.{MayPut, begin, put, broken, With, IsRup}
+use Rattle.pb_replay.specs.meaning.Replay.{Live}
+use Rattle.pb_replay.specs.contract.Example.{name_x, unit_on, opposed, short_proof, other_proof, Verifies}
+
+abbrev plain_x : Form
+plain_x = record { terms = record { variable = 0; negated = false; coefficient = 1 } ∷ []; degree = 1 }
+
+abbrev negated_x : Form
+negated_x = record { terms = record { variable = 0; negated = true; coefficient = 1 } ∷ []; degree = 1 }
+
+abbrev live : List (Option Form)
+live = Some plain_x ∷ Some negated_x ∷ []
+
+abbrev none : Form
+none = record { terms = []; degree = 1 }
+
+abbrev x : NumberedLiteral
+x = record { variable = 0; negated = false }
+
+abbrev problem : Problem
+problem = record { loaded = plain_x ∷ negated_x ∷ []; objective = None; names = name_x ∷ [] }
+
+below : (n : Bool) → All (λ (t : Entry). t.variable < 1) (record { variable = 0; negated = n; coefficient = 1 } ∷ [])
+below n zero d lt = omega arith
+below n (suc k) d lt = absurd (omega (arith, lt))
+
+first_form : IsFormOf (name_x ∷ []) ((unit_on false).terms) (pos 1) plain_x
+first_form = record {
+  ordered = (omega arith, omega arith, tt);
+  named = below false;
+  coefficients = here;
+  degree = refl;
+}
+  where
+    here : (v : ℕ) (name : List ℕ) → slice_get (name_x ∷ []) v ≡ Some name → coefficient plain_x v ≡ written_on name ((unit_on false).terms)
+    here zero name e = let same : name_x ≡ name = cc in rw (← same) refl
+    here (suc v) name e = absurd cc
+
+second_form : IsFormOf (name_x ∷ []) ((unit_on true).terms) (pos 1) negated_x
+second_form = record {
+  ordered = (omega arith, omega arith, tt);
+  named = below true;
+  coefficients = here;
+  degree = refl;
+}
+  where
+    here : (v : ℕ) (name : List ℕ) → slice_get (name_x ∷ []) v ≡ Some name → coefficient negated_x v ≡ written_on name ((unit_on true).terms)
+    here zero name e = let same : name_x ≡ name = cc in rw (← same) refl
+    here (suc v) name e = absurd cc
+
+fits_one : (c : Linear) → Contains (opposed.constraints) c → Fits 127 c
+fits_one c (zero, lt, is) = let e : unit_on false ≡ c = is in rw (← e) (omega arith)
+fits_one c (suc zero, lt, is) = let e : unit_on true ≡ c = is in rw (← e) (omega arith)
+fits_one c (suc (suc k), lt, is) = absurd (omega (arith, lt))
+
+opened : Opened 127 opposed (Ok problem)
+opened = inl (record { constraints = fits_one; objective = omega arith }, (plain_x ∷ negated_x ∷ [], (first_form, (second_form, tt)), refl))
+
+cancels : (b : Bool) → (pos 0 -ℤ pos 0) ≡ ((pos (cond (b && true) 1 0 + 0) -ℤ pos (cond (b && false) 1 0 + 0)) +ℤ (pos (cond (b && false) 1 0 + 0) -ℤ pos (cond (b && true) 1 0 + 0)))
+cancels true = refl
+cancels false = refl
+
+sum_is : IsSum plain_x negated_x none
+sum_is = record { ordered = tt; coefficients = λ v. cancels (eqb 0 v); degree = refl }
+
+tree : Tree
+tree = Sum (Constraint (pos 1)) (Constraint (pos 2))
+
+pub short-accepted : Verifies opposed short_proof verdict.Unsat
+unfolding tree
+short-accepted = (
+  problem,
+  _,
+  opened,
+  (
+    _,
+    inl (refl, refl),
+    (
+      _,
+      inl (refl, inl (refl, inl (omega arith, refl))),
+      (
+        _,
+        inl (refl, (tree, refl, inl (none, inl (plain_x, inl (plain_x, refl, refl), inl (negated_x, inl (negated_x, refl, refl), (none, sum_is, inl (record { size_in = omega arith; degree_in = omega arith }, refl)))), inl (omega arith, refl)))),
+        (
+          _,
+          inl (refl, refl),
+          (_, inl (refl, inl (refl, inl (none, refl, inl (omega arith, refl)))), (_, inl (refl, refl), refl)),
+        ),
+      ),
+    ),
+  ),
+  refl,
+)
+
+empty_form : IsFormOf (name_x ∷ []) [] (pos 1) none
+empty_form = record { ordered = tt; named = λ k d lt. absurd (omega (arith, lt)); coefficients = λ v name e. refl; degree = refl }
+
+may_put : MayPut (With (Live live) (negation_of none)) [] x
+may_put = record {
+  absent = refl;
+  not_falsified = refl;
+  form = plain_x;
+  among = inl (0, omega arith, refl);
+  stands = omega arith;
+  forced = omega arith;
+}
+
+rup : IsRup (Live live) none
+rup = inr (record {
+  list = x ∷ [];
+  derived = put x begin may_put;
+  conflict = broken negated_x (inl (1, omega arith, refl)) (omega arith);
+})
+
+pub other-accepted : Verifies opposed other_proof verdict.Unsat
+other-accepted = (
+  problem,
+  _,
+  opened,
+  (
+    _,
+    inl (refl, refl),
+    (
+      _,
+      inl (refl, inl (tt, inl (omega arith, refl))),
+      (
+        _,
+        inl (refl, inl (omega arith, (none, empty_form, inl (rup, inl (omega arith, refl))))),
+        (
+          _,
+          inl (refl, refl),
+          (_, inl (refl, inl (refl, inl (none, refl, inl (omega arith, refl)))), (_, inl (refl, refl), refl)),
+        ),
+      ),
+    ),
+  ),
+  refl,
+)

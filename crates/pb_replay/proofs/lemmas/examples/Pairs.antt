@@ -1,0 +1,143 @@
+-- Forms on two variables, and what two literals complete to over them
+use Rattle.std.specs.Prelude.{Option, Some, None, Ok, Contains}
+use Rattle.std.proofs.lemmas.Bool.{ne_eqb}
+use Rattle.std.proofs.Common.{◌≡◌, ℕ, zero, suc, ◌<◌, Bool, true, false, not, cond, List, [], ◌∷◌, get_or, eqb, refl, sym, ◌∙◌, ap, subst, arith, inl, inr}
+use Rattle.pb_sums.specs.declared.Term.{Term}
+use Rattle.pb_normal.specs.declared.entry.Entry.{Entry}
+use Rattle.pb_normal.specs.meaning.Form.{Form, Holds, total}
+use Rattle.pb_normal.specs.meaning.Rules.{assignment, only}
+use Rattle.pb_replay.specs.declared.numbered.NumberedLiteral.{NumberedLiteral}
+use Rattle.pb_replay.specs.meaning.Problem.{Problem}
+use Rattle.pb_replay.specs.meaning.Propagation.{on, begin, MayPut}
+use Rattle.pb_replay.specs.meaning.Replay.{Live, HasValue, AreValues, IsClause, Completed, logged_of}
+use Rattle.pb_replay.specs.contract.Example.{name_x, name_y}
+use Rattle.pb_replay.proofs.lemmas.meaning.Propagating.{AreTrue, AreTrue-put, conflict-none}
+
+abbrev pub entry : ℕ → Bool → Entry
+entry x negated = record { variable = x; negated = negated; coefficient = 1 }
+
+abbrev pub pair : Bool → Bool → ℕ → Form
+pair m n degree = record { terms = entry 0 m ∷ entry 1 n ∷ []; degree = degree }
+
+abbrev pub given : Bool → Bool → List NumberedLiteral
+given m n = record { variable = 0; negated = m } ∷ record { variable = 1; negated = n } ∷ []
+
+abbrev pub values : Bool → Bool → List Bool
+values m n = not m ∷ not n ∷ []
+
+abbrev pub problem : Option (List Term) → Problem
+problem objective = record { loaded = pair false false 1 ∷ []; objective = objective; names = name_x ∷ name_y ∷ [] }
+
+-- a pair, and it holds at the values of two literals
+pub record IsMet (m n : Bool) (f : Form) : Type 0 where
+  pub holds : Holds (assignment (values m n)) f
+  pub outside : (x : ℕ) (b : Bool) → total (only (suc (suc x)) b) f.terms ≡ 0
+
+-- the variables after those two
+far-total : (m n : Bool) (d x : ℕ) (b : Bool) → total (only (suc (suc x)) b) (pair m n d).terms ≡ 0
+far-total m n d x b =
+    let first : eqb 0 (suc (suc x)) ≡ false = ne_eqb 0 (suc (suc x)) (λ e. omega (arith, e)) in
+    let second : eqb 1 (suc (suc x)) ≡ false = ne_eqb 1 (suc (suc x)) (λ e. omega (arith, e)) in
+    rw (first, second) refl
+
+far-on : (m n : Bool) (x : ℕ) (b : Bool) → on (given m n) (suc (suc x)) b ≡ false
+far-on m n x b =
+    let first : eqb (suc (suc x)) 0 ≡ false = ne_eqb (suc (suc x)) 0 (λ e. omega (arith, e)) in
+    let second : eqb (suc (suc x)) 1 ≡ false = ne_eqb (suc (suc x)) 1 (λ e. omega (arith, e)) in
+    rw (first, second) refl
+
+pub met : (m n a b : Bool) (d : ℕ) → Holds (assignment (values m n)) (pair a b d) → IsMet m n (pair a b d)
+met m n a b d h = record { holds = h; outside = far-total a b d }
+
+true-given : (m n : Bool) → AreTrue (assignment (values m n)) (given m n)
+true-given m n =
+    AreTrue-put (assignment (values m n)) (record { variable = 1; negated = n } ∷ []) (record { variable = 0; negated = m })
+    (AreTrue-put (assignment (values m n)) [] (record { variable = 1; negated = n }) (λ v b e. absurd cc) (same n))
+    (same m)
+  where
+    same : (b : Bool) → cond b (not (not b)) (not b) ≡ true
+    same true = refl
+    same false = refl
+
+-- one of a literal and its negation is given
+one-given : (m n : Bool) (x : ℕ) (b : Bool) → x < 2 → on (given m n) x b ≡ false → on (given m n) x (not b) ≡ false → ⊥
+one-given true n zero true lt e f = cc
+one-given true n zero false lt e f = cc
+one-given false n zero true lt e f = cc
+one-given false n zero false lt e f = cc
+one-given m true (suc zero) true lt e f = cc
+one-given m true (suc zero) false lt e f = cc
+one-given m false (suc zero) true lt e f = cc
+one-given m false (suc zero) false lt e f = cc
+one-given m n (suc (suc x)) b lt e f = omega (arith, lt)
+
+has-value : (m n : Bool) (k : ℕ) → k < 2 → HasValue (given m n) k
+has-value true n zero lt = inr refl
+has-value false n zero lt = inl refl
+has-value m true (suc zero) lt = inr refl
+has-value m false (suc zero) lt = inl refl
+has-value m n (suc (suc k)) lt = absurd (omega (arith, lt))
+
+are-values : (m n : Bool) → AreValues (given m n) 2 (values m n)
+are-values m n = record { count = refl; each = each m n }
+  where
+    each : (m n : Bool) (k : ℕ) → k < 2 → get_or (values m n) k false ≡ on (given m n) k false
+    each true n zero lt = refl
+    each false n zero lt = refl
+    each m true (suc zero) lt = refl
+    each m false (suc zero) lt = refl
+    each m n (suc (suc k)) lt = absurd (omega (arith, lt))
+
+module _ (F : Form → Type 0) (m n : Bool) (all : (f : Form) → F f → IsMet m n f) where
+  closed : (l : NumberedLiteral) → MayPut F (given m n) l → ⊥
+  closed l p = at l.variable l.negated p.absent p.not_falsified p.form (all p.form p.among) p.stands
+    where
+      at : (x : ℕ) (b : Bool) → on (given m n) x b ≡ false → on (given m n) x (not b) ≡ false → (f : Form) → IsMet m n f → 0 < total (only x b) f.terms → ⊥
+      at zero b e g f is stands = one-given m n zero b (omega arith) e g
+      at (suc zero) b e g f is stands = one-given m n (suc zero) b (omega arith) e g
+      at (suc (suc x)) b e g f is stands = let none = is.outside x b in omega (arith, none, stands)
+
+  pub completed : (objective : Option (List Term)) → Holds (assignment (values m n)) (pair false false 1) → Completed (problem objective) F 2 (given m n) (Ok (logged_of (problem objective) (values m n)))
+  completed objective own =
+      inl (
+        conflict-none F (assignment (values m n)) (given m n) (λ f h. (all f h).holds) (true-given m n),
+        (given m n, record { derived = begin; closed = closed }, inl (has-value m n, (values m n, are-values m n, inl (held, refl)))),
+      )
+    where
+      held : (k : ℕ) → k < 1 → Holds (assignment (values m n)) (get_or (pair false false 1 ∷ []) k (record { terms = []; degree = 0 }))
+      held zero lt = own
+      held (suc k) lt = absurd (omega (arith, lt))
+
+-- what is true of each item of a short list
+abbrev pub Each : {A : Type 0} → (A → Type 0) → List A → Type 0
+Each P [] = Unit {0}
+Each P (x ∷ xs) = P x × Each P xs
+
+each-contains : {A : Type 0} (P : A → Type 0) (xs : List A) (x : A) → Each P xs → Contains xs x → P x
+each-contains P [] x all (k, lt, is) = absurd (omega (arith, lt))
+each-contains P (y ∷ xs) x all (zero, lt, is) = subst P is all.0
+each-contains P (y ∷ xs) x all (suc k, lt, is) = each-contains P xs x all.1 (k, omega (arith, lt), is)
+
+abbrev pub OfLive : (Form → Type 0) → Option Form → Type 0
+OfLive P None = Unit {0}
+OfLive P (Some f) = P f
+
+pub live-met : (m n : Bool) (live : List (Option Form)) → Each (OfLive (IsMet m n)) live → (f : Form) → Live live f → IsMet m n f
+live-met m n live all f c = each-contains (OfLive (IsMet m n)) live (Some f) all c
+
+pub own-met : (m n : Bool) → Holds (assignment (values m n)) (pair false false 1) → (f : Form) → Contains (pair false false 1 ∷ []) f → IsMet m n f
+own-met m n own f c = each-contains (IsMet m n) (pair false false 1 ∷ []) f (met m n false false 1 own, tt) c
+
+pub clause-of : (m n : Bool) → IsClause (given m n) (pair (not m) (not n) 1)
+clause-of m n = record { ordered = (omega arith, omega arith, (omega arith, omega arith, tt)); coefficients = each m n; degree = refl }
+  where
+    each : (m n : Bool) (x : ℕ) (b : Bool) → total (only x b) (pair (not m) (not n) 1).terms ≡ cond (on (given m n) x (not b)) 1 0
+    each true n zero true = refl
+    each true n zero false = refl
+    each false n zero true = refl
+    each false n zero false = refl
+    each m true (suc zero) true = refl
+    each m true (suc zero) false = refl
+    each m false (suc zero) true = refl
+    each m false (suc zero) false = refl
+    each m n (suc (suc x)) b = far-total (not m) (not n) 1 x b ∙ sym (ap (λ e. cond e 1 0) (far-on m n x (not b)))

@@ -1,0 +1,10 @@
+-- Lemmas of what is true of a state, and of what is accepted.
+pub mod Accepting
+pub mod Choices
+pub mod Larger
+pub mod Loads
+pub mod Order
+pub mod Propagating
+pub mod Single
+pub mod Sound
+pub mod Trees

@@ -1,0 +1,85 @@
+-- What propagation adds to a list is true wherever the forms hold and the given literals are true
+use Rattle.std.proofs.Common.{◌≡◌, ℕ, Bool, true, false, not, List, [], ◌∷◌, refl, sym, ◌∙◌, arith, inl, inr}
+use Rattle.std.proofs.Math.Bool.{not-not}
+use Rattle.std.proofs.lemmas.Bool.{cases_Bool, cases_lt, or_cases, both_ways, not-true, false_from_ne_true, not_from_false}
+use Rattle.pb_replay.specs.declared.numbered.NumberedLiteral.{NumberedLiteral}
+use Rattle.pb_normal.specs.meaning.Form.{Form, Holds, total, true_at}
+use Rattle.pb_normal.specs.meaning.Rules.{negation_of, only}
+use Rattle.pb_replay.specs.meaning.Propagation.{on, opened, MayPut, Derivation, begin, put, HasConflict, opposed, broken, MeetsConflict, With, IsRup, HoldAll}
+use Rattle.pb_normal.proofs.lemmas.terms.Maps.{Holds-negation_back}
+use Rattle.pb_replay.proofs.lemmas.meaning.Choices.{total-fits, total-within, only-true}
+
+-- a literal and its negation
+pub true_at-not : (a : ℕ → Bool) (v : ℕ) (n : Bool) → true_at a v (not n) ≡ not (true_at a v n)
+true_at-not a v true = sym (not-not (a v))
+true_at-not a v false = refl
+
+-- each literal of the list is true
+abbrev pub AreTrue : (ℕ → Bool) → List NumberedLiteral → Type 0
+AreTrue a list = (v : ℕ) (n : Bool) → on list v n ≡ true → true_at a v n ≡ true
+
+at_literal : (a : ℕ → Bool) (l : NumberedLiteral) (v : ℕ) (n : Bool) → true_at a l.variable l.negated ≡ true → v ≡ l.variable → n ≡ l.negated → true_at a v n ≡ true
+at_literal a l v n h e f = rw (e, f) h
+
+pub AreTrue-put : (a : ℕ → Bool) (list : List NumberedLiteral) (l : NumberedLiteral) → AreTrue a list → true_at a l.variable l.negated ≡ true → AreTrue a (l ∷ list)
+AreTrue-put a list l h t v n e =
+    elim (or_cases (only l.variable l.negated v n) (on list v n) e) [
+      | inl new ↦ let same = only-true l.variable l.negated v n new in at_literal a l v n t same.0 same.1
+      | inr old ↦ h v n old
+    ]
+
+-- what is true is not falsified
+pub true-opened : (a : ℕ → Bool) (list : List NumberedLiteral) → AreTrue a list → (v : ℕ) (n : Bool) → true_at a v n ≡ true → opened list v n ≡ true
+true-opened a list h v n t =
+    not_from_false (on list v (not n)) (false_from_ne_true (on list v (not n)) (λ e. both_ways _ (not-true (true_at a v n) (sym (true_at-not a v n) ∙ h v (not n) e)) t))
+
+put-true : (forms : Form → Type 0) (a : ℕ → Bool) (list : List NumberedLiteral) (l : NumberedLiteral) → HoldAll a forms → AreTrue a list → MayPut forms list l → true_at a l.variable l.negated ≡ true
+put-true forms a list l holds h m =
+    elim (cases_Bool (true_at a l.variable l.negated)) [
+      | inl here ↦ here
+      | inr gone ↦
+          let fits = total-fits (true_at a) (only l.variable l.negated) (opened list) (true-opened a list h)
+          (λ w k e. let same = only-true l.variable l.negated w k e in not_from_false (on list w (not k)) (false_from_ne_true (on list w (not k)) (λ e. both_ways _ m.not_falsified (moved w k same.0 same.1 e))))
+          (λ w k t e. let same = only-true l.variable l.negated w k e in both_ways _ gone (at_same w k same.0 same.1 t))
+          m.form.terms in
+          absurd (omega (arith, fits, m.forced, holds m.form m.among))
+    ]
+  where
+    moved : (w : ℕ) (k : Bool) → w ≡ l.variable → k ≡ l.negated → on list w (not k) ≡ true → on list l.variable (not l.negated) ≡ true
+    moved w k e f h = rw (← e, ← f) h
+
+    at_same : (w : ℕ) (k : Bool) → w ≡ l.variable → k ≡ l.negated → true_at a w k ≡ true → true_at a l.variable l.negated ≡ true
+    at_same w k e f h = rw (← e, ← f) h
+
+pub derivation-true : (forms : Form → Type 0) (a : ℕ → Bool) (given list : List NumberedLiteral) → HoldAll a forms → AreTrue a given → Derivation forms given list → AreTrue a list
+derivation-true forms a given _ holds h begin = h
+derivation-true forms a given _ holds h (put {list} l d m) =
+    let before = derivation-true forms a given list holds h d in
+    AreTrue-put a list l before (put-true forms a list l holds before m)
+
+-- so there is no conflict
+pub conflict-false : (forms : Form → Type 0) (a : ℕ → Bool) (list : List NumberedLiteral) → HoldAll a forms → AreTrue a list → HasConflict forms list → ⊥
+conflict-false forms a list holds h (opposed v on off) = both_ways _ (not-true (a v) (h v true on)) (h v false off)
+conflict-false forms a list holds h (broken f among low) =
+    omega (arith, total-within (true_at a) (opened list) (true-opened a list h) f.terms, holds f among, low)
+
+pub conflict-none : (forms : Form → Type 0) (a : ℕ → Bool) (given : List NumberedLiteral) → HoldAll a forms → AreTrue a given → MeetsConflict forms given → ⊥
+conflict-none forms a given holds h m =
+    conflict-false forms a m.list holds (derivation-true forms a given m.list holds h m.derived) m.conflict
+
+-- rup is sound
+pub IsRup-holds : (forms : Form → Type 0) (a : ℕ → Bool) (r : Form) → HoldAll a forms → IsRup forms r → Holds a r
+IsRup-holds forms a r holds (inl none) = omega (arith, none)
+IsRup-holds forms a r holds (inr m) =
+    elim (cases_lt (total (true_at a) r.terms) r.degree) [
+      | inr here ↦ here
+      | inl gone ↦
+          absurd (conflict-none (With forms (negation_of r)) a [] (with_one (Holds-negation_back a r (omega arith) (λ h. omega (arith, h)))) nothing m)
+    ]
+  where
+    nothing : AreTrue a []
+    nothing v n e = absurd (let f : false ≡ true = e in cc)
+
+    with_one : Holds a (negation_of r) → HoldAll a (With forms (negation_of r))
+    with_one h f (inl old) = holds f old
+    with_one h f (inr e) = rw e h

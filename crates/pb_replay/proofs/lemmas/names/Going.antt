@@ -1,0 +1,99 @@
+-- From the state after a statement's names have appeared to the state before
+use Rattle.std.specs.Prelude.{Result, Ok, Err, Option, Some, ℤ}
+use Rattle.std.proofs.Common.{◌≡◌, ℕ, List, [], ◌∷◌, ◌++◌, sym, ◌∙◌, inl, inr, subst, pos, ◌-ℤ◌}
+use Rattle.std.proofs.lemmas.Option.{same_Some}
+use Rattle.pb_text.specs.meaning.Limits.{largest, top_of}
+use Rattle.pb_text.specs.declared.Limits.{Limits}
+use Rattle.pb_proof.specs.declared.Statement.{Statement}
+use Rattle.pb_normal.specs.meaning.Constraints.{Fits}
+use Rattle.pb_normal.specs.meaning.Form.{Form}
+use Rattle.pb_replay.specs.declared.fault.Fault.{Fault}
+use Rattle.pb_replay.specs.declared.fault.Fault.TheVariants.{NoObjective, Overflow}
+use Rattle.pb_replay.specs.declared.state.Running.{Running}
+use Rattle.pb_sums.specs.declared.Term.{Term}
+use Rattle.pb_normal.specs.declared.Side.TheVariants.{AtMost as most}
+use Rattle.pb_normal.specs.declared.Side.{Side}
+use Rattle.pb_normal.specs.meaning.Written.{IsSideOf}
+use Rattle.pb_replay.proofs.lemmas.meaning.Accepting.{ok-same}
+use Rattle.pb_replay.specs.engine.Bounds.{Demands, HasObjective}
+use Rattle.pb_replay.specs.meaning.Conclusions.{objective_with}
+use Rattle.pb_replay.specs.meaning.Problem.{Problem}
+use Rattle.pb_replay.specs.meaning.Replay.{Logged, State, added, normal_form}
+use Rattle.pb_replay.specs.contract.Kept.{Adding, Goes, GoesAt, HasNamed, IsBest, IsBetter, IsProper, Keeps, Logs, problem_of, state_of, with_mentioned}
+use Rattle.pb_replay.specs.meaning.Statements.{Does, mentioned}
+use Rattle.pb_replay.proofs.lemmas.conclusions.Best.{best-push}
+use Rattle.pb_replay.proofs.lemmas.rules.Ready.{same_problem}
+use Rattle.pb_replay.proofs.lemmas.rules.States.{same-state, added-over}
+
+module _ (old m : Running) (st : Statement) (named : HasNamed (mentioned st) old m) (proper : IsProper old) (kept : Keeps old m) where
+  pub does-from : (logged : List Logged) (r : Result State Fault) → Does (largest m.limits) (top_of m.limits) (problem_of m) (state_of m logged) st r
+      → Does (largest old.limits) (top_of old.limits) (problem_of old) (with_mentioned (state_of old logged) st) st r
+  does-from logged r h =
+      let same : state_of m logged ≡ with_mentioned (state_of old logged) st = same-state named.forms named.names named.next named.concluded in
+      let one = subst (λ (s : State). Does (largest m.limits) (top_of m.limits) (problem_of m) s st r) same h in
+      let two = subst (λ (v : Problem). Does (largest m.limits) (top_of m.limits) v (with_mentioned (state_of old logged) st) st r) (same_problem old m proper kept) one in
+      subst (λ (l : Limits). Does (largest l) (top_of l) (problem_of old) (with_mentioned (state_of old logged) st) st r) kept.limits two
+
+  best-from : (logged : List Logged) → IsBest logged old.best → IsBest logged m.best
+  best-from logged h = subst (λ (b : Option ℤ). IsBest logged b) (sym named.best) h
+
+  pub goes-from : (result : Result Unit Fault) (new : Running) → GoesAt m st result new → Goes old st result new
+  goes-from (Ok u) new g = λ logged best. let h = g logged (best-from logged best) in (h.0, h.1, does-from logged (Ok (state_of new h.0)) h.2)
+  goes-from (Err e) new (inl memory) = inl memory
+  goes-from (Err e) new (inr g) = inr (λ logged best. does-from logged (Err e) (g logged (best-from logged best)))
+
+-- a step that changed nothing but the number of visits
+module _ (old m : Running) (named : HasNamed [] old m) (kept : Keeps old m) where
+  moved : (before after : List Logged) (form : Form) (r : Result State Fault) → added (top_of m.limits) (state_of m before) after form r → added (top_of old.limits) (state_of old before) after form r
+  moved before after form r =
+      added-over old.limits m.limits kept.limits (state_of m before) (state_of old before) (same-state named.forms named.names named.next named.concluded) after form r
+
+  pub logs-from : (z : ℤ) (form : Form) (result : Result Unit Fault) (new : Running) → Logs m z form result new → Logs old z form result new
+  logs-from z form (Ok u) new h = λ before g best is.
+      let k = h before g (subst (λ (b : Option ℤ). IsBest before b) (sym named.best) best) is in
+      (k.0, moved before (before ++ g ∷ []) form (Ok (state_of new (before ++ g ∷ []))) k.1)
+  logs-from z form (Err e) new (inl memory) = inl memory
+  logs-from z form (Err e) new (inr h) = inr (λ before g. moved before (before ++ g ∷ []) form (Err e) (h before g))
+
+pub logs-ok : (old new : Running) (best : Option ℤ) (z b : ℤ) (form : Form) → best ≡ old.best → IsBetter best z b → new.best ≡ Some b
+    → ((before after : List Logged) → added (top_of old.limits) (state_of old before) after form (Ok (state_of new after))) → Logs old z form (Ok tt) new
+logs-ok old new best z b form e better is h before g was value =
+    (subst (λ (o : Option ℤ). IsBest (before ++ g ∷ []) o) (sym is) (best-push before best g b (subst (λ (o : Option ℤ). IsBest before o) (sym e) was) (subst (λ (y : ℤ). IsBetter best y b) (sym value) better)), h before (before ++ g ∷ []))
+
+pub logs-err : (old new : Running) (z : ℤ) (form : Form) (e : Fault) → Adding old form (Err e) new → Logs old z form (Err e) new
+logs-err old new z form e (inl memory) = inl memory
+logs-err old new z form e (inr h) = inr (λ before g. h before (before ++ g ∷ []))
+
+demand-moved : (old m : Running) → HasNamed [] old m → Keeps old m → (before : List Logged) (g : Logged) (o : List Term) (r : Result State Fault)
+    → normal_form (largest m.limits) m.names most (objective_with o (g.value -ℤ pos 1)) (added (top_of m.limits) (state_of m before) (before ++ g ∷ [])) r
+    → normal_form (largest old.limits) old.names most (objective_with o (g.value -ℤ pos 1)) (added (top_of old.limits) (state_of old before) (before ++ g ∷ [])) r
+demand-moved old m named kept before g o r h =
+    let same : state_of m before ≡ state_of old before = same-state named.forms named.names named.next named.concluded in
+    let one = subst (λ (s : State). normal_form (largest m.limits) s.names most (objective_with o (g.value -ℤ pos 1)) (added (top_of m.limits) s (before ++ g ∷ [])) r) same h in
+    subst (λ (l : Limits). normal_form (largest l) old.names most (objective_with o (g.value -ℤ pos 1)) (added (top_of l) (state_of old before) (before ++ g ∷ [])) r) kept.limits one
+
+pub demands-from : (old m : Running) → HasNamed [] old m → IsProper old → Keeps old m → (z : ℤ) (result : Result Unit Fault) (new : Running) → Demands m z result new → Demands old z result new
+demands-from old m named proper kept z (Ok u) new h = λ before g o best is has.
+    let k = h before g o (subst (λ (b : Option ℤ). IsBest before b) (sym named.best) best) is (kept.objective ∙ has) in
+    (k.0, demand-moved old m named kept before g o (Ok (state_of new (before ++ g ∷ []))) k.1)
+demands-from old m named proper kept z (Err e) new (inl memory) = inl memory
+demands-from old m named proper kept z (Err e) new (inr h) = inr (λ before g o is has. demand-moved old m named kept before g o (Err e) (h before g o is (kept.objective ∙ has)))
+
+-- the form of an objective
+pub form-of : (limit : ℕ) (names : List (List ℕ)) (objective : Option (List Term)) (side : Side) (degree : ℤ) (form : Form) → HasObjective limit names objective side degree (Ok form) → (o : List Term) → objective ≡ Some o
+    → Fits limit (objective_with o degree) × IsSideOf names side (objective_with o degree) form
+form-of limit names objective side degree form (inl (p, is, inl (fits, (r, made, same)))) o has =
+    let e : p ≡ o = same_Some _ _ (sym is ∙ has) in
+    (subst (λ (ts : List Term). Fits limit (objective_with ts degree)) e fits, subst (λ (ts : List Term). IsSideOf names side (objective_with ts degree) form) e (subst (λ (f : Form). IsSideOf names side (objective_with p degree) f) (sym (ok-same same)) made))
+form-of limit names objective side degree form (inl (p, is, inr (late, same))) o has = absurd (let f : Ok form ≡ Err Overflow = same in cc)
+form-of limit names objective side degree form (inr (late, same)) o has = absurd (let f : Ok form ≡ Err NoObjective = same in cc)
+
+pub demands-ok : (old new : Running) (z : ℤ) (form : Form) (result : Result Unit Fault) → HasObjective (largest old.limits) old.names (problem_of old).objective most (z -ℤ pos 1) (Ok form) → Logs old z form result new → Demands old z result new
+demands-ok old new z form (Ok u) made h = λ before g o best value has.
+    let k = h before g best value in
+    let parts = form-of (largest old.limits) old.names (problem_of old).objective most (z -ℤ pos 1) form made o has in
+    (k.0, subst (λ (y : ℤ). normal_form (largest old.limits) old.names most (objective_with o (y -ℤ pos 1)) (added (top_of old.limits) (state_of old before) (before ++ g ∷ [])) (Ok (state_of new (before ++ g ∷ [])))) (sym value) (inl (parts.0, (form, parts.1, k.1))))
+demands-ok old new z form (Err e) made (inl memory) = inl memory
+demands-ok old new z form (Err e) made (inr h) = inr (λ before g o value has.
+    let parts = form-of (largest old.limits) old.names (problem_of old).objective most (z -ℤ pos 1) form made o has in
+    subst (λ (y : ℤ). normal_form (largest old.limits) old.names most (objective_with o (y -ℤ pos 1)) (added (top_of old.limits) (state_of old before) (before ++ g ∷ [])) (Err e)) (sym value) (inl (parts.0, (form, parts.1, h before g))))

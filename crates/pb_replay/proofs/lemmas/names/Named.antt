@@ -1,0 +1,60 @@
+-- Names that have numbers once they have appeared
+use Rattle.std.specs.Prelude.{All, true}
+use Rattle.std.proofs.Common.{◌≡◌, ℕ, zero, suc, ◌+◌, ◌<◌, List, [], ◌∷◌, ◌++◌, length, get_or, take, refl, sym, ◌∙◌, ap, arith, subst}
+use Rattle.std.proofs.lemmas.List.Elements.{All-push}
+use Rattle.pb_sums.specs.declared.Literal.{Literal}
+use Rattle.pb_proof.specs.declared.PolWord.{PolWord}
+use Rattle.pb_normal.specs.meaning.Names.{has_name, HasNames, number_in, with_name, with_names}
+use Rattle.pb_normal.proofs.lemmas.names.Appearing.{named, in_turn}
+use Rattle.pb_normal.proofs.lemmas.names.Numbering.{number_in-below}
+use Rattle.pb_text.proofs.lemmas.text.Lists.{take_read}
+use Rattle.pb_replay.specs.declared.numbered.NumberedLiteral.{NumberedLiteral}
+use Rattle.pb_replay.specs.meaning.Replay.{numbered, numbered_one}
+use Rattle.pb_replay.specs.meaning.Statements.{literal_names, word_names}
+
+pub words_named : (old new : List (List ℕ)) (ws vs us : List PolWord) → new ≡ with_names old (word_names ws) → ws ≡ us → vs ≡ us → HasNames new (word_names vs)
+words_named old new ws vs us e f g = rw (e, g, ← f) (named old (word_names ws))
+
+pub names_named : (old new : List (List ℕ)) (others : List (List ℕ)) → new ≡ with_names old others → HasNames new others
+names_named old new others e = subst (λ (ns : List (List ℕ)). HasNames ns others) (sym e) (named old others)
+
+literal_names-append : (xs ys : List Literal) → literal_names (xs ++ ys) ≡ literal_names xs ++ literal_names ys
+literal_names-append [] ys = refl
+literal_names-append (x ∷ xs) ys = ap (λ (ns : List (List ℕ)). x.name ∷ ns) (literal_names-append xs ys)
+
+numbered-append : (names : List (List ℕ)) (xs ys : List Literal) → numbered names (xs ++ ys) ≡ numbered names xs ++ numbered names ys
+numbered-append names [] ys = refl
+numbered-append names (x ∷ xs) ys = ap (λ (ls : List NumberedLiteral). numbered_one names x ∷ ls) (numbered-append names xs ys)
+
+module _ (given : List Literal) (i : ℕ) (l : Literal) (lt : i < length given) (e : l ≡ get_or given i l) where
+  pub next-names : (old names new : List (List ℕ)) → names ≡ with_names old (literal_names (take i given)) → new ≡ with_name names l.name → new ≡ with_names old (literal_names (take (i + 1) given))
+  next-names old names new before k =
+      let all = ap literal_names (take_read given i l l lt e) ∙ literal_names-append (take i given) (l ∷ []) in
+      k ∙ ap (λ (ns : List (List ℕ)). with_name ns l.name) before ∙ sym (in_turn old (literal_names (take i given)) (l.name ∷ [])) ∙ ap (with_names old) (sym all)
+
+  pub one-named : (names : List (List ℕ)) → HasNames names (literal_names given) → has_name names l.name ≡ true
+  one-named names h = at given i l lt e h
+    where
+      at : (ls : List Literal) (j : ℕ) (k : Literal) → j < length ls → k ≡ get_or ls j k → HasNames names (literal_names ls) → has_name names k.name ≡ true
+      at [] j k less is has = absurd (omega (arith, less))
+      at (x ∷ ls) zero k less is has = subst (λ (y : Literal). has_name names y.name ≡ true) (sym is) has.0
+      at (x ∷ ls) (suc j) k less is has = at ls j k (omega (arith, less)) is has.1
+
+  pub next-numbers : (names : List (List ℕ)) → HasNames names (literal_names given) → (n : ℕ) → n ≡ number_in names l.name → (out new : List NumberedLiteral) → (out ≡ numbered names (take i given)) × All (λ x. x.variable < length names) out → new ≡ out ++ record { variable = n; negated = l.negated } ∷ []
+      → (new ≡ numbered names (take (i + 1) given)) × All (λ x. x.variable < length names) new
+  next-numbers names h n is out new before k = (
+    k ∙ ap (λ (ls : List NumberedLiteral). ls ++ record { variable = n; negated = l.negated } ∷ []) before.0 ∙ ap (λ m. numbered names (take i given) ++ record { variable = m; negated = l.negated } ∷ []) is
+        ∙ sym (ap (numbered names) (take_read given i l l lt e) ∙ numbered-append names (take i given) (l ∷ [])),
+    subst (λ (ls : List NumberedLiteral). All (λ x. x.variable < length names) ls) (sym k)
+        (All-push (λ (x : NumberedLiteral). x.variable < length names) out (record { variable = n; negated = l.negated }) before.1 (omega (arith, is, number_in-below names l.name (one-named names h)))),
+  )
+
+pub literal_next : (old names new : List (List ℕ)) (given : List Literal) (i : ℕ) (l : Literal) → i < length given → l ≡ get_or given i l → names ≡ with_names old (literal_names (take i given)) → new ≡ with_name names l.name → new ≡ with_names old (literal_names (take (i + 1) given))
+literal_next old names new given i l lt e before k = next-names given i l lt e old names new before k
+
+pub literal_named : (names : List (List ℕ)) (given : List Literal) (i : ℕ) (l : Literal) → i < length given → l ≡ get_or given i l → HasNames names (literal_names given) → has_name names l.name ≡ true
+literal_named names given i l lt e h = one-named given i l lt e names h
+
+pub numbered_next : (names : List (List ℕ)) (given : List Literal) (i : ℕ) (l : Literal) → i < length given → l ≡ get_or given i l → HasNames names (literal_names given) → (n : ℕ) → n ≡ number_in names l.name → (out new : List NumberedLiteral) → (out ≡ numbered names (take i given)) × All (λ x. x.variable < length names) out → new ≡ out ++ record { variable = n; negated = l.negated } ∷ []
+    → (new ≡ numbered names (take (i + 1) given)) × All (λ x. x.variable < length names) new
+numbered_next names given i l lt e h n is out new before k = next-numbers given i l lt e names h n is out new before k

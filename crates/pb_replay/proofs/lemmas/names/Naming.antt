@@ -1,0 +1,84 @@
+-- Assignments of names, and of their numbers
+use Rattle.std.specs.Prelude.{Option, Some, ℤ, ◌↔◌, All}
+use Rattle.std.proofs.Common.{◌≡◌, ℕ, ◌<◌, ◌≤◌, Bool, true, false, not, cond, List, [], ◌∷◌, ◌++◌, length, get_or, refl, sym, ◌∙◌, ap, arith, append_assoc, length-append, pos}
+use Rattle.std.proofs.lemmas.List.Elements.{All-head, All-tail}
+use Rattle.std.proofs.lemmas.Option.{slice_get-get_or}
+use Rattle.pb_sums.specs.declared.Term.{Term}
+use Rattle.pb_sums.specs.declared.Linear.{Linear}
+use Rattle.pb_normal.specs.declared.entry.Entry.{Entry}
+use Rattle.pb_normal.specs.declared.Side.{Side}
+use Rattle.pb_normal.specs.meaning.Form.{Form, Holds, total, true_at}
+use Rattle.pb_normal.specs.meaning.Names.{has_name, AreDistinct, HasNames, number_in, with_names}
+use Rattle.pb_normal.specs.meaning.Written.{names_of, true_sum, IsSideOf, MeetsSide, by_number}
+use Rattle.pb_normal.proofs.lemmas.names.Appearing.{front}
+use Rattle.pb_normal.proofs.lemmas.names.Numbering.{number_in-append, number_in-below, number_in-get}
+use Rattle.pb_normal.proofs.lemmas.names.WrittenForms.{SameSolutions-side}
+use Rattle.pb_replay.specs.meaning.Problem.{Problem, objective_of}
+use Rattle.pb_replay.specs.meaning.Replay.{by_name, value}
+use Rattle.pb_replay.specs.meaning.Meaning.{IsFront, IsProblem}
+
+-- a prefix of the names stays one when more appear
+pub IsFront-more : (names all others : List (List ℕ)) → IsFront names all → IsFront names (with_names all others)
+IsFront-more names all others (more, e) =
+    let last = front all others in
+    (more ++ last.0, last.1 ∙ ap (λ (ns : List (List ℕ)). ns ++ last.0) e ∙ append_assoc names more last.0)
+
+pub length-front : (names all : List (List ℕ)) → IsFront names all → length names ≤ length all
+length-front names all (more, e) = omega (arith, ap length e, length-append names more)
+
+-- a sum is the same at assignments that agree on its names
+same_part : (b c : Bool) (n : Bool) (z : ℤ) → b ≡ c → cond (cond n (not b) b) z (pos 0) ≡ cond (cond n (not c) c) z (pos 0)
+same_part b c n z e = rw e refl
+
+pub true_sum-agree : (a b : List ℕ → Bool) (names : List (List ℕ)) (ts : List Term) → HasNames names (names_of ts) → ((q : List ℕ) → has_name names q ≡ true → a q ≡ b q) → true_sum a ts ≡ true_sum b ts
+true_sum-agree a b names [] has h = refl
+true_sum-agree a b names (t ∷ ts) has h =
+    let first = same_part (a t.literal.name) (b t.literal.name) t.literal.negated t.coefficient (h t.literal.name has.0) in
+    let rest = true_sum-agree a b names ts has.1 h in
+    rw (first, rest) refl
+
+-- a form depends only on its variables
+true_at-agree : (a b : ℕ → Bool) (v : ℕ) (n : Bool) → a v ≡ b v → true_at a v n ≡ true_at b v n
+true_at-agree a b v true e = ap not e
+true_at-agree a b v false e = e
+
+total-agree : (a b : ℕ → Bool) (n : ℕ) (ts : List Entry) → All (λ t. t.variable < n) ts → ((x : ℕ) → x < n → a x ≡ b x) → total (true_at a) ts ≡ total (true_at b) ts
+total-agree a b n [] h e = refl
+total-agree a b n (t ∷ ts) h e =
+    let here : t.variable < n = All-head (λ (u : Entry). u.variable < n) t ts h in
+    let first = ap (λ (c : Bool). cond c t.coefficient 0) (true_at-agree a b t.variable t.negated (e t.variable here)) in
+    omega (arith, first, total-agree a b n ts (All-tail (λ (u : Entry). u.variable < n) t ts h) e)
+
+pub Holds-agree : (a b : ℕ → Bool) (n : ℕ) (f : Form) → All (λ t. t.variable < n) f.terms → ((x : ℕ) → x < n → a x ≡ b x) → Holds a f → Holds b f
+Holds-agree a b n f h e holds = omega (arith, holds, total-agree a b n f.terms h e)
+
+-- from numbers to names and back
+pub back : (names : List (List ℕ)) (a : ℕ → Bool) (x : ℕ) → AreDistinct names → x < length names → by_number names (by_name names a) x ≡ a x
+back names a x d lt = ap a (number_in-get names x (get_or names x []) d (slice_get-get_or names x [] lt))
+
+-- the form of a side holds at an assignment of numbers if and only if the side does
+pub side-holds : (names : List (List ℕ)) (side : Side) (linear : Linear) (r : Form) (a : ℕ → Bool) → AreDistinct names → HasNames names (names_of linear.terms) → IsSideOf names side linear r → Holds a r ↔ MeetsSide (by_name names a) side linear
+side-holds names side linear r a d has f =
+    let same = SameSolutions-side names side linear r d has f (by_name names a) in (
+      λ h. same.0 (Holds-agree a (by_number names (by_name names a)) (length names) r f.named (λ x lt. sym (back names a x d lt)) h),
+      λ h. Holds-agree (by_number names (by_name names a)) a (length names) r f.named (λ x lt. back names a x d lt) (same.1 h),
+    )
+
+-- the objective's value
+pub value-is : (v : Problem) (o : List Term) (a : ℕ → Bool) → v.objective ≡ Some o → value v a ≡ true_sum (by_name v.names a) o
+value-is v o a e = ap (λ x. true_sum (by_name v.names a) (objective_of x)) e
+
+pub objective-named : (v : Problem) (o : List Term) → IsProblem v → v.objective ≡ Some o → HasNames v.names (names_of o)
+objective-named v o p e =
+    let P : Option (List Term) → Type 0 = λ x. HasNames v.names (names_of (objective_of x)) in
+    let named : P v.objective = p.named in
+    rw e at named
+
+pub value-over : (v : Problem) (names : List (List ℕ)) (o : List Term) (a : ℕ → Bool) → IsProblem v → IsFront v.names names → v.objective ≡ Some o → true_sum (by_name names a) o ≡ value v a
+value-over v names o a p (more, e) is =
+    let same : (q : List ℕ) → has_name v.names q ≡ true → by_name (v.names ++ more) a q ≡ by_name v.names a q = λ q h. ap a (number_in-append v.names more q h) in
+    rw e (true_sum-agree (by_name (v.names ++ more) a) (by_name v.names a) v.names o (objective-named v o p is) same ∙ sym (value-is v o a is))
+
+pub value-agree : (v : Problem) (a b : ℕ → Bool) → IsProblem v → ((k : ℕ) → k < length v.names → a k ≡ b k) → value v a ≡ value v b
+value-agree v a b p same =
+    true_sum-agree (by_name v.names a) (by_name v.names b) v.names (objective_of v.objective) p.named (λ q h. same (number_in v.names q) (number_in-below v.names q h))

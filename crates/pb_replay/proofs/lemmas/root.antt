@@ -1,0 +1,10 @@
+-- Lemmas of the root, which questions continue from.
+pub mod Admitted
+pub mod Cuts
+pub mod Extends
+pub mod Follows
+pub mod Gained
+pub mod Opens
+pub mod Questions
+pub mod Rooted
+pub mod Roots

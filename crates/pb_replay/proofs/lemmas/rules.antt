@@ -1,0 +1,14 @@
+-- Lemmas of the rules, each on a replay.
+pub mod Deleting
+pub mod Deletions
+pub mod Evaluation
+pub mod Insides
+pub mod Linked
+pub mod Living
+pub mod Looked
+pub mod Made
+pub mod Pols
+pub mod Ready
+pub mod Rups
+pub mod Stacks
+pub mod States

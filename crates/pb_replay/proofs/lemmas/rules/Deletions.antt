@@ -1,0 +1,28 @@
+-- Deleting ids in order
+use Rattle.std.specs.Prelude.{Result, Err, Option, None, ℤ, pos, set}
+use Rattle.std.proofs.Common.{◌≡◌, ℕ, ◌+◌, ◌<◌, List, ◌∷◌, length, get_or, drop, refl, sym, ◌∙◌, inl, inr, drop-cons}
+use Rattle.std.proofs.lemmas.Bool.{cases_lt}
+use Rattle.std.proofs.lemmas.List.{get_or_past, drop_more}
+use Rattle.std.proofs.lemmas.Option.{none-some}
+use Rattle.pb_normal.specs.meaning.Form.{Form}
+use Rattle.pb_replay.specs.declared.fault.Fault.{Fault}
+use Rattle.pb_replay.specs.declared.fault.Fault.TheVariants.{NoSuchId}
+use Rattle.pb_replay.specs.meaning.Replay.{Deleted, IsLive, place}
+
+-- a live id is in range
+pub inside : (live : List (Option Form)) (id : ℤ) (f : Form) → IsLive live id f → place (length live) id < length live
+inside live id f h =
+    elim (cases_lt (place (length live) id) (length live)) [
+      | inl lt ↦ lt
+      | inr ge ↦ absurd (none-some _ (sym (get_or_past live (place (length live) id) None ge) ∙ h))
+    ]
+
+-- an id that names nothing ends the deletion
+pub stops : (live : List (Option Form)) (ids : List ℤ) (i : ℕ) (id : ℤ) → id ≡ get_or ids i (pos 0) → i < length ids → ((f : Form) → IsLive live id f → ⊥) → Deleted live (drop i ids) (Err (NoSuchId id))
+stops live ids i id e lt none =
+    rw (drop-cons ids i (pos 0) lt, ← e) (inr (none, refl))
+
+pub goes-on : (live : List (Option Form)) (ids : List ℤ) (i : ℕ) (id : ℤ) (f : Form) (r : Result (List (Option Form)) Fault) → id ≡ get_or ids i (pos 0) → i < length ids → IsLive live id f → Deleted (set live (place (length live) id) None) (drop (i + 1) ids) r → Deleted live (drop i ids) r
+goes-on live ids i id f r e lt here rest =
+    let next : drop i ids ≡ id ∷ drop (i + 1) ids = rw e (drop_more ids i (pos 0) lt) in
+    rw next (inl (f, here, rest))

@@ -1,0 +1,44 @@
+-- The live forms after each change of their list
+use Rattle.std.specs.Prelude.{Contains, Option, Some, None, ℤ}
+use Rattle.std.proofs.Common.{◌≡◌, ℕ, ◌<◌, Bool, List, [], ◌∷◌, ◌++◌, length, get_or, set, map, sym, ◌∙◌, arith, inl, inr}
+use Rattle.std.proofs.lemmas.Bool.{cases_lt, cases_eq}
+use Rattle.std.proofs.lemmas.List.{get_or-set_same, get_or-set_other, length-set, get_or-map, length-map}
+use Rattle.std.proofs.Math.ListN.{get_or-eq_default}
+use Rattle.std.proofs.lemmas.List.Elements.{Contains-get_or, Contains-push_cases}
+use Rattle.std.proofs.lemmas.Option.{none-some, same_Some}
+use Rattle.pb_normal.specs.meaning.Form.{Form, Holds}
+use Rattle.pb_replay.specs.meaning.Propagation.{HoldAll}
+use Rattle.pb_replay.specs.meaning.Replay.{Live, IsLive, place}
+
+pub read-live : (live : List (Option Form)) (k : ℕ) (f : Form) → get_or live k None ≡ Some f → Live live f
+read-live live k f e =
+    elim (cases_lt k (length live)) [
+      | inl lt ↦ rw e at (Contains-get_or live k None lt)
+      | inr ge ↦ absurd (none-some _ (sym (get_or-eq_default live None ge) ∙ e))
+    ]
+
+pub IsLive-live : (live : List (Option Form)) (i : ℤ) (f : Form) → IsLive live i f → Live live f
+IsLive-live live i f e = read-live live (place (length live) i) f e
+
+pub Live-deleted : (live : List (Option Form)) (k : ℕ) (f : Form) → Live (set live k None) f → Live live f
+Live-deleted live k f (j, lt, is) =
+    let inside : j < length live = omega (arith, lt, length-set live k None) in
+    elim (cases_eq j k) [
+      | inl e ↦ absurd (none-some _ (sym (gone e inside) ∙ is))
+      | inr ne ↦ (j, inside, sym (get_or-set_other live k j None (Some f) ne) ∙ is)
+    ]
+  where
+    gone : j ≡ k → j < length live → get_or (set live k None) j (Some f) ≡ None
+    gone e h = rw e (get_or-set_same live k None (Some f) (omega (arith, e, h)))
+
+pub Live-loaded : (forms : List Form) (f : Form) → Live (map (λ f. Some f) forms) f → Contains forms f
+Live-loaded forms f (j, lt, is) =
+    let inside : j < length forms = omega (arith, lt, length-map forms (λ f. Some f)) in
+    (j, inside, same_Some _ _ (sym (get_or-map (λ f. Some f) forms j f (Some f) inside) ∙ is))
+
+pub HoldAll-added : (a : ℕ → Bool) (live : List (Option Form)) (r : Form) → HoldAll a (Live live) → Holds a r → HoldAll a (Live (live ++ (Some r ∷ [])))
+HoldAll-added a live r holds h f c =
+    elim (Contains-push_cases live (Some r) (Some f) c) [
+      | inl old ↦ holds f old
+      | inr new ↦ rw (same_Some _ _ new) at h
+    ]

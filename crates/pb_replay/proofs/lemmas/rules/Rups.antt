@@ -1,0 +1,133 @@
+-- `rup`, and what stays
+use Rattle.std.specs.Prelude.{Result, Ok, Err, ◌↔◌}
+use Rattle.std.proofs.Common.{◌≡◌, ◌⊎◌, ℕ, ◌<◌, ◌≤◌, List, refl, sym, ◌∙◌, ap, inl, inr, ◌++◌, append_assoc, Bool, true, false, rules, IsTrue}
+use Rattle.std.proofs.lemmas.Bool.{cases_lt}
+use Rattle.pb_text.specs.meaning.Limits.{largest, top_of}
+use Rattle.pb_sums.specs.declared.Linear.{Linear}
+use Rattle.pb_proof.specs.meaning.Order.{stage_of}
+use Rattle.pb_proof.specs.declared.Stage.TheVariants.{Steps}
+use Rattle.pb_proof.specs.declared.Statement.{Statement}
+use Rattle.pb_proof.specs.declared.Statement.TheVariants.{F, Rup}
+use Rattle.pb_normal.specs.declared.NormalFault.{NormalFault}
+use Rattle.pb_normal.specs.declared.NormalFault.TheVariants as normal
+use Rattle.pb_normal.specs.declared.Side.TheVariants.{AtLeast as least}
+use Rattle.pb_normal.specs.meaning.Constraints.{Fits}
+use Rattle.pb_normal.specs.meaning.Form.{Form}
+use Rattle.pb_normal.specs.meaning.Names.{with_names}
+use Rattle.pb_normal.specs.meaning.Written.{names_of, IsSideOf}
+use Rattle.pb_normal.proofs.lemmas.names.Appearing.{front}
+use Rattle.pb_replay.specs.declared.fault.Fault.{Fault}
+use Rattle.pb_replay.specs.declared.fault.Fault.TheVariants.{Memory, NotImplied, Overflow}
+use Rattle.std.specs.Prelude.{Option, Some}
+use Rattle.std.proofs.Common.{subst, map, length}
+use Rattle.pb_text.proofs.lemmas.text.Results.{same_err}
+use Rattle.pb_replay.proofs.lemmas.rules.States.{same-state, added-over}
+use Rattle.pb_replay.specs.declared.state.Running.{Running}
+use Rattle.pb_replay.specs.meaning.Propagation.{IsRup}
+use Rattle.pb_replay.specs.meaning.Replay.{Live, Logged, State, added}
+use Rattle.pb_replay.specs.contract.Kept.{Adding, Goes, Comes, Keeps, problem_of, state_of, with_mentioned}
+use Rattle.pb_replay.specs.meaning.Statements.{Does, IsCount}
+use Rattle.pb_replay.specs.meaning.Meaning.{IsFront}
+
+-- a form was made, so its numbers fit
+pub fits_of : {A : Type 0} (r : Result A NormalFault) (x : A) (limit n : ℕ) → r ≡ Ok x → (r ≡ Err normal.Overflow) ↔ (limit < n) → n ≤ limit
+fits_of r x limit n e h =
+    elim (cases_lt limit n) [
+      | inl lt ↦ let bad = h.1 lt in absurd (let both = sym e ∙ bad in cc)
+      | inr le ↦ le
+    ]
+
+-- what holds for each list of logged solutions
+pub goes-ok : (old new : Running) (st : Statement) → new.best ≡ old.best
+    → ((logged : List Logged) → Does (largest old.limits) (top_of old.limits) (problem_of old) (with_mentioned (state_of old logged) st) st (Ok (state_of new logged)))
+    → Goes old st (Ok tt) new
+goes-ok old new st same h logged best = (logged, rw same best, h logged)
+
+pub goes-err : (old new : Running) (st : Statement) (e : Fault)
+    → ((logged : List Logged) → Does (largest old.limits) (top_of old.limits) (problem_of old) (with_mentioned (state_of old logged) st) st (Err e))
+    → Goes old st (Err e) new
+goes-err old new st e h = inr (λ logged best. h logged)
+
+module _ (old : Running) (linear : Linear) (names : List (List ℕ)) (form : Form) (appeared : names ≡ with_names old.names (names_of linear.terms)) (fits : Fits (largest old.limits) linear) (is : IsSideOf names least linear form) where
+  over : IsSideOf (with_names old.names (names_of linear.terms)) least linear form
+  over = rw appeared at is
+
+  moved : (middle : Running) → middle.names ≡ names → middle.engine.forms ≡ old.engine.forms → middle.limits ≡ old.limits → middle.next ≡ old.next → middle.concluded ≡ old.concluded → (logged : List Logged) (r : Result State Fault)
+      → added (top_of middle.limits) (state_of middle logged) logged form r → added (top_of old.limits) (with_mentioned (state_of old logged) (Rup linear)) logged form r
+  moved middle e f l n c logged r =
+      added-over old.limits middle.limits l (state_of middle logged) (with_mentioned (state_of old logged) (Rup linear)) (same-state f (e ∙ appeared) n c) logged form r
+
+  pub rup_added : (middle : Running) (result : Result Unit Fault) (new : Running) → middle.names ≡ names → middle.engine.forms ≡ old.engine.forms → middle.limits ≡ old.limits → middle.next ≡ old.next → middle.concluded ≡ old.concluded → new.best ≡ old.best
+      → IsRup (Live old.engine.forms) form → Adding middle form result new → Goes old (Rup linear) result new
+  rup_added middle (Ok u) new e f l n c b implied h =
+      goes-ok old new (Rup linear) b (λ logged. inl (fits, (form, over, inl (implied, moved middle e f l n c logged (Ok (state_of new logged)) (h logged logged)))))
+  rup_added middle (Err d) new e f l n c b implied (inl memory) = inl memory
+  rup_added middle (Err d) new e f l n c b implied (inr h) =
+      goes-err old new (Rup linear) d (λ logged. inl (fits, (form, over, inl (implied, moved middle e f l n c logged (Err d) (h logged logged)))))
+
+  pub rup_refused : (new : Running) → (IsRup (Live old.engine.forms) form → ⊥) → Goes old (Rup linear) (Err NotImplied) new
+  rup_refused new none = goes-err old new (Rup linear) NotImplied (λ logged. inl (fits, (form, over, inr (none, refl))))
+
+  pub rup_judged : (middle : Running) (result : Result Unit Fault) (new : Running) → middle.names ≡ names → middle.engine.forms ≡ old.engine.forms → middle.limits ≡ old.limits → middle.next ≡ old.next → middle.concluded ≡ old.concluded → new.best ≡ old.best
+      → (implied : Bool) → (implied ≡ true → IsRup (Live old.engine.forms) form) → (implied ≡ false → IsRup (Live old.engine.forms) form → ⊥)
+      → (implied ≡ true → Adding middle form result new) → (implied ≡ false → result ≡ Err NotImplied) → Goes old (Rup linear) result new
+  rup_judged middle result new e f l n c b true is none adding refused = rup_added middle result new e f l n c b (is refl) (adding refl)
+  rup_judged middle result new e f l n c b false is none adding refused =
+      subst (λ (r : Result Unit Fault). Goes old (Rup linear) r new) (sym (refused refl)) (rup_refused new (none refl))
+
+-- no form was made
+pub rup_unmade : (old : Running) (linear : Linear) (e : Fault) (new : Running) (result : Result Unit Fault) → result ≡ Err e → (e ≡ Memory) ⊎ ((e ≡ Overflow) × (Fits (largest old.limits) linear → ⊥)) → Goes old (Rup linear) result new
+rup_unmade old linear e new (Ok u) same bad = absurd cc
+rup_unmade old linear e new (Err d) same (inl memory) = let is : d ≡ Memory = cc in inl is
+rup_unmade old linear e new (Err d) same (inr (is, none)) =
+    let over : d ≡ Overflow = cc in
+    goes-err old new (Rup linear) d (λ logged. inr (none, let to : Fault → Result State Fault = λ x. Err x in ap to over))
+
+-- if memory ran out, the constraint fits
+pub unmade : {P Q : Type 0} (e : Fault) → ((e ≡ Memory) × P) ⊎ ((e ≡ Overflow) × Q) → (e ≡ Memory) ⊎ ((e ≡ Overflow) × Q)
+unmade e (inl h) = inl h.0
+unmade e (inr h) = inr h
+
+pub unmade-fits : {A P Q : Type 0} (e : Fault) (result : Result A Fault) → result ≡ Err e → result ≡ Err Memory → ((e ≡ Memory) × P) ⊎ ((e ≡ Overflow) × Q) → P
+unmade-fits e result is memory (inl h) = h.1
+unmade-fits e result is memory (inr h) = absurd (let bad : Overflow ≡ Memory = sym h.0 ∙ same_err (sym is ∙ memory) in cc)
+
+-- names that appeared come after the others
+pub front_after : (old new others : List (List ℕ)) → new ≡ with_names old others → IsFront old new
+front_after old new others e = let f = front old others in (f.0, e ∙ f.1)
+
+pub front_then : (a b c : List (List ℕ)) → IsFront a b → IsFront b c → IsFront a c
+front_then a b c (more, e) (last, k) = (more ++ last, k ∙ ap (λ (ns : List (List ℕ)). ns ++ last) e ∙ append_assoc a more last)
+
+pub keeps_then : (a b c : Running) → Keeps a b → Keeps b c → Keeps a c
+keeps_then a b c h k = record {
+  limits = k.limits ∙ h.limits;
+  own = k.own ∙ h.own;
+  loaded = k.loaded ∙ h.loaded;
+  objective = k.objective ∙ h.objective;
+  names = front_then a.names b.names c.names h.names k.names;
+}
+
+-- a statement at a stage where it may come
+pub came : (old : Running) (st : Statement) (result : Result Unit Fault) (new : Running) → old.next ≡ stage_of st → Goes old st result new → Comes old st result new
+came old st (Ok u) new next g = λ logged best. let h = g logged best in (h.0, h.1, inl (next, h.2))
+came old st (Err d) new next (inl memory) = inl memory
+came old st (Err d) new next (inr g) = inr (λ logged best. inl (next, g logged best))
+
+pub came-counted : (old : Running) (visits : ℕ) (st : Statement) (result : Result Unit Fault) (new : Running) → old.next ≡ stage_of st → Goes (record old { visits = visits }) st result new → Comes old st result new
+came-counted old visits st (Ok u) new next g = λ logged best. let h = g logged best in (h.0, h.1, inl (next, h.2))
+came-counted old visits st (Err d) new next (inl memory) = inl memory
+came-counted old visits st (Err d) new next (inr g) = inr (λ logged best. inl (next, g logged best))
+
+pub not_so : (b : Bool) (P : Type 0) → b ≡ false → IsTrue b ↔ P → P → ⊥
+not_so true P e h p = cc
+not_so false P e h p = let t = h.1 p in absurd (search rules)
+
+pub is_so : (b : Bool) (P : Type 0) → b ≡ true → IsTrue b ↔ P → P
+is_so true P e h = h.0 (search rules)
+is_so false P e h = absurd cc
+
+pub loaded-goes : (old new : Running) (count : Option ℕ) → new.best ≡ old.best → new.names ≡ old.names → new.concluded ≡ old.concluded → new.next ≡ Steps → new.engine.forms ≡ map (λ (f : Form). let o : Option Form = Some f in o) old.loaded.items
+    → IsCount count (length old.loaded.items) → length old.loaded.items ≤ top_of old.limits → Goes old (F count) (Ok tt) new
+loaded-goes old new count b n d x f counted le =
+    goes-ok old new (F count) b (λ logged. inl (counted, inl (le, let to : State → Result State Fault = λ s. Ok s in ap to (same-state f n x d))))

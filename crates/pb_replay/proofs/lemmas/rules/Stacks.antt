@@ -1,0 +1,127 @@
+-- The words on a stack have the result of their expression.
+use Rattle.std.specs.Prelude.{Result, Ok, Err, Option, unsigned_abs}
+use Rattle.std.proofs.Common.{◌≡◌, ℕ, ◌+◌, List, [], ◌∷◌, ◌++◌, refl, ap, arith, inl, inr, append_assoc, append-nil}
+use Rattle.pb_proof.specs.declared.PolWord.{PolWord}
+use Rattle.pb_proof.specs.declared.PolWord.TheVariants.{Add, Multiply, Divide, Saturate, Weaken}
+use Rattle.pb_proof.specs.meaning.Postfix.{Tree, Constraint, True, Sum, Times, Divided, Saturated, Weakened, words}
+use Rattle.pb_normal.specs.meaning.Form.{Form}
+use Rattle.pb_normal.specs.meaning.Names.{number_in}
+use Rattle.pb_normal.specs.meaning.Rules.{IsSum, multiplied, divided, saturated, weakened, axiom_on}
+use Rattle.pb_replay.specs.declared.fault.Fault.{Fault}
+use Rattle.pb_replay.specs.declared.fault.Fault.TheVariants.{NoSuchId}
+use Rattle.pb_replay.specs.meaning.Answer.{Answer, gives, some, after}
+use Rattle.pb_replay.specs.meaning.Replay.{TreeForm, limited}
+use Rattle.pb_replay.specs.engine.Stack.{Words}
+use Rattle.pb_proof.specs.contract.Leaving.{Leaves}
+
+at_same : (m n : ℕ) (ws : List PolWord) → m ≡ n → Leaves n ws → Leaves m ws
+at_same m n ws e h = rw e h
+
+-- the words of an expression leave one form
+leaves_more : (t : Tree) (n : ℕ) (rest : List PolWord) → Leaves (n + 1) rest → Leaves n (words t ++ rest)
+leaves_more (Constraint id) n rest h = (omega arith, at_same _ _ rest (omega arith) h)
+leaves_more (True l) n rest h = (omega arith, at_same _ _ rest (omega arith) h)
+leaves_more (Sum a b) n rest h =
+    rw (append_assoc (words a ++ words b) (Add ∷ []) rest, append_assoc (words a) (words b) (Add ∷ rest))
+    (leaves_more a n (words b ++ (Add ∷ rest)) (leaves_more b (n + 1) (Add ∷ rest) (omega arith, at_same _ _ rest (omega arith) h)))
+leaves_more (Times a k) n rest h = rw (append_assoc (words a) (Multiply k ∷ []) rest) (leaves_more a n (Multiply k ∷ rest) (omega arith, at_same _ _ rest (omega arith) h))
+leaves_more (Divided a k) n rest h = rw (append_assoc (words a) (Divide k ∷ []) rest) (leaves_more a n (Divide k ∷ rest) (omega arith, at_same _ _ rest (omega arith) h))
+leaves_more (Saturated a) n rest h = rw (append_assoc (words a) (Saturate ∷ []) rest) (leaves_more a n (Saturate ∷ rest) (omega arith, at_same _ _ rest (omega arith) h))
+leaves_more (Weakened a name) n rest h = rw (append_assoc (words a) (Weaken name ∷ []) rest) (leaves_more a n (Weaken name ∷ rest) (omega arith, at_same _ _ rest (omega arith) h))
+
+pub leaves-one : (t : Tree) → Leaves 0 (words t)
+leaves-one t = rw (append-nil (words t)) at (leaves_more t 0 [] (omega arith))
+
+-- how answers are composed
+after_given : {Y Z : Type 0} (y : Y) (k : Y → Answer Z) (r : Result Z Fault) → after (gives y) k r → k y r
+after_given y k r (inl (x, e, h)) = let same : x ≡ y = cc in rw same at h
+after_given y k r (inr (e, bad, h)) = absurd cc
+
+module _ {X Y Z : Type 0} where
+  after_gives : (m : Answer X) (f : X → Y) (k : Y → Answer Z) (r : Result Z Fault) → after (after m (λ x. gives (f x))) k r → after m (λ x. k (f x)) r
+  after_gives m f k r (inl (y, inl (x, p, e), h)) = let same : y ≡ f x = cc in inl (x, p, rw same at h)
+  after_gives m f k r (inl (y, inr (e, p, bad), h)) = absurd cc
+  after_gives m f k r (inr (e, inl (x, p, bad), h)) = absurd cc
+  after_gives m f k r (inr (e, inr (d, p, is), h)) = let same : e ≡ d = cc in inr (d, p, rw same at h)
+
+  joined : (m : Answer X) (n : X → Answer Y) (k : Y → Answer Z) (r : Result Z Fault) → after m (λ x. after (n x) k) r → after (after m n) k r
+  joined m n k r (inl (x, p, inl (y, q, h))) = inl (y, inl (x, p, q), h)
+  joined m n k r (inl (x, p, inr (e, q, h))) = inr (e, inl (x, p, q), h)
+  joined m n k r (inr (e, p, h)) = inr (e, inr (e, p, refl), h)
+
+  some_joined : (P : X → Type 0) (n : X → Answer Y) (k : Y → Answer Z) (r : Result Z Fault) → some P (λ x. after (n x) k) r → after (some P n) k r
+  some_joined P n k r (x, p, inl (y, q, h)) = inl (y, (x, p, q), h)
+  some_joined P n k r (x, p, inr (e, q, h)) = inr (e, (x, p, q), h)
+
+after_some : {X Y Z : Type 0} (P : X → Type 0) (n : X → Answer Y) (k : Y → Answer Z) (r : Result Z Fault) → after (some P n) k r → some P (λ x. after (n x) k) r
+after_some P n k r (inl (y, (x, p, q), h)) = (x, p, inl (y, q, h))
+after_some P n k r (inr (e, (x, p, q), h)) = (x, p, inr (e, q, h))
+
+after_like : {X Z : Type 0} (m : Answer X) (n k : X → Answer Z) (r : Result Z Fault) → ((x : X) → n x r → k x r) → after m n r → after m k r
+after_like m n k r f (inl (x, p, h)) = inl (x, p, f x h)
+after_like m n k r f (inr h) = inr h
+
+module _ (limit : ℕ) (names : List (List ℕ)) (live : List (Option Form)) where
+  abbrev Then : List PolWord → List Form → Form → Answer (List Form)
+  Then rest fs f = Words limit names live rest (f ∷ fs)
+
+  as_tree : (t : Tree) (rest : List PolWord) (fs : List Form) (r : Result (List Form) Fault) → Words limit names live (words t ++ rest) fs r → after (TreeForm limit names live t) (Then rest fs) r
+  as_tree (Constraint id) rest fs r (inl (gs, inl (f, p, e), h)) = let same : gs ≡ f ∷ fs = cc in inl (f, inl (f, p, refl), rw same at h)
+  as_tree (Constraint id) rest fs r (inl (gs, inr (p, bad), h)) = absurd cc
+  as_tree (Constraint id) rest fs r (inr (e, inl (f, p, bad), h)) = absurd cc
+  as_tree (Constraint id) rest fs r (inr (e, inr (p, is), h)) = let same : e ≡ NoSuchId id = cc in inr (e, inr (p, ap (λ (d : Fault). Err d) same), h)
+  as_tree (True l) rest fs r h = inl (axiom_on (number_in names l.name) l.negated, refl, after_given (axiom_on (number_in names l.name) l.negated ∷ fs) (Words limit names live rest) r h)
+  as_tree (Sum a b) rest fs r h =
+      let split = rw (append_assoc (words a ++ words b) (Add ∷ []) rest, append_assoc (words a) (words b) (Add ∷ rest)) at h in
+      joined (TreeForm limit names live a) (λ f. after {A = Form} (TreeForm limit names live b) (λ g. some (IsSum f g) (limited limit))) (Then rest fs) r
+      (after_like (TreeForm limit names live a) (Then (words b ++ Add ∷ rest) fs) (λ f. after (after {A = Form} (TreeForm limit names live b) (λ g. some (IsSum f g) (limited limit))) (Then rest fs)) r
+      (λ f left. joined (TreeForm limit names live b) (λ g. some (IsSum f g) (limited limit)) (Then rest fs) r
+      (after_like (TreeForm limit names live b) (Then (Add ∷ rest) (f ∷ fs)) (λ g. after (some (IsSum f g) (limited limit)) (Then rest fs)) r
+      (λ g right. some_joined (IsSum f g) (limited limit) (Then rest fs) r
+      (summed f g right))
+      (as_tree b (Add ∷ rest) (f ∷ fs) r left)))
+      (as_tree a (words b ++ (Add ∷ rest)) fs r split))
+    where
+      summed : (f g : Form) → Words limit names live (Add ∷ rest) (g ∷ f ∷ fs) r → some (IsSum f g) (λ s. after (limited limit s) (Then rest fs)) r
+      summed f g w =
+          let one = after_some (IsSum f g) (λ s. after (limited limit s) (λ x. gives (x ∷ fs))) (Words limit names live rest) r w in
+          (one.0, one.1, after_gives (limited limit one.0) (λ x. x ∷ fs) (Words limit names live rest) r one.2)
+  as_tree (Times a k) rest fs r h =
+      let split = rw (append_assoc (words a) (Multiply k ∷ []) rest) at h in
+      joined (TreeForm limit names live a) (λ f. limited limit (multiplied (unsigned_abs k) f)) (Then rest fs) r
+      (after_like (TreeForm limit names live a) (Then (Multiply k ∷ rest) fs) (λ f. after (limited limit (multiplied (unsigned_abs k) f)) (Then rest fs)) r
+      (λ f w. after_gives (limited limit (multiplied (unsigned_abs k) f)) (λ x. x ∷ fs) (Words limit names live rest) r w)
+      (as_tree a (Multiply k ∷ rest) fs r split))
+  as_tree (Divided a k) rest fs r h =
+      let split = rw (append_assoc (words a) (Divide k ∷ []) rest) at h in
+      joined (TreeForm limit names live a) (λ f. gives (divided (unsigned_abs k) f)) (Then rest fs) r
+      (after_like (TreeForm limit names live a) (Then (Divide k ∷ rest) fs) (λ f. after (gives (divided (unsigned_abs k) f)) (Then rest fs)) r
+      (λ f w. inl (divided (unsigned_abs k) f, refl, after_given (divided (unsigned_abs k) f ∷ fs) (Words limit names live rest) r w))
+      (as_tree a (Divide k ∷ rest) fs r split))
+  as_tree (Saturated a) rest fs r h =
+      let split = rw (append_assoc (words a) (Saturate ∷ []) rest) at h in
+      joined (TreeForm limit names live a) (λ f. gives (saturated f)) (Then rest fs) r
+      (after_like (TreeForm limit names live a) (Then (Saturate ∷ rest) fs) (λ f. after (gives (saturated f)) (Then rest fs)) r
+      (λ f w. inl (saturated f, refl, after_given (saturated f ∷ fs) (Words limit names live rest) r w))
+      (as_tree a (Saturate ∷ rest) fs r split))
+  as_tree (Weakened a name) rest fs r h =
+      let split = rw (append_assoc (words a) (Weaken name ∷ []) rest) at h in
+      joined (TreeForm limit names live a) (λ f. gives (weakened (number_in names name) f)) (Then rest fs) r
+      (after_like (TreeForm limit names live a) (Then (Weaken name ∷ rest) fs) (λ f. after (gives (weakened (number_in names name) f)) (Then rest fs)) r
+      (λ f w. inl (weakened (number_in names name) f, refl, after_given (weakened (number_in names name) f ∷ fs) (Words limit names live rest) r w))
+      (as_tree a (Weaken name ∷ rest) fs r split))
+
+  -- the form that the words leave is that of their expression, and so is their fault
+  pub tree-leaves : (t : Tree) (ws : List PolWord) (f : Form) → ws ≡ words t → Words limit names live ws [] (Ok (f ∷ [])) → TreeForm limit names live t (Ok f)
+  tree-leaves t ws f e h = at (as_tree t [] [] (Ok (f ∷ [])) (rw (append-nil (words t), ← e) h))
+    where
+      at : after (TreeForm limit names live t) (Then [] []) (Ok (f ∷ [])) → TreeForm limit names live t (Ok f)
+      at (inl (g, p, is)) = let same : g ≡ f = cc in rw same at p
+      at (inr (e, p, bad)) = absurd cc
+
+  pub tree-fails : (t : Tree) (ws : List PolWord) (d : Fault) → ws ≡ words t → Words limit names live ws [] (Err d) → TreeForm limit names live t (Err d)
+  tree-fails t ws d e h = at (as_tree t [] [] (Err d) (rw (append-nil (words t), ← e) h))
+    where
+      at : after (TreeForm limit names live t) (Then [] []) (Err d) → TreeForm limit names live t (Err d)
+      at (inl (g, p, bad)) = absurd cc
+      at (inr (e, p, is)) = let same : e ≡ d = cc in rw same at p

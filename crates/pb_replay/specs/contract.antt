@@ -1,0 +1,7 @@
+-- What the clauses of public functions and laws add: nobody has to believe this for `verified UNSAT`.
+pub mod Example
+pub mod Faults
+pub mod Fields
+pub mod Kept
+pub mod Laws
+pub mod Visits

@@ -1,0 +1,48 @@
+-- Visits of one `rup`: those to entries of occurrence lists, to terms, and to watches and literals of clauses are counted.
+use Rattle.std.specs.Prelude.{◌≡◌, ℕ, ◌+◌, ◌*◌, ◌<◌, ◌≤◌, ◌⊎◌, List, [], length, sum_by, Option, Result, Ok, Err}
+use Rattle.pb_sums.specs.declared.Linear.{Linear}
+use Rattle.pb_proof.specs.declared.Statement.{Statement}
+use Rattle.pb_proof.specs.declared.Statement.TheVariants.{Rup}
+use Rattle.pb_normal.specs.declared.Side.TheVariants.{AtLeast as least}
+use Rattle.pb_normal.specs.meaning.Form.{Form}
+use Rattle.pb_normal.specs.meaning.Names.{with_names}
+use Rattle.pb_normal.specs.meaning.Rules.{negation_of}
+use Rattle.pb_normal.specs.meaning.Written.{names_of, IsSideOf}
+use Rattle.pb_replay.specs.declared.fault.Fault.{Fault}
+use Rattle.pb_replay.specs.declared.fault.Fault.TheVariants.{IdsSpent, NotImplied, Overflow, Order}
+use Rattle.pb_replay.specs.declared.numbered.NumberedLiteral.{NumberedLiteral}
+use Rattle.pb_replay.specs.meaning.Propagation.{Derivation, HasConflict, IsCompletion, With}
+use Rattle.pb_replay.specs.meaning.Replay.{Live}
+use Rattle.pb_replay.specs.engine.Engine.Live.{terms_in, one_in}
+
+-- With the goal, at most three visits for each live term and one for each live form.
+abbrev pub IsFew : List (Option Form) → Form → ℕ → Type 0
+IsFew live goal visits = visits ≤ 3 * (sum_by terms_in live + length goal.terms) + (sum_by one_in live + 1)
+
+-- at least one visit for each literal of some derivation that meets a conflict with the negated goal
+abbrev pub CoversConflict : List (Option Form) → Form → ℕ → Type 0
+CoversConflict live goal visits = 0 < goal.degree →
+    (list : List NumberedLiteral) × Derivation (With (Live live) (negation_of goal)) [] list × HasConflict (With (Live live) (negation_of goal)) list × (length list ≤ visits)
+
+-- at least one visit for each literal of the completion with the negated goal
+abbrev pub CoversCompletion : List (Option Form) → Form → ℕ → Type 0
+CoversCompletion live goal visits =
+    (list : List NumberedLiteral) × IsCompletion (With (Live live) (negation_of goal)) [] list × (length list ≤ visits)
+
+-- the visits of a `rup` whose names are numbered, whatever its result
+pub record Looks (live : List (Option Form)) (names : List (List ℕ)) (linear : Linear) (result : Result Unit Fault) (visits : ℕ) : Type 0 where
+  pub few : (goal : Form) → IsSideOf names least linear goal → IsFew live goal visits
+  pub conflict : (result ≡ Ok tt) ⊎ (result ≡ Err IdsSpent) → (goal : Form) → IsSideOf names least linear goal → CoversConflict live goal visits
+  pub completion : result ≡ Err NotImplied → (goal : Form) → IsSideOf names least linear goal → CoversCompletion live goal visits
+  pub unasked : (goal : Form) → IsSideOf names least linear goal → goal.degree ≡ 0 → visits ≡ 0
+  pub refused : (result ≡ Err Order) ⊎ (result ≡ Err Overflow) → visits ≡ 0
+
+-- those of any statement: the others leave the number unchanged
+abbrev pub LooksOf : List (Option Form) → List (List ℕ) → Statement → Result Unit Fault → ℕ → ℕ → Type 0
+LooksOf live names (Rup linear) result before after = Looks live (with_names names (names_of linear.terms)) linear result after
+LooksOf live names _ result before after = after ≡ before
+
+-- the number from which visits are counted
+abbrev pub counted_from : Statement → ℕ → ℕ
+counted_from (Rup linear) n = 0
+counted_from _ n = n

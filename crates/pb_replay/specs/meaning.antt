@@ -1,0 +1,8 @@
+-- What must be believed of a replay: docs/TRUST.md lists which definitions of these files.
+pub mod Answer
+pub mod Conclusions
+pub mod Meaning
+pub mod Problem
+pub mod Propagation
+pub mod Replay
+pub mod Statements

@@ -1,0 +1,3 @@
+pub mod machine
+pub mod prefixes
+pub mod values

@@ -1,0 +1,282 @@
+-- If a machine of sums may allocate, the next byte is in a name, or ends a literal. Offered to other crates.
+use Rattle.std.proofs.Common.{◌≡◌, ℕ, ◌+◌, ◌*◌, Bool, true, false, ◌||◌, List, [], ◌∷◌, ◌++◌, refl, sym, ap, subst, ◌∙◌, append_assoc, append-nil, inl, inr, ◌⊎◌}
+use Rattle.std.proofs.lemmas.Bool.{false≢true, cond_both}
+use Rattle.std.specs.Prelude.{IsTrue, Option, Some, None, nat_le, nat_eq}
+use Rattle.pb_text.specs.meaning.Asking.{AsksOnly}
+use Rattle.pb_text.specs.contract.Automaton.{Next, Go, End, Refuse, MayAsk, Reads}
+use Rattle.pb_text.specs.meaning.Classes.{is_digit, is_letter, is_name_byte}
+use Rattle.pb_text.specs.meaning.Spelling.{Letter, bytes}
+use Rattle.pb_text.proofs.lemmas.text.ByteTests.{letter_name}
+use Rattle.pb_text.proofs.lemmas.machine.Asked as asked
+use Rattle.pb_text.proofs.lemmas.text.Booleans.{never}
+use Rattle.pb_text.proofs.lemmas.machine.Walking.{Walks, reads_behind}
+use Rattle.pb_text.proofs.lemmas.text.Languages.{each-append}
+use Rattle.pb_sums.specs.meaning.Asking.{EndsIn, IsNameFront, InName, AsksLiteral}
+use Rattle.pb_sums.specs.engine.Machine.{act, plan, digits, number, behind, kind, symbol, letter_at, is_numeric, flushed, adds, is_more}
+use Rattle.pb_sums.specs.engine.State.{SumState, sums, first, over, asks, IsOneText}
+use Rattle.pb_sums.specs.meaning.Sums.{IsName, is_space, allows, reads_sums}
+use Rattle.pb_sums.specs.declared.grammar.Spaces.{Spaces}
+use Rattle.pb_sums.specs.declared.grammar.Part.{Part}
+use Rattle.pb_sums.specs.declared.values.Relation.{Relation}
+use Rattle.pb_sums.specs.declared.values.Relation.TheVariants.{AtLeast, Equal}
+use Rattle.pb_sums.specs.declared.values.SumEvent.{SumEvent}
+use Rattle.pb_sums.specs.declared.phase.Kind.{Kind}
+use Rattle.pb_sums.specs.declared.phase.Kind.TheVariants.{Space, Digit, Start, Inner, Tilde, Plus, Minus, Greater, Equals, Semicolon}
+use Rattle.pb_sums.specs.declared.phase.Phase.{Phase}
+use Rattle.pb_sums.specs.declared.phase.Phase as phase
+use Rattle.pb_sums.specs.declared.phase.Move.{Move}
+use Rattle.pb_sums.specs.declared.phase.Move.TheVariants.{To, Begin, Add, EndSum, EndLinear, Stop}
+use Rattle.pb_sums.proofs.lemmas.machine.LiteralFronts.{IsFirst, name-append, first-append}
+use Rattle.pb_sums.proofs.lemmas.machine.States.{accepts_one, ended-last, goes-midway, nothing-after}
+
+abbrev IsNameByte : ℕ → Type 0
+IsNameByte e = IsTrue (is_name_byte e)
+
+-- a name being read, and one more byte
+pub name_further : (name : List ℕ) (b : ℕ) → IsName name → IsTrue (is_name_byte b) → IsNameFront (name ++ b ∷ [])
+name_further [] b h k = absurd h
+name_further (x ∷ []) b h k = absurd h
+name_further (x ∷ y ∷ bs) b h k = (h.0, each-append IsNameByte (y ∷ bs) b h.1 k)
+
+pub first_further : (name : List ℕ) (b : ℕ) → IsFirst name → IsTrue (is_name_byte b) → IsNameFront (name ++ b ∷ [])
+first_further [] b h k = absurd h
+first_further (x ∷ []) b h k = (h, (k, tt))
+first_further (x ∷ y ∷ bs) b h k = absurd h
+
+pub ends_more : (text name : List ℕ) (b : ℕ) → EndsIn text name → EndsIn (text ++ b ∷ []) (name ++ b ∷ [])
+ends_more text name b (before, e) = (before, ap (λ (x : List ℕ). x ++ b ∷ []) e ∙ append_assoc before name (b ∷ []))
+
+pub ends_nothing : (text : List ℕ) → EndsIn text []
+ends_nothing text = (text, sym (append-nil text))
+
+pub ends_one : (text : List ℕ) (b : ℕ) → EndsIn (text ++ b ∷ []) (b ∷ [])
+ends_one text b = (text, refl)
+
+pub ends_behind : (before text end : List ℕ) → EndsIn text end → EndsIn (before ++ text) end
+ends_behind before text end (front, e) = (before ++ front, ap (λ (x : List ℕ). before ++ x) e ∙ sym (append_assoc before front end))
+
+-- what may allocate in a text may allocate after other bytes
+pub asks_behind : (before text : List ℕ) (b : ℕ) → AsksLiteral text b → AsksLiteral (before ++ text) b
+asks_behind before text b (inl (name, e, h)) = inl (name, ends_behind before text name e, h)
+asks_behind before text b (inr (name, e, h, k)) = inr (name, ends_behind before text name e, h, k)
+
+-- after a whole name
+pub at_name : (text name : List ℕ) (b : ℕ) → EndsIn text name → IsName name → AsksLiteral text b
+at_name text name b e h = by_test (is_name_byte b) refl
+  where
+    by_test : (x : Bool) → is_name_byte b ≡ x → AsksLiteral text b
+    by_test true t = inl (name, e, name_further name b h t)
+    by_test false t = inr (name, e, h, t)
+
+-- what a kind says about its byte
+abbrev Means : Kind → ℕ → Type 0
+Means (Start c) b = (c ≡ b) × IsTrue (is_letter c)
+Means (Inner c) b = (c ≡ b) × IsTrue (is_name_byte c)
+Means _ b = Unit {0}
+
+symbol_means : (b : ℕ) → Means (symbol b) b
+symbol_means b =
+    let P : Kind → Type 0 = λ k. Means k b in
+    cond_both (nat_eq b 126) _ _ P (λ _. tt) (λ _.
+    cond_both (nat_eq b 43) _ _ P (λ _. tt) (λ _.
+    cond_both (nat_eq b 45) _ _ P (λ _. tt) (λ _.
+    cond_both (nat_eq b 62) _ _ P (λ _. tt) (λ _.
+    cond_both (nat_eq b 61) _ _ P (λ _. tt) (λ _.
+    cond_both (nat_eq b 59) _ _ P (λ _. tt) (λ _. tt))))))
+
+means : (spaces : Spaces) (l : Letter) → Means (kind spaces l) l.byte
+means spaces l =
+    let P : Kind → Type 0 = λ k. Means k l.byte in
+    cond_both l.numeral _ _ P
+    (λ _. cond_both (is_digit l.byte) _ _ P (λ _. tt) (λ _. tt))
+    (λ _. cond_both (is_space spaces l.byte) _ _ P (λ _. tt) (λ _.
+    cond_both (is_letter l.byte) _ _ P (λ e. (refl, e)) (λ _.
+    cond_both (is_name_byte l.byte) _ _ P (λ e. (refl, e)) (λ _. symbol_means l.byte))))
+
+-- a name is being read
+abbrev is_naming : Phase → Bool
+is_naming (phase.TheVariants.First z negated) = true
+is_naming (phase.TheVariants.More z negated) = true
+is_naming _ = false
+
+-- A name begins with a letter and continues with name bytes. It is being read only then.
+abbrev Fits : Phase → ℕ → Move → Type 0
+Fits p b (To q) = is_naming q ≡ false
+Fits p b (Begin (phase.TheVariants.First z negated) c) = (c ≡ b) × IsTrue (is_letter c)
+Fits p b (Begin q c) = ⊥
+Fits p b (Add (phase.TheVariants.More z negated) c) = (c ≡ b) × IsTrue (is_name_byte c) × (is_naming p ≡ true)
+Fits p b (Add q c) = ⊥
+Fits p b _ = Unit {0}
+
+module _ (want : Part) (limit b : ℕ) where
+  digits_fit : (p : Phase) (role : Option Relation) (negative : Bool) (n d : ℕ) → Fits p b (digits limit role negative n d)
+  digits_fit p role negative n d = cond_both (nat_le (10 * n + d) limit) _ _ (Fits p b) (λ _. refl) (λ _. tt)
+
+  number_fits : (p : Phase) (role : Option Relation) (k : Kind) → Fits p b (number limit role k)
+  number_fits p role Plus = refl
+  number_fits p role Minus = refl
+  number_fits p role (Digit d) = digits_fit p role false 0 d
+  number_fits p role _ = tt
+
+  behind_fits : (p : Phase) (k : Kind) → Fits p b (behind want k)
+  behind_fits p Greater = cond_both (allows want AtLeast) _ _ (Fits p b) (λ _. refl) (λ _. tt)
+  behind_fits p Equals = cond_both (allows want Equal) _ _ (Fits p b) (λ _. refl) (λ _. tt)
+  behind_fits p Semicolon = cond_both (reads_sums want) _ _ (Fits p b) (λ _. tt) (λ _. tt)
+  behind_fits p _ = tt
+
+  plan_fits : (p : Phase) (k : Kind) → Means k b → Fits p b (plan want limit p k)
+  plan_fits phase.TheVariants.Start Space m = cond_both (reads_sums want) _ _ (Fits phase.TheVariants.Start b) (λ _. refl) (λ _. tt)
+  plan_fits phase.TheVariants.Start Plus m = refl
+  plan_fits phase.TheVariants.Start Minus m = refl
+  plan_fits phase.TheVariants.Start (Digit d) m = digits_fit phase.TheVariants.Start None false 0 d
+  plan_fits phase.TheVariants.Start k m = behind_fits phase.TheVariants.Start k
+  plan_fits (phase.TheVariants.Signed role negative) (Digit d) m = digits_fit (phase.TheVariants.Signed role negative) role negative 0 d
+  plan_fits (phase.TheVariants.Digits role negative n) (Digit d) m = digits_fit (phase.TheVariants.Digits role negative n) role negative n d
+  plan_fits (phase.TheVariants.Digits None negative n) Space m = refl
+  plan_fits (phase.TheVariants.Digits None negative n) k m = tt
+  plan_fits (phase.TheVariants.Digits (Some r) negative n) Space m = refl
+  plan_fits (phase.TheVariants.Digits (Some r) negative n) k m = tt
+  plan_fits (phase.TheVariants.Gap z) Space m = refl
+  plan_fits (phase.TheVariants.Gap z) Tilde m = refl
+  plan_fits (phase.TheVariants.Gap z) (Start c) m = m
+  plan_fits (phase.TheVariants.Tilde z) (Start c) m = m
+  plan_fits (phase.TheVariants.First z negated) (Start c) m = (m.0, letter_name c m.1, refl)
+  plan_fits (phase.TheVariants.First z negated) (Inner c) m = (m.0, m.1, refl)
+  plan_fits (phase.TheVariants.More z negated) (Start c) m = (m.0, letter_name c m.1, refl)
+  plan_fits (phase.TheVariants.More z negated) (Inner c) m = (m.0, m.1, refl)
+  plan_fits (phase.TheVariants.More z negated) Space m = refl
+  plan_fits (phase.TheVariants.More z negated) k m = behind_fits (phase.TheVariants.More z negated) k
+  plan_fits phase.TheVariants.Between Space m = refl
+  plan_fits phase.TheVariants.Between Plus m = refl
+  plan_fits phase.TheVariants.Between Minus m = refl
+  plan_fits phase.TheVariants.Between (Digit d) m = digits_fit phase.TheVariants.Between None false 0 d
+  plan_fits phase.TheVariants.Between k m = behind_fits phase.TheVariants.Between k
+  plan_fits phase.TheVariants.Greater Equals m = refl
+  plan_fits (phase.TheVariants.Operator r) Space m = refl
+  plan_fits (phase.TheVariants.Operator r) k m = number_fits (phase.TheVariants.Operator r) (Some r) k
+  plan_fits (phase.TheVariants.Tail r z) Space m = refl
+  plan_fits phase.TheVariants.Empty Space m = refl
+  plan_fits _ _ m = tt
+
+-- the text ends in the name being read
+abbrev Holds : Phase → List ℕ → List ℕ → Type 0
+Holds (phase.TheVariants.First z negated) name text = EndsIn text name × IsFirst name
+Holds (phase.TheVariants.More z negated) name text = EndsIn text name × IsName name
+Holds _ name text = Unit {0}
+
+held_no_name : (q : Phase) (name text : List ℕ) → is_naming q ≡ false → Holds q name text
+held_no_name (phase.TheVariants.First z negated) name text h = absurd (false≢true (sym h))
+held_no_name (phase.TheVariants.More z negated) name text h = absurd (false≢true (sym h))
+held_no_name _ name text h = tt
+
+name_grown : (p : Phase) (name text : List ℕ) (b : ℕ) → is_naming p ≡ true → Holds p name text → IsTrue (is_name_byte b) → EndsIn (text ++ b ∷ []) (name ++ b ∷ []) × IsName (name ++ b ∷ [])
+name_grown (phase.TheVariants.First z negated) name text b h (e, f) k = (ends_more text name b e, first-append name b f k)
+name_grown (phase.TheVariants.More z negated) name text b h (e, f) k = (ends_more text name b e, name-append name b f k)
+name_grown _ name text b h k l = absurd (false≢true h)
+
+name_front : (p : Phase) (name text : List ℕ) (b : ℕ) → is_naming p ≡ true → Holds p name text → IsTrue (is_name_byte b) → InName text b
+name_front (phase.TheVariants.First z negated) name text b h (e, f) k = (name, e, first_further name b f k)
+name_front (phase.TheVariants.More z negated) name text b h (e, f) k = (name, e, name_further name b f k)
+name_front _ name text b h k l = absurd (false≢true h)
+
+abbrev Known : SumState → List ℕ → Type 0
+Known s text = Holds s.work.phase s.work.name text
+
+abbrev Stays : Next SumState SumEvent → List ℕ → Type 0
+Stays (Go s) text = Known s text
+Stays (End e s) text = Unit {0}
+Stays Refuse text = Unit {0}
+
+acts : (s : SumState) (text : List ℕ) (b : ℕ) (m : Move) → Fits s.work.phase b m → Known s text → Stays (over s (act (flushed s.work.phase s.work.terms s.work.name) s.work.terms s.work.name m)) (text ++ b ∷ [])
+acts s text b (To q) h k = held_no_name q [] (text ++ b ∷ []) h
+acts s text b (Begin (phase.TheVariants.First z negated) c) h k = subst (λ (x : ℕ). EndsIn (text ++ b ∷ []) (x ∷ []) × IsTrue (is_letter x)) (sym h.0) (ends_one text b, subst (λ (x : ℕ). IsTrue (is_letter x)) h.0 h.1)
+acts s text b (Begin q c) h k = absurd h
+acts s text b (Add (phase.TheVariants.More z negated) c) h k =
+    subst (λ (x : ℕ). EndsIn (text ++ b ∷ []) (s.work.name ++ x ∷ []) × IsName (s.work.name ++ x ∷ [])) (sym h.0)
+    (name_grown s.work.phase s.work.name text b h.2 k (subst (λ (x : ℕ). IsTrue (is_name_byte x)) h.0 h.1))
+acts s text b (Add q c) h k = absurd h
+acts s text b EndSum h k = tt
+acts s text b (EndLinear r z) h k = tt
+acts s text b Stop h k = tt
+
+fits : (s : SumState) (b : ℕ) → Fits s.work.phase b (plan s.part s.limit s.work.phase (kind s.spaces (letter_at (is_numeric s.work.phase) b)))
+fits s b = plan_fits s.part s.limit b s.work.phase (kind s.spaces (letter_at (is_numeric s.work.phase) b)) (means s.spaces (letter_at (is_numeric s.work.phase) b))
+
+stepped : (s next : SumState) (b : ℕ) (text : List ℕ) → Known s text → sums.step s b ≡ Go next → Known next (text ++ b ∷ [])
+stepped s next b text k e =
+    subst (λ (x : Next SumState SumEvent). Stays x (text ++ b ∷ [])) e
+    (acts s text b (plan s.part s.limit s.work.phase (kind s.spaces (letter_at (is_numeric s.work.phase) b))) (fits s b) k)
+
+walked : (t : List Letter) (s next : SumState) (text : List ℕ) → Known s text → Walks sums s t next → Known next (text ++ bytes t)
+walked [] s next text k w = subst (λ (x : List ℕ). Known next x) (sym (append-nil text)) (subst (λ (x : SumState). Known x text) (sym w) k)
+walked (l ∷ t) s next text k (mid, g, o, n, w) =
+    subst (λ (x : List ℕ). Known next x) (append_assoc text (l.byte ∷ []) (bytes t)) (walked t mid next (text ++ l.byte ∷ []) (stepped s mid l.byte text k g) w)
+
+by_move : (p : Phase) (name text : List ℕ) (b : ℕ) (m : Move) → Fits p b m → adds m ≡ true → Holds p name text → InName text b
+by_move p name text b (Begin (phase.TheVariants.First z negated) c) h e k = ([], ends_nothing text, (subst (λ (x : ℕ). IsTrue (is_letter x)) h.0 h.1, tt))
+by_move p name text b (Begin q c) h e k = absurd h
+by_move p name text b (Add (phase.TheVariants.More z negated) c) h e k = name_front p name text b h.2 k (subst (λ (x : ℕ). IsTrue (is_name_byte x)) h.0 h.1)
+by_move p name text b (Add q c) h e k = absurd h
+by_move p name text b (To q) h e k = absurd (false≢true e)
+by_move p name text b EndSum h e k = absurd (false≢true e)
+by_move p name text b (EndLinear r z) h e k = absurd (false≢true e)
+by_move p name text b Stop h e k = absurd (false≢true e)
+
+-- the machine adds to a name, or a whole name has been read
+by_either : (p : Phase) (name text : List ℕ) (b : ℕ) (m : Move) → Fits p b m → (adds m || is_more p) ≡ true → Holds p name text → AsksLiteral text b
+by_either p name text b m f h k = by_adds (adds m) refl h
+  where
+    more : (q : Phase) → is_more q ≡ true → Holds q name text → AsksLiteral text b
+    more (phase.TheVariants.More z negated) e (x, y) = at_name text name b x y
+    more _ e x = absurd (false≢true e)
+
+    by_adds : (x : Bool) → adds m ≡ x → (x || is_more p) ≡ true → AsksLiteral text b
+    by_adds true e g = inl (by_move p name text b m f e k)
+    by_adds false e g = more p g k
+
+-- Before a text, it does not allocate.
+begins_plain : (want : Part) (limit : ℕ) (k : Kind) → adds (plan want limit phase.TheVariants.Start k) ≡ false
+begins_plain want limit Space = cond_both (reads_sums want) _ _ (λ m. adds m ≡ false) (λ _. refl) (λ _. refl)
+begins_plain want limit Plus = refl
+begins_plain want limit Minus = refl
+begins_plain want limit (Digit d) = cond_both (nat_le (10 * 0 + d) limit) _ _ (λ m. adds m ≡ false) (λ _. refl) (λ _. refl)
+begins_plain want limit Greater = cond_both (allows want AtLeast) _ _ (λ m. adds m ≡ false) (λ _. refl) (λ _. refl)
+begins_plain want limit Equals = cond_both (allows want Equal) _ _ (λ m. adds m ≡ false) (λ _. refl) (λ _. refl)
+begins_plain want limit Semicolon = cond_both (reads_sums want) _ _ (λ m. adds m ≡ false) (λ _. refl) (λ _. refl)
+begins_plain want limit _ = refl
+
+pub first_asks_nothing : (spaces : Spaces) (part : Part) (limit b : ℕ) → asks (first spaces part limit) b ≡ false
+first_asks_nothing spaces part limit b = rw (begins_plain part limit (kind spaces (letter_at true b))) refl
+
+-- After a part of a text that is read, if the machine may allocate.
+pub sums_asked : (spaces : Spaces) (part : Part) (limit : ℕ) (t : List Letter) (s : SumState) (b : ℕ) → Walks sums (first spaces part limit) t s → asks s b ≡ true → AsksLiteral (bytes t) b
+sums_asked spaces part limit t s b w h =
+    by_either s.work.phase s.work.name (bytes t) b (plan s.part s.limit s.work.phase (kind s.spaces (letter_at (is_numeric s.work.phase) b))) (fits s b) h
+    (walked t (first spaces part limit) s [] tt w)
+
+-- after an event, the text is complete
+ends_done : (t : List Letter) (s next : SumState) (e : SumEvent) → Reads sums s t e next → sums.done next ≡ true
+ends_done [] s next e r = absurd r
+ends_done (l ∷ []) s next e r = subst (λ (x : SumState). sums.done x ≡ true) (sym (ended-last s next l.byte e r.0)) refl
+ends_done (l ∷ k ∷ t) s next e (mid, g, o, n, r) = ends_done (k ∷ t) mid next e r
+
+-- If a new machine may allocate at a byte, each text that continues with the byte has it in a literal, or after one.
+module _ (spaces : Spaces) (part : Part) (limit : ℕ) where
+  abbrev Idle : SumState → Type 0
+  Idle s = (s ≡ first spaces part limit) ⊎ (sums.done s ≡ true)
+
+  abbrev Asks : SumEvent → List ℕ → ℕ → Type 0
+  Asks e text b = AsksLiteral text b
+
+  texts : (at s next : SumState) (front rest : List Letter) (l : Letter) (e : SumEvent) → Idle at → Walks sums at front s → Reads sums s (l ∷ rest) e next
+      → IsTrue (sums.asks s l.byte) → Asks e (bytes front) l.byte
+  texts at s next front rest l e (inl f) w r a = sums_asked spaces part limit front s l.byte (subst (λ (x : SumState). Walks sums x front s) f w) a
+  texts at s next front rest l e (inr d) w r a = absurd (nothing-after spaces part limit at (front ++ l ∷ rest) e next d (reads_behind sums front (l ∷ rest) at s next e w r))
+
+  pub asks_one : (used : List ℕ) (b : ℕ) → MayAsk sums (first spaces part limit) used b → AsksOnly (IsOneText spaces limit part) Asks used b
+  asks_one used b (state, lead, a) items more h e =
+      asked.asks_within sums Idle Asks (record {
+        gaps = λ s next c i g o. never (sums.begun next) (goes-midway s next c g) o;
+        ends = λ s next t f i r. inr (ends_done t s next f r);
+        texts = texts;
+      }) (first spaces part limit) used b (inl refl) state lead a items more ((accepts_one spaces part limit items).1 h) e

@@ -1,0 +1,95 @@
+-- What is stored grows by at most one unit per byte. Offered to other crates.
+use Rattle.std.proofs.Common.{◌≡◌, ℕ, ◌+◌, ◌-◌, ◌^◌, ◌<◌, ◌≤◌, min, take, get_or, List, [], ◌∷◌, ◌++◌, length, sym, ap, subst, arith, ◌∙◌}
+use Rattle.std.proofs.lemmas.List.{length-append, take_more}
+use Rattle.pb_text.specs.contract.Automaton.{Go}
+use Rattle.pb_sums.specs.engine.Machine.{Work, act, term, flushed, plan, finished}
+use Rattle.pb_sums.specs.engine.State.{units, in_hand, ready, all_units}
+use Rattle.pb_sums.specs.declared.values.SumEvent as event
+use Rattle.pb_sums.specs.declared.values.Term.{Term}
+use Rattle.pb_sums.specs.declared.phase.Kind.{Kind}
+use Rattle.pb_sums.specs.declared.phase.Phase.{Phase}
+use Rattle.pb_sums.specs.declared.phase.Phase as phase
+use Rattle.pb_sums.specs.declared.grammar.Part.{Part}
+use Rattle.pb_sums.specs.declared.grammar.Spaces.{Spaces}
+use Rattle.pb_sums.specs.declared.phase.Move.{Move}
+use Rattle.pb_sums.specs.declared.phase.Move.TheVariants.{To, Begin, Add, EndSum, EndLinear, Stop}
+use Rattle.pb_sums.proofs.lemmas.machine.Flags.{IsSane, plan-sane}
+use Rattle.pb_text.proofs.lemmas.machine.Outcomes.{one_state, refuse_or_go, end_or_go}
+
+pub units-append : (xs : List Term) (x : Term) → units (xs ++ x ∷ []) ≡ units xs + (1 + length x.literal.name)
+units-append [] x = omega arith
+units-append (y ∷ xs) x = omega (arith, units-append xs x)
+
+abbrev pub potential : Work → ℕ
+potential w = all_units w + ready w.phase
+
+abbrev count : List Term → List ℕ → Phase → ℕ
+count xs name ph = units xs + in_hand ph + length name + ready ph
+
+pub flushed-units : (ph : Phase) (xs : List Term) (name : List ℕ) → units (flushed ph xs name) ≤ units xs + in_hand ph + length name
+flushed-units (phase.TheVariants.More z negated) xs name = omega (arith, units-append xs (term z negated name))
+flushed-units phase.TheVariants.Start xs name = omega arith
+flushed-units (phase.TheVariants.Signed role negative) xs name = omega arith
+flushed-units (phase.TheVariants.Digits role negative n) xs name = omega arith
+flushed-units (phase.TheVariants.Gap z) xs name = omega arith
+flushed-units (phase.TheVariants.Tilde z) xs name = omega arith
+flushed-units (phase.TheVariants.First z negated) xs name = omega arith
+flushed-units phase.TheVariants.Between xs name = omega arith
+flushed-units phase.TheVariants.Greater xs name = omega arith
+flushed-units (phase.TheVariants.Operator r) xs name = omega arith
+flushed-units (phase.TheVariants.Tail r z) xs name = omega arith
+flushed-units phase.TheVariants.Empty xs name = omega arith
+flushed-units phase.TheVariants.Done xs name = omega arith
+
+ready-one : (ph : Phase) → ready ph ≤ 1
+ready-one phase.TheVariants.Start = omega arith
+ready-one (phase.TheVariants.Signed role negative) = omega arith
+ready-one (phase.TheVariants.Digits role negative n) = omega arith
+ready-one (phase.TheVariants.Gap z) = omega arith
+ready-one (phase.TheVariants.Tilde z) = omega arith
+ready-one (phase.TheVariants.First z negated) = omega arith
+ready-one (phase.TheVariants.More z negated) = omega arith
+ready-one phase.TheVariants.Between = omega arith
+ready-one phase.TheVariants.Greater = omega arith
+ready-one (phase.TheVariants.Operator r) = omega arith
+ready-one (phase.TheVariants.Tail r z) = omega arith
+ready-one phase.TheVariants.Empty = omega arith
+ready-one phase.TheVariants.Done = omega arith
+
+pub to-grows : (u x h l r ih ir : ℕ) → u ≤ x + h + l → ih ≡ 0 → ir ≤ 1 → u + ih + 0 + ir ≤ x + h + l + r + 1
+to-grows u x h l r ih ir a b c = omega arith
+
+pub begin-grows : (x h l r ih ir : ℕ) → ih + ir ≡ 1 → r ≡ 1 → x + ih + 1 + ir ≤ x + h + l + r + 1
+begin-grows x h l r ih ir a b = omega arith
+
+pub add-grows : (x h l r ih ir m : ℕ) → ih + ir ≡ 1 → h ≡ 1 → m ≡ l + 1 → x + ih + m + ir ≤ x + h + l + r + 1
+add-grows x h l r ih ir m a b c = omega arith
+
+act-grows : (ph : Phase) (k : Kind) (xs : List Term) (name : List ℕ) (m : Move) (w : Work) → IsSane ph k m → act (flushed ph xs name) xs name m ≡ Go w
+    → potential w ≤ count xs name ph + 1
+act-grows ph k xs name (To q) w h e =
+    subst (λ v. potential v ≤ count xs name ph + 1) (one_state (record { terms = flushed ph xs name; name = []; phase = q }) w e)
+    (to-grows (units (flushed ph xs name)) (units xs) (in_hand ph) (length name) (ready ph) (in_hand q) (ready q) (flushed-units ph xs name) h.1 (ready-one q))
+act-grows ph k xs name (Begin q b) w h e =
+    subst (λ v. potential v ≤ count xs name ph + 1) (one_state (record { terms = xs; name = b ∷ []; phase = q }) w e)
+    (begin-grows (units xs) (in_hand ph) (length name) (ready ph) (in_hand q) (ready q) h.1 h.2)
+act-grows ph k xs name (Add q b) w h e =
+    subst (λ v. potential v ≤ count xs name ph + 1) (one_state (record { terms = xs; name = name ++ b ∷ []; phase = q }) w e)
+    (add-grows (units xs) (in_hand ph) (length name) (ready ph) (in_hand q) (ready q) (length (name ++ b ∷ [])) h.1 h.2 (length-append name (b ∷ [])))
+act-grows ph k xs name EndSum w h e = end_or_go (event.TheVariants.Sum (flushed ph xs name)) finished w e
+act-grows ph k xs name (EndLinear r z) w h e = end_or_go (event.TheVariants.Linear (record { terms = flushed ph xs name; relation = r; degree = z })) finished w e
+act-grows ph k xs name Stop w h e = refuse_or_go w e
+
+pub letter-grows : (spaces : Spaces) (want : Part) (limit : ℕ) (w v : Work) (k : Kind) → act (flushed w.phase w.terms w.name) w.terms w.name (plan want limit w.phase k) ≡ Go v
+    → potential v ≤ potential w + 1
+letter-grows spaces want limit w v k e = act-grows w.phase k w.terms w.name (plan want limit w.phase k) v (plan-sane want limit w.phase k) e
+
+-- a count that saturates
+pub counted : (u n c m r : ℕ) → c ≡ min u (2 ^ 64 - 1) → m ≡ min (n + 1) (2 ^ 64 - 1) → r ≡ min (c + m) (2 ^ 64 - 1) → r ≡ min (u + (1 + n)) (2 ^ 64 - 1)
+counted u n c m r e f g = omega arith
+
+pub count_more : (xs : List Term) (i : ℕ) (d : Term) (c m r : ℕ) → i < length xs → c ≡ min (units (take i xs)) (2 ^ 64 - 1) → m ≡ min (length (get_or xs i d).literal.name + 1) (2 ^ 64 - 1)
+    → r ≡ min (c + m) (2 ^ 64 - 1) → r ≡ min (units (take (i + 1) xs)) (2 ^ 64 - 1)
+count_more xs i d c m r h e f g =
+    counted (units (take i xs)) (length (get_or xs i d).literal.name) c m r e f g
+    ∙ ap (λ n. min n (2 ^ 64 - 1)) (sym (ap units (take_more xs i d h) ∙ units-append (take i xs) (get_or xs i d)))

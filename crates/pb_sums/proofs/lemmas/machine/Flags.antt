@@ -1,0 +1,214 @@
+-- Which letter a byte is: digits of a number have their flag.
+use Rattle.pb_sums.proofs.lemmas.machine.LetterKinds.{on_letter, Means, kind-means}
+use Rattle.pb_sums.specs.engine.State.{in_hand, ready}
+use Rattle.pb_text.specs.meaning.Languages.{unmarked}
+use Rattle.pb_sums.specs.engine.Machine.{digits, is_midway, Work, plan, act, kind, number, behind, letter_at, is_numeric, is_in_number, kind_of_plain, kind_of_numeral, flushed, finished}
+use Rattle.pb_sums.specs.meaning.Sums.{is_space, reads_sums, allows}
+use Rattle.pb_sums.specs.declared.phase.Kind.{Kind}
+use Rattle.pb_sums.specs.declared.phase.Kind.TheVariants.{Space, Digit, Start, Inner, Tilde, Plus, Minus, Greater, Equals, Semicolon, Other}
+use Rattle.pb_sums.specs.declared.phase.Move.{Move}
+use Rattle.pb_sums.specs.declared.phase.Move.TheVariants.{To, Begin, Add, EndSum, EndLinear, Stop}
+use Rattle.pb_sums.specs.declared.grammar.Part.{Part}
+use Rattle.pb_sums.specs.declared.phase.Phase.{Phase}
+use Rattle.pb_sums.specs.declared.grammar.Spaces.{Spaces}
+use Rattle.pb_sums.specs.declared.values.Relation.{Relation}
+use Rattle.pb_sums.specs.declared.values.Relation.TheVariants.{AtLeast, Equal}
+use Rattle.pb_sums.specs.declared.values.SumEvent.{SumEvent}
+use Rattle.pb_sums.specs.declared.values.Term.{Term}
+use Rattle.pb_text.proofs.lemmas.machine.Outcomes.{one_state, one_end, go_or_end, refuse_or_go, refuse_or_end, end_or_go}
+use Rattle.pb_text.specs.contract.Automaton.{Go, End}
+use Rattle.pb_text.specs.meaning.Classes.{is_digit, is_letter, is_name_byte}
+use Rattle.pb_text.specs.meaning.Spelling.{Letter}
+use Rattle.std.proofs.Common.{◌≡◌, ℕ, ◌+◌, ◌*◌, ◌-◌, Bool, true, false, cond, ◌&&◌, List, [], ◌∷◌, ◌++◌, refl, sym, ap, subst, arith, ◌⊎◌, inl, inr, ◌∙◌}
+use Rattle.std.proofs.Math.Bool.{and-false}
+use Rattle.std.proofs.lemmas.Bool.Decides.{nat_tests}
+use Rattle.std.specs.Prelude.{nat_le, Option, Some, None}
+use Rattle.pb_sums.specs.declared.values.SumEvent as event
+use Rattle.pb_sums.specs.declared.phase.Phase as phase
+
+-- What the plan for a phase and a kind says about the next state. The byte was a digit of a number if and only if the
+-- state is in a number. The text has begun. If a name has begun, a literal is being read. Only `;` ends a text.
+abbrev pub is_digit_kind : Kind → Bool
+is_digit_kind (Digit d) = true
+is_digit_kind _ = false
+
+abbrev pub Flags : Kind → Phase → Type 0
+Flags k q = (is_in_number q ≡ is_digit_kind k) × (is_midway q ≡ true)
+
+abbrev pub IsSane : Phase → Kind → Move → Type 0
+IsSane ph k (To q) = Flags k q × (in_hand q ≡ 0)
+IsSane ph k (Begin q b) = Flags k q × (in_hand q + ready q ≡ 1) × (ready ph ≡ 1)
+IsSane ph k (Add q b) = Flags k q × (in_hand q + ready q ≡ 1) × (in_hand ph ≡ 1)
+IsSane ph k EndSum = k ≡ Semicolon
+IsSane ph k (EndLinear r z) = k ≡ Semicolon
+IsSane ph k Stop = Unit {0}
+
+sane_test : (ph : Phase) (k : Kind) (b : Bool) (m : Move) → IsSane ph k m → IsSane ph k (cond b m Stop)
+sane_test ph k true m h = h
+sane_test ph k false m h = tt
+
+module _ (want : Part) (limit : ℕ) where
+  digits-sane : (ph : Phase) (role : Option Relation) (negative : Bool) (n d : ℕ) → IsSane ph (Digit d) (digits limit role negative n d)
+  digits-sane ph role negative n d =
+      sane_test ph (Digit d) (nat_le (10 * n + d) limit) (To (phase.TheVariants.Digits role negative (10 * n + d))) ((refl, refl), refl)
+
+  number-sane : (ph : Phase) (role : Option Relation) (k : Kind) → IsSane ph k (number limit role k)
+  number-sane ph role Plus = ((refl, refl), refl)
+  number-sane ph role Minus = ((refl, refl), refl)
+  number-sane ph role (Digit d) = digits-sane ph role false 0 d
+  number-sane ph role _ = tt
+
+  behind-sane : (ph : Phase) (k : Kind) → IsSane ph k (behind want k)
+  behind-sane ph Greater = sane_test ph Greater (allows want AtLeast) (To phase.TheVariants.Greater) ((refl, refl), refl)
+  behind-sane ph Equals = sane_test ph Equals (allows want Equal) (To (phase.TheVariants.Operator Equal)) ((refl, refl), refl)
+  behind-sane ph Semicolon = sane_test ph Semicolon (reads_sums want) EndSum refl
+  behind-sane ph _ = tt
+
+  pub plan-sane : (ph : Phase) (k : Kind) → IsSane ph k (plan want limit ph k)
+  plan-sane phase.TheVariants.Start Space = sane_test phase.TheVariants.Start Space (reads_sums want) (To phase.TheVariants.Empty) ((refl, refl), refl)
+  plan-sane phase.TheVariants.Start Plus = number-sane phase.TheVariants.Start None Plus
+  plan-sane phase.TheVariants.Start Minus = number-sane phase.TheVariants.Start None Minus
+  plan-sane phase.TheVariants.Start (Digit d) = number-sane phase.TheVariants.Start None (Digit d)
+  plan-sane phase.TheVariants.Start k = behind-sane phase.TheVariants.Start k
+  plan-sane (phase.TheVariants.Signed role negative) (Digit d) = digits-sane (phase.TheVariants.Signed role negative) role negative 0 d
+  plan-sane (phase.TheVariants.Digits role negative n) (Digit d) = digits-sane (phase.TheVariants.Digits role negative n) role negative n d
+  plan-sane (phase.TheVariants.Digits None negative n) Space = ((refl, refl), refl)
+  plan-sane (phase.TheVariants.Digits (Some r) negative n) Space = ((refl, refl), refl)
+  plan-sane (phase.TheVariants.Digits (Some r) negative n) Semicolon = refl
+  plan-sane (phase.TheVariants.Gap z) Space = ((refl, refl), refl)
+  plan-sane (phase.TheVariants.Gap z) Tilde = ((refl, refl), refl)
+  plan-sane (phase.TheVariants.Gap z) (Start b) = ((refl, refl), refl, refl)
+  plan-sane (phase.TheVariants.Tilde z) (Start b) = ((refl, refl), refl, refl)
+  plan-sane (phase.TheVariants.First z negated) (Start b) = ((refl, refl), refl, refl)
+  plan-sane (phase.TheVariants.First z negated) (Inner b) = ((refl, refl), refl, refl)
+  plan-sane (phase.TheVariants.More z negated) (Start b) = ((refl, refl), refl, refl)
+  plan-sane (phase.TheVariants.More z negated) (Inner b) = ((refl, refl), refl, refl)
+  plan-sane (phase.TheVariants.More z negated) Space = ((refl, refl), refl)
+  plan-sane (phase.TheVariants.More z negated) k = behind-sane (phase.TheVariants.More z negated) k
+  plan-sane phase.TheVariants.Between Space = ((refl, refl), refl)
+  plan-sane phase.TheVariants.Between Plus = number-sane phase.TheVariants.Between None Plus
+  plan-sane phase.TheVariants.Between Minus = number-sane phase.TheVariants.Between None Minus
+  plan-sane phase.TheVariants.Between (Digit d) = number-sane phase.TheVariants.Between None (Digit d)
+  plan-sane phase.TheVariants.Between k = behind-sane phase.TheVariants.Between k
+  plan-sane phase.TheVariants.Greater Equals = ((refl, refl), refl)
+  plan-sane (phase.TheVariants.Operator r) Space = ((refl, refl), refl)
+  plan-sane (phase.TheVariants.Operator r) k = number-sane (phase.TheVariants.Operator r) (Some r) k
+  plan-sane (phase.TheVariants.Tail r z) Space = ((refl, refl), refl)
+  plan-sane (phase.TheVariants.Tail r z) Semicolon = refl
+  plan-sane phase.TheVariants.Empty Space = ((refl, refl), refl)
+  plan-sane phase.TheVariants.Empty Semicolon = refl
+  plan-sane _ _ = tt
+
+  digit-needs : (ph : Phase) (d : ℕ) → (is_numeric ph ≡ true) ⊎ (plan want limit ph (Digit d) ≡ Stop)
+  digit-needs phase.TheVariants.Start d = inl refl
+  digit-needs (phase.TheVariants.Signed role negative) d = inl refl
+  digit-needs (phase.TheVariants.Digits role negative n) d = inl refl
+  digit-needs (phase.TheVariants.Gap z) d = inr refl
+  digit-needs (phase.TheVariants.Tilde z) d = inr refl
+  digit-needs (phase.TheVariants.First z negated) d = inr refl
+  digit-needs (phase.TheVariants.More z negated) d = inr refl
+  digit-needs phase.TheVariants.Between d = inl refl
+  digit-needs phase.TheVariants.Greater d = inr refl
+  digit-needs (phase.TheVariants.Operator r) d = inl refl
+  digit-needs (phase.TheVariants.Tail r z) d = inr refl
+  digit-needs phase.TheVariants.Empty d = inr refl
+  digit-needs phase.TheVariants.Done d = inr refl
+
+  inner-needs : (ph : Phase) (b : ℕ) → (is_numeric ph ≡ false) ⊎ (plan want limit ph (Inner b) ≡ Stop)
+  inner-needs phase.TheVariants.Start b = inr refl
+  inner-needs (phase.TheVariants.Signed role negative) b = inr refl
+  inner-needs (phase.TheVariants.Digits role negative n) b = inr refl
+  inner-needs (phase.TheVariants.Gap z) b = inl refl
+  inner-needs (phase.TheVariants.Tilde z) b = inl refl
+  inner-needs (phase.TheVariants.First z negated) b = inl refl
+  inner-needs (phase.TheVariants.More z negated) b = inl refl
+  inner-needs phase.TheVariants.Between b = inr refl
+  inner-needs phase.TheVariants.Greater b = inl refl
+  inner-needs (phase.TheVariants.Operator r) b = inr refl
+  inner-needs (phase.TheVariants.Tail r z) b = inl refl
+  inner-needs phase.TheVariants.Empty b = inl refl
+  inner-needs phase.TheVariants.Done b = inl refl
+
+  other-stops : (ph : Phase) → plan want limit ph Other ≡ Stop
+  other-stops phase.TheVariants.Start = refl
+  other-stops (phase.TheVariants.Signed role negative) = refl
+  other-stops (phase.TheVariants.Digits role negative n) = refl
+  other-stops (phase.TheVariants.Gap z) = refl
+  other-stops (phase.TheVariants.Tilde z) = refl
+  other-stops (phase.TheVariants.First z negated) = refl
+  other-stops (phase.TheVariants.More z negated) = refl
+  other-stops phase.TheVariants.Between = refl
+  other-stops phase.TheVariants.Greater = refl
+  other-stops (phase.TheVariants.Operator r) = refl
+  other-stops (phase.TheVariants.Tail r z) = refl
+  other-stops phase.TheVariants.Empty = refl
+  other-stops phase.TheVariants.Done = refl
+
+  digit-inner : (s : Spaces) (b : ℕ) → is_digit b ≡ true → kind_of_plain s b ≡ Inner b
+  digit-inner s b e =
+      let i : is_space s b ≡ false = space-no s b e in
+      let j : is_letter b ≡ false = grind (arith, nat_tests) in
+      let k : is_name_byte b ≡ true = grind (arith, nat_tests) in
+      rw (i, k, j) refl
+    where
+      space-no : (s : Spaces) (b : ℕ) → is_digit b ≡ true → is_space s b ≡ false
+      space-no s b e = grind (arith, nat_tests)
+
+  -- A letter that the machine takes is the one that its byte is to the machine.
+  pub flag : (s : Spaces) (ph : Phase) (c : Letter) → (c ≡ letter_at (is_numeric ph) c.byte) ⊎ (plan want limit ph (kind s c) ≡ Stop)
+  flag s ph c = go c.byte c.numeral (is_digit c.byte) refl
+    where
+      go : (b : ℕ) (m : Bool) (x : Bool) → is_digit b ≡ x →
+          (◌≡◌ {A = Letter} (record { byte = b; numeral = m }) (letter_at (is_numeric ph) b)) ⊎ (plan want limit ph (cond m (kind_of_numeral b) (kind_of_plain s b)) ≡ Stop)
+      go b true true e = elim (digit-needs ph (b - 48)) [
+        | inl f ↦ inl (ap (λ n. record { byte = b; numeral = n }) (sym (ap (λ y. y && is_digit b) f ∙ e)))
+        | inr f ↦ inr (ap (λ y. plan want limit ph (cond y (Digit (b - 48)) Other)) e ∙ f)
+      ]
+      go b true false e = inr (ap (λ y. plan want limit ph (cond y (Digit (b - 48)) Other)) e ∙ other-stops ph)
+      go b false true e = elim (inner-needs ph b) [
+        | inl f ↦ inl (ap (λ n. record { byte = b; numeral = n }) (sym (ap (λ y. y && is_digit b) f)))
+        | inr f ↦ inr (ap (λ y. plan want limit ph y) (digit-inner s b e) ∙ f)
+      ]
+      go b false false e = inl (ap (λ n. record { byte = b; numeral = n }) (sym (ap (λ y. is_numeric ph && y) e ∙ and-false (is_numeric ph))))
+
+  go-sane : (ph : Phase) (k : Kind) (ys xs : List Term) (name : List ℕ) (m : Move) (w : Work) → IsSane ph k m → act ys xs name m ≡ Go w → Flags k w.phase
+  go-sane ph k ys xs name (To q) w h e = subst (Flags k) (ap (λ x. x.phase) (one_state (record { terms = ys; name = []; phase = q }) w e)) h.0
+  go-sane ph k ys xs name (Begin q b) w h e = subst (Flags k) (ap (λ x. x.phase) (one_state (record { terms = xs; name = b ∷ []; phase = q }) w e)) h.0
+  go-sane ph k ys xs name (Add q b) w h e = subst (Flags k) (ap (λ x. x.phase) (one_state (record { terms = xs; name = name ++ b ∷ []; phase = q }) w e)) h.0
+  go-sane ph k ys xs name EndSum w h e = end_or_go (event.TheVariants.Sum ys) finished w e
+  go-sane ph k ys xs name (EndLinear r z) w h e = end_or_go (event.TheVariants.Linear (record { terms = ys; relation = r; degree = z })) finished w e
+  go-sane ph k ys xs name Stop w h e = refuse_or_go w e
+
+  numeral-of : (s : Spaces) (c : Letter) (k : Kind) → Means s k c → (c.numeral ≡ is_digit_kind k) ⊎ (k ≡ Other)
+  numeral-of s c Space m = inl (ap (λ x. x.numeral) m.0)
+  numeral-of s c (Digit d) m = inl (ap (λ x. x.numeral) m.0)
+  numeral-of s c (Start b) m = inl (ap (λ x. x.numeral) m.0)
+  numeral-of s c (Inner b) m = inl (ap (λ x. x.numeral) m.0)
+  numeral-of s c Other m = inr refl
+  numeral-of s c _ m = inl (ap (λ x. x.numeral) m)
+
+  -- After a letter: in a number if and only if the letter is a digit of one, and within a text.
+  pub gone : (s : Spaces) (w w' : Work) (c : Letter) → on_letter s want limit w c ≡ Go w' → (is_in_number w'.phase ≡ c.numeral) × (is_midway w'.phase ≡ true)
+  gone s w w' c e =
+      let ys : List Term = flushed w.phase w.terms w.name in
+      let f : Flags (kind s c) w'.phase = go-sane w.phase (kind s c) ys w.terms w.name (plan want limit w.phase (kind s c)) w' (plan-sane w.phase (kind s c)) e in
+      elim (numeral-of s c (kind s c) (kind-means s c)) [
+        | inl g ↦ (f.0 ∙ sym g, f.1)
+        | inr g ↦ refuse_or_go w' (sym (ap (λ m. act ys w.terms w.name m) (ap (λ k. plan want limit w.phase k) g ∙ other-stops w.phase)) ∙ e)
+      ]
+
+  end-sane : (ph : Phase) (k : Kind) (ys xs : List Term) (name : List ℕ) (m : Move) (v : SumEvent) (w : Work) → IsSane ph k m → act ys xs name m ≡ End v w → (k ≡ Semicolon) × (w ≡ finished)
+  end-sane ph k ys xs name EndSum v w h e = (h, sym (one_end (event.TheVariants.Sum ys) v finished w e).1)
+  end-sane ph k ys xs name (EndLinear r z) v w h e = (h, sym (one_end (event.TheVariants.Linear (record { terms = ys; relation = r; degree = z })) v finished w e).1)
+  end-sane ph k ys xs name (To q) v w h e = go_or_end (record { terms = ys; name = []; phase = q }) v w e
+  end-sane ph k ys xs name (Begin q b) v w h e = go_or_end (record { terms = xs; name = b ∷ []; phase = q }) v w e
+  end-sane ph k ys xs name (Add q b) v w h e = go_or_end (record { terms = xs; name = name ++ b ∷ []; phase = q }) v w e
+  end-sane ph k ys xs name Stop v w h e = refuse_or_end v w e
+
+  -- A text ends with a `;`, which is no digit, and then nothing is stored.
+  pub ended : (s : Spaces) (w w' : Work) (v : SumEvent) (c : Letter) → on_letter s want limit w c ≡ End v w' → (c.numeral ≡ false) × (w' ≡ finished)
+  ended s w w' v c e =
+      let f : (kind s c ≡ Semicolon) × (w' ≡ finished) =
+      end-sane w.phase (kind s c) (flushed w.phase w.terms w.name) w.terms w.name (plan want limit w.phase (kind s c)) v w' (plan-sane w.phase (kind s c)) e in
+      let m : c ≡ unmarked 59 = subst (λ k. Means s k c) f.0 (kind-means s c) in
+      (ap (λ x. x.numeral) m, f.1)

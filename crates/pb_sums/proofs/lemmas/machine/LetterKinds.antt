@@ -1,0 +1,82 @@
+-- What the kind of a letter says about the letter, and conversely.
+use Rattle.pb_sums.specs.engine.Machine.{Work, Outcome, move, kind, kind_of_plain, kind_of_numeral, symbol}
+use Rattle.pb_sums.specs.declared.grammar.Part.{Part}
+use Rattle.pb_sums.specs.meaning.Sums.{is_space}
+use Rattle.pb_sums.specs.declared.phase.Kind.{Kind}
+use Rattle.pb_sums.specs.declared.phase.Kind.TheVariants.{Space, Digit, Start, Inner, Tilde, Plus, Minus, Greater, Equals, Semicolon, Other}
+use Rattle.pb_sums.specs.declared.grammar.Spaces.{Spaces}
+use Rattle.pb_sums.specs.declared.grammar.Spaces.TheVariants.{White, Blank}
+use Rattle.pb_text.specs.meaning.Classes.{is_digit, is_letter, is_name_byte}
+use Rattle.pb_text.specs.meaning.Languages.{unmarked, digit}
+use Rattle.pb_text.specs.meaning.Spelling.{Letter}
+use Rattle.pb_text.proofs.lemmas.text.ByteTests.{digit_of, name_high, letter_name}
+use Rattle.std.proofs.Common.{◌≡◌, ℕ, ◌+◌, ◌-◌, ◌<◌, ◌≤◌, Bool, true, false, cond, refl, ap, arith, ◌⊎◌, inl, inr}
+use Rattle.std.proofs.lemmas.Bool.{eqb-true, cond_both}
+use Rattle.std.proofs.lemmas.Bool.Decides.{nat_tests}
+use Rattle.std.specs.Prelude.{IsTrue, nat_eq}
+
+-- what a kind says about its letter
+abbrev pub Means : Spaces → Kind → Letter → Type 0
+Means s Space c = (c ≡ unmarked c.byte) × IsTrue (is_space s c.byte)
+Means s (Digit d) c = (c ≡ digit d) × (d < 10)
+Means s (Start b) c = (c ≡ unmarked b) × IsTrue (is_letter b)
+Means s (Inner b) c = (c ≡ unmarked b) × IsTrue (is_name_byte b)
+Means s Tilde c = c ≡ unmarked 126
+Means s Plus c = c ≡ unmarked 43
+Means s Minus c = c ≡ unmarked 45
+Means s Greater c = c ≡ unmarked 62
+Means s Equals c = c ≡ unmarked 61
+Means s Semicolon c = c ≡ unmarked 59
+Means s Other c = Unit {0}
+
+symbol-means : (s : Spaces) (b : ℕ) → Means s (symbol b) (unmarked b)
+symbol-means s b =
+    let P : Kind → Type 0 = λ k. Means s k (unmarked b) in
+    let at = λ (n : ℕ) (e : nat_eq b n ≡ true). ap unmarked (eqb-true b n e) in
+    cond_both (nat_eq b 126) _ _ P (at 126) (λ _.
+    cond_both (nat_eq b 43) _ _ P (at 43) (λ _.
+    cond_both (nat_eq b 45) _ _ P (at 45) (λ _.
+    cond_both (nat_eq b 62) _ _ P (at 62) (λ _.
+    cond_both (nat_eq b 61) _ _ P (at 61) (λ _.
+    cond_both (nat_eq b 59) _ _ P (at 59) (λ _. tt))))))
+
+pub kind-means : (s : Spaces) (c : Letter) → Means s (kind s c) c
+kind-means s c = go c.byte c.numeral
+  where
+    go : (b : ℕ) (m : Bool) → Means s (cond m (kind_of_numeral b) (kind_of_plain s b)) (record { byte = b; numeral = m })
+    go b true = cond_both (is_digit b) _ _ (λ k. Means s k (record { byte = b; numeral = true }))
+        (λ e. let f : (b ≡ 48 + (b - 48)) × (b - 48 < 10) = digit_of b e in
+        (ap (λ (x : ℕ). record { byte = x; numeral = true }) f.0, f.1)) (λ _. tt)
+    go b false =
+        let P : Kind → Type 0 = λ k. Means s k (unmarked b) in
+        cond_both (is_space s b) _ _ P (λ e. (refl, e)) (λ _.
+        cond_both (is_letter b) _ _ P (λ e. (refl, e)) (λ _.
+        cond_both (is_name_byte b) _ _ P (λ e. (refl, e)) (λ _. symbol-means s b)))
+
+-- The kinds of the letters of the grammar.
+pub kind-digit : (s : Spaces) (d : ℕ) → d < 10 → kind s (digit d) ≡ Digit d
+kind-digit s d h =
+    let e : is_digit (48 + d) ≡ true = grind (arith, nat_tests) in
+    let f : (48 + d) - 48 ≡ d = omega arith in
+    rw e (ap Digit f)
+
+pub kind-space : (s : Spaces) (b : ℕ) → IsTrue (is_space s b) → kind s (unmarked b) ≡ Space
+kind-space s b e = rw e refl
+
+low : (s : Spaces) (b : ℕ) → 33 ≤ b → is_space s b ≡ false
+low White b h = grind (arith, nat_tests)
+low Blank b h = grind (arith, nat_tests)
+
+pub kind-letter : (s : Spaces) (b : ℕ) → IsTrue (is_letter b) → kind s (unmarked b) ≡ Start b
+kind-letter s b e = rw (low s b (name_high b (letter_name b e)), e) refl
+
+pub kind-name : (s : Spaces) (b : ℕ) → IsTrue (is_name_byte b) → (kind s (unmarked b) ≡ Start b) ⊎ (kind s (unmarked b) ≡ Inner b)
+kind-name s b e = go (is_letter b) refl
+  where
+    go : (x : Bool) → is_letter b ≡ x → (kind s (unmarked b) ≡ Start b) ⊎ (kind s (unmarked b) ≡ Inner b)
+    go true f = inl (kind-letter s b f)
+    go false f = inr (rw (low s b (name_high b e), e, f) refl)
+
+-- what a machine does with a letter
+abbrev pub on_letter : Spaces → Part → ℕ → Work → Letter → Outcome
+on_letter spaces want limit w c = move want limit w.terms w.name w.phase (kind spaces c)

@@ -1,0 +1,40 @@
+-- A literal that is read byte by byte: the first byte of its name, and more of them. Offered to other crates.
+use Rattle.std.proofs.Common.{◌≡◌, ℕ, Bool, true, false, List, [], ◌∷◌, ◌++◌, refl, sym, subst}
+use Rattle.std.specs.Prelude.{IsTrue}
+use Rattle.pb_text.specs.meaning.Classes.{is_letter, is_name_byte}
+use Rattle.pb_text.specs.meaning.Languages.{unmarked, Language, Bytes}
+use Rattle.pb_text.specs.meaning.Spelling.{Letter}
+use Rattle.pb_text.proofs.lemmas.text.Languages.{each-append}
+use Rattle.pb_text.proofs.lemmas.text.Letters.{bytes_one_more}
+use Rattle.pb_sums.specs.meaning.Sums.{IsName, literal_bytes, SpellsLiteral}
+
+abbrev pub IsFirst : List ℕ → Type 0
+IsFirst [] = ⊥
+IsFirst (b ∷ []) = IsTrue (is_letter b)
+IsFirst (b ∷ c ∷ bs) = ⊥
+
+pub name-append : (bs : List ℕ) (b : ℕ) → IsName bs → IsTrue (is_name_byte b) → IsName (bs ++ b ∷ [])
+name-append [] b h k = absurd h
+name-append (x ∷ []) b h k = absurd h
+name-append (x ∷ y ∷ bs) b h k = (h.0, each-append (λ e. IsTrue (is_name_byte e)) (y ∷ bs) b h.1 k)
+
+pub first-append : (bs : List ℕ) (b : ℕ) → IsFirst bs → IsTrue (is_name_byte b) → IsName (bs ++ b ∷ [])
+first-append [] b h k = absurd h
+first-append (x ∷ []) b h k = (h, (k, tt))
+first-append (x ∷ y ∷ bs) b h k = absurd h
+
+pub literal-append : (negated : Bool) (name : List ℕ) (b : ℕ) → literal_bytes negated (name ++ b ∷ []) ≡ literal_bytes negated name ++ b ∷ []
+literal-append true name b = refl
+literal-append false name b = refl
+
+-- a literal with the first byte of its name, and with a whole name
+abbrev pub FirstOf : Bool → List ℕ → Language
+FirstOf negated name = λ t. IsFirst name × Bytes (literal_bytes negated name) t
+
+abbrev pub LiteralOf : Bool → List ℕ → Language
+LiteralOf negated name = SpellsLiteral (record { negated = negated; name = name })
+
+pub name-bytes : (negated : Bool) (name : List ℕ) (b : ℕ) (c : Letter) (q : List Letter) → c ≡ unmarked b → Bytes (literal_bytes negated name) q →
+    Bytes (literal_bytes negated (name ++ b ∷ [])) (q ++ c ∷ [])
+name-bytes negated name b c q e f =
+    subst (λ bs. Bytes bs (q ++ c ∷ [])) (sym (literal-append negated name b)) (bytes_one_more (literal_bytes negated name) b c e q f)

@@ -1,0 +1,192 @@
+-- What holds of each state of a machine, and what its first state accepts. Offered to other crates.
+use Rattle.std.proofs.Common.{◌≡◌, ℕ, ◌+◌, ◌≤◌, ◌^◌, ◌-◌, min, true, false, List, [], ◌∷◌, length, refl, sym, ap, subst, arith, ◌∙◌, ◌↔◌}
+use Rattle.std.proofs.Math.Nat.{min-le_left}
+use Rattle.pb_text.specs.contract.Automaton.{Next, Go, End, Refuse, Reads, Skips, Accepts, Admits, IsState}
+use Rattle.pb_text.specs.meaning.Spelling.{Letter, Item}
+use Rattle.pb_sums.specs.declared.values.Term.{Term}
+use Rattle.pb_sums.specs.engine.Machine.{PhaseFits, Work, Outcome, act, step, plan, kind, letter_at, is_numeric, is_in_number, is_midway, is_done, finished, flushed, is_more}
+use Rattle.pb_sums.specs.engine.State.{SumState, sums, over, first, last, with_work, units, in_hand, ready, all_units, IsInOrder, IsOneText}
+use Rattle.pb_sums.specs.declared.values.SumEvent.{SumEvent}
+use Rattle.pb_sums.specs.declared.phase.Kind.{Kind}
+use Rattle.pb_sums.specs.declared.phase.Phase.{Phase}
+use Rattle.pb_sums.specs.declared.phase.Phase as phase
+use Rattle.pb_sums.specs.declared.grammar.Spaces.{Spaces}
+use Rattle.pb_sums.specs.declared.grammar.Part.{Part}
+use Rattle.pb_sums.specs.declared.phase.Move.TheVariants.{Stop}
+use Rattle.pb_text.proofs.lemmas.machine.Outcomes.{one_state, one_end, go_or_end, refuse_or_go, refuse_or_end, end_or_go}
+use Rattle.pb_text.proofs.lemmas.machine.OneText.{IsOfOne, is_state as of_one_state, admits as of_one_admits}
+use Rattle.pb_text.proofs.lemmas.text.Booleans.{never}
+use Rattle.pb_sums.proofs.lemmas.machine.Flags.{gone, ended}
+use Rattle.pb_sums.proofs.lemmas.machine.Links.{midway-not-done, reads_grammar, reads_something}
+use Rattle.pb_sums.proofs.lemmas.machine.Counts.{potential, letter-grows}
+
+-- When the automaton continues, and when it ends.
+gone-from : (s next : SumState) (b : ℕ) (n : Outcome) → step s.spaces s.part s.limit s.work b ≡ n → over s n ≡ Go next
+    → (v : Work) × (next ≡ with_work s v) × (step s.spaces s.part s.limit s.work b ≡ Go v)
+gone-from s next b (Go v) e h = (v, sym (one_state (with_work s v) next h), e)
+gone-from s next b (End f v) e h = end_or_go f (with_work s v) next h
+gone-from s next b Refuse e h = refuse_or_go next h
+
+pub goes : (s next : SumState) (b : ℕ) → sums.step s b ≡ Go next → (v : Work) × (next ≡ with_work s v) × (step s.spaces s.part s.limit s.work b ≡ Go v)
+goes s next b h = gone-from s next b (step s.spaces s.part s.limit s.work b) refl h
+
+ended-from : (s next : SumState) (b : ℕ) (f : SumEvent) (n : Outcome) → step s.spaces s.part s.limit s.work b ≡ n → over s n ≡ End f next → next ≡ with_work s finished
+ended-from s next b f (Go v) e h = go_or_end (with_work s v) f next h
+ended-from s next b f (End g v) e h =
+    sym (one_end g f (with_work s v) next h).1 ∙ ap (λ w. with_work s w) (ended s.part s.limit s.spaces s.work v g (letter_at (is_numeric s.work.phase) b) e).1
+ended-from s next b f Refuse e h = refuse_or_end f next h
+
+pub ended-last : (s next : SumState) (b : ℕ) (f : SumEvent) → sums.step s b ≡ End f next → next ≡ with_work s finished
+ended-last s next b f h = ended-from s next b f (step s.spaces s.part s.limit s.work b) refl h
+
+pub goes-midway : (s next : SumState) (b : ℕ) → sums.step s b ≡ Go next → sums.begun next ≡ true
+goes-midway s next b h =
+    let f : (v : Work) × (next ≡ with_work s v) × (step s.spaces s.part s.limit s.work b ≡ Go v) = goes s next b h in
+    ap (λ x. is_midway x.work.phase) f.1 ∙ (gone s.part s.limit s.spaces s.work f.0 (letter_at (is_numeric s.work.phase) b) f.2).1
+
+done-stops : (want : Part) (limit : ℕ) (ph : Phase) (k : Kind) → is_done ph ≡ true → plan want limit ph k ≡ Stop
+done-stops want limit phase.TheVariants.Start k h = cc
+done-stops want limit (phase.TheVariants.Signed role negative) k h = cc
+done-stops want limit (phase.TheVariants.Digits role negative n) k h = cc
+done-stops want limit (phase.TheVariants.Gap z) k h = cc
+done-stops want limit (phase.TheVariants.Tilde z) k h = cc
+done-stops want limit (phase.TheVariants.First z negated) k h = cc
+done-stops want limit (phase.TheVariants.More z negated) k h = cc
+done-stops want limit phase.TheVariants.Between k h = cc
+done-stops want limit phase.TheVariants.Greater k h = cc
+done-stops want limit (phase.TheVariants.Operator r) k h = cc
+done-stops want limit (phase.TheVariants.Tail r z) k h = cc
+done-stops want limit phase.TheVariants.Empty k h = cc
+done-stops want limit phase.TheVariants.Done k h = refl
+
+numbers-midway : (ph : Phase) → is_midway ph ≡ false → is_in_number ph ≡ false
+numbers-midway phase.TheVariants.Start h = refl
+numbers-midway (phase.TheVariants.Signed role negative) h = refl
+numbers-midway (phase.TheVariants.Digits role negative n) h = h
+numbers-midway (phase.TheVariants.Gap z) h = refl
+numbers-midway (phase.TheVariants.Tilde z) h = refl
+numbers-midway (phase.TheVariants.First z negated) h = refl
+numbers-midway (phase.TheVariants.More z negated) h = refl
+numbers-midway phase.TheVariants.Between h = refl
+numbers-midway phase.TheVariants.Greater h = refl
+numbers-midway (phase.TheVariants.Operator r) h = refl
+numbers-midway (phase.TheVariants.Tail r z) h = refl
+numbers-midway phase.TheVariants.Empty h = refl
+numbers-midway phase.TheVariants.Done h = refl
+
+nothing-kept : (ph : Phase) → is_midway ph ≡ false → 0 + in_hand ph + 0 + ready ph ≡ 0
+nothing-kept phase.TheVariants.Start h = refl
+nothing-kept phase.TheVariants.Done h = refl
+nothing-kept (phase.TheVariants.Gap z) h = cc
+nothing-kept (phase.TheVariants.Tilde z) h = cc
+nothing-kept (phase.TheVariants.First z negated) h = cc
+nothing-kept (phase.TheVariants.More z negated) h = cc
+nothing-kept _ h = refl
+
+pub stopped : (s : SumState) → sums.done s ≡ true → (b : ℕ) → sums.step s b ≡ Refuse
+stopped s h b =
+    ap (λ m. over s (act (flushed s.work.phase s.work.terms s.work.name) s.work.terms s.work.name m))
+    (done-stops s.part s.limit s.work.phase (kind s.spaces (letter_at (is_numeric s.work.phase) b)) h)
+
+-- a machine of sums is a machine of one text
+abbrev ended_state : SumState → SumState
+ended_state s = with_work s finished
+
+of_one : IsOfOne sums (λ s. Unit {0}) ended_state
+of_one = record {
+  keeps = λ s next b g h. tt;
+  begins = goes-midway;
+  owes = λ s i. midway-not-done s.work.phase i;
+  leads = λ s next b h. ap ended_state (goes s next b h).1;
+  ends = ended-last;
+  done = λ s. refl;
+  stops = stopped;
+  goes_on = λ s g h. reads_something s.spaces s.part s.limit s.work h;
+  plain = λ s i. numbers-midway s.work.phase i;
+  grows = λ s next b e.
+      let f : (v : Work) × (next ≡ with_work s v) × (step s.spaces s.part s.limit s.work b ≡ Go v) = goes s next b e in
+      subst (λ x. potential x.work ≤ potential s.work + 1) (sym f.1)
+      (letter-grows s.spaces s.part s.limit s.work f.0 (kind s.spaces (letter_at (is_numeric s.work.phase) b)) f.2);
+  bounds = λ s. kept-within (all_units s.work) (ready s.work.phase);
+}
+  where
+    kept-within : (n r : ℕ) → min n (2 ^ 64 - 1) ≤ n + r
+    kept-within n r = omega (arith, min-le_left n (2 ^ 64 - 1))
+
+pub is_state : (s : SumState) → IsInOrder s.limit s.work → IsState sums s
+is_state s h = of_one_state sums (λ s. Unit {0}) ended_state of_one s tt (λ i. empty-kept s.work i (h.1 i))
+  where
+    empty-kept : (w : Work) → is_midway w.phase ≡ false → (w.terms ≡ []) × (w.name ≡ []) → potential w ≡ 0
+    empty-kept w i e = ap (λ xs. units xs + in_hand w.phase + length w.name + ready w.phase) e.0
+        ∙ (ap (λ (n : List ℕ). 0 + in_hand w.phase + length n + ready w.phase) e.1 ∙ nothing-kept w.phase i)
+
+-- A byte that is taken begins something that is accepted.
+pub admits : (s : SumState) (b : ℕ) (n : Next SumState SumEvent) → sums.step s b ≡ n → (n ≡ Refuse → ⊥) → Admits sums s b
+admits s b n h i = of_one_admits sums (λ s. Unit {0}) ended_state of_one s b n tt h i
+
+-- The first state accepts one text.
+module _ (spaces : Spaces) (part : Part) (limit : ℕ) where
+  abbrev begin : SumState
+  begin = first spaces part limit
+
+  abbrev end : SumState
+  end = last spaces part limit
+
+  no-gap : (s at : SumState) (gap : List ℕ) → Skips sums s gap at → (gap ≡ []) × (at ≡ s)
+  no-gap s at [] h = (refl, h)
+  no-gap s at (b ∷ gap) (mid, e, f, h) = never (sums.begun mid) (goes-midway s mid b e) f
+
+  pub nothing-after : (s : SumState) (text : List Letter) (e : SumEvent) (after : SumState) → sums.done s ≡ true → Reads sums s text e after → ⊥
+  nothing-after s [] e after d h = h
+  nothing-after s (l ∷ []) e after d h = refuse_or_end e after (sym (stopped s d l.byte) ∙ h.0)
+  nothing-after s (l ∷ k ∷ text) e after d (mid, h, b, m, r) = refuse_or_go mid (sym (stopped s d l.byte) ∙ h)
+
+  one_only : (items : List (Item SumEvent)) → Accepts sums begin items → IsOneText spaces limit part items
+  one_only [] h = absurd (not_yet h)
+    where
+      not_yet : false ≡ true → ⊥
+      not_yet e = cc
+  one_only (i ∷ []) (at, after, g, r, d) =
+      let f : (i.gap ≡ []) × (at ≡ begin) = no-gap begin at i.gap g in
+      (f.0, ((reads_grammar spaces part limit i.text i.event after).0 (subst (λ x. Reads sums x i.text i.event after) f.1 r)).0)
+  one_only (i ∷ j ∷ rest) (at, after, g, r, (at2, after2, g2, r2, h)) =
+      let f : (i.gap ≡ []) × (at ≡ begin) = no-gap begin at i.gap g in
+      let e : after ≡ end = ((reads_grammar spaces part limit i.text i.event after).0 (subst (λ x. Reads sums x i.text i.event after) f.1 r)).1 in
+      let k : (j.gap ≡ []) × (at2 ≡ after) = no-gap after at2 j.gap g2 in
+      absurd (nothing-after end j.text j.event after2 refl (subst (λ x. Reads sums x j.text j.event after2) (k.1 ∙ e) r2))
+
+  one_each : (items : List (Item SumEvent)) → IsOneText spaces limit part items → Accepts sums begin items
+  one_each [] h = absurd h
+  one_each (i ∷ []) h = (
+    begin,
+    end,
+    subst (λ g. Skips sums begin g begin) (sym h.0) refl,
+    (reads_grammar spaces part limit i.text i.event end).1 (h.1, refl),
+    refl,
+  )
+  one_each (i ∷ j ∷ rest) h = absurd h
+
+  pub accepts_one : (items : List (Item SumEvent)) → Accepts sums begin items ↔ IsOneText spaces limit part items
+  accepts_one items = (one_only items, one_each items)
+
+  pub first_is_state : IsState sums begin
+  first_is_state = is_state begin (tt, λ e. (refl, refl))
+
+-- a state on the way through a text satisfies `IsInOrder`
+pub midway_order : (limit : ℕ) (xs : List Term) (name : List ℕ) (q : Phase) → PhaseFits limit q → is_midway q ≡ true → IsInOrder limit (record { terms = xs; name = name; phase = q })
+midway_order limit xs name q h i = (h, λ e. never (is_midway q) i e)
+
+-- a state on the way through a text
+pub midway_state : (spaces : Spaces) (part : Part) (limit : ℕ) (xs : List Term) (name : List ℕ) (q : Phase) → PhaseFits limit q → is_midway q ≡ true
+    → IsState sums (record { spaces = spaces; part = part; limit = limit; work = record { terms = xs; name = name; phase = q } })
+midway_state spaces part limit xs name q h i =
+    is_state (record { spaces = spaces; part = part; limit = limit; work = record { terms = xs; name = name; phase = q } }) (midway_order limit xs name q h i)
+
+pub more_midway : (p : Phase) → is_more p ≡ true → is_midway p ≡ true
+more_midway (phase.TheVariants.More z negated) e = refl
+more_midway _ e = cc
+
+-- a state within a name
+pub more_state : (spaces : Spaces) (part : Part) (limit : ℕ) (xs : List Term) (name : List ℕ) (q : Phase) → PhaseFits limit q → is_more q ≡ true
+    → IsState sums (record { spaces = spaces; part = part; limit = limit; work = record { terms = xs; name = name; phase = q } })
+more_state spaces part limit xs name q h more = midway_state spaces part limit xs name q h (more_midway q more)

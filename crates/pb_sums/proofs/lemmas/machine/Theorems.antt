@@ -1,0 +1,123 @@
+-- Laws of the grammar and of the machine.
+use Rattle.pb_sums.proofs.lemmas.machine.Complete.{reads_each}
+use Rattle.pb_sums.proofs.lemmas.machine.LetterKinds.{on_letter}
+use Rattle.pb_sums.proofs.lemmas.machine.Sound.{reads_only}
+use Rattle.pb_sums.specs.engine.Machine.{is_done, Work, act, term, to, at_name, digits, behind, fresh, finished}
+use Rattle.pb_sums.specs.meaning.Sums.{Spells}
+use Rattle.pb_sums.specs.declared.phase.Kind.TheVariants.{Greater, Semicolon}
+use Rattle.pb_sums.specs.declared.phase.Move.TheVariants.{To, Stop}
+use Rattle.pb_sums.specs.declared.grammar.Part.{Part}
+use Rattle.pb_sums.specs.declared.phase.Phase.{Phase}
+use Rattle.pb_sums.specs.declared.grammar.Spaces.{Spaces}
+use Rattle.pb_sums.specs.declared.values.Relation.{Relation}
+use Rattle.pb_sums.specs.declared.values.Relation.TheVariants.{AtLeast}
+use Rattle.pb_sums.specs.declared.values.SumEvent.{SumEvent}
+use Rattle.pb_sums.specs.declared.values.Term.{Term}
+use Rattle.pb_text.proofs.lemmas.machine.Runs.{run, run-append}
+use Rattle.pb_text.specs.contract.Automaton.{Next, Go, End, Refuse}
+use Rattle.pb_text.specs.meaning.Languages.{unmarked, digit, Language}
+use Rattle.pb_text.specs.meaning.Numbers.{signed}
+use Rattle.pb_text.specs.meaning.Spelling.{Letter}
+use Rattle.std.proofs.Common.{◌≡◌, ℕ, Bool, true, false, cond, List, [], ◌∷◌, ◌++◌, refl, sym, ap, arith, ◌∙◌, ◌↔◌}
+use Rattle.std.proofs.lemmas.Bool.{le-leb}
+use Rattle.std.specs.Prelude.{ℤ, Option, Some, None}
+use Rattle.pb_sums.specs.declared.grammar.Part as part
+use Rattle.pb_sums.specs.declared.values.SumEvent as event
+use Rattle.pb_sums.specs.declared.phase.Phase as phase
+
+end-same : {S V : Type 0} (v w : V) (s u : S) → ◌≡◌ {A = Next S V} (End v s) (End w u) → v ≡ w
+end-same v w s u h = cc
+
+module _ (spaces : Spaces) (want : Part) (limit : ℕ) where
+  abbrev G : SumEvent → Language
+  G = Spells spaces limit want
+
+  abbrev N : Type 0
+  N = Next Work SumEvent
+
+  abbrev go : N → List Letter → N
+  go = run (on_letter spaces want limit)
+
+  -- The first state accepts exactly the grammar.
+  pub exact : (t : List Letter) (e : SumEvent) → G e t ↔ (go (Go fresh) t ≡ End e finished)
+  exact t e = (reads_each spaces want limit t e, reads_only spaces want limit t e)
+
+  -- A text has at most one value.
+  pub one_value : (t : List Letter) (e f : SumEvent) → G e t → G f t → e ≡ f
+  one_value t e f g h = end-same e f finished finished (sym (reads_each spaces want limit t e g) ∙ reads_each spaces want limit t f h)
+
+  -- No text of a value is a proper prefix of another.
+  pub no_front : (t u : List Letter) (e f : SumEvent) → G e t → G f (t ++ u) → u ≡ []
+  no_front t [] e f g h = refl
+  no_front t (c ∷ u) e f g h =
+      let i : go (go (Go fresh) t) (c ∷ u) ≡ End f finished = sym (run-append (on_letter spaces want limit) (Go fresh) t (c ∷ u)) ∙ reads_each spaces want limit (t ++ c ∷ u) f h in
+      let j : ◌≡◌ {A = N} Refuse (End f finished) = ap (λ n. go n (c ∷ u)) (sym (reads_each spaces want limit t e g)) ∙ i in
+      cc
+
+  -- Each state except the last one accepts a text.
+  abbrev Alive : N → Type 0
+  Alive n = (t : List Letter) × (e : SumEvent) × (go n t ≡ End e finished)
+
+  -- a text prepended
+  before : (n m : N) (a : List Letter) → go n a ≡ m → Alive m → Alive n
+  before n m a h (t, e, i) = (a ++ t, e, run-append (on_letter spaces want limit) n a t ∙ (ap (λ x. go x t) h ∙ i))
+
+  zero_fits : (xs : List Term) (name : List ℕ) (role : Option Relation) (negative : Bool) → act xs xs name (digits limit role negative 0 0) ≡ to xs (phase.TheVariants.Digits role negative 0)
+  zero_fits xs name role negative = ap (λ b. act xs xs name (cond b (To (phase.TheVariants.Digits role negative 0)) Stop)) (le-leb 0 limit (omega arith))
+
+  alive-tail : (xs : List Term) (r : Relation) (z : ℤ) → Alive (to xs (phase.TheVariants.Tail r z))
+  alive-tail xs r z = (unmarked 59 ∷ [], event.TheVariants.Linear (record { terms = xs; relation = r; degree = z }), refl)
+
+  alive-degree : (xs : List Term) (r : Relation) (negative : Bool) (n : ℕ) → Alive (to xs (phase.TheVariants.Digits (Some r) negative n))
+  alive-degree xs r negative n = (unmarked 59 ∷ [], event.TheVariants.Linear (record { terms = xs; relation = r; degree = signed negative n }), refl)
+
+  alive-operator : (xs : List Term) (r : Relation) → Alive (to xs (phase.TheVariants.Operator r))
+  alive-operator xs r =
+      before (to xs (phase.TheVariants.Operator r)) (to xs (phase.TheVariants.Digits (Some r) false 0)) (digit 0 ∷ [])
+      (zero_fits xs [] (Some r) false) (alive-degree xs r false 0)
+
+  alive-greater : (xs : List Term) → Alive (to xs phase.TheVariants.Greater)
+  alive-greater xs = before (to xs phase.TheVariants.Greater) (to xs (phase.TheVariants.Operator AtLeast)) (unmarked 61 ∷ []) refl (alive-operator xs AtLeast)
+
+  -- what may follow terms can be completed
+  alive-behind : (xs : List Term) (n : N) (w : Part) (zs : List Term) (name : List ℕ) → go n (unmarked 59 ∷ []) ≡ act xs zs name (behind w Semicolon) → go n (unmarked 62 ∷ []) ≡ act xs zs name (behind w Greater) → Alive n
+  alive-behind xs n part.TheVariants.Sum zs name h i = (unmarked 59 ∷ [], event.TheVariants.Sum xs, h)
+  alive-behind xs n part.TheVariants.Linear zs name h i = before n (to xs phase.TheVariants.Greater) (unmarked 62 ∷ []) i (alive-greater xs)
+  alive-behind xs n part.TheVariants.AtLeast zs name h i = before n (to xs phase.TheVariants.Greater) (unmarked 62 ∷ []) i (alive-greater xs)
+
+  alive-more : (xs : List Term) (name : List ℕ) (z : ℤ) (negated : Bool) → Alive (at_name xs (phase.TheVariants.More z negated) name)
+  alive-more xs name z negated =
+      alive-behind (xs ++ term z negated name ∷ []) (at_name xs (phase.TheVariants.More z negated) name) want xs name refl refl
+
+  alive-gap : (xs : List Term) (name : List ℕ) (z : ℤ) → Alive (at_name xs (phase.TheVariants.Gap z) name)
+  alive-gap xs name z = before (at_name xs (phase.TheVariants.Gap z) name) (at_name xs (phase.TheVariants.More z false) (97 ∷ 97 ∷ [])) (unmarked 97 ∷ unmarked 97 ∷ []) refl (alive-more xs (97 ∷ 97 ∷ []) z false)
+
+  alive-digits : (role : Option Relation) (xs : List Term) (name : List ℕ) (negative : Bool) (n : ℕ) → Alive (at_name xs (phase.TheVariants.Digits role negative n) name)
+  alive-digits None xs name negative n =
+      before (at_name xs (phase.TheVariants.Digits None negative n) name) (to xs (phase.TheVariants.Gap (signed negative n))) (unmarked 32 ∷ []) refl (alive-gap xs [] (signed negative n))
+  alive-digits (Some r) xs name negative n = (unmarked 59 ∷ [], event.TheVariants.Linear (record { terms = xs; relation = r; degree = signed negative n }), refl)
+
+  pub alive : (ph : Phase) (xs : List Term) (name : List ℕ) → is_done ph ≡ false → Alive (at_name xs ph name)
+  alive phase.TheVariants.Start xs name h = alive-behind xs (at_name xs phase.TheVariants.Start name) want xs name refl refl
+  alive (phase.TheVariants.Signed role negative) xs name h =
+      before (at_name xs (phase.TheVariants.Signed role negative) name) (to xs (phase.TheVariants.Digits role negative 0)) (digit 0 ∷ [])
+      (zero_fits xs name role negative) (alive-digits role xs [] negative 0)
+  alive (phase.TheVariants.Digits role negative n) xs name h = alive-digits role xs name negative n
+  alive (phase.TheVariants.Gap z) xs name h = alive-gap xs name z
+  alive (phase.TheVariants.Tilde z) xs name h =
+      before (at_name xs (phase.TheVariants.Tilde z) name) (at_name xs (phase.TheVariants.More z true) (97 ∷ 97 ∷ [])) (unmarked 97 ∷ unmarked 97 ∷ []) refl (alive-more xs (97 ∷ 97 ∷ []) z true)
+  alive (phase.TheVariants.First z negated) xs name h =
+      before (at_name xs (phase.TheVariants.First z negated) name) (at_name xs (phase.TheVariants.More z negated) (name ++ 97 ∷ [])) (unmarked 97 ∷ []) refl (alive-more xs (name ++ 97 ∷ []) z negated)
+  alive (phase.TheVariants.More z negated) xs name h = alive-more xs name z negated
+  alive phase.TheVariants.Between xs name h = alive-behind xs (at_name xs phase.TheVariants.Between name) want xs name refl refl
+  alive phase.TheVariants.Greater xs name h =
+      before (at_name xs phase.TheVariants.Greater name) (to xs (phase.TheVariants.Operator AtLeast)) (unmarked 61 ∷ []) refl (alive-operator xs AtLeast)
+  alive (phase.TheVariants.Operator r) xs name h =
+      before (at_name xs (phase.TheVariants.Operator r) name) (to xs (phase.TheVariants.Digits (Some r) false 0)) (digit 0 ∷ [])
+      (zero_fits xs name (Some r) false) (alive-degree xs r false 0)
+  alive (phase.TheVariants.Tail r z) xs name h = (unmarked 59 ∷ [], event.TheVariants.Linear (record { terms = xs; relation = r; degree = z }), refl)
+  alive phase.TheVariants.Empty xs name h = (unmarked 59 ∷ [], event.TheVariants.Sum xs, refl)
+  alive phase.TheVariants.Done xs name h = absurd (not_done h)
+    where
+      not_done : true ≡ false → ⊥
+      not_done e = cc

@@ -1,0 +1,105 @@
+-- Names that are taken at once, and the run that they form.
+use Rattle.std.proofs.Common.{◌≡◌, ℕ, ℤ, ◌≤◌, Bool, true, false, List, [], ◌∷◌, ◌++◌, length, get_or, Some, refl, sym, ap, subst, arith, ◌∙◌, ◌⊎◌, inl, inr, append-nil, append_assoc}
+use Rattle.std.specs.Prelude.{IsTrue}
+use Rattle.pb_text.specs.contract.Automaton.{Go, IsState, Runs}
+use Rattle.pb_text.specs.meaning.Classes.{is_letter, is_name_byte}
+use Rattle.pb_text.specs.meaning.Languages.{Each, unmarked}
+use Rattle.pb_sums.specs.engine.Machine.{move, kind, is_more}
+use Rattle.pb_sums.specs.engine.Prefix.{behind_name}
+use Rattle.pb_sums.specs.engine.State.{SumState, sums, over}
+use Rattle.pb_sums.specs.declared.values.Term.{Term}
+use Rattle.pb_sums.specs.declared.grammar.Spaces.{Spaces}
+use Rattle.pb_sums.specs.declared.grammar.Part.{Part}
+use Rattle.pb_sums.specs.declared.phase.Kind.{Kind}
+use Rattle.pb_sums.specs.declared.phase.Kind.TheVariants.{Start, Inner}
+use Rattle.pb_sums.specs.declared.phase.Phase.{Phase}
+use Rattle.pb_sums.specs.declared.phase.Phase as phase
+use Rattle.pb_sums.proofs.lemmas.machine.LetterKinds.{kind-name, kind-letter}
+use Rattle.pb_sums.proofs.lemmas.machine.States.{midway_state}
+
+module _ (spaces : Spaces) (part : Part) (limit : ℕ) (xs : List Term) where
+  abbrev at : List ℕ → Phase → SumState
+  at name p = record { spaces = spaces; part = part; limit = limit; work = record { terms = xs; name = name; phase = p } }
+
+  -- a byte of a name after its first two
+  more-on : (name : List ℕ) (z : ℤ) (negated : Bool) (b : ℕ) (k : Kind) → (k ≡ Start b) ⊎ (k ≡ Inner b)
+      → over (at name (phase.TheVariants.More z negated)) (move part limit xs name (phase.TheVariants.More z negated) k) ≡ Go (at (name ++ b ∷ []) (phase.TheVariants.More z negated))
+  more-on name z negated b k (inl e) = ap (λ x. over (at name (phase.TheVariants.More z negated)) (move part limit xs name (phase.TheVariants.More z negated) x)) e
+  more-on name z negated b k (inr e) = ap (λ x. over (at name (phase.TheVariants.More z negated)) (move part limit xs name (phase.TheVariants.More z negated) x)) e
+
+  more-run : (name : List ℕ) (z : ℤ) (negated : Bool) (text : List ℕ) → Each (λ b. IsTrue (is_name_byte b)) text
+      → Runs sums (at name (phase.TheVariants.More z negated)) text (at (name ++ text) (phase.TheVariants.More z negated))
+  more-run name z negated [] h = ap (λ n. at n (phase.TheVariants.More z negated)) (append-nil name)
+  more-run name z negated (b ∷ text) h = (
+    at (name ++ b ∷ []) (phase.TheVariants.More z negated),
+    more-on name z negated b (kind spaces (unmarked b)) (kind-name spaces b h.0),
+    midway_state spaces part limit xs (name ++ b ∷ []) (phase.TheVariants.More z negated) tt refl,
+    subst (λ n. Runs sums (at (name ++ b ∷ []) (phase.TheVariants.More z negated)) text (at n (phase.TheVariants.More z negated))) (append_assoc name (b ∷ []) text)
+        (more-run (name ++ b ∷ []) z negated text h.1),
+  )
+
+  -- bytes of a name after its first two
+  pub more_runs : (name new : List ℕ) (p : Phase) (text : List ℕ) → is_more p ≡ true → Each (λ b. IsTrue (is_name_byte b)) text → new ≡ name ++ text
+      → Runs sums (at name p) text (at new p)
+  more_runs name new (phase.TheVariants.More z negated) text e h f = subst (λ n. Runs sums (at name (phase.TheVariants.More z negated)) text (at n (phase.TheVariants.More z negated))) (sym f) (more-run name z negated text h)
+  more_runs name new _ text e h f = cc e
+
+  -- the next of them
+  pub more_goes : (name new : List ℕ) (p : Phase) (b : ℕ) → is_more p ≡ true → IsTrue (is_name_byte b) → new ≡ name ++ b ∷ [] → sums.step (at name p) b ≡ Go (at new p)
+  more_goes name new (phase.TheVariants.More z negated) b e h f =
+      more-on name z negated b (kind spaces (unmarked b)) (kind-name spaces b h) ∙ ap (λ n. Go (at n (phase.TheVariants.More z negated))) (sym f)
+  more_goes name new _ b e h f = cc e
+
+  -- the second byte of a name
+  first-on : (b c : ℕ) (z : ℤ) (negated : Bool) (k : Kind) → (k ≡ Start c) ⊎ (k ≡ Inner c)
+      → over (at (b ∷ []) (phase.TheVariants.First z negated)) (move part limit xs (b ∷ []) (phase.TheVariants.First z negated) k) ≡ Go (at (b ∷ c ∷ []) (phase.TheVariants.More z negated))
+  first-on b c z negated k (inl e) = ap (λ x. over (at (b ∷ []) (phase.TheVariants.First z negated)) (move part limit xs (b ∷ []) (phase.TheVariants.First z negated) x)) e
+  first-on b c z negated k (inr e) = ap (λ x. over (at (b ∷ []) (phase.TheVariants.First z negated)) (move part limit xs (b ∷ []) (phase.TheVariants.First z negated) x)) e
+
+  name-run : (name : List ℕ) (p : Phase) (z : ℤ) (negated : Bool) (b c : ℕ) (text : List ℕ) → sums.step (at name p) b ≡ Go (at (b ∷ []) (phase.TheVariants.First z negated))
+      → IsTrue (is_name_byte c) → Each (λ d. IsTrue (is_name_byte d)) text → Runs sums (at name p) (b ∷ c ∷ text) (at (b ∷ c ∷ text) (phase.TheVariants.More z negated))
+  name-run name p z negated b c text e h hs = (
+    at (b ∷ []) (phase.TheVariants.First z negated),
+    e,
+    midway_state spaces part limit xs (b ∷ []) (phase.TheVariants.First z negated) tt refl,
+    (
+      at (b ∷ c ∷ []) (phase.TheVariants.More z negated),
+      first-on b c z negated (kind spaces (unmarked c)) (kind-name spaces c h),
+      midway_state spaces part limit xs (b ∷ c ∷ []) (phase.TheVariants.More z negated) tt refl,
+      more-run (b ∷ c ∷ []) z negated text hs,
+    ),
+  )
+
+  abbrev Spells : List ℕ → Type 0
+  Spells text = (2 ≤ length text) × IsTrue (is_letter (get_or text 0 0)) × Each (λ b. IsTrue (is_name_byte b)) text
+
+  from-literal : (name : List ℕ) (p q : Phase) (text : List ℕ) → behind_name p ≡ Some q → Spells text → Runs sums (at name p) text (at text q)
+  from-literal name p q [] e h = absurd (omega (arith, h.0))
+  from-literal name p q (b ∷ []) e h = absurd (omega (arith, h.0))
+  from-literal name (phase.TheVariants.Gap z) q (b ∷ c ∷ text) e h =
+      let f : phase.TheVariants.More z false ≡ q = cc in
+      let g : sums.step (at name (phase.TheVariants.Gap z)) b ≡ Go (at (b ∷ []) (phase.TheVariants.First z false)) =
+      ap (λ k. over (at name (phase.TheVariants.Gap z)) (move part limit xs name (phase.TheVariants.Gap z) k)) (kind-letter spaces b h.1) in
+      subst (λ (r : Phase). Runs sums (at name (phase.TheVariants.Gap z)) (b ∷ c ∷ text) (at (b ∷ c ∷ text) r)) f
+      (name-run name (phase.TheVariants.Gap z) z false b c text g h.2.1.0 h.2.1.1)
+  from-literal name (phase.TheVariants.Tilde z) q (b ∷ c ∷ text) e h =
+      let f : phase.TheVariants.More z true ≡ q = cc in
+      let g : sums.step (at name (phase.TheVariants.Tilde z)) b ≡ Go (at (b ∷ []) (phase.TheVariants.First z true)) =
+      ap (λ k. over (at name (phase.TheVariants.Tilde z)) (move part limit xs name (phase.TheVariants.Tilde z) k)) (kind-letter spaces b h.1) in
+      subst (λ (r : Phase). Runs sums (at name (phase.TheVariants.Tilde z)) (b ∷ c ∷ text) (at (b ∷ c ∷ text) r)) f
+      (name-run name (phase.TheVariants.Tilde z) z true b c text g h.2.1.0 h.2.1.1)
+  from-literal name _ q (b ∷ c ∷ text) e h = cc e
+
+  -- a whole name
+  pub name_runs : (name new : List ℕ) (p q : Phase) (text : List ℕ) → Some q ≡ behind_name p → 2 ≤ length text → IsTrue (is_letter (get_or text 0 0))
+      → Each (λ b. IsTrue (is_name_byte b)) text → new ≡ text → Runs sums (at name p) text (at new q)
+  name_runs name new p q text e l i h f = subst (λ (n : List ℕ). Runs sums (at name p) text (at n q)) (sym f) (from-literal name p q text (sym e) (l, i, h))
+
+  pub behind_state : (name : List ℕ) (p q : Phase) → Some q ≡ behind_name p → IsState sums (at name q)
+  behind_state name (phase.TheVariants.Gap z) q e =
+      let f : phase.TheVariants.More z false ≡ q = cc in
+      subst (λ (r : Phase). IsState sums (at name r)) f (midway_state spaces part limit xs name (phase.TheVariants.More z false) tt refl)
+  behind_state name (phase.TheVariants.Tilde z) q e =
+      let f : phase.TheVariants.More z true ≡ q = cc in
+      subst (λ (r : Phase). IsState sums (at name r)) f (midway_state spaces part limit xs name (phase.TheVariants.More z true) tt refl)
+  behind_state name _ q e = cc e

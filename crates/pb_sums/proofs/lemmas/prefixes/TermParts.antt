@@ -1,0 +1,142 @@
+-- Whole terms that are taken at once, and the run that they form.
+use Rattle.std.proofs.Common.{◌≡◌, ℕ, ℤ, ◌+◌, ◌<◌, ◌≤◌, Bool, true, false, List, [], ◌∷◌, ◌++◌, take, get_or, length, Option, Some, None, refl, sym, subst, arith}
+use Rattle.std.specs.Prelude.{IsTrue, Result, Ok, Err, is_ok, is_err, if◌then◌else◌}
+use Rattle.pb_text.specs.contract.Automaton.{Go, IsState, Runs}
+use Rattle.pb_text.specs.meaning.Classes.{is_digit, is_letter, is_name_byte}
+use Rattle.pb_text.specs.contract.Digits.{value_from}
+use Rattle.pb_text.specs.meaning.Languages.{Each}
+use Rattle.pb_text.specs.meaning.Numbers.{signed}
+use Rattle.pb_text.proofs.lemmas.machine.Running.{runs_on}
+use Rattle.pb_sums.specs.engine.Prefix.{HasSign, begins_number, begins_relation, role, sign_read, behind_name, behind_number, behind}
+use Rattle.pb_sums.specs.engine.State.{SumState, sums}
+use Rattle.pb_sums.specs.engine.TermParts.{begins_term, IsTilde, standing, IsSpacedNumber, IsLiteral}
+use Rattle.pb_sums.specs.contract.Canonical.{operator_bytes}
+use Rattle.pb_sums.specs.meaning.Sums.{allows}
+use Rattle.pb_sums.specs.declared.values.Literal.{Literal}
+use Rattle.pb_sums.specs.declared.values.Relation.{Relation}
+use Rattle.pb_sums.specs.declared.values.Relation.TheVariants.{AtLeast, Equal}
+use Rattle.pb_sums.specs.declared.values.Term.{Term}
+use Rattle.pb_sums.specs.declared.grammar.Spaces.{Spaces}
+use Rattle.pb_sums.specs.declared.grammar.Part.{Part}
+use Rattle.pb_sums.specs.declared.phase.Phase.{Phase}
+use Rattle.pb_sums.specs.declared.phase.Phase as phase
+use Rattle.pb_sums.proofs.lemmas.prefixes.Digits.{number_runs}
+use Rattle.pb_sums.proofs.lemmas.prefixes.Names.{name_runs}
+use Rattle.pb_text.proofs.lemmas.text.Spans.{runs_further}
+use Rattle.pb_sums.proofs.lemmas.machine.States.{midway_state}
+
+pub grown : {A T E : Type 0} (r : Result T E) (new more old : List A) → new ≡ (if is_ok r then more else old) → is_err r ≡ false → new ≡ more
+grown (Ok x) new more old h e = h
+grown (Err x) new more old h e = cc
+
+pub number_too : (p : Phase) → begins_term p ≡ true → begins_number p ≡ true
+number_too phase.TheVariants.Start e = refl
+number_too (phase.TheVariants.Signed None negative) e = refl
+number_too phase.TheVariants.Between e = refl
+number_too _ e = cc
+
+no-role : (p : Phase) → begins_term p ≡ true → role p ≡ None
+no-role phase.TheVariants.Start e = refl
+no-role (phase.TheVariants.Signed None negative) e = refl
+no-role phase.TheVariants.Between e = refl
+no-role _ e = cc
+
+space-on : (spaces : Spaces) (part : Part) (limit : ℕ) (xs : List Term) (r : Option Relation) (negative : Bool) (v : ℕ)
+    → sums.step (standing spaces part limit xs [] (phase.TheVariants.Digits r negative v)) 32 ≡ Go (standing spaces part limit xs [] (behind_number r (signed negative v)))
+space-on spaces part limit xs None negative v = refl
+space-on spaces part limit xs (Some r) negative v = refl
+
+pub number_state : (spaces : Spaces) (part : Part) (limit : ℕ) (xs : List Term) (r : Option Relation) (z : ℤ) → IsState sums (standing spaces part limit xs [] (behind_number r z))
+number_state spaces part limit xs None z = midway_state spaces part limit xs [] (phase.TheVariants.Gap z) tt refl
+number_state spaces part limit xs (Some r) z = midway_state spaces part limit xs [] (phase.TheVariants.Tail r z) tt refl
+
+pub spaced_number_runs : (limit : ℕ) (p : Phase) (text : List ℕ) (i j v : ℕ) (negative : Bool) → begins_number p ≡ true → HasSign (sign_read p) text i negative
+    → Each (λ b. IsTrue (is_digit b)) (take j (behind i text)) → v ≡ value_from 0 (take j (behind i text)) → j ≤ length (behind i text) → (j ≡ 0 → ⊥) → v ≤ limit
+    → i + j < length text → get_or text (i + j) 0 ≡ 32 → IsSpacedNumber limit p (take (i + j + 1) text) (signed negative v)
+spaced_number_runs limit p text i j v negative b s h g l n m within e spaces part xs =
+    let digits : SumState = standing spaces part limit xs [] (phase.TheVariants.Digits (role p) negative v) in
+    let next : SumState = standing spaces part limit xs [] (behind_number (role p) (signed negative v)) in
+    runs_on sums (standing spaces part limit xs [] p) text (i + j) digits next within
+    (number_runs spaces part limit xs [] p (role p) negative text i j v b refl refl s h g l n m)
+    (subst (λ (x : ℕ). sums.step digits x ≡ Go next) (sym e) (space-on spaces part limit xs (role p) negative v))
+    (number_state spaces part limit xs (role p) (signed negative v))
+
+abbrev behind-tilde : Bool → ℤ → Phase
+behind-tilde false z = phase.TheVariants.Gap z
+behind-tilde true z = phase.TheVariants.Tilde z
+
+tilde-runs : (spaces : Spaces) (part : Part) (limit : ℕ) (xs : List Term) (z : ℤ) (negated : Bool) (text : List ℕ) → IsTilde negated text
+    → Runs sums (standing spaces part limit xs [] (phase.TheVariants.Gap z)) text (standing spaces part limit xs [] (behind-tilde negated z))
+tilde-runs spaces part limit xs z false text e =
+    subst (λ (t : List ℕ). Runs sums (standing spaces part limit xs [] (phase.TheVariants.Gap z)) t (standing spaces part limit xs [] (phase.TheVariants.Gap z))) (sym e) refl
+tilde-runs spaces part limit xs z true text e =
+    subst (λ (t : List ℕ). Runs sums (standing spaces part limit xs [] (phase.TheVariants.Gap z)) t (standing spaces part limit xs [] (phase.TheVariants.Tilde z))) (sym e) (
+      standing spaces part limit xs [] (phase.TheVariants.Tilde z),
+      refl,
+      midway_state spaces part limit xs [] (phase.TheVariants.Tilde z) tt refl,
+      refl,
+    )
+
+behind-both : (negated : Bool) (z : ℤ) → Some (phase.TheVariants.More z negated) ≡ behind_name (behind-tilde negated z)
+behind-both false z = refl
+behind-both true z = refl
+
+pub literal_runs : (text : List ℕ) (i j : ℕ) (negated : Bool) (name : List ℕ) → IsTilde negated (take i text) → 2 ≤ length (take j (behind i text))
+    → IsTrue (is_letter (get_or (take j (behind i text)) 0 0)) → Each (λ b. IsTrue (is_name_byte b)) (take j (behind i text)) → name ≡ take j (behind i text)
+    → IsLiteral (take (i + j) text) (record { name = name; negated = negated })
+literal_runs text i j negated name s l h g e spaces part limit xs z =
+    runs_further sums (standing spaces part limit xs [] (phase.TheVariants.Gap z)) text i j (standing spaces part limit xs [] (behind-tilde negated z))
+    (standing spaces part limit xs name (phase.TheVariants.More z negated)) (tilde-runs spaces part limit xs z negated (take i text) s)
+    (name_runs spaces part limit xs [] name (behind-tilde negated z) (phase.TheVariants.More z negated) (take j (behind i text)) (behind-both negated z) l h g e)
+
+-- a coefficient, a space, a literal and a space
+pub term_runs : (spaces : Spaces) (part : Part) (limit : ℕ) (xs ys : List Term) (old new : List ℕ) (p : Phase) (text : List ℕ) (i j : ℕ) (z : ℤ) (l : Literal)
+    → begins_term p ≡ true → old ≡ [] → new ≡ [] → IsSpacedNumber limit p (take i text) z → IsLiteral (take j (behind i text)) l → j < length (behind i text) → get_or (behind i text) j 0 ≡ 32
+    → ys ≡ xs ++ (record { coefficient = z; literal = l }) ∷ []
+    → Runs sums (standing spaces part limit xs old p) (take (i + j + 1) text) (standing spaces part limit ys new phase.TheVariants.Between)
+term_runs spaces part limit xs ys old new p text i j z l b e f front literal within g h =
+    let gap : SumState = standing spaces part limit xs [] (phase.TheVariants.Gap z) in
+    let more : SumState = standing spaces part limit xs l.name (phase.TheVariants.More z l.negated) in
+    let more-terms : List Term = xs ++ (record { coefficient = z; literal = l }) ∷ [] in
+    let last : SumState = standing spaces part limit more-terms [] phase.TheVariants.Between in
+    let same : i + (j + 1) ≡ i + j + 1 = omega arith in
+    let literal-run : Runs sums gap (take (j + 1) (behind i text)) last =
+    runs_on sums gap (behind i text) j more last within (literal spaces part limit xs z)
+    (subst (λ (x : ℕ). sums.step more x ≡ Go last) (sym g) refl)
+    (midway_state spaces part limit more-terms [] phase.TheVariants.Between tt refl) in
+    let first : Runs sums (standing spaces part limit xs [] p) (take i text) gap =
+    subst (λ (r : Option Relation). Runs sums (standing spaces part limit xs [] p) (take i text) (standing spaces part limit xs [] (behind_number r z))) (no-role p b) (front spaces part xs) in
+    rw (e, f, h) (subst (λ (n : ℕ). Runs sums (standing spaces part limit xs [] p) (take n text) last) same
+    (runs_further sums (standing spaces part limit xs [] p) text i (j + 1) gap last first literal-run))
+
+-- a relation
+pub relation_runs : (spaces : Spaces) (part : Part) (limit : ℕ) (xs : List Term) (name : List ℕ) (p : Phase) (text : List ℕ) (r : Relation)
+    → begins_relation p ≡ true → name ≡ [] → allows part r ≡ true → text ≡ operator_bytes r
+    → Runs sums (standing spaces part limit xs name p) text (standing spaces part limit xs name (phase.TheVariants.Operator r))
+relation_runs spaces part limit xs name phase.TheVariants.Between text AtLeast b n h e = rw (n, e) (
+  standing spaces part limit xs [] phase.TheVariants.Greater,
+  rw h refl,
+  midway_state spaces part limit xs [] phase.TheVariants.Greater tt refl,
+  (
+    standing spaces part limit xs [] (phase.TheVariants.Operator AtLeast),
+    refl,
+    midway_state spaces part limit xs [] (phase.TheVariants.Operator AtLeast) tt refl,
+    refl,
+  ),
+)
+relation_runs spaces part limit xs name phase.TheVariants.Between text Equal b n h e = rw (n, e) (
+  standing spaces part limit xs [] (phase.TheVariants.Operator Equal),
+  rw h refl,
+  midway_state spaces part limit xs [] (phase.TheVariants.Operator Equal) tt refl,
+  refl,
+)
+relation_runs spaces part limit xs name _ text r b n h e = cc b
+
+-- a relation and a space
+pub spaced_relation_runs : (spaces : Spaces) (part : Part) (limit : ℕ) (xs : List Term) (name : List ℕ) (p : Phase) (text : List ℕ) (i : ℕ) (r : Relation)
+    → begins_relation p ≡ true → name ≡ [] → allows part r ≡ true → take i text ≡ operator_bytes r → i < length text → get_or text i 0 ≡ 32
+    → Runs sums (standing spaces part limit xs name p) (take (i + 1) text) (standing spaces part limit xs name (phase.TheVariants.Operator r))
+spaced_relation_runs spaces part limit xs name p text i r b n h e l s =
+    let next : SumState = standing spaces part limit xs name (phase.TheVariants.Operator r) in
+    runs_on sums (standing spaces part limit xs name p) text i next next l (relation_runs spaces part limit xs name p (take i text) r b n h e)
+    (rw (n, s) refl) (midway_state spaces part limit xs name (phase.TheVariants.Operator r) tt refl)

@@ -1,0 +1,129 @@
+-- The canonical text of a value is a text of that value. Offered to other crates.
+use Rattle.std.proofs.Common.{◌≡◌, ℕ, suc, ◌^◌, ◌<◌, ◌≤◌, List, [], ◌∷◌, ◌++◌, refl, ap, arith, inl, inr, append_assoc, ◌∙◌, true, false}
+use Rattle.std.specs.Fmt.{signed_decimal}
+use Rattle.std.specs.Prelude.{ℤ, pos, negsuc, nat_abs, decimal}
+use Rattle.pb_text.specs.meaning.Languages.{unmarked}
+use Rattle.pb_text.specs.meaning.Numbers.{Number}
+use Rattle.pb_text.specs.meaning.Spelling.{Letter, digits_of, bytes}
+use Rattle.pb_text.proofs.lemmas.text.Languages.{bytes-append, bytes-plain, bytes-digits}
+use Rattle.pb_text.proofs.lemmas.numbers.Numbers.{decimal-digits}
+use Rattle.pb_sums.specs.meaning.Sums.{literal_bytes, Spaces0, Spaces1, SpellsTerm, SpellsFurther, SpellsSum, Head, Operator, SpellsLinear}
+use Rattle.pb_sums.specs.contract.Canonical.{space, degree_text, weight_text, literal_text, term_text, further_text, sum_text, head_text, operator_text, linear_text, IsTerm, AreTerms, IsLinear, weight_bytes, term_bytes, further_bytes, sum_bytes, head_bytes, operator_bytes, linear_bytes}
+use Rattle.pb_sums.specs.declared.values.Term.{Term}
+use Rattle.pb_sums.specs.declared.values.Relation.{Relation}
+use Rattle.pb_sums.specs.declared.values.Relation.TheVariants.{AtLeast, Equal}
+use Rattle.pb_sums.specs.declared.values.Linear.{Linear}
+use Rattle.pb_sums.specs.declared.grammar.Spaces.{Spaces}
+
+module _ (limit : ℕ) (small : limit < 10 ^ 64) where
+  weight : (z : ℤ) → nat_abs z ≤ limit → Number limit z (weight_text z)
+  weight (pos n) h = (false, n, h, refl, (unmarked 43 ∷ [], digits_of (decimal n), refl, inr refl, decimal-digits n (omega arith)))
+  weight (negsuc n) h = (true, suc n, h, refl, (unmarked 45 ∷ [], digits_of (decimal (suc n)), refl, refl, decimal-digits (suc n) (omega arith)))
+
+  pub degree : (z : ℤ) → nat_abs z ≤ limit → Number limit z (degree_text z)
+  degree (pos n) h = (false, n, h, refl, ([], digits_of (decimal n), refl, inl refl, decimal-digits n (omega arith)))
+  degree (negsuc n) h = (true, suc n, h, refl, (unmarked 45 ∷ [], digits_of (decimal (suc n)), refl, refl, decimal-digits (suc n) (omega arith)))
+
+  module _ (spaces : Spaces) where
+    space1 : Spaces1 spaces limit space
+    space1 = (32, [], refl, tt, refl)
+
+    space0 : Spaces0 spaces limit space
+    space0 = (32 ∷ [], (refl, tt), refl)
+
+    term-spelled : (x : Term) → IsTerm limit x → SpellsTerm spaces limit x (term_text x)
+    term-spelled x h =
+        (weight_text x.coefficient ++ space, literal_text x.literal, refl, (weight_text x.coefficient, space, refl, weight x.coefficient h.0, space1), (h.1, refl))
+
+    further-spelled : (xs : List Term) → AreTerms limit xs → SpellsFurther spaces limit xs (further_text xs)
+    further-spelled [] h = refl
+    further-spelled (x ∷ xs) h =
+        (space ++ term_text x, further_text xs, refl, (space, term_text x, refl, space1, term-spelled x h.0), further-spelled xs h.1)
+
+    pub sum-spelled : (xs : List Term) → AreTerms limit xs → SpellsSum spaces limit xs (sum_text xs)
+    sum-spelled [] h = refl
+    sum-spelled (x ∷ xs) h = (term_text x, further_text xs, refl, term-spelled x h.0, further-spelled xs h.1)
+
+    head-spelled : (xs : List Term) → AreTerms limit xs → Head spaces limit xs (head_text xs)
+    head-spelled [] h = refl
+    head-spelled (x ∷ xs) h = (sum_text (x ∷ xs), space, refl, sum-spelled (x ∷ xs) h, space0)
+
+    operator-spelled : (r : Relation) → Operator spaces limit r (operator_text r)
+    operator-spelled AtLeast = refl
+    operator-spelled Equal = refl
+
+    pub linear-spelled : (c : Linear) → IsLinear limit c → SpellsLinear spaces limit c (linear_text c)
+    linear-spelled c h =
+        let H : List Letter = head_text c.terms in
+        let O : List Letter = operator_text c.relation in
+        let D : List Letter = degree_text c.degree in (
+          H ++ O ++ space ++ D ++ space,
+          unmarked 59 ∷ [],
+          refl,
+          (
+            H ++ O ++ space ++ D,
+            space,
+            refl,
+            (
+              H ++ O ++ space,
+              D,
+              refl,
+              (H ++ O, space, refl, (H, O, refl, head-spelled c.terms h.0, operator-spelled c.relation), space0),
+              degree c.degree h.1,
+            ),
+            space0,
+          ),
+          refl,
+        )
+
+-- The letters of canonical text are its bytes.
+pub bytes-degree : (z : ℤ) → bytes (degree_text z) ≡ signed_decimal z
+bytes-degree (pos n) = bytes-digits (decimal n)
+bytes-degree (negsuc n) = ap (λ x. 45 ∷ x) (bytes-digits (decimal (suc n)))
+
+bytes-weight : (z : ℤ) → bytes (weight_text z) ≡ weight_bytes z
+bytes-weight (pos n) = ap (λ x. 43 ∷ x) (bytes-digits (decimal n))
+bytes-weight (negsuc n) = ap (λ x. 45 ∷ x) (bytes-digits (decimal (suc n)))
+
+bytes-term : (x : Term) → bytes (term_text x) ≡ term_bytes x
+bytes-term x =
+    let W : List Letter = weight_text x.coefficient in
+    let L : List Letter = literal_text x.literal in
+    ap bytes (append_assoc W space L)
+    ∙ (bytes-append W (unmarked 32 ∷ L)
+    ∙ (ap (λ y. y ++ (32 ∷ bytes L)) (bytes-weight x.coefficient)
+    ∙ ap (λ y. weight_bytes x.coefficient ++ (32 ∷ y)) (bytes-plain (literal_bytes x.literal.negated x.literal.name))))
+
+bytes-further : (xs : List Term) → bytes (further_text xs) ≡ further_bytes xs
+unfolding further_bytes
+bytes-further [] = refl
+bytes-further (x ∷ xs) =
+    ap (λ y. 32 ∷ y)
+    (bytes-append (term_text x) (further_text xs)
+    ∙ (ap (λ y. y ++ bytes (further_text xs)) (bytes-term x) ∙ ap (λ y. term_bytes x ++ y) (bytes-further xs)))
+
+pub bytes-sum : (xs : List Term) → bytes (sum_text xs) ≡ sum_bytes xs
+bytes-sum [] = refl
+bytes-sum (x ∷ xs) =
+    bytes-append (term_text x) (further_text xs) ∙ (ap (λ y. y ++ bytes (further_text xs)) (bytes-term x) ∙ ap (λ y. term_bytes x ++ y) (bytes-further xs))
+
+bytes-head : (xs : List Term) → bytes (head_text xs) ≡ head_bytes xs
+bytes-head [] = refl
+bytes-head (x ∷ xs) = bytes-append (sum_text (x ∷ xs)) space ∙ ap (λ y. y ++ (32 ∷ [])) (bytes-sum (x ∷ xs))
+
+regrouped : (h o s d u e : List Letter) → h ++ o ++ s ++ d ++ u ++ e ≡ h ++ (o ++ (s ++ (d ++ (u ++ e))))
+regrouped h o s d u e = simp append_assoc
+
+pub bytes-linear : (c : Linear) → bytes (linear_text c) ≡ linear_bytes c
+bytes-linear c =
+    let H : List Letter = head_text c.terms in
+    let O : List Letter = operator_text c.relation in
+    let D : List Letter = degree_text c.degree in
+    let E : List Letter = unmarked 32 ∷ unmarked 59 ∷ [] in
+    ap bytes (regrouped H O space D space (unmarked 59 ∷ []))
+    ∙ (bytes-append H (O ++ (unmarked 32 ∷ (D ++ E)))
+    ∙ (ap (λ y. y ++ bytes (O ++ (unmarked 32 ∷ (D ++ E)))) (bytes-head c.terms)
+    ∙ ap (λ y. head_bytes c.terms ++ y)
+    (bytes-append O (unmarked 32 ∷ (D ++ E))
+    ∙ (ap (λ y. y ++ (32 ∷ bytes (D ++ E))) (bytes-plain (operator_bytes c.relation))
+    ∙ ap (λ y. operator_bytes c.relation ++ (32 ∷ y)) (bytes-append D E ∙ ap (λ y. y ++ (32 ∷ 59 ∷ [])) (bytes-degree c.degree))))))

@@ -1,0 +1,37 @@
+-- The value of a text under a limit is within that limit. Offered to other crates.
+use Rattle.std.proofs.Common.{ℕ, zero, suc, ◌≤◌, List, [], ◌∷◌, Bool, true, false, subst, sym}
+use Rattle.std.specs.Prelude.{ℤ, nat_abs}
+use Rattle.pb_text.specs.meaning.Spelling.{Letter}
+use Rattle.pb_text.specs.meaning.Numbers.{Number, signed}
+use Rattle.pb_sums.specs.meaning.Sums.{SpellsTerm, SpellsFurther, SpellsSum, Head, SpellsLinear}
+use Rattle.pb_sums.specs.contract.Canonical.{IsTerm, AreTerms, IsLinear}
+use Rattle.pb_sums.specs.declared.values.Term.{Term}
+use Rattle.pb_sums.specs.declared.values.Linear.{Linear}
+use Rattle.pb_sums.specs.declared.grammar.Spaces.{Spaces}
+
+signed-within : (limit : ℕ) (negative : Bool) (n : ℕ) → n ≤ limit → nat_abs (signed negative n) ≤ limit
+signed-within limit false n h = h
+signed-within limit true zero h = h
+signed-within limit true (suc n) h = h
+
+pub number-within : (limit : ℕ) (z : ℤ) (t : List Letter) → Number limit z t → nat_abs z ≤ limit
+number-within limit z t (negative, n, h, e, k) = subst (λ (y : ℤ). nat_abs y ≤ limit) (sym e) (signed-within limit negative n h)
+
+module _ (spaces : Spaces) (limit : ℕ) where
+  term-within : (x : Term) (t : List Letter) → SpellsTerm spaces limit x t → IsTerm limit x
+  term-within x t (ab, c, e, (a, b, f, h, s), l) = (number-within limit x.coefficient a h, l.0)
+
+  further-within : (xs : List Term) (t : List Letter) → SpellsFurther spaces limit xs t → AreTerms limit xs
+  further-within [] t h = tt
+  further-within (x ∷ xs) t (ab, c, e, (a, b, f, s, h), k) = (term-within x b h, further-within xs c k)
+
+  pub sum-within : (xs : List Term) (t : List Letter) → SpellsSum spaces limit xs t → AreTerms limit xs
+  sum-within [] t h = tt
+  sum-within (x ∷ xs) t (a, b, e, h, k) = (term-within x a h, further-within xs b k)
+
+  head-within : (xs : List Term) (t : List Letter) → Head spaces limit xs t → AreTerms limit xs
+  head-within [] t h = tt
+  head-within (x ∷ xs) t (a, b, e, h, k) = sum-within (x ∷ xs) a h
+
+  pub linear-within : (c : Linear) (t : List Letter) → SpellsLinear spaces limit c t → IsLinear limit c
+  linear-within c t (p5, l5, e5, (p4, l4, e4, (p3, l3, e3, (p2, l2, e2, (p1, l1, e1, h, o), s), d), w), b) = (head-within c.terms p1 h, number-within limit c.degree l3 d)

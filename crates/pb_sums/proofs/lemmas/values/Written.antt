@@ -1,0 +1,68 @@
+-- What is written, in parts.
+use Rattle.std.proofs.Common.{◌≡◌, ℕ, suc, ◌+◌, ◌-◌, ◌<◌, ◌≤◌, List, [], ◌∷◌, ◌++◌, take, drop, length, refl, ap, sym, append_assoc, ◌∙◌, arith, get_or, take-append-drop}
+use Rattle.std.proofs.lemmas.List.{append-nil, take_more, drop_all}
+use Rattle.std.proofs.Math.Seq.{drop-cons}
+use Rattle.pb_sums.specs.contract.Canonical.{term_bytes, further_bytes, sum_bytes, head_bytes}
+use Rattle.pb_sums.specs.declared.values.Term.{Term}
+
+pub further-append : (xs ys : List Term) → further_bytes (xs ++ ys) ≡ further_bytes xs ++ further_bytes ys
+unfolding further_bytes
+further-append [] ys = refl
+further-append (x ∷ xs) ys =
+    ap (λ z. 32 ∷ (term_bytes x ++ z)) (further-append xs ys) ∙ ap (λ z. 32 ∷ z) (sym (append_assoc (term_bytes x) (further_bytes xs) (further_bytes ys)))
+
+further-cons : (x : Term) (xs : List Term) → further_bytes (x ∷ xs) ≡ (32 ∷ term_bytes x) ++ further_bytes xs
+unfolding further_bytes
+further-cons x xs = refl
+
+pub further_none : further_bytes [] ≡ []
+unfolding further_bytes
+further_none = refl
+
+pub further_more : (xs : List Term) (i : ℕ) (d : Term) → i < length xs → further_bytes (take (i + 1) xs) ≡ further_bytes (take i xs) ++ (32 ∷ term_bytes (get_or xs i d))
+further_more xs i d h =
+    ap further_bytes (take_more xs i d h)
+    ∙ (further-append (take i xs) (get_or xs i d ∷ [])
+    ∙ ap (λ z. further_bytes (take i xs) ++ z)
+    (further-cons (get_or xs i d) [] ∙ (ap (λ z. (32 ∷ term_bytes (get_or xs i d)) ++ z) further_none ∙ append-nil (32 ∷ term_bytes (get_or xs i d)))))
+
+pub further_at : (xs : List Term) (i : ℕ) (d : Term) → i < length xs →
+    further_bytes xs ≡ further_bytes (take i xs) ++ ((32 ∷ term_bytes (get_or xs i d)) ++ further_bytes (drop (suc i) xs))
+further_at xs i d h =
+    ap further_bytes (sym (take-append-drop i xs))
+    ∙ (further-append (take i xs) (drop i xs)
+    ∙ ap (λ z. further_bytes (take i xs) ++ z) (ap further_bytes (drop-cons xs i d h) ∙ further-cons (get_or xs i d) (drop (suc i) xs)))
+
+-- a prefix of the terms, and the others
+pub further_split : (xs : List Term) (n : ℕ) → further_bytes xs ≡ further_bytes (take n xs) ++ further_bytes (drop n xs)
+further_split xs n = ap further_bytes (sym (take-append-drop n xs)) ∙ further-append (take n xs) (drop n xs)
+
+pub further_past : (xs : List Term) (n : ℕ) → length xs ≤ n → further_bytes (drop n xs) ≡ []
+further_past xs n h = ap further_bytes (drop_all n xs h) ∙ further_none
+
+-- the terms from an index on
+pub further_from : (xs : List Term) (i : ℕ) (x : Term) → 0 < i → i ≤ length xs → x ≡ get_or xs (i - 1) x →
+    further_bytes (drop (i - 1) xs) ≡ (32 ∷ term_bytes x) ++ further_bytes (drop i xs)
+further_from xs i x some within e =
+    let next : suc (i - 1) ≡ i = omega arith in
+    ap further_bytes (drop-cons xs (i - 1) x (omega arith))
+    ∙ (further-cons (get_or xs (i - 1) x) (drop (suc (i - 1)) xs)
+    ∙ (ap (λ (n : ℕ). (32 ∷ term_bytes (get_or xs (i - 1) x)) ++ further_bytes (drop n xs)) next
+    ∙ ap (λ (y : Term). (32 ∷ term_bytes y) ++ further_bytes (drop i xs)) (sym e)))
+
+pub sum_parts : (xs : List Term) (d : Term) → 0 < length xs → sum_bytes xs ≡ term_bytes (get_or xs 0 d) ++ further_bytes (drop 1 xs)
+sum_parts [] d h = absurd (omega arith)
+sum_parts (x ∷ xs) d h = refl
+
+-- what follows a sum
+pub head_front : (xs : List Term) (t : List ℕ) → (y : List ℕ) × (head_bytes xs ++ t ≡ sum_bytes xs ++ y)
+head_front [] t = (t, refl)
+head_front (x ∷ xs) t = (32 ∷ t, append_assoc (sum_bytes (x ∷ xs)) (32 ∷ []) t)
+
+pub head_none : (xs : List Term) (t : List ℕ) → length xs ≡ 0 → head_bytes xs ++ t ≡ sum_bytes xs ++ t
+head_none [] t h = refl
+head_none (x ∷ xs) t h = absurd (omega arith)
+
+pub head_some : (xs : List Term) (t : List ℕ) → 0 < length xs → head_bytes xs ++ t ≡ sum_bytes xs ++ (32 ∷ t)
+head_some [] t h = absurd (omega arith)
+head_some (x ∷ xs) t h = append_assoc (sum_bytes (x ∷ xs)) (32 ∷ []) t

@@ -1,0 +1,12 @@
+-- What a machine stores.
+use Rattle.std.specs.Prelude.{◌≡◌}
+use Rattle.pb_sums.specs.engine.State.{SumState}
+use Rattle.pb_sums.specs.declared.machine.SumMachine.TheInside.{Inside}
+
+-- the state that its fields give
+abbrev pub state_of : Inside → SumState
+state_of m = record { spaces = m.spaces; part = m.part; limit = m.limit; work = record { terms = m.terms; name = m.name; phase = m.phase } }
+
+-- It stores only its state and its allocator, as contracts see these.
+abbrev pub KeepsItsState : Type 0
+KeepsItsState = (a b : Inside) → a.alloc ≡ b.alloc → state_of a ≡ state_of b → a ≡ b

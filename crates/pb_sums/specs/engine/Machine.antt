@@ -1,0 +1,192 @@
+-- The machine of a sum: what it does with one byte.
+use Rattle.std.specs.Prelude.{◌≡◌, ℕ, ◌+◌, ◌-◌, ◌*◌, ◌<◌, ◌≤◌, Bool, true, false, cond, ◌&&◌, List, [], ◌∷◌, ◌++◌, ℤ, nat_eq, nat_le, Option, Some, None}
+use Rattle.pb_text.specs.contract.Automaton.{Next, Go, End, Refuse}
+use Rattle.pb_text.specs.meaning.Classes.{is_digit, is_letter, is_name_byte}
+use Rattle.pb_text.specs.meaning.Numbers.{signed}
+use Rattle.pb_text.specs.meaning.Spelling.{Letter}
+use Rattle.pb_sums.specs.meaning.Sums.{is_space, reads_sums, allows}
+use Rattle.pb_sums.specs.declared.values.Term.{Term}
+use Rattle.pb_sums.specs.declared.values.Relation.{Relation}
+use Rattle.pb_sums.specs.declared.values.Relation.TheVariants.{AtLeast, Equal}
+use Rattle.pb_sums.specs.declared.values.SumEvent.{SumEvent}
+use Rattle.pb_sums.specs.declared.values.SumEvent as event
+use Rattle.pb_sums.specs.declared.grammar.Spaces.{Spaces}
+use Rattle.pb_sums.specs.declared.grammar.Part.{Part}
+use Rattle.pb_sums.specs.declared.phase.Kind.{Kind}
+use Rattle.pb_sums.specs.declared.phase.Kind.TheVariants.{Space, Digit, Start, Inner, Tilde, Plus, Minus, Greater, Equals, Semicolon, Other}
+use Rattle.pb_sums.specs.declared.phase.Phase.{Phase}
+use Rattle.pb_sums.specs.declared.phase.Phase as phase
+use Rattle.pb_sums.specs.declared.phase.Move.{Move}
+use Rattle.pb_sums.specs.declared.phase.Move.TheVariants.{To, Begin, Add, EndSum, EndLinear, Stop}
+
+abbrev pub symbol : ℕ → Kind
+symbol b =
+    cond (nat_eq b 126) Tilde
+    (cond (nat_eq b 43) Plus
+    (cond (nat_eq b 45) Minus
+    (cond (nat_eq b 62) Greater
+    (cond (nat_eq b 61) Equals
+    (cond (nat_eq b 59) Semicolon Other)))))
+
+abbrev pub kind_of_plain : Spaces → ℕ → Kind
+kind_of_plain spaces b =
+    cond (is_space spaces b) Space
+    (cond (is_letter b) (Start b)
+    (cond (is_name_byte b) (Inner b) (symbol b)))
+
+abbrev pub kind_of_numeral : ℕ → Kind
+kind_of_numeral b = cond (is_digit b) (Digit (b - 48)) Other
+
+abbrev pub kind : Spaces → Letter → Kind
+kind spaces c = cond c.numeral (kind_of_numeral c.byte) (kind_of_plain spaces c.byte)
+
+-- the letter of a byte, if digits are those of a number (numeric) or of a name
+abbrev pub letter_at : Bool → ℕ → Letter
+letter_at numeric b = record { byte = b; numeral = numeric && is_digit b }
+
+-- the states in which digits are those of a number, and those after such a digit
+abbrev pub is_numeric : Phase → Bool
+is_numeric phase.TheVariants.Start = true
+is_numeric (phase.TheVariants.Signed role negative) = true
+is_numeric (phase.TheVariants.Digits role negative n) = true
+is_numeric phase.TheVariants.Between = true
+is_numeric (phase.TheVariants.Operator r) = true
+is_numeric _ = false
+
+abbrev pub is_in_number : Phase → Bool
+is_in_number (phase.TheVariants.Digits role negative n) = true
+is_in_number _ = false
+
+-- the states within a text: something has been read, but not everything
+abbrev pub is_midway : Phase → Bool
+is_midway phase.TheVariants.Start = false
+is_midway phase.TheVariants.Done = false
+is_midway _ = true
+
+abbrev pub is_done : Phase → Bool
+is_done phase.TheVariants.Done = true
+is_done _ = false
+
+-- What a machine stores: the terms so far, the name being read, and what it has read last.
+pub record Work : Type 0 where
+  pub terms : List Term
+  pub name : List ℕ
+  pub phase : Phase
+
+abbrev pub fresh : Work
+fresh = record { terms = []; name = []; phase = phase.TheVariants.Start }
+
+abbrev pub finished : Work
+finished = record { terms = []; name = []; phase = phase.TheVariants.Done }
+
+abbrev pub term : ℤ → Bool → List ℕ → Term
+term z negated name = record { coefficient = z; literal = record { negated = negated; name = name } }
+
+abbrev pub Outcome : Type 0
+Outcome = Next Work SumEvent
+
+abbrev pub at_name : List Term → Phase → List ℕ → Outcome
+at_name xs p name = Go (record { terms = xs; name = name; phase = p })
+
+abbrev pub to : List Term → Phase → Outcome
+to xs p = at_name xs p []
+
+-- The action for a phase and a kind.
+abbrev pub digits : ℕ → Option Relation → Bool → ℕ → ℕ → Move
+digits limit role negative n d = cond (nat_le (10 * n + d) limit) (To (phase.TheVariants.Digits role negative (10 * n + d))) Stop
+
+-- the first letter of a number
+abbrev pub number : ℕ → Option Relation → Kind → Move
+number limit role Plus = To (phase.TheVariants.Signed role false)
+number limit role Minus = To (phase.TheVariants.Signed role true)
+number limit role (Digit d) = digits limit role false 0 d
+number limit role _ = Stop
+
+-- what may follow the terms
+abbrev pub behind : Part → Kind → Move
+behind want Greater = cond (allows want AtLeast) (To phase.TheVariants.Greater) Stop
+behind want Equals = cond (allows want Equal) (To (phase.TheVariants.Operator Equal)) Stop
+behind want Semicolon = cond (reads_sums want) EndSum Stop
+behind want _ = Stop
+
+abbrev pub plan : Part → ℕ → Phase → Kind → Move
+plan want limit phase.TheVariants.Start Space = cond (reads_sums want) (To phase.TheVariants.Empty) Stop
+plan want limit phase.TheVariants.Start Plus = number limit None Plus
+plan want limit phase.TheVariants.Start Minus = number limit None Minus
+plan want limit phase.TheVariants.Start (Digit d) = number limit None (Digit d)
+plan want limit phase.TheVariants.Start k = behind want k
+plan want limit (phase.TheVariants.Signed role negative) (Digit d) = digits limit role negative 0 d
+plan want limit (phase.TheVariants.Digits role negative n) (Digit d) = digits limit role negative n d
+plan want limit (phase.TheVariants.Digits None negative n) Space = To (phase.TheVariants.Gap (signed negative n))
+plan want limit (phase.TheVariants.Digits (Some r) negative n) Space = To (phase.TheVariants.Tail r (signed negative n))
+plan want limit (phase.TheVariants.Digits (Some r) negative n) Semicolon = EndLinear r (signed negative n)
+plan want limit (phase.TheVariants.Gap z) Space = To (phase.TheVariants.Gap z)
+plan want limit (phase.TheVariants.Gap z) Tilde = To (phase.TheVariants.Tilde z)
+plan want limit (phase.TheVariants.Gap z) (Start b) = Begin (phase.TheVariants.First z false) b
+plan want limit (phase.TheVariants.Tilde z) (Start b) = Begin (phase.TheVariants.First z true) b
+plan want limit (phase.TheVariants.First z negated) (Start b) = Add (phase.TheVariants.More z negated) b
+plan want limit (phase.TheVariants.First z negated) (Inner b) = Add (phase.TheVariants.More z negated) b
+plan want limit (phase.TheVariants.More z negated) (Start b) = Add (phase.TheVariants.More z negated) b
+plan want limit (phase.TheVariants.More z negated) (Inner b) = Add (phase.TheVariants.More z negated) b
+plan want limit (phase.TheVariants.More z negated) Space = To phase.TheVariants.Between
+plan want limit (phase.TheVariants.More z negated) k = behind want k
+plan want limit phase.TheVariants.Between Space = To phase.TheVariants.Between
+plan want limit phase.TheVariants.Between Plus = number limit None Plus
+plan want limit phase.TheVariants.Between Minus = number limit None Minus
+plan want limit phase.TheVariants.Between (Digit d) = number limit None (Digit d)
+plan want limit phase.TheVariants.Between k = behind want k
+plan want limit phase.TheVariants.Greater Equals = To (phase.TheVariants.Operator AtLeast)
+plan want limit (phase.TheVariants.Operator r) Space = To (phase.TheVariants.Operator r)
+plan want limit (phase.TheVariants.Operator r) k = number limit (Some r) k
+plan want limit (phase.TheVariants.Tail r z) Space = To (phase.TheVariants.Tail r z)
+plan want limit (phase.TheVariants.Tail r z) Semicolon = EndLinear r z
+plan want limit phase.TheVariants.Empty Space = To phase.TheVariants.Empty
+plan want limit phase.TheVariants.Empty Semicolon = EndSum
+plan _ _ _ _ = Stop
+
+-- What it does: xs are the terms so far, ys those with the one that ends here.
+abbrev pub act : List Term → List Term → List ℕ → Move → Outcome
+act ys xs name (To p) = to ys p
+act ys xs name (Begin p b) = at_name xs p (b ∷ [])
+act ys xs name (Add p b) = at_name xs p (name ++ b ∷ [])
+act ys xs name EndSum = End (event.TheVariants.Sum ys) finished
+act ys xs name (EndLinear r z) = End (event.TheVariants.Linear (record { terms = ys; relation = r; degree = z })) finished
+act ys xs name Stop = Refuse
+
+-- with the term whose literal is complete
+abbrev pub flushed : Phase → List Term → List ℕ → List Term
+flushed (phase.TheVariants.More z negated) xs name = xs ++ term z negated name ∷ []
+flushed _ xs name = xs
+
+abbrev pub move : Part → ℕ → List Term → List ℕ → Phase → Kind → Outcome
+move want limit xs name p k = act (flushed p xs name) xs name (plan want limit p k)
+
+abbrev pub step : Spaces → Part → ℕ → Work → ℕ → Outcome
+step spaces want limit w b = move want limit w.terms w.name w.phase (kind spaces (letter_at (is_numeric w.phase) b))
+
+-- The invariants of every machine for its numbers and the bytes of its names.
+abbrev pub KindFits : Kind → Type 0
+KindFits (Digit d) = d < 10
+KindFits (Start b) = b < 128
+KindFits (Inner b) = b < 128
+KindFits _ = Unit {0}
+
+abbrev pub PhaseFits : ℕ → Phase → Type 0
+PhaseFits limit (phase.TheVariants.Digits role negative n) = n ≤ limit
+PhaseFits limit _ = Unit {0}
+
+abbrev pub MoveFits : ℕ → Move → Type 0
+MoveFits limit (To p) = PhaseFits limit p × (is_midway p ≡ true)
+MoveFits limit (Begin p b) = PhaseFits limit p × (is_midway p ≡ true) × (b < 128)
+MoveFits limit (Add p b) = PhaseFits limit p × (is_midway p ≡ true) × (b < 128)
+MoveFits limit _ = Unit {0}
+
+-- whether a byte may allocate: one of a name, or one that ends a literal
+abbrev pub is_more : Phase → Bool
+is_more (phase.TheVariants.More z negated) = true
+is_more _ = false
+
+abbrev pub adds : Move → Bool
+adds (Begin p b) = true
+adds (Add p b) = true
+adds _ = false

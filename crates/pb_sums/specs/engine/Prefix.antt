@@ -1,0 +1,90 @@
+-- Names and numbers at the start of a text.
+use Rattle.std.specs.Prelude.{◌≡◌, ◌≢◌, ◌⊎◌, ◌<◌, ◌≤◌, ℕ, ℤ, ◌+◌, ◌-◌, Bool, IsTrue, true, false, List, [], ◌∷◌, Option, Some, None, length, take, drop, get_or}
+use Rattle.pb_text.specs.meaning.Classes.{is_letter, is_name_byte}
+use Rattle.pb_text.specs.contract.Digits.{HasDigits}
+use Rattle.pb_text.specs.meaning.Languages.{Each}
+use Rattle.pb_text.specs.meaning.Numbers.{signed}
+use Rattle.pb_sums.specs.contract.Canonical.{operator_bytes}
+use Rattle.pb_sums.specs.meaning.Sums.{allows}
+use Rattle.pb_sums.specs.declared.grammar.Part.{Part}
+use Rattle.pb_sums.specs.declared.values.Relation.{Relation}
+use Rattle.pb_sums.specs.declared.phase.Phase.{Phase}
+use Rattle.pb_sums.specs.declared.phase.Phase as phase
+
+-- a sign, or none
+abbrev pub IsSign : Bool → List ℕ → Type 0
+IsSign negative [] = negative ≡ false
+IsSign false (b ∷ []) = b ≡ 43
+IsSign true (b ∷ []) = b ≡ 45
+IsSign negative (b ∷ c ∷ text) = ⊥
+
+-- the states in which a number may begin, or its digits, the relation before it, and the sign that was read
+abbrev pub begins_number : Phase → Bool
+begins_number phase.TheVariants.Start = true
+begins_number (phase.TheVariants.Signed r negative) = true
+begins_number phase.TheVariants.Between = true
+begins_number (phase.TheVariants.Operator r) = true
+begins_number _ = false
+
+abbrev pub role : Phase → Option Relation
+role (phase.TheVariants.Signed r negative) = r
+role (phase.TheVariants.Operator r) = Some r
+role _ = None
+
+abbrev pub sign_read : Phase → Option Bool
+sign_read (phase.TheVariants.Signed r negative) = Some negative
+sign_read _ = None
+
+-- the state after a number and space
+abbrev pub behind_number : Option Relation → ℤ → Phase
+behind_number None z = phase.TheVariants.Gap z
+behind_number (Some r) z = phase.TheVariants.Tail r z
+
+-- a relation may follow terms and space
+abbrev pub begins_relation : Phase → Bool
+begins_relation phase.TheVariants.Between = true
+begins_relation _ = false
+
+-- The text does not begin with a relation that the part allows.
+abbrev pub LacksRelation : Part → List ℕ → Type 0
+LacksRelation part text = (r : Relation) → allows part r ≡ true → take (length (operator_bytes r)) text ≢ operator_bytes r
+
+-- the state after a name, if one may begin
+abbrev pub behind_name : Phase → Option Phase
+behind_name (phase.TheVariants.Gap z) = Some (phase.TheVariants.More z false)
+behind_name (phase.TheVariants.Tilde z) = Some (phase.TheVariants.More z true)
+behind_name _ = None
+
+-- the state after a space, in the states where one is common
+abbrev pub behind_space : Phase → Option Phase
+behind_space (phase.TheVariants.Digits None negative n) = Some (phase.TheVariants.Gap (signed negative n))
+behind_space (phase.TheVariants.Digits (Some r) negative n) = Some (phase.TheVariants.Tail r (signed negative n))
+behind_space (phase.TheVariants.Gap z) = Some (phase.TheVariants.Gap z)
+behind_space (phase.TheVariants.More z negated) = Some phase.TheVariants.Between
+behind_space phase.TheVariants.Between = Some phase.TheVariants.Between
+behind_space (phase.TheVariants.Operator r) = Some (phase.TheVariants.Operator r)
+behind_space (phase.TheVariants.Tail r z) = Some (phase.TheVariants.Tail r z)
+behind_space _ = None
+
+-- the rest of a text, as a slice of it
+abbrev pub behind : ℕ → List ℕ → List ℕ
+behind i text = take (length text - i) (drop i text)
+
+-- The sign at the start of the text has exactly n bytes: none if it was already read.
+abbrev pub HasSign : Option Bool → List ℕ → ℕ → Bool → Type 0
+HasSign (Some read) text n negative = (n ≡ 0) × (negative ≡ read)
+HasSign None text n negative = IsSign negative (take n text) × (n ≡ 0 → 0 < length text → (get_or text 0 0 ≢ 43) × (get_or text 0 0 ≢ 45))
+
+-- The text does not begin with a number and a space after it, or the number is large.
+abbrev pub LacksNumber : ℕ → Option Bool → List ℕ → Type 0
+LacksNumber limit read text = (i : ℕ) × (negative : Bool) × HasSign read text i negative × (n : ℕ) × (value : ℕ) × HasDigits (behind i text) n value
+    × ((n ≡ 0) ⊎ (limit < value) ⊎ (length text ≤ i + n) ⊎ (get_or text (i + n) 0 ≢ 32))
+
+-- The text begins with exactly n name bytes.
+abbrev pub HasNameBytes : List ℕ → ℕ → Type 0
+HasNameBytes text n = (n ≤ length text) × Each (λ b. IsTrue (is_name_byte b)) (take n text) × (n < length text → is_name_byte (get_or text n 0) ≡ false)
+
+-- The text does not begin with a literal whose name has at least two bytes, or that name is long.
+abbrev pub LacksLiteral : List ℕ → Type 0
+LacksLiteral text = (i : ℕ) × (i ≤ 1) × (i ≡ 0 → 0 < length text → get_or text 0 0 ≢ 126) × (i ≡ 1 → get_or text 0 0 ≡ 126)
+    × (n : ℕ) × HasNameBytes (behind i text) n × ((n < 2) ⊎ (is_letter (get_or (behind i text) 0 0) ≡ false) ⊎ (22 < n))

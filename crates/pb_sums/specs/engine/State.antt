@@ -1,0 +1,80 @@
+-- The states of a machine of sums, and its automaton.
+use Rattle.std.specs.Prelude.{◌≡◌, ℕ, ◌+◌, ◌-◌, ◌^◌, min, Bool, false, ◌||◌, List, [], ◌∷◌, length}
+use Rattle.pb_text.specs.contract.Automaton.{Automaton, Next, Go, End, Refuse}
+use Rattle.pb_text.specs.meaning.Spelling.{Item}
+use Rattle.pb_sums.specs.engine.Machine.{Work, Outcome, fresh, finished, step, plan, kind, letter_at, is_numeric, is_in_number, is_midway, is_done, adds, is_more, PhaseFits}
+use Rattle.pb_sums.specs.meaning.Sums.{Spells}
+use Rattle.pb_sums.specs.declared.values.Term.{Term}
+use Rattle.pb_sums.specs.declared.values.SumEvent.{SumEvent}
+use Rattle.pb_sums.specs.declared.grammar.Spaces.{Spaces}
+use Rattle.pb_sums.specs.declared.grammar.Part.{Part}
+use Rattle.pb_sums.specs.declared.phase.Phase.{Phase}
+use Rattle.pb_sums.specs.declared.phase.Phase as phase
+
+-- what a machine reads, the largest magnitude of its numbers, and what it stores
+pub record SumState : Type 0 where
+  pub spaces : Spaces
+  pub part : Part
+  pub limit : ℕ
+  pub work : Work
+
+abbrev pub with_work : SumState → Work → SumState
+with_work s w = record { spaces = s.spaces; part = s.part; limit = s.limit; work = w }
+
+-- the states before a text and after it
+abbrev pub first : Spaces → Part → ℕ → SumState
+first spaces part limit = record { spaces = spaces; part = part; limit = limit; work = fresh }
+
+abbrev pub last : Spaces → Part → ℕ → SumState
+last spaces part limit = record { spaces = spaces; part = part; limit = limit; work = finished }
+
+abbrev pub over : SumState → Outcome → Next SumState SumEvent
+over s (Go w) = Go (with_work s w)
+over s (End e w) = End e (with_work s w)
+over s Refuse = Refuse
+
+-- whether the byte is in a name, or may end a literal
+abbrev pub asks : SumState → ℕ → Bool
+asks s b = adds (plan s.part s.limit s.work.phase (kind s.spaces (letter_at (is_numeric s.work.phase) b))) || is_more s.work.phase
+
+-- literals, and the bytes of their names
+abbrev pub units : List Term → ℕ
+units [] = 0
+units (x ∷ xs) = 1 + length x.literal.name + units xs
+
+-- a literal counts as stored from the first byte of its name on
+abbrev pub in_hand : Phase → ℕ
+in_hand (phase.TheVariants.First z negated) = 1
+in_hand (phase.TheVariants.More z negated) = 1
+in_hand _ = 0
+
+-- at a byte before a name, room for the literal, which comes with the first byte of the name
+abbrev pub ready : Phase → ℕ
+ready (phase.TheVariants.Gap z) = 1
+ready (phase.TheVariants.Tilde z) = 1
+ready _ = 0
+
+abbrev pub all_units : Work → ℕ
+all_units w = units w.terms + in_hand w.phase + length w.name
+
+-- the automaton: the count of what is stored saturates
+abbrev pub sums : Automaton SumState SumEvent
+sums = record {
+  step = λ s b. over s (step s.spaces s.part s.limit s.work b);
+  done = λ s. is_done s.work.phase;
+  begun = λ s. is_midway s.work.phase;
+  in_number = λ s. is_in_number s.work.phase;
+  asks = asks;
+  kept = λ s. min (all_units s.work) (2 ^ 64 - 1);
+  spent = λ s. all_units s.work + ready s.work.phase;
+}
+
+-- The invariant of a machine: a number being read is within the limit, and nothing is stored before a text and after it.
+abbrev pub IsInOrder : ℕ → Work → Type 0
+IsInOrder limit w = PhaseFits limit w.phase × (is_midway w.phase ≡ false → (w.terms ≡ []) × (w.name ≡ []))
+
+-- one text of the grammar, with nothing before it
+abbrev pub IsOneText : Spaces → ℕ → Part → List (Item SumEvent) → Type 0
+IsOneText spaces limit part [] = ⊥
+IsOneText spaces limit part (i ∷ []) = (i.gap ≡ []) × Spells spaces limit part i.event i.text
+IsOneText spaces limit part (i ∷ j ∷ rest) = ⊥

@@ -1,0 +1,36 @@
+-- Parts of a term at the start of a text, and what a machine does with them, whatever it reads.
+use Rattle.std.specs.Prelude.{◌≡◌, ℕ, ℤ, Bool, true, false, List, [], ◌∷◌, None}
+use Rattle.pb_text.specs.contract.Automaton.{Runs}
+use Rattle.pb_sums.specs.engine.Prefix.{role, behind_number}
+use Rattle.pb_sums.specs.engine.State.{SumState, sums}
+use Rattle.pb_sums.specs.declared.values.Literal.{Literal}
+use Rattle.pb_sums.specs.declared.values.Term.{Term}
+use Rattle.pb_sums.specs.declared.grammar.Spaces.{Spaces}
+use Rattle.pb_sums.specs.declared.grammar.Part.{Part}
+use Rattle.pb_sums.specs.declared.phase.Phase.{Phase}
+use Rattle.pb_sums.specs.declared.phase.Phase as phase
+
+-- the states in which a term may begin, or the digits of its coefficient
+abbrev pub begins_term : Phase → Bool
+begins_term phase.TheVariants.Start = true
+begins_term (phase.TheVariants.Signed None negative) = true
+begins_term phase.TheVariants.Between = true
+begins_term _ = false
+
+-- `~`, or nothing
+abbrev pub IsTilde : Bool → List ℕ → Type 0
+IsTilde false text = text ≡ []
+IsTilde true text = text ≡ 126 ∷ []
+
+abbrev pub standing : Spaces → Part → ℕ → List Term → List ℕ → Phase → SumState
+standing spaces part limit xs name p = record { spaces = spaces; part = part; limit = limit; work = record { terms = xs; name = name; phase = p } }
+
+-- a number and a space after it, from this state
+abbrev pub IsSpacedNumber : ℕ → Phase → List ℕ → ℤ → Type 0
+IsSpacedNumber limit p text z = (spaces : Spaces) (part : Part) (xs : List Term) →
+    Runs sums (standing spaces part limit xs [] p) text (standing spaces part limit xs [] (behind_number (role p) z))
+
+-- a literal after a coefficient
+abbrev pub IsLiteral : List ℕ → Literal → Type 0
+IsLiteral text l = (spaces : Spaces) (part : Part) (limit : ℕ) (xs : List Term) (z : ℤ) →
+    Runs sums (standing spaces part limit xs [] (phase.TheVariants.Gap z)) text (standing spaces part limit xs l.name (phase.TheVariants.More z l.negated))

@@ -1,0 +1,3 @@
+-- What must be believed of sums: docs/TRUST.md lists which definitions of these files.
+pub mod Asking
+pub mod Sums

@@ -1,0 +1,124 @@
+-- If an automaton may allocate, the next byte of any text is in a statement, at a position that may allocate. Offered to
+-- other crates.
+use Rattle.std.proofs.Common.{◌≡◌, ℕ, List, [], ◌∷◌, ◌++◌, true, false, IsTrue, Some, refl, sym, ap, ap₂, ◌∙◌, subst, append_assoc, append-nil, ◌⊎◌, inl, inr}
+use Rattle.std.proofs.lemmas.Bool.{false≢true}
+use Rattle.pb_text.specs.contract.Automaton.{Automaton, Next, Go, End, Skips, Reads, Accepts, behind, Leads}
+use Rattle.pb_text.specs.meaning.Asking.{IsWithin}
+use Rattle.pb_text.specs.meaning.Spelling.{Letter, Item, plain, bytes, letters_of, bytes_of}
+use Rattle.pb_text.proofs.lemmas.text.FirstBytes.{head, tail}
+use Rattle.pb_text.proofs.lemmas.text.Languages.{bytes-append, bytes-plain}
+use Rattle.pb_text.proofs.lemmas.machine.Walking.{Walks, walks_more}
+
+no_byte : {A : Type 0} (used more : List ℕ) (b : ℕ) → [] ≡ used ++ b ∷ more → A
+no_byte [] more b e = cc
+no_byte (c ∷ used) more b e = cc
+
+put : (b c : ℕ) (bs cs : List ℕ) → b ≡ c → bs ≡ cs → b ∷ bs ≡ c ∷ cs
+put b c bs cs e f = rw (e, f) refl
+
+item_bytes : {E : Type 0} (i : Item E) (rest : List (Item E)) → bytes_of (i ∷ rest) ≡ i.gap ++ (bytes i.text ++ bytes_of rest)
+item_bytes i rest =
+    bytes-append (plain i.gap) (i.text ++ letters_of rest)
+    ∙ ap₂ (λ (x y : List ℕ). x ++ y) (bytes-plain i.gap) (bytes-append i.text (letters_of rest))
+
+module _ {S E : Type 0} (m : Automaton S E) where
+  taken : (x : Next S E) (mid new : S) → behind m x ≡ Some mid → x ≡ Go new → mid ≡ new
+  taken x mid new e f = let k : behind m (Go new) ≡ Some mid = subst (λ (y : Next S E). behind m y ≡ Some mid) f e in cc
+
+  ended : (x : Next S E) (e : E) (mid new : S) → behind m x ≡ Some mid → x ≡ End e new → mid ≡ new
+  ended x e mid new h f = let k : behind m (End e new) ≡ Some mid = subst (λ (y : Next S E). behind m y ≡ Some mid) f h in cc
+
+  -- What must be known of the automaton: of the states between statements, and of those within one.
+  module _ (Idle : S → Type 0) (Asks : E → List ℕ → ℕ → Type 0) where
+    pub record IsAsked : Type 0 where
+      pub gaps : (s next : S) (b : ℕ) → Idle s → m.step s b ≡ Go next → m.begun next ≡ false → Idle next × (m.asks s b ≡ false)
+      pub ends : (s next : S) (t : List Letter) (e : E) → Idle s → Reads m s t e next → Idle next
+      pub texts : (at s next : S) (front rest : List Letter) (l : Letter) (e : E) → Idle at → Walks m at front s → Reads m s (l ∷ rest) e next
+          → IsTrue (m.asks s l.byte) → Asks e (bytes front) l.byte
+
+    module _ (known : IsAsked) (state : S) (b : ℕ) (more : List ℕ) (asks : IsTrue (m.asks state b)) where
+      in_gap : (gap : List ℕ) (s at : S) (behind_it used : List ℕ) → Idle s → Skips m s gap at → Leads m s used state → gap ++ behind_it ≡ used ++ b ∷ more
+          → (left : List ℕ) × (used ≡ gap ++ left) × Leads m at left state × Idle at × (behind_it ≡ left ++ b ∷ more)
+      in_gap [] s at behind_it used i k l e = (used, refl, subst (λ (x : S). Leads m x used state) (sym k) l, subst Idle (sym k) i, e)
+      in_gap (c ∷ gap) s at behind_it [] i (mid, g, o, k) l e =
+          let no : m.asks s c ≡ false = (known.gaps s mid c i g o).1 in
+          let yes : m.asks s c ≡ true = subst (λ (x : ℕ). m.asks s x ≡ true) (sym (head c b (gap ++ behind_it) more e)) (subst (λ (x : S). m.asks x b ≡ true) l asks) in
+          absurd (false≢true (sym no ∙ yes))
+      in_gap (c ∷ gap) s at behind_it (d ∷ used) i (mid, g, o, k) (next, f, l) e =
+          let same : d ≡ c = sym (head c d (gap ++ behind_it) (used ++ b ∷ more) e) in
+          let one : next ≡ mid = taken (m.step s d) next mid f (ap (m.step s) same ∙ g) in
+          let r = in_gap gap mid at behind_it used (known.gaps s mid c i g o).0 k (subst (λ (x : S). Leads m x used state) one l) (tail c d (gap ++ behind_it) (used ++ b ∷ more) e) in
+          (r.0, put d c used (gap ++ r.0) same r.1, r.2, r.3, r.4)
+
+      -- the byte is in the text, or comes after it
+      abbrev InText : List Letter → List ℕ → List ℕ → E → S → List ℕ → Type 0
+      InText t before used e after behind_it =
+          ((later : List ℕ) × (bytes t ≡ used ++ b ∷ later) × Asks e (before ++ used) b)
+          ⊎ ((left : List ℕ) × (used ≡ bytes t ++ left) × Leads m after left state × (behind_it ≡ left ++ b ∷ more))
+
+      here : (at cur after : S) (front rest : List Letter) (l : Letter) (e : E) → Idle at → Walks m at front cur → Reads m cur (l ∷ rest) e after → state ≡ cur → l.byte ≡ b
+          → Asks e (bytes front ++ []) b
+      here at cur after front rest l e i w r same byte =
+          let a : IsTrue (m.asks cur l.byte) = subst (λ (x : ℕ). m.asks cur x ≡ true) (sym byte) (subst (λ (x : S). m.asks x b ≡ true) same asks) in
+          subst (λ (x : List ℕ). Asks e x b) (sym (append-nil (bytes front))) (subst (λ (x : ℕ). Asks e (bytes front) x) byte (known.texts at cur after front rest l e i w r a))
+
+      moved : (t front : List Letter) (l : Letter) (d : ℕ) (used : List ℕ) (e : E) (after : S) (behind_it : List ℕ) → d ≡ l.byte → InText t (bytes (front ++ l ∷ [])) used e after behind_it
+          → InText (l ∷ t) (bytes front) (d ∷ used) e after behind_it
+      moved t front l d used e after behind_it same (inl (later, h, a)) =
+          let front_is : bytes (front ++ l ∷ []) ++ used ≡ bytes front ++ d ∷ used =
+          ap (λ (x : List ℕ). x ++ used) (bytes-append front (l ∷ [])) ∙ (append_assoc (bytes front) (l.byte ∷ []) used ∙ ap (λ (x : ℕ). bytes front ++ x ∷ used) (sym same)) in
+          inl (later, put l.byte d (bytes t) (used ++ b ∷ later) (sym same) h, subst (λ (x : List ℕ). Asks e x b) front_is a)
+      moved t front l d used e after behind_it same (inr (left, h, k, j)) = inr (left, put d l.byte used (bytes t ++ left) same h, k, j)
+
+      in_text : (t front : List Letter) (at cur after : S) (e : E) (behind_it used : List ℕ) → Idle at → Walks m at front cur → Reads m cur t e after → Leads m cur used state
+          → bytes t ++ behind_it ≡ used ++ b ∷ more → InText t (bytes front) used e after behind_it
+      in_text [] front at cur after e behind_it used i w r l q = absurd r
+      in_text (l ∷ []) front at cur after e behind_it [] i w r lead q =
+          let byte : l.byte ≡ b = head l.byte b behind_it more q in
+          inl ([], ap (λ (x : ℕ). x ∷ []) byte, here at cur after front [] l e i w r lead byte)
+      in_text (l ∷ []) front at cur after e behind_it (d ∷ used) i w (g, n) (next, f, lead) q =
+          let same : d ≡ l.byte = sym (head l.byte d behind_it (used ++ b ∷ more) q) in
+          let one : next ≡ after = ended (m.step cur d) e next after f (ap (m.step cur) same ∙ g) in
+          inr (used, put d l.byte used used same refl, subst (λ (x : S). Leads m x used state) one lead, tail l.byte d behind_it (used ++ b ∷ more) q)
+      in_text (l ∷ k ∷ t) front at cur after e behind_it [] i w r lead q =
+          let byte : l.byte ≡ b = head l.byte b (bytes (k ∷ t) ++ behind_it) more q in
+          inl (bytes (k ∷ t), put l.byte b (bytes (k ∷ t)) (bytes (k ∷ t)) byte refl, here at cur after front (k ∷ t) l e i w r lead byte)
+      in_text (l ∷ k ∷ t) front at cur after e behind_it (d ∷ used) i w (mid, g, o, n, r) (next, f, lead) q =
+          let same : d ≡ l.byte = sym (head l.byte d (bytes (k ∷ t) ++ behind_it) (used ++ b ∷ more) q) in
+          let one : next ≡ mid = taken (m.step cur d) next mid f (ap (m.step cur) same ∙ g) in
+          moved (k ∷ t) front l d used e after behind_it same
+          (in_text (k ∷ t) (front ++ l ∷ []) at mid after e behind_it used i (walks_more m front l at cur mid w g o n) r (subst (λ (x : S). Leads m x used state) one lead)
+          (tail l.byte d (bytes (k ∷ t) ++ behind_it) (used ++ b ∷ more) q))
+
+      first_item : (i : Item E) (rest : List (Item E)) (used left : List ℕ) (after : S) → used ≡ i.gap ++ left → InText i.text [] left i.event after (bytes_of rest)
+          → ((behind_it : List ℕ) → Leads m after behind_it state → bytes_of rest ≡ behind_it ++ b ∷ more → IsWithin Asks rest behind_it b) → IsWithin Asks (i ∷ rest) used b
+      first_item i rest used left after e (inl (later, h, a)) further =
+          record { done = []; item = i; rest = rest; text = left; more = later; items_are = refl; used_are = e; text_is = h; asks = a }
+      first_item i rest used left after e (inr (behind_it, h, k, j)) further =
+          let w = further behind_it k j in
+          record {
+            done = i ∷ w.done;
+            item = w.item;
+            rest = w.rest;
+            text = w.text;
+            more = w.more;
+            items_are = ap (λ (x : List (Item E)). i ∷ x) w.items_are;
+            used_are =
+                e
+                ∙ (ap (λ (x : List ℕ). i.gap ++ x) (h ∙ (ap (λ (x : List ℕ). bytes i.text ++ x) w.used_are ∙ sym (append_assoc (bytes i.text) (bytes_of w.done) (w.item.gap ++ w.text))))
+                ∙ (sym (append_assoc i.gap (bytes i.text ++ bytes_of w.done) (w.item.gap ++ w.text)) ∙ ap (λ (x : List ℕ). x ++ (w.item.gap ++ w.text)) (sym (item_bytes i w.done))));
+            text_is = w.text_is;
+            asks = w.asks;
+          }
+
+      asked : (items : List (Item E)) (s : S) (used : List ℕ) → Idle s → Accepts m s items → Leads m s used state → bytes_of items ≡ used ++ b ∷ more → IsWithin Asks items used b
+      asked [] s used i a l e = no_byte used more b e
+      asked (j ∷ rest) s used i (at, after, k, r, a) l e =
+          let g = in_gap j.gap s at (bytes j.text ++ bytes_of rest) used i k l (sym (item_bytes j rest) ∙ e) in
+          let t = in_text j.text [] at at after j.event (bytes_of rest) g.0 g.3 refl r g.2 g.4 in
+          first_item j rest used g.0 after g.1 t (λ behind_it x y. asked rest after behind_it (known.ends at after j.text j.event g.3 r) a x y)
+
+    -- after these bytes of what a state accepts
+    pub asks_within : IsAsked → (start : S) (used : List ℕ) (b : ℕ) → Idle start → (state : S) → Leads m start used state → IsTrue (m.asks state b)
+        → (items : List (Item E)) (more : List ℕ) → Accepts m start items → bytes_of items ≡ used ++ b ∷ more → IsWithin Asks items used b
+    asks_within known start used b i state l a items more h e = asked known state b more a items start used i h l e

@@ -1,0 +1,106 @@
+-- Consecutive bytes of a statement. Offered to other crates.
+use Rattle.std.proofs.Common.{◌≡◌, ◌≢◌, ℕ, suc, ap, ap₂, eqb-true, ◌+◌, ◌<◌, ◌≤◌, List, [], ◌∷◌, ◌++◌, length, take, get_or, Bool, true, false, cond, ◌==◌, Option, Some, None, refl, sym, subst, ◌∙◌, arith, append-nil, append_assoc}
+use Rattle.std.proofs.lemmas.List.{take_more}
+use Rattle.std.specs.Option.{is_some}
+use Rattle.pb_text.specs.contract.Automaton.{Automaton, Go, IsState, Runs, begins}
+use Rattle.pb_text.specs.meaning.Languages.{Each}
+use Rattle.pb_text.specs.engine.SpentBytes.{end_of}
+use Rattle.pb_text.specs.meaning.Spelling.{place_next, place_past}
+use Rattle.pb_text.specs.contract.Standing.{Stands, opened}
+use Rattle.pb_text.specs.declared.place.Place.{Place}
+use Rattle.pb_text.specs.declared.place.Spanned.{Spanned}
+use Rattle.pb_text.proofs.lemmas.feeder.Steps.{stands_go}
+
+module _ {S E : Type 0} (m : Automaton S E) where
+  -- one more byte
+  pub runs_more : (old : S) (text : List ℕ) (mid : S) (b : ℕ) (new : S) → Runs m old text mid → m.step mid b ≡ Go new → IsState m new → Runs m old (text ++ b ∷ []) new
+  runs_more old [] mid b new same goes state = (new, subst (λ (x : S). m.step x b ≡ Go new) same goes, state, refl)
+  runs_more old (c ∷ text) mid b new (next, first, is, rest) goes state = (next, first, is, runs_more next text mid b new rest goes state)
+
+  -- the same for the bytes of a piece
+  pub runs_on : (old : S) (piece : List ℕ) (i : ℕ) (mid new : S) → i < length piece → Runs m old (take i piece) mid → m.step mid (get_or piece i 0) ≡ Go new → IsState m new → Runs m old (take (i + 1) piece) new
+  runs_on old piece i mid new h runs goes state =
+      subst (λ (x : List ℕ). Runs m old x new) (sym (take_more piece i 0 h)) (runs_more old (take i piece) mid (get_or piece i 0) new runs goes state)
+
+by_feed : (feed : Bool) (p : Place) → (cond feed (let q : Place = record { line = p.line + 1; column = 1; offset = p.offset + 1 } in q) (record { line = p.line; column = p.column + 1; offset = p.offset + 1 })).offset ≡ p.offset + 1
+by_feed true p = refl
+by_feed false p = refl
+
+next_offset : (p : Place) (b : ℕ) → (place_next p b).offset ≡ p.offset + 1
+next_offset p b = by_feed (b == 10) p
+
+-- the offset grows by the number of bytes
+pub past_offset : (p : Place) (text : List ℕ) → (place_past p text).offset ≡ p.offset + length text
+past_offset p [] = omega arith
+past_offset p (b ∷ text) = past_offset (place_next p b) text ∙ omega (arith, next_offset p b)
+
+by_feed_line : (feed : Bool) (p : Place) → (cond feed (let q : Place = record { line = p.line + 1; column = 1; offset = p.offset + 1 } in q) (record { line = p.line; column = p.column + 1; offset = p.offset + 1 })).line ≤ p.line + 1
+by_feed_line true p = omega arith
+by_feed_line false p = omega arith
+
+by_feed_column : (feed : Bool) (p : Place) → (cond feed (let q : Place = record { line = p.line + 1; column = 1; offset = p.offset + 1 } in q) (record { line = p.line; column = p.column + 1; offset = p.offset + 1 })).column ≤ p.column + 1
+by_feed_column true p = omega arith
+by_feed_column false p = omega arith
+
+-- the line and the column each grow by at most the number of bytes
+pub past_line : (p : Place) (text : List ℕ) → (place_past p text).line ≤ p.line + length text
+past_line p [] = omega arith
+past_line p (b ∷ text) = omega (arith, past_line (place_next p b) text, by_feed_line (b == 10) p)
+
+pub past_column : (p : Place) (text : List ℕ) → (place_past p text).column ≤ p.column + length text
+past_column p [] = omega arith
+past_column p (b ∷ text) = omega (arith, past_column (place_next p b) text, by_feed_column (b == 10) p)
+
+by_no_feed : (feed : Bool) (p : Place) → feed ≡ false
+    → cond feed (let q : Place = record { line = p.line + 1; column = 1; offset = p.offset + 1 } in q) (record { line = p.line; column = p.column + 1; offset = p.offset + 1 }) ≡ record { line = p.line; column = p.column + 1; offset = p.offset + 1 }
+by_no_feed true p h = cc
+by_no_feed false p h = refl
+
+further : (p : Place) (n : ℕ) → (let q : Place = record { line = p.line; column = (p.column + 1) + n; offset = (p.offset + 1) + n } in q) ≡ record { line = p.line; column = p.column + suc n; offset = p.offset + suc n }
+further p n = ap₂ (λ (x y : ℕ). let q : Place = record { line = p.line; column = x; offset = y } in q) (omega arith) (omega arith)
+
+by_feed_or_not : (b : ℕ) → b ≢ 10 → (feed : Bool) → (b == 10) ≡ feed → (b == 10) ≡ false
+by_feed_or_not b h true e = absurd (h (eqb-true b 10 e))
+by_feed_or_not b h false e = e
+
+not_feed : (b : ℕ) → b ≢ 10 → (b == 10) ≡ false
+not_feed b h = by_feed_or_not b h (b == 10) refl
+
+-- the position after bytes of one line
+pub past_on_line : (p : Place) (text : List ℕ) → Each (λ b. b ≢ 10) text → place_past p text ≡ record { line = p.line; column = p.column + length text; offset = p.offset + length text }
+past_on_line p [] h = ap₂ (λ (x y : ℕ). let q : Place = record { line = p.line; column = x; offset = y } in q) (omega arith) (omega arith)
+past_on_line p (b ∷ text) h =
+    ap (λ (q : Place). place_past q text) (by_no_feed (b == 10) p (not_feed b h.0)) ∙ (past_on_line (record { line = p.line; column = p.column + 1; offset = p.offset + 1 }) text h.1 ∙ further p (length text))
+
+-- the position after the bytes of a piece and one more byte
+pub past_more : (p : Place) (text : List ℕ) (b : ℕ) → place_past p (text ++ b ∷ []) ≡ place_next (place_past p text) b
+past_more p [] b = refl
+past_more p (c ∷ text) b = past_more (place_next p c) text b
+
+module _ {S E : Type 0} (m : Automaton S E) where
+  -- no text is complete on the way
+  pub runs_unfinished : (old : S) (text : List ℕ) (new : S) → IsState m old → m.done old ≡ false → Runs m old text new → m.done new ≡ false
+  runs_unfinished old [] new state unfinished same = subst (λ (x : S). m.done x ≡ false) (sym same) unfinished
+  runs_unfinished old (b ∷ text) new state unfinished (mid, goes, is, rest) = runs_unfinished mid text new is (state.owes b mid goes) rest
+
+module _ {S E : Type 0} (m : Automaton S E) (longest : ℕ) (start : S) (marks : List (Spanned E)) where
+  -- a statement that was open stays open, with the same beginning
+  pub stays_open : (first : Option Place) (starts : Bool) (place : Place) → is_some first ≡ true → opened first starts place ≡ first
+  stays_open (Some p) starts place e = refl
+  stays_open None starts place e = cc e
+
+  -- bytes of the statement that has begun preserve `Stands`, for the input extended by them
+  pub stands_run : (old : S) (text : List ℕ) (new : S) (input : List ℕ) (place : Place) (first : Option Place) → Stands m longest start input marks old place first None
+      → m.done old ≡ false → is_some first ≡ true → place.offset + length text ≤ end_of longest first → Runs m old text new
+      → Stands m longest start (input ++ text) marks new (place_past place text) first None × (m.done new ≡ false)
+  stands_run old [] new input place first s unfinished begun fits same = (
+    rw append-nil (subst (λ (x : S). Stands m longest start input marks x place first None) (sym same) s),
+    subst (λ (x : S). m.done x ≡ false) (sym same) unfinished,
+  )
+  stands_run old (b ∷ text) new input place first s unfinished begun fits (mid, goes, state, rest) =
+      let lt : place.offset < end_of longest first = omega (arith, fits) in
+      let k = stands_go m longest start old mid input marks place first s unfinished b goes state lt in
+      let k' : Stands m longest start (input ++ b ∷ []) marks mid (place_next place b) first None = rw (append-nil, stays_open first (begins m old b) place begun) at k in
+      let fits' : (place_next place b).offset + length text ≤ end_of longest first = omega (arith, next_offset place b, fits) in
+      let r = stands_run mid text new (input ++ b ∷ []) (place_next place b) first k' (s.is_state.owes b mid goes) begun fits' rest in
+      (subst (λ (x : List ℕ). Stands m longest start x marks new (place_past place (b ∷ text)) first None) (append_assoc input (b ∷ []) text) r.0, r.1)

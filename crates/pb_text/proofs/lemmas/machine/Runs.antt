@@ -1,0 +1,54 @@
+-- What a machine over letters does with a text. Offered to other crates.
+use Rattle.std.proofs.Common.{◌≡◌, List, [], ◌∷◌, ◌++◌, refl, sym, Bool, true, false, cond, subst, append_assoc}
+use Rattle.std.proofs.lemmas.List.{append-nil}
+use Rattle.pb_text.specs.contract.Automaton.{Next, Go, End, Refuse}
+use Rattle.pb_text.specs.meaning.Languages.{Language, ◌⋅◌}
+use Rattle.pb_text.specs.meaning.Spelling.{Letter}
+
+module _ {S E : Type 0} (step : S → Letter → Next S E) where
+  -- the outcome of a text: nothing may follow an end
+  abbrev pub run : Next S E → List Letter → Next S E
+  run n [] = n
+  run (Go s) (c ∷ t) = run (step s c) t
+  run (End v s) (c ∷ t) = Refuse
+  run Refuse (c ∷ t) = Refuse
+
+module _ {S E : Type 0} (step : S → Letter → Next S E) where
+  pub run-refuse : (t : List Letter) → run step Refuse t ≡ Refuse
+  run-refuse [] = refl
+  run-refuse (c ∷ t) = refl
+
+  pub run-append : (n : Next S E) (a b : List Letter) → run step n (a ++ b) ≡ run step (run step n a) b
+  run-append n [] b = refl
+  run-append (Go s) (c ∷ a) b = run-append (step s c) a b
+  run-append (End v s) (c ∷ a) b = sym (run-refuse b)
+  run-append Refuse (c ∷ a) b = sym (run-refuse b)
+
+  -- From each outcome of A, a text of P leads to one of B.
+  abbrev pub Takes : (Next S E → Type 0) → Language → (Next S E → Type 0) → Type 0
+  Takes A P B = (n : Next S E) (t : List Letter) → A n → P t → B (run step n t)
+
+  pub takes_then : (A B C : Next S E → Type 0) (P Q : Language) → Takes A P B → Takes B Q C → Takes A (P ⋅ Q) C
+  takes_then A B C P Q f g n t h (a, b, e, p, q) =
+      rw (e, run-append n a b) (g (run step n a) b (f n a h p) q)
+
+module _ {S E : Type 0} (Front : S → Language) (Spec : E → Language) where
+  -- what is known of the text before an outcome
+  abbrev pub OnFront : Next S E → Language
+  OnFront (Go s) = Front s
+  OnFront (End v s) = Spec v
+  OnFront Refuse = λ t. Unit {0}
+
+  pub on_cond : (b : Bool) (n : Next S E) (p : List Letter) → (b ≡ true → OnFront n p) → OnFront (cond b n Refuse) p
+  on_cond true n p h = h refl
+  on_cond false n p h = tt
+
+  abbrev pub Keeps : (S → Letter → Next S E) → Type 0
+  Keeps step = (s : S) (c : Letter) (p : List Letter) → Front s p → OnFront (step s c) (p ++ c ∷ [])
+
+  pub kept : (step : S → Letter → Next S E) → Keeps step → (n : Next S E) (t p : List Letter) → OnFront n p → OnFront (run step n t) (p ++ t)
+  kept step k n [] p h = rw append-nil h
+  kept step k (Go s) (c ∷ t) p h =
+      subst (λ x. OnFront (run step (step s c) t) x) (append_assoc p (c ∷ []) t) (kept step k (step s c) t (p ++ c ∷ []) (k s c p h))
+  kept step k (End v s) (c ∷ t) p h = tt
+  kept step k Refuse (c ∷ t) p h = tt

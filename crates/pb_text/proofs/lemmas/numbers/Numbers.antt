@@ -1,0 +1,59 @@
+-- Digits that grow at their end, and those that are written. Offered to other crates.
+use Rattle.std.proofs.Common.{◌≡◌, ℕ, suc, ◌+◌, ◌*◌, ◌/◌, ◌%◌, ◌^◌, ◌<◌, ◌≤◌, List, [], ◌∷◌, ◌++◌, length, map, refl, sym, ap, subst, arith, ◌∙◌, length-append, true}
+use Rattle.std.specs.Prelude.{ℤ, decimal}
+use Rattle.std.proofs.Math.Nat.{pow-succ'}
+use Rattle.std.proofs.Math.Pow.{pow_mono}
+use Rattle.std.proofs.lemmas.Fmt.{decimal_by_steps_wide}
+use Rattle.pb_text.specs.meaning.Spelling.{Letter, digits_of}
+use Rattle.pb_text.specs.meaning.Languages.{digit}
+use Rattle.pb_text.specs.meaning.Limits.{largest}
+use Rattle.pb_text.specs.declared.limits.Limits.{Limits}
+use Rattle.pb_text.specs.meaning.Numbers.{value, Digits, Number}
+use Rattle.pb_text.proofs.lemmas.text.Languages.{map-append, each-append}
+
+value-append : (ds : List ℕ) (d : ℕ) → value (ds ++ d ∷ []) ≡ 10 * value ds + d
+value-append [] d = omega arith
+value-append (e ∷ ds) d =
+    let l : length (ds ++ d ∷ []) ≡ suc (length ds) = omega (arith, length-append ds (d ∷ [])) in
+    let p : 10 ^ suc (length ds) ≡ 10 * 10 ^ length ds = pow-succ' 10 (length ds) in
+    rw (l, p) (omega (arith, value-append ds d))
+
+pub digits-grown : (n d : ℕ) (c : Letter) → c ≡ digit d → d < 10 → (q : List Letter) → Digits n q → Digits (10 * n + d) (q ++ c ∷ [])
+digits-grown n d c e k q (x, ds, h, f, v) = (
+  x,
+  ds ++ d ∷ [],
+  (h.0, each-append (λ e. e < 10) ds d h.1 k),
+  ap (λ x. x ++ c ∷ []) f ∙ (ap (λ y. map digit (x ∷ ds) ++ y ∷ []) e ∙ map-append digit (x ∷ ds) d),
+  ap (λ m. 10 * m + d) v ∙ sym (value-append (x ∷ ds) d),
+)
+
+pub digits-one : (d : ℕ) (c : Letter) → c ≡ digit d → d < 10 → Digits (10 * 0 + d) (c ∷ [])
+digits-one d c e k = (d, [], (k, tt), ap (λ x. x ∷ []) e, omega arith)
+
+-- the letter of a byte that is a digit of a number
+abbrev numeral : ℕ → Letter
+numeral b = record { byte = b; numeral = true }
+
+-- the digits that are written for a number
+pub decimal-digits : (n : ℕ) → n < 10 ^ 64 → Digits n (digits_of (decimal n))
+decimal-digits n h = decimal_by_steps_wide P one more n h
+  where
+    P : ℕ → List ℕ → Type 0
+    P m bs = Digits m (digits_of bs)
+
+    one : (m : ℕ) → m < 10 → P m ((48 + m) ∷ [])
+    one m i = subst (λ x. Digits x (digit m ∷ [])) (omega arith) (digits-one m (digit m) refl i)
+
+    more : (m : ℕ) (ds : List ℕ) → 10 ≤ m → P (m / 10) ds → P m (ds ++ ((48 + m % 10) ∷ []))
+    more m ds i d =
+        let e : 10 * (m / 10) + m % 10 ≡ m = omega arith in
+        subst (λ x. Digits m x) (map-append numeral ds (48 + m % 10))
+        (subst (λ x. Digits x (digits_of ds ++ digit (m % 10) ∷ [])) e (digits-grown (m / 10) (m % 10) (digit (m % 10)) refl (omega arith) (digits_of ds) d))
+
+-- a number within a limit is within a larger one
+pub number-within : (small large : ℕ) (z : ℤ) → small ≤ large → (t : List Letter) → Number small z t → Number large z t
+number-within small large z h t (negative, n, i, e, k) = (negative, n, omega arith, e, k)
+
+-- the largest number that limits allow fits an i128
+pub largest_small : (l : Limits) → largest l < 2 ^ 127
+largest_small l = let more : 2 ^ l.bits ≤ 2 ^ 127 = pow_mono l.most_bits in omega (arith, more)

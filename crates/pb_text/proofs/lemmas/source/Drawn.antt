@@ -1,0 +1,59 @@
+-- The consecutive parts of a pull.
+use Rattle.std.proofs.Common.{◌≡◌, ℕ, List, [], ◌++◌, Option, Some, None, Result, Ok, Err, sym, ap, ◌∙◌, subst, length-append, append-nil, append_assoc, arith}
+use Rattle.pb_text.specs.contract.Feeding.{marks_taken, StandsAt}
+use Rattle.pb_text.specs.contract.Pouring.{Pours}
+use Rattle.pb_text.specs.meaning.Pulling.{Pulls, Draws, input_drawn}
+use Rattle.pb_text.specs.declared.feeder.Feeder.{Feeder}
+use Rattle.pb_text.specs.declared.machine.Machine.{Ghosts}
+use Rattle.pb_text.specs.declared.place.Spanned.{Spanned}
+use Rattle.pb_text.specs.declared.place.Stop.{Stop}
+use Rattle.pb_text.proofs.lemmas.source.Pulled.{lost_nothing, seen_after}
+use Rattle.pb_text.proofs.lemmas.source.PullsInARow.{took_join}
+
+joined : {E : Type 0} (result : Result (Option (Spanned E)) Stop) (input taken more seen : List ℕ) → (input ++ taken) ++ input_drawn result more seen ≡ input ++ input_drawn result (taken ++ more) seen
+joined (Ok m) input taken more seen = append_assoc input taken more
+joined (Err s) input taken more seen = append_assoc input taken (more ++ seen) ∙ ap (λ (x : List ℕ). input ++ x) (sym (append_assoc taken more seen))
+
+module _ {M E : Type 0} {g : Ghosts M E} where
+  -- nothing was taken
+  pub draws_none : (f : Feeder M E g) (left : Option (List ℕ)) (given : List ℕ) → Draws f left given (Ok None) f left given
+  draws_none f left given =
+      let seen = seen_after left [] left (lost_nothing left) in
+      record {
+        taken = [];
+        seen = seen.0;
+        took = seen.1;
+        given_are = sym (append-nil given);
+        offset_is = omega arith;
+        stands = λ longest start input marks s. rw (append-nil, append-nil) s;
+      }
+
+  -- what was poured
+  pub draws_poured : (old : Feeder M E g) (before : Option (List ℕ)) (given : List ℕ) (event : Option (Spanned E)) (new : Feeder M E g) (after : Option (List ℕ)) (given' : List ℕ)
+      → Pours old before given event new after given' → Draws old before given (Ok event) new after given'
+  draws_poured old before given event new after given' p =
+      let seen = seen_after before p.taken after p.lost in
+      record { taken = p.taken; seen = seen.0; took = seen.1; given_are = p.given_are; offset_is = p.offset_is; stands = p.stands }
+
+  -- a part and the next one
+  pub draws_join : (old mid new : Feeder M E g) (before now after : Option (List ℕ)) (given given' given'' : List ℕ) (result : Result (Option (Spanned E)) Stop)
+      → Draws old before given (Ok None) mid now given' → Draws mid now given' result new after given'' → Draws old before given result new after given''
+  draws_join old mid new before now after given given' given'' result d e = record {
+    taken = d.taken ++ e.taken;
+    seen = e.seen;
+    took = took_join before now after d.taken e.taken d.seen e.seen d.took e.took;
+    given_are = e.given_are ∙ (ap (λ (x : List ℕ). x ++ e.taken) d.given_are ∙ append_assoc given d.taken e.taken);
+    offset_is = omega (arith, d.offset_is, e.offset_is, length-append d.taken e.taken);
+    stands = λ longest start input marks s.
+        let k : StandsAt longest start ((input ++ d.taken) ++ input_drawn result e.taken e.seen) (marks ++ marks_taken result) new = e.stands longest start (input ++ d.taken) marks (rw append-nil at (d.stands longest start input marks s)) in
+        subst (λ (x : List ℕ). StandsAt longest start x (marks ++ marks_taken result) new) (joined result input d.taken e.taken e.seen) k;
+  }
+
+  module _ (longest : ℕ) (start : M) (input : List ℕ) (marks : List (Spanned E)) (old new : Feeder M E g) (before after : Option (List ℕ)) (given given' : List ℕ) (s : StandsAt longest start input marks old) where
+    -- it ends with an event
+    pub pulls_event : (m : Spanned E) → Draws old before given (Ok (Some m)) new after given' → Pulls longest start input marks old before (Ok (Some m)) new after given given'
+    pulls_event m d = record { taken = d.taken; seen = d.seen; took = d.took; given_are = d.given_are; offset_is = d.offset_is; stands = d.stands longest start input marks s }
+
+    -- or with a stop
+    pub pulls_stop : (stop : Stop) → Draws old before given (Err stop) new after given' → Pulls longest start input marks old before (Err stop) new after given given'
+    pulls_stop stop d = record { taken = d.taken; seen = d.seen; took = d.took; given_are = d.given_are; offset_is = d.offset_is; stands = d.stands longest start input marks s }

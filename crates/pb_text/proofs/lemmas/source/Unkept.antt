@@ -1,0 +1,25 @@
+-- The stop of a whole read, under a format with the same texts. Offered to other crates.
+use Rattle.std.proofs.Common.{ℕ, List, [], ◌∷◌, ◌++◌, None}
+use Rattle.pb_text.specs.meaning.Stopping.{IsAsking}
+use Rattle.pb_text.specs.meaning.Spelling.{Item}
+use Rattle.pb_text.specs.meaning.Whole.{StopsIn, Reading, Keeping, events_at}
+use Rattle.pb_text.specs.declared.place.Stop.{Stop}
+use Rattle.pb_text.specs.declared.place.Why.{Why}
+use Rattle.pb_text.specs.declared.place.Why.TheVariants.{Byte, TooLarge, Ended, TooLong, Read, Memory}
+use Rattle.pb_text.proofs.lemmas.text.Formats as formats
+
+-- what may allocate under one condition may allocate under another
+pub asking_to : (may_ask MayAsk : List ℕ → ℕ → Type 0) (used seen : List ℕ) → ((b : ℕ) → may_ask used b → MayAsk used b) → (why : Why) → IsAsking may_ask used seen why → IsAsking MayAsk used seen why
+asking_to may_ask MayAsk used seen to (Byte b) h = tt
+asking_to may_ask MayAsk used seen to TooLarge h = tt
+asking_to may_ask MayAsk used seen to Ended h = tt
+asking_to may_ask MayAsk used seen to TooLong h = tt
+asking_to may_ask MayAsk used seen to Read h = tt
+asking_to may_ask MayAsk used seen to Memory (b, more, e, h) = (b, more, e, to b h)
+
+module _ {E : Type 0} (accepted format : List (Item E) → Type 0) (only : (items : List (Item E)) → accepted items → format items) (each : (items : List (Item E)) → format items → accepted items) (longest : ℕ)
+    (may_ask MayAsk : List ℕ → ℕ → Type 0) (to : (used : List ℕ) (b : ℕ) → may_ask used b → MayAsk used b) (may_keep MayKeep : List E → E → Type 0) (keep : (events : List E) (e : E) → may_keep events e → MayKeep events e) where
+  pub stops_in : (used seen : List ℕ) (s : Stop) → StopsIn accepted longest may_ask may_keep used seen s → StopsIn format longest MayAsk MayKeep used seen s
+  stops_in used seen s (Reading marks r a) = Reading marks (formats.reads accepted format only each longest _ used marks s.place _ _ r) (asking_to may_ask MayAsk used seen (to used) s.why a)
+  stops_in used seen s (Keeping marks last done r h e) =
+      Keeping marks last done (formats.reads accepted format only each longest used used (marks ++ last ∷ []) last.past done None r) (keep (events_at marks) last.event h) e

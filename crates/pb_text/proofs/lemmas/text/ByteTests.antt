@@ -1,0 +1,44 @@
+-- Tests of bytes: blanks and white space byte by byte, and the bytes of digits and names. Offered to other crates.
+use Rattle.std.proofs.Common.{◌≡◌, ℕ, ◌+◌, ◌-◌, ◌<◌, ◌≤◌, true, false, ◌||◌, refl, sym, subst, arith}
+use Rattle.std.proofs.lemmas.Bool.{eqb-true}
+use Rattle.std.proofs.lemmas.Bool.Decides.{nat_tests}
+use Rattle.std.specs.Prelude.{IsTrue, nat_eq}
+use Rattle.pb_text.specs.meaning.Classes.{is_blank, is_white, is_digit, is_letter, is_name_byte}
+use Rattle.pb_text.proofs.lemmas.text.Booleans.{by_or}
+
+-- one of three bytes
+pub blank_each : (P : ℕ → Type 0) → P 32 → P 9 → P 13 → (b : ℕ) → is_blank b ≡ true → P b
+blank_each P space tab return b h =
+    by_or (nat_eq b 32 || nat_eq b 9) (nat_eq b 13) h
+    (λ k. by_or (nat_eq b 32) (nat_eq b 9) k
+    (λ e. subst P (sym (eqb-true b 32 e)) space)
+    (λ e. subst P (sym (eqb-true b 9 e)) tab))
+    (λ e. subst P (sym (eqb-true b 13 e)) return)
+
+-- one of four bytes
+pub white_each : (P : ℕ → Type 0) → P 32 → P 9 → P 13 → P 10 → (b : ℕ) → is_white b ≡ true → P b
+white_each P space tab return feed b h =
+    by_or (is_blank b) (nat_eq b 10) h (blank_each P space tab return b) (λ e. subst P (sym (eqb-true b 10 e)) feed)
+
+-- digits
+pub digit_byte : (d : ℕ) → d < 10 → is_digit (48 + d) ≡ true
+digit_byte d h = grind (arith, nat_tests)
+
+pub digit_dark : (d : ℕ) → d < 10 → is_white (48 + d) ≡ false
+digit_dark d h = grind (arith, nat_tests)
+
+pub digit_blank : (d : ℕ) → d < 10 → is_blank (48 + d) ≡ false
+digit_blank d h = grind (arith, nat_tests)
+
+pub blank_digit : (b : ℕ) → is_blank b ≡ true → is_digit b ≡ false
+blank_digit b h = grind (arith, nat_tests)
+
+pub digit_of : (b : ℕ) → is_digit b ≡ true → (b ≡ 48 + (b - 48)) × (b - 48 < 10)
+digit_of b e = grind (arith, nat_tests)
+
+-- names
+pub name_high : (b : ℕ) → is_name_byte b ≡ true → 33 ≤ b
+name_high b h = grind (arith, nat_tests)
+
+pub letter_name : (b : ℕ) → IsTrue (is_letter b) → IsTrue (is_name_byte b)
+letter_name b e = rw e refl

@@ -1,0 +1,55 @@
+-- What holds of a read under a format also holds under a format with the same texts. Offered to other crates.
+use Rattle.std.proofs.Common.{ℕ, List, ◌∷◌, ◌++◌, Bool, true, false, Option, Some, None, [], inl, inr}
+use Rattle.pb_text.specs.meaning.Spelling.{Item}
+use Rattle.pb_text.specs.meaning.Reading.{Viable, IsFull, IsUnderWay, IsBad, Explains, IsSpelled, Answers, Reads}
+use Rattle.pb_text.specs.declared.place.Place.{Place}
+use Rattle.pb_text.specs.declared.place.Spanned.{Spanned}
+use Rattle.pb_text.specs.declared.place.Stop.{Stop}
+use Rattle.pb_text.specs.declared.place.Why.{Why}
+use Rattle.pb_text.specs.declared.place.Why.TheVariants.{Byte, TooLarge, Ended, TooLong, Read, Memory}
+
+module _ {E : Type 0} (one other : List (Item E) → Type 0) (to : (items : List (Item E)) → one items → other items) (from : (items : List (Item E)) → other items → one items) (longest : ℕ) where
+  pub viable : (front : List ℕ) → Viable one front → Viable other front
+  viable front (items, h, k) = (items, to items h, k)
+
+  is_full : (front : List ℕ) → IsFull one longest front → IsFull other longest front
+  is_full front (inl e) = inl e
+  is_full front (inr h) = inr (λ items k. h items (from items k))
+
+  full_back : (front : List ℕ) → IsFull other longest front → IsFull one longest front
+  full_back front (inl e) = inl e
+  full_back front (inr h) = inr (λ items k. h items (to items k))
+
+  viable_back : (front : List ℕ) → Viable other front → Viable one front
+  viable_back front (items, h, k) = (items, from items h, k)
+
+  is_under_way : (used : List ℕ) (marks : List (Spanned E)) → IsUnderWay one longest used marks → IsUnderWay other longest used marks
+  is_under_way used marks u = record {
+    viable = viable used u.viable;
+    seen = λ items h. u.seen items (from items h);
+    unfinished = λ items h. u.unfinished items (from items h);
+    within = u.within;
+    short = λ items h. u.short items (from items h);
+  }
+
+  is_bad : (used : List ℕ) (b : ℕ) → IsBad one longest used b → IsBad other longest used b
+  is_bad used b bad = record { refused = λ v. bad.refused (viable_back (used ++ b ∷ []) v); room = λ f. bad.room (full_back used f) }
+
+  explains : (used left : List ℕ) (why : Why) → Explains one longest used left why → Explains other longest used left why
+  explains used left (Byte b) (more, e, bad, h) = (more, e, is_bad used b bad, λ d k. h d (λ items f. k items (to items f)))
+  explains used left TooLarge (b, more, e, bad, d, h) = (b, more, e, is_bad used b bad, d, λ items f. h items (from items f))
+  explains used left TooLong (e, f) = (e, is_full used f)
+  explains used left Ended h = h
+  explains used left Read h = tt
+  explains used left Memory (b, more, e, v, room) = (b, more, e, viable (used ++ b ∷ []) v, λ f. room (full_back used f))
+
+  abbrev pub is_spelled : (used : List ℕ) (marks : List (Spanned E)) → IsSpelled one longest used marks → IsSpelled other longest used marks
+  is_spelled used marks s = record { items = s.items; spelled = to s.items s.spelled; used_are = s.used_are; marks_are = s.marks_are; within = s.within; short = s.short }
+
+  answers : (used left : List ℕ) (marks : List (Spanned E)) (place : Place) (done : Bool) (stop : Option Stop) → Answers one longest used left marks place done stop → Answers other longest used left marks place done stop
+  answers used left marks place true stop (h, e) = (is_spelled used marks h, e)
+  answers used left marks place false None (h, e) = (is_under_way used marks h, e)
+  answers used left marks place false (Some s) (h, e, k) = (is_under_way used marks h, e, explains used left s.why k)
+
+  pub reads : (input used : List ℕ) (marks : List (Spanned E)) (place : Place) (done : Bool) (stop : Option Stop) → Reads one longest input used marks place done stop → Reads other longest input used marks place done stop
+  reads input used marks place done stop r = record { left = r.left; input_is = r.input_is; place_is = r.place_is; answer = answers used r.left marks place done stop r.answer }

@@ -1,0 +1,67 @@
+-- The bytes of a text that belong to statements. Offered to other crates.
+use Rattle.std.proofs.Common.{◌≡◌, ℕ, ◌-◌, ◌<◌, ◌≤◌, List, [], ◌∷◌, ◌++◌, length, Bool, cond, Option, Some, None, refl, ap, ◌∙◌, arith, length-append, inl, inr, le-leb}
+use Rattle.pb_text.specs.meaning.Spelling.{Item, bytes, place_after, marks_since}
+use Rattle.pb_text.specs.meaning.Reading.{AreShort, Overruns, open_bytes, byte_limit}
+use Rattle.pb_text.specs.contract.Standing.{EndBy}
+use Rattle.pb_text.specs.engine.SpentBytes.{end_of}
+use Rattle.pb_text.specs.declared.place.Place.{Place}
+use Rattle.pb_text.specs.declared.place.Spanned.{Spanned}
+
+pub place_after-offset : (text : List ℕ) → (place_after text).offset ≡ length text
+unfolding place_after
+place_after-offset text = refl
+
+pub end_limit : (longest : ℕ) (q : Option Place) → end_of longest q ≤ byte_limit
+end_limit longest None = omega arith
+end_limit longest (Some p) = omega arith
+
+pub gap_longer : (before gap : List ℕ) → length before ≤ (place_after (before ++ gap)).offset
+gap_longer before gap = omega (arith, place_after-offset (before ++ gap), length-append before gap)
+
+module _ {E : Type 0} (longest : ℕ) where
+  pub AreShort-append : (n : ℕ) (a b : List (Spanned E)) → AreShort longest n a → AreShort longest n b → AreShort longest n (a ++ b)
+  AreShort-append n [] b h k = k
+  AreShort-append n (m ∷ a) b h k = (h.0, AreShort-append n a b h.1 k)
+
+  -- statements that have ended have none of the bytes that follow
+  pub AreShort-grown : (n k : ℕ) (marks : List (Spanned E)) → EndBy n marks → n ≤ k → AreShort longest n marks → AreShort longest k marks
+  AreShort-grown n k [] e le h = tt
+  AreShort-grown n k (m ∷ marks) e le h = (omega (arith, e.0, h.0), AreShort-grown n k marks e.1 le h.1)
+
+  later_short : (n : ℕ) (before : List ℕ) (later : List (Item E)) → n ≤ length before → AreShort longest n (marks_since None before later)
+  later_short n before [] le = tt
+  later_short n before (i ∷ rest) le = (omega (arith, gap_longer before i.gap), later_short n (before ++ (i.gap ++ bytes i.text)) rest (omega (arith, length-append before (i.gap ++ bytes i.text))))
+
+  pub since_short : (first : Option Place) (before : List ℕ) (later : List (Item E)) → length before ≤ end_of longest first → AreShort longest (length before) (marks_since first before later)
+  since_short None before later le = later_short (length before) before later (omega arith)
+  since_short (Some p) before [] le = tt
+  since_short (Some p) before (i ∷ rest) le = (omega arith, later_short (length before) (before ++ (i.gap ++ bytes i.text)) rest (omega (arith, length-append before (i.gap ++ bytes i.text))))
+
+  pub Overruns-append : (n : ℕ) (a b : List (Spanned E)) → Overruns longest n b → Overruns longest n (a ++ b)
+  Overruns-append n [] b h = h
+  Overruns-append n (m ∷ a) b h = inr (Overruns-append n a b h)
+
+  pub Overruns-split : (n : ℕ) (a b : List (Spanned E)) → EndBy n a → Overruns longest n (a ++ b) → Overruns longest n b
+  Overruns-split n [] b e h = h
+  Overruns-split n (m ∷ a) b e (inl h) = absurd (omega (arith, e.0, h.1))
+  Overruns-split n (m ∷ a) b e (inr h) = Overruns-split n a b e.1 h
+
+  later_fits : 0 < longest → (n : ℕ) (before : List ℕ) (later : List (Item E)) → n ≤ length before → Overruns longest n (marks_since None before later) → ⊥
+  later_fits some n before [] le h = h
+  later_fits some n before (i ∷ rest) le (inl h) = omega (arith, gap_longer before i.gap, h.0)
+  later_fits some n before (i ∷ rest) le (inr h) = later_fits some n (before ++ (i.gap ++ bytes i.text)) rest (omega (arith, length-append before (i.gap ++ bytes i.text))) h
+
+  pub since_fits : 0 < longest → (first : Option Place) (before : List ℕ) (later : List (Item E)) → length before < end_of longest first → Overruns longest (length before) (marks_since first before later) → ⊥
+  since_fits some None before later lt h = later_fits some (length before) before later (omega arith) h
+  since_fits some (Some p) before [] lt h = h
+  since_fits some (Some p) before (i ∷ rest) lt (inl h) = omega (arith, h.0)
+  since_fits some (Some p) before (i ∷ rest) lt (inr h) = later_fits some (length before) (before ++ (i.gap ++ bytes i.text)) rest (omega (arith, length-append before (i.gap ++ bytes i.text))) h
+
+-- the bytes of the statement that has begun
+abbrev pub begun_bytes : ℕ → Option Place → ℕ
+begun_bytes n None = 0
+begun_bytes n (Some first) = n - first.offset
+
+pub open-ended : {E : Type 0} (n : ℕ) (a b : List (Spanned E)) → EndBy n a → open_bytes n (a ++ b) ≡ open_bytes n b
+open-ended n [] b e = refl
+open-ended n (m ∷ a) b e = ap (λ (t : Bool). cond t (open_bytes n (a ++ b)) (n - m.first.offset)) (le-leb m.past.offset n e.0) ∙ open-ended n a b e.1

@@ -1,0 +1,70 @@
+-- Texts that are written consecutively. Offered to other crates.
+use Rattle.std.proofs.lemmas.List.{take_rest}
+use Rattle.std.proofs.Common.{◌≡◌, ℕ, ◌-◌, length, take, drop, take-append-drop, List, [], ◌++◌, Option, Some, None, Result, Ok, Err, refl, sym, ap, ◌∙◌, append_assoc, append-nil, subst}
+use Rattle.std.specs.Io.KnownBytes.{Appends, Keeps}
+use Rattle.pb_text.specs.meaning.Writing.{Takes, Wrote, Broke, Writes, one_more}
+use Rattle.pb_text.specs.declared.source.Failed.{Failed}
+
+pub Appends-nil : (a : Option (List ℕ)) → Appends a a []
+Appends-nil None = tt
+Appends-nil (Some x) = sym (append-nil x)
+
+pub Appends-append : (a b c : Option (List ℕ)) (x y : List ℕ) → Appends a b x → Appends b c y → Appends a c (x ++ y)
+Appends-append None b c x y h k = tt
+Appends-append (Some a) None c x y h k = absurd h
+Appends-append (Some a) (Some b) None x y h k = absurd k
+Appends-append (Some a) (Some b) (Some c) x y h k = k ∙ (ap (λ (z : List ℕ). z ++ y) h ∙ append_assoc a x y)
+
+pub Keeps-appends : (a b : Option (List ℕ)) → Keeps a b → Appends a b []
+Keeps-appends None b h = tt
+Keeps-appends (Some a) None h = absurd h
+Keeps-appends (Some a) (Some b) h = h ∙ sym (append-nil a)
+
+module _ {S : Type 0} (contents : S → Option (List ℕ)) (faults : S → ℕ) where
+  pub writes_nothing : (s : S) → Writes contents faults s [] (Ok tt) s
+  writes_nothing s = record { appends = Appends-nil (contents s); faults_are = refl }
+
+  -- one text, and then another with its result
+  pub writes_then : (a b c : S) (x y : List ℕ) (r : Result Unit Failed) → Wrote contents faults a x b → Writes contents faults b y r c → Writes contents faults a (x ++ y) r c
+  writes_then a b c x y (Ok u) h k = record {
+    appends = Appends-append (contents a) (contents b) (contents c) x y h.appends k.appends;
+    faults_are = k.faults_are ∙ h.faults_are;
+  }
+  writes_then a b c x y (Err e) h k = record {
+    front = x ++ k.front;
+    rest = k.rest;
+    text_is = ap (λ (z : List ℕ). x ++ z) k.text_is ∙ sym (append_assoc x k.front k.rest);
+    appends = Appends-append (contents a) (contents b) (contents c) x k.front h.appends k.appends;
+    faults_are = k.faults_are ∙ ap one_more h.faults_are;
+  }
+
+  -- more of the text after a fault
+  pub broke_more : (a b : S) (x y : List ℕ) → Broke contents faults a x b → Broke contents faults a (x ++ y) b
+  broke_more a b x y h = record {
+    front = h.front;
+    rest = h.rest ++ y;
+    text_is = ap (λ (z : List ℕ). z ++ y) h.text_is ∙ append_assoc h.front h.rest y;
+    appends = h.appends;
+    faults_are = h.faults_are;
+  }
+
+  -- one more piece at the start of the rest
+  pub piece_taken : (a b c : S) (text front rest : List ℕ) (n : ℕ) → text ≡ front ++ rest → Wrote contents faults a front b → Takes contents faults b rest (Ok n) c
+      → (x : List ℕ) × (text ≡ x ++ take (length rest - n) (drop n rest)) × Wrote contents faults a x c
+  piece_taken a b c text front rest n e h k = (
+    front ++ take n rest,
+    e ∙ (ap (λ (z : List ℕ). front ++ z) (sym (take-append-drop n rest) ∙ ap (λ (z : List ℕ). take n rest ++ z) (sym (take_rest rest n))) ∙ sym (append_assoc front (take n rest) (take (length rest - n) (drop n rest)))),
+    record { appends = Appends-append (contents a) (contents b) (contents c) front (take n rest) h.appends k.2; faults_are = k.3 ∙ h.faults_are },
+  )
+
+  pub piece_broke : (a b c : S) (text front rest : List ℕ) (e : Failed) → text ≡ front ++ rest → Wrote contents faults a front b → Takes contents faults b rest (Err e) c → Broke contents faults a text c
+  piece_broke a b c text front rest e h w k = record {
+    front = front;
+    rest = rest;
+    text_is = h;
+    appends = subst (λ (z : List ℕ). Appends (contents a) (contents c) z) (append-nil front) (Appends-append (contents a) (contents b) (contents c) front [] w.appends (Keeps-appends (contents b) (contents c) k.0));
+    faults_are = k.1 ∙ ap one_more w.faults_are;
+  }
+
+  pub all_written : (a b : S) (text front rest : List ℕ) → text ≡ front ++ rest → rest ≡ [] → Wrote contents faults a front b → Wrote contents faults a text b
+  all_written a b text front rest e none w = subst (λ (z : List ℕ). Wrote contents faults a z b) (sym (e ∙ (ap (λ (z : List ℕ). front ++ z) none ∙ append-nil front))) w

@@ -1,0 +1,114 @@
+-- What a feed says about the whole input.
+use Rattle.std.specs.Prelude.{◌≡◌, ℕ, ◌+◌, ◌≤◌, List, [], ◌∷◌, ◌++◌, take, Bool, IsTrue, Option, Some, None, Result, Ok, Err}
+use Rattle.pb_text.specs.meaning.Spelling.{place_after}
+use Rattle.pb_text.specs.contract.Automaton.{Accepts}
+use Rattle.pb_text.specs.meaning.Reading.{IsFront, HasOpen}
+use Rattle.pb_text.specs.contract.Standing.{Stands, IsOpen, IsUnread}
+use Rattle.pb_text.specs.declared.place.Place.{Place}
+use Rattle.pb_text.specs.declared.place.Spanned.{Spanned}
+use Rattle.pb_text.specs.declared.place.Stop.{Stop}
+use Rattle.pb_text.specs.declared.place.Why.TheVariants.{Memory}
+use Rattle.pb_text.specs.declared.machine.Machine.{Ghosts}
+use Rattle.pb_text.specs.declared.feeder.Fed.{Fed}
+use Rattle.pb_text.specs.declared.feeder.Feeder.{Feeder}
+
+-- the state of a feeder's machine
+abbrev pub state_of : {M E : Type 0} {g : Ghosts M E} → Feeder M E g → M
+state_of f = f.machine
+
+-- the position of the next byte
+abbrev pub place_of : {M E : Type 0} {g : Ghosts M E} → Feeder M E g → Place
+place_of f = f.place
+
+-- why it stopped, if it did
+abbrev pub halt_of : {M E : Type 0} {g : Ghosts M E} → Feeder M E g → Option Stop
+halt_of f = f.stop
+
+-- the text is complete
+abbrev pub is_complete : {M E : Type 0} {g : Ghosts M E} → Feeder M E g → Bool
+is_complete {g} f = g.automaton.done f.machine
+
+-- The feeder began with this machine and limits statements to longest bytes. It was fed this input and has returned
+-- these spans.
+abbrev pub StandsAt : {M E : Type 0} {g : Ghosts M E} → ℕ → M → List ℕ → List (Spanned E) → Feeder M E g → Type 0
+StandsAt {g} longest start input marks f =
+    (f.longest ≡ longest) × Stands g.automaton longest start input marks f.machine f.place f.first f.stop
+
+abbrev pub marks_in : {E : Type 0} → Option (Spanned E) → List (Spanned E)
+marks_in (Some m) = m ∷ []
+marks_in None = []
+
+abbrev pub stop_of : {A : Type 0} → Result A Stop → Option Stop
+stop_of (Ok x) = None
+stop_of (Err s) = Some s
+
+-- the spans that a byte or a pull returned
+abbrev pub marks_taken : {E : Type 0} → Result (Option (Spanned E)) Stop → List (Spanned E)
+marks_taken (Ok m) = marks_in m
+marks_taken (Err s) = []
+
+-- the spans that a feed returned
+abbrev pub marks_fed : {E : Type 0} → Result (Fed E) Stop → List (Spanned E)
+marks_fed (Ok fed) = marks_in fed.event
+marks_fed (Err s) = []
+
+abbrev pub bytes_with : {E : Type 0} → Option (Spanned E) → ℕ → List ℕ → List ℕ
+bytes_with (Some m) used piece = take used piece
+bytes_with None used piece = piece
+
+-- the bytes of the piece that the feed has processed: if it returned an event, those through the event's last byte
+abbrev pub bytes_fed : {E : Type 0} → Result (Fed E) Stop → List ℕ → List ℕ
+bytes_fed (Ok fed) piece = bytes_with fed.event fed.used piece
+bytes_fed (Err s) piece = piece
+
+-- the position has advanced by the number of bytes used
+abbrev pub IsFurther : {M E : Type 0} {g : Ghosts M E} → Feeder M E g → Result (Fed E) Stop → Feeder M E g → Type 0
+IsFurther old (Ok fed) new = (place_of new).offset ≡ (place_of old).offset + fed.used
+IsFurther old (Err s) new = Unit {0}
+
+-- what one feed says about the feeder
+abbrev pub FeedsOnce : {M E : Type 0} {g : Ghosts M E} → Feeder M E g → List ℕ → Result (Fed E) Stop → Feeder M E g → Type 0
+FeedsOnce {M} {E} {g} old piece result new =
+    ((longest : ℕ) (start : M) (input : List ℕ) (marks : List (Spanned E))
+    → IsOpen old.stop
+    → StandsAt longest start input marks old
+    → StandsAt longest start (input ++ bytes_fed result piece) (marks ++ marks_fed result) new)
+    × (IsOpen old.stop → IsOpen new.stop)
+    × (IsUnread old.stop → IsUnread new.stop)
+    × IsFurther old result new
+
+-- consecutive feeds, each a piece with its result
+abbrev pub Feeds : {M E : Type 0} {g : Ghosts M E} → Feeder M E g → List (List ℕ × Result (Fed E) Stop) → Feeder M E g → Type 0
+Feeds before [] after = before ≡ after
+Feeds {M} {E} {g} before (f ∷ feeds) after = (mid : Feeder M E g) × FeedsOnce before f.0 f.1 mid × Feeds mid feeds after
+
+-- all bytes fed: of a piece that returned an event, those through its end
+abbrev pub input_fed : {E : Type 0} → List (List ℕ × Result (Fed E) Stop) → List ℕ
+input_fed [] = []
+input_fed (f ∷ feeds) = bytes_fed f.1 f.0 ++ input_fed feeds
+
+abbrev pub marks_answered : {E : Type 0} → List (List ℕ × Result (Fed E) Stop) → List (Spanned E)
+marks_answered [] = []
+marks_answered (f ∷ feeds) = marks_fed f.1 ++ marks_answered feeds
+
+-- how many bytes the feeds used, and that none of them stopped
+abbrev pub used_in : {E : Type 0} → Result (Fed E) Stop → ℕ
+used_in (Ok fed) = fed.used
+used_in (Err s) = 0
+
+abbrev pub used_by : {E : Type 0} → List (List ℕ × Result (Fed E) Stop) → ℕ
+used_by [] = 0
+used_by (f ∷ feeds) = used_in f.1 + used_by feeds
+
+abbrev pub NoneStopped : {E : Type 0} → List (List ℕ × Result (Fed E) Stop) → Type 0
+NoneStopped [] = Unit {0}
+NoneStopped (f ∷ feeds) = (stop_of f.1 ≡ None) × NoneStopped feeds
+
+-- an out-of-memory stop comes only at a byte that may allocate
+abbrev pub WantsMemory : {M E : Type 0} {g : Ghosts M E} → Stop → Feeder M E g → ℕ → Type 0
+WantsMemory {g} stop f b = stop.why ≡ Memory → IsTrue (g.automaton.asks f.machine b)
+
+-- at most as much is held as the bytes used have bytes of a statement that they do not end
+abbrev pub HoldsFew : {M E : Type 0} {g : Ghosts M E} → M → List ℕ → Feeder M E g → ℕ → Type 0
+HoldsFew {g} start input f held =
+    (used : List ℕ) × (n : ℕ) × IsFront used input × (f.place ≡ place_after used) × HasOpen (Accepts g.automaton start) used n × (held ≤ n)

@@ -1,0 +1,23 @@
+-- What is poured from a source into a feeder.
+use Rattle.std.specs.Prelude.{◌≡◌, ◌+◌, ◌<◌, ℕ, List, ◌++◌, length, Option, Some, None, Result, Ok, Err}
+use Rattle.pb_text.specs.contract.Source.{Lost}
+use Rattle.pb_text.specs.contract.Feeding.{StandsAt, marks_in, place_of}
+use Rattle.pb_text.specs.declared.place.Spanned.{Spanned}
+use Rattle.pb_text.specs.declared.feeder.Feeder.{Feeder}
+use Rattle.pb_text.specs.declared.machine.Machine.{Ghosts}
+
+-- the event that a call returned, if any
+abbrev pub brought : {E F : Type 0} → Result (Option (Spanned E)) F → Option (Spanned E)
+brought (Ok event) = event
+brought (Err e) = None
+
+-- The feeder was given these bytes, which were removed from the source and which its calls have given. If an event came,
+-- it ends with the last of them. Otherwise no event ends in them.
+pub record Pours {M E : Type 0} {g : Ghosts M E} (old : Feeder M E g) (before : Option (List ℕ)) (given : List ℕ) (event : Option (Spanned E)) (new : Feeder M E g) (after : Option (List ℕ)) (given' : List ℕ) : Type 0 where
+  pub taken : List ℕ
+  pub lost : Lost before taken after
+  pub given_are : given' ≡ given ++ taken
+  pub offset_is : (place_of new).offset ≡ (place_of old).offset + length taken
+  pub stands : (longest : ℕ) (start : M) (input : List ℕ) (marks : List (Spanned E)) → StandsAt longest start input marks old → StandsAt longest start (input ++ taken) (marks ++ marks_in event) new
+  pub some : (e : Spanned E) → event ≡ Some e → 0 < length taken
+  pub past : (e : Spanned E) → event ≡ Some e → e.past ≡ place_of new

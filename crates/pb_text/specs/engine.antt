@@ -1,0 +1,2 @@
+-- What bodies and proofs need.
+pub mod SpentBytes

@@ -1,0 +1,47 @@
+-- Consecutive pulls: together, what they have taken from a source is a read of it.
+use Rattle.std.specs.Prelude.{◌≡◌, ℕ, List, [], ◌∷◌, ◌++◌, length, Bool, true, false, Option, Some, None, Result, Ok, Err}
+use Rattle.pb_text.specs.meaning.Spelling.{Item}
+use Rattle.pb_text.specs.meaning.Stopping.{IsAsking}
+use Rattle.pb_text.specs.contract.Automaton.{Accepts, MayAsk}
+use Rattle.pb_text.specs.meaning.Reading.{Reads}
+use Rattle.pb_text.specs.contract.Feeding.{StandsAt, place_of, halt_of}
+use Rattle.pb_text.specs.meaning.Pulling.{Took}
+use Rattle.pb_text.specs.declared.place.Place.{Place}
+use Rattle.pb_text.specs.declared.place.Spanned.{Spanned}
+use Rattle.pb_text.specs.declared.place.Stop.{Stop}
+use Rattle.pb_text.specs.declared.feeder.Feeder.{Feeder}
+use Rattle.pb_text.specs.declared.machine.Machine.{Ghosts}
+
+-- The feeder began with this machine and has not stopped. It was fed the bytes taken from the source, and has returned
+-- these spans.
+pub record HasPulled {M E : Type 0} {g : Ghosts M E} (longest : ℕ) (start : M) (before : Option (List ℕ)) (marks : List (Spanned E)) (f : Feeder M E g) (now : Option (List ℕ)) : Type 0 where
+  pub used : List ℕ
+  pub seen : List ℕ
+  pub took : Took before used seen now
+  pub offset_is : (place_of f).offset ≡ length used
+  pub stands : StandsAt longest start used marks f
+  pub running : halt_of f ≡ None
+
+module _ {E : Type 0} (format : List (Item E) → Type 0) (longest : ℕ) where
+  -- The bytes taken from the source are those used by a read that ended like this: done, or stopped.
+  pub record TookAll (before after : Option (List ℕ)) (marks : List (Spanned E)) (place : Place) (done : Bool) (stop : Option Stop) : Type 0 where
+    pub used : List ℕ
+    pub seen : List ℕ
+    pub took : Took before used seen after
+    pub reads : Reads format longest (used ++ seen) used marks place done stop
+
+  -- The bytes taken from the source gave these spans so far, and this is the position after them.
+  pub record TookSoFar (before after : Option (List ℕ)) (marks : List (Spanned E)) (place : Place) : Type 0 where
+    pub used : List ℕ
+    pub seen : List ℕ
+    pub took : Took before used seen after
+    pub done : Bool
+    pub reads : Reads format longest used used marks place done None
+
+-- what the next of consecutive pulls must give
+abbrev pub PullsOn : {M E : Type 0} {g : Ghosts M E} → ℕ → M → Option (List ℕ) → List (Spanned E) → Result (Option (Spanned E)) Stop → Feeder M E g → Option (List ℕ) → Type 0
+PullsOn {g} longest start before marks (Ok (Some m)) f now =
+    HasPulled longest start before (marks ++ m ∷ []) f now × TookSoFar (Accepts g.automaton start) longest before now (marks ++ m ∷ []) m.past
+PullsOn {g} longest start before marks (Ok None) f now = TookAll (Accepts g.automaton start) longest before now marks (place_of f) true None
+PullsOn {g} longest start before marks (Err s) f now =
+    (all : TookAll (Accepts g.automaton start) longest before now marks s.place false (Some s)) × IsAsking (MayAsk g.automaton start) all.used all.seen s.why
